@@ -1,0 +1,109 @@
+//! Sites, changes, rows and moments.
+ghost use Rattle.std.specs.Prelude.{◌≡◌, ◌<◌, ◌≤◌, ◌+◌, ◌*◌, ◌^◌, ℕ, IfOk, IfSome, IfNone};
+ghost use Rattle.merge_types.specs.Rows.{row_number, row_text, IsMadeBy};
+
+use crate::{Exact, NoMemory, Words};
+use std::alloc::{AllocError, Global};
+use uuid::Uuid;
+
+/// A site. The publisher is 0.
+#[derive(Clone, Copy, Debug, PartialEq, Eq, PartialOrd, Ord)]
+pub struct SiteId(pub u16);
+
+/// A change, by the site that made it and its number there.
+#[derive(Clone, Copy, Debug, PartialEq, Eq, PartialOrd, Ord)]
+pub struct Dot {
+    pub site: SiteId,
+    pub number: u64,
+}
+
+/// A row, by its UUID of version 8 (RFC 9562): `custom_a` is the site that made the row,
+/// `custom_b` is 0, and `custom_c` is the number of the change there that made it.
+#[derive(Clone, Copy, Debug, PartialEq, Eq, PartialOrd, Ord)]
+pub struct RowId(pub u128);
+
+/// A moment, in seconds.
+#[derive(Clone, Copy, Debug, PartialEq, Eq, PartialOrd, Ord)]
+pub struct Moment(pub u64);
+
+/// The name of the host that a site says it runs on.
+#[derive(Debug, Drop, PartialEq, Eq)]
+pub struct HostName(pub Words);
+
+impl Clone for HostName {
+    ghost use Rattle.std.specs.Prelude.{◌≡◌};
+
+    ghost is_clone = { λ old new. new ≡ old };
+
+    fn clone(&self) -> Result<HostName, AllocError> {
+        Ok(HostName(self.0.clone()?))
+    }
+}
+
+impl Exact for HostName {
+    ghost exact = { λ value copy same. same };
+}
+
+impl Exact for SiteId {
+    ghost use Rattle.std.proofs.Common.{rules};
+
+    ghost exact = { Prim.search rules };
+}
+
+impl Exact for Dot {
+    ghost use Rattle.std.proofs.Common.{rules};
+
+    ghost exact = { Prim.search rules };
+}
+
+impl Exact for RowId {
+    ghost use Rattle.std.proofs.Common.{rules};
+
+    ghost exact = { Prim.search rules };
+}
+
+// What one site weighs in an identifier.
+const SITE_UNIT: u128 = 1 << 80;
+
+// The version 8 and the variant binary 10, at their places.
+const MARKS: u128 = (8 << 76) + (2 << 62);
+
+// Numbers of changes lie below this.
+const NUMBER_LIMIT: u128 = 1 << 62;
+
+impl RowId {
+    /// The identifier of the row that a change makes.
+    pub fn of(dot: Dot) -> Self
+        requires low { 1 ≤ dot.number }
+        requires high { dot.number < 2 ^ 62 }
+        ensures { result.0 ≡ row_number dot.site.0 dot.number }
+    {
+        RowId(dot.site.0 as u128 * SITE_UNIT + MARKS + dot.number as u128)
+    }
+
+    /// The change that makes the row with this identifier, and none where no change makes it.
+    pub fn maker(&self) -> Option<Dot>
+        ensures some { IfSome result (λ dot. IsMadeBy self.now.0 dot.site.0 dot.number) }
+        ensures none { IfNone result ((site number : ℕ) → IsMadeBy self.now.0 site number → ⊥) }
+    {
+        let site = self.0 / SITE_UNIT;
+        let rest = self.0 % SITE_UNIT;
+        if site >= 65536 || rest <= MARKS || rest >= MARKS + NUMBER_LIMIT {
+            return None;
+        }
+        Some(Dot {
+            site: SiteId(site as u16),
+            number: (rest - MARKS) as u64,
+        })
+    }
+
+    /// The 36 characters, in lower case.
+    pub fn text(&self, alloc: Global) -> Result<Words, NoMemory>
+        ensures { IfOk result (λ words. words ≡ row_text self.now.0) }
+    {
+        let uuid = Uuid::from_u128(self.0);
+        let mut buffer = Uuid::encode_buffer();
+        let text = uuid.hyphenated().encode_lower(&mut buffer);
+        Words::of(alloc, text)
+    }
+}

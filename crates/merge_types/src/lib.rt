@@ -1,0 +1,18 @@
+//! Identifiers, texts, values and lists that every layer speaks of.
+#![tactic(auto)]
+
+mod changes;
+mod fault;
+mod identifiers;
+mod listing;
+mod steps;
+mod values;
+mod words;
+
+pub use changes::{Change, Setting, Settings, Tracking};
+pub use fault::NoMemory;
+pub use identifiers::{Dot, HostName, Moment, RowId, SiteId};
+pub use listing::{Exact, Listing, Octets};
+pub use steps::Steps;
+pub use values::{ColType, Column, Value, Values};
+pub use words::Words;
