@@ -2,9 +2,9 @@
 ghost use Rattle.std.specs.Prelude.{◌≡◌, ◌<◌, ◌≤◌, ◌+◌, ◌*◌, ◌^◌, ℕ, IfOk, IfSome, IfNone};
 ghost use Rattle.merge_types.specs.Rows.{row_number, row_text, IsMadeBy};
 
+use crate::literal::guid;
 use crate::{Exact, NoMemory, Words};
 use std::alloc::{AllocError, Global};
-use uuid::Uuid;
 
 /// A site. The publisher is 0.
 #[derive(Clone, Copy, Debug, PartialEq, Eq, PartialOrd, Ord)]
@@ -101,9 +101,6 @@ impl RowId {
     pub fn text(&self, alloc: Global) -> Result<Words, NoMemory>
         ensures { IfOk result (λ words. words ≡ row_text self.now.0) }
     {
-        let uuid = Uuid::from_u128(self.0);
-        let mut buffer = Uuid::encode_buffer();
-        let text = uuid.hyphenated().encode_lower(&mut buffer);
-        Words::of(alloc, text)
+        guid::print(alloc, self.0)
     }
 }
