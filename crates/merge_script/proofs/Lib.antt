@@ -1,0 +1,5 @@
+pub mod Bars
+pub mod Decimals
+pub mod Parts
+pub mod Utf8
+pub mod WordParts

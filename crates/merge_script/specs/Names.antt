@@ -1,0 +1,31 @@
+-- Names and plain decimals.
+use Rattle.std.specs.Char.{is_ascii_alphabetic, is_ascii_alphanumeric, is_ascii_digit}
+use Rattle.std.specs.List.{list_all}
+use Rattle.std.specs.Prelude.{ℕ, ◌+◌, ◌-◌, ◌*◌, ◌^◌, List, [], ◌∷◌, length, Bool, true, false, nat_lt, nat_le, ◌==◌, ◌||◌, ◌&&◌, not, Option, Some, None, if◌then◌else◌}
+use Rattle.merge_script.specs.declared.names.TheConstants.{NAME_LIMIT}
+
+abbrev pub begins_name : ℕ → Bool
+begins_name byte = is_ascii_alphabetic byte || (byte == 95)
+
+abbrev pub continues_name : ℕ → Bool
+continues_name byte = is_ascii_alphanumeric byte || (byte == 95)
+
+-- a letter or _, and then letters, digits or _
+abbrev pub is_name_text : List ℕ → Bool
+is_name_text [] = false
+is_name_text (first ∷ rest) = (begins_name first && list_all continues_name rest) && nat_le (length (first ∷ rest)) NAME_LIMIT
+
+-- there is a first digit, which is 0 only where it stands alone
+abbrev pub begins_decimal : List ℕ → Bool
+begins_decimal [] = false
+begins_decimal (digit ∷ []) = true
+begins_decimal (digit ∷ next ∷ more) = not (digit == 48)
+
+-- the number that digits give behind a number
+abbrev pub value_behind : ℕ → List ℕ → ℕ
+value_behind n [] = n
+value_behind n (digit ∷ more) = value_behind (10 * n + (digit - 48)) more
+
+-- the number of a plain decimal, where it fits 64 bits
+abbrev pub decimal_of : List ℕ → Option ℕ
+decimal_of word = if (list_all is_ascii_digit word && begins_decimal word) && nat_lt (value_behind 0 word) (2 ^ 64) then Some (value_behind 0 word) else None
