@@ -1,0 +1,6 @@
+//! The publisher's site.
+#![tactic(auto)]
+
+mod publisher;
+
+pub use publisher::Publisher;

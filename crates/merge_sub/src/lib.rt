@@ -1,0 +1,6 @@
+//! The subscriber's site.
+#![tactic(auto)]
+
+mod subscriber;
+
+pub use subscriber::Subscriber;
