@@ -1,33 +1,26 @@
 -- The subscriber's tables, and what each of its calls makes of them.
 use Rattle.std.specs.Prelude.{ℕ, List, [], ◌∷◌, map, filter, ◌==◌}
-use Rattle.std.specs.Ordering.{nat_cmp, ordering_then}
-use Rattle.std.specs.declared.cmp.Ordering.{Ordering}
+use Rattle.std.specs.Ordering.{nat_cmp}
 use Rattle.std.specs.BTreeMap.{insert_entry}
-use Rattle.merge_types.specs.declared.values.Value.{Value}
-use Rattle.merge_types.specs.declared.identifiers.RowId.{RowId}
 use Rattle.merge_model.specs.declared.rows.SiteRow.{SiteRow}
 use Rattle.merge_model.specs.declared.rows.Phase.{Phase}
 use Rattle.merge_model.specs.declared.rows.Phase.TheVariants.{Joining}
 
--- its phase, its rows by identifier, and the last generation that it holds
+-- its phase, its rows by the numbers of their identifiers, and the last generation that it holds
 pub record SubscriberTables : Type 0 where
   pub phase : Phase
-  pub rows : List (RowId × SiteRow)
+  pub rows : List (ℕ × SiteRow)
   pub watermark : ℕ
 
 -- nothing was done yet
 abbrev pub empty_subscriber : SubscriberTables
 empty_subscriber = record { phase = Joining; rows = []; watermark = 0 }
 
--- the order of identifiers
-abbrev pub row_order : RowId → RowId → Ordering
-row_order a b = nat_cmp a.0 b.0
-
 -- the rows after the items of a download, each of which replaces the row that has its identifier
-abbrev pub taken_over : List (RowId × SiteRow) → List SiteRow → List (RowId × SiteRow)
+abbrev pub taken_over : List (ℕ × SiteRow) → List SiteRow → List (ℕ × SiteRow)
 taken_over rows [] = rows
-taken_over rows (item ∷ items) = taken_over (insert_entry row_order rows item.row item) items
+taken_over rows (item ∷ items) = taken_over (insert_entry nat_cmp rows item.row.0 item) items
 
 -- the rows of an article
-abbrev pub subscriber_rows : ℕ → List (RowId × SiteRow) → List SiteRow
+abbrev pub subscriber_rows : ℕ → List (ℕ × SiteRow) → List SiteRow
 subscriber_rows article rows = filter (λ row. row.article == article) (map (λ entry. entry.1) rows)

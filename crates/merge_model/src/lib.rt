@@ -5,7 +5,9 @@
 mod answer;
 mod event;
 mod rows;
+mod worked;
 
 pub use answer::{Answer, Refusal};
 pub use event::{Event, Line};
 pub use rows::{Downloaded, Phase, Row, RowList, SiteRow};
+pub use worked::{a_row_is_shown, nothing_is_answered};

@@ -1,5 +1,5 @@
 //! The publisher, kept in memory.
-ghost use Rattle.std.specs.Prelude.{◌≡◌, ◌<◌, ◌^◌, ◌++◌, ◌∷◌, [], IfOk, IfErr, OnOk, OnErr};
+ghost use Rattle.std.specs.Prelude.{◌≡◌, ◌<◌, ◌≤◌, ◌^◌, ◌++◌, ◌∷◌, [], IfOk, IfErr, OnOk, OnErr};
 ghost use Rattle.merge_model.specs.Publisher.{IsInsert, FitSettings, with_row, empty_publisher, changed, inserted_values, next_row, closing, items_after, publisher_rows, greatest_counter, MayRefuse, site_row};
 
 use merge_model::{Downloaded, Refusal, Row, RowList, SiteRow};
@@ -73,6 +73,17 @@ impl Publisher {
         }
     }
 
+    // Refuses where a counter stands at its end. The number of changes is the greatest of them.
+    fn check_counters(&self) -> Result<(), Refusal>
+        ensures below { OnOk result (greatest_counter self.now < 2 ^ 61) }
+        ensures refused { IfErr result (λ refusal. (refusal ≡ Refusal.CounterEnd (greatest_counter self.now)) × (2 ^ 61 ≤ greatest_counter self.now)) }
+    {
+        if self.made >= COUNTER_END {
+            return Err(Refusal::CounterEnd(self.made));
+        }
+        Ok(())
+    }
+
     // Makes a row of the one article.
     fn insert(&mut self, settings: &[Setting]) -> Result<RowId, Refusal>
         requires { FitSettings settings.now }
@@ -82,9 +93,7 @@ impl Publisher {
         ensures refused { IfErr result (MayRefuse self.old) }
         ensures unchanged { OnErr result (self.new ≡ self.old) }
     {
-        if self.made >= COUNTER_END {
-            return Err(Refusal::CounterEnd(self.made));
-        }
+        self.check_counters()?;
         let row = RowId::of(Dot {
             site: SiteId(0),
             number: self.made + 1,
@@ -125,9 +134,7 @@ impl Publisher {
         ensures refused { IfErr result (MayRefuse self.old) }
         ensures unchanged { OnErr result (self.new ≡ self.old) }
     {
-        if self.made >= COUNTER_END {
-            return Err(Refusal::CounterEnd(self.made));
-        }
+        self.check_counters()?;
         let items = items_of(self.alloc, &self.rows, from)?;
         self.close();
         Ok(Downloaded {

@@ -1,12 +1,13 @@
 //! The subscriber, kept in memory.
-ghost use Rattle.std.specs.Prelude.{◌≡◌, IfOk, OnOk, OnErr};
+ghost use Rattle.std.specs.Prelude.{◌≡◌, IfOk, OnOk, OnErr, map};
+ghost use Rattle.merge_sub.specs.Puts.{put};
 ghost use Rattle.merge_model.specs.declared.rows.Phase.TheVariants.{Joined};
 ghost use Rattle.merge_model.specs.Subscriber.{empty_subscriber, taken_over, subscriber_rows};
 
 use merge_model::{Downloaded, Phase, RowList, SiteRow};
-use merge_types::{Listing, NoMemory, RowId};
+use merge_table::{Edit, Table};
+use merge_types::{Listing, NoMemory};
 use std::alloc::Global;
-use std::collections::BTreeMap;
 use std::marker::Model;
 
 /// The subscriber: its rows by identifier, and the last generation that it holds.
@@ -14,7 +15,7 @@ use std::marker::Model;
 pub struct Subscriber {
     alloc: Global,
     phase: Phase,
-    rows: BTreeMap<RowId, SiteRow>,
+    rows: Table<u128, SiteRow>,
     watermark: u64,
 }
 
@@ -23,7 +24,7 @@ impl Model for Subscriber {
 
     ghost Value = { SubscriberTables };
 
-    ghost view = { λ s. record { phase = s.phase; rows = s.rows.entries; watermark = s.watermark } };
+    ghost view = { λ s. record { phase = s.phase; rows = s.rows.rows; watermark = s.watermark } };
 }
 
 impl Subscriber {
@@ -34,7 +35,7 @@ impl Subscriber {
         Subscriber {
             alloc,
             phase: Phase::Joining,
-            rows: BTreeMap::new(alloc),
+            rows: Table::new(alloc),
             watermark: 0,
         }
     }
@@ -61,13 +62,14 @@ impl Subscriber {
     }
 
     /// Takes over the rows of a download, all or none. A row replaces the one with its identifier.
+    #[tactic(auto, using(crate::proofs::Puts::puts_taken_over))]
     pub fn take_reply(&mut self, reply: &Downloaded) -> Result<(), NoMemory>
         ensures ok { OnOk result (self.new ≡ record self.old { rows = taken_over self.old.rows reply.now.items; watermark = reply.now.to }) }
         ensures err { OnErr result (self.new ≡ self.old) }
     {
-        let mut rows = self.rows.clone()?;
-        put_all(&mut rows, reply.items.as_slice())?;
-        self.rows = rows;
+        let edits = puts(self.alloc, reply.items.as_slice())?;
+        self.rows.prepare(edits.as_slice())?;
+        self.rows.apply(edits);
         self.watermark = reply.to;
         Ok(())
     }
@@ -80,22 +82,23 @@ impl Subscriber {
     }
 }
 
-// Puts each row at its identifier.
-fn put_all(rows: &mut BTreeMap<RowId, SiteRow>, items: &[SiteRow]) -> Result<(), NoMemory>
-    ensures { OnOk result (rows.new.entries ≡ taken_over rows.old.entries items.now) }
+// What puts each row at its identifier.
+fn puts(alloc: Global, items: &[SiteRow]) -> Result<Vec<Edit<u128, SiteRow>>, NoMemory>
+    ensures { IfOk result (λ edits. edits.items ≡ map put items.now) }
 {
+    let mut edits = Vec::new(alloc);
     for item in items {
-        rows.insert(item.row, item.clone()?)?;
+        edits.push(Edit::Put(item.row.0, item.clone()?))?;
     }
-    Ok(())
+    Ok(edits)
 }
 
 // The rows of an article.
-fn rows_of(alloc: Global, rows: &BTreeMap<RowId, SiteRow>, article: u8) -> Result<RowList, NoMemory>
-    ensures { IfOk result (λ items. items ≡ subscriber_rows article rows.now.entries) }
+fn rows_of(alloc: Global, rows: &Table<u128, SiteRow>, article: u8) -> Result<RowList, NoMemory>
+    ensures { IfOk result (λ items. items ≡ subscriber_rows article rows.now.rows) }
 {
     let mut items = Listing::empty(alloc);
-    for (_, row) in rows {
+    for (_, row) in rows.iter() {
         if row.article == article {
             items.push(row.clone()?)?;
         }

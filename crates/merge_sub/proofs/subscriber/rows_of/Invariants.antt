@@ -4,4 +4,4 @@ use Rattle.merge_model.specs.Subscriber.{subscriber_rows}
 use Rattle.merge_sub.proofs.subscriber.rows_of.Given as goal
 
 abbrev pub invariant-loop-row : goal.invariant-loop-row
-invariant-loop-row l = l.items ++ subscriber_rows l.article l.row-iterator ≡ subscriber_rows l.article l.rows.entries
+invariant-loop-row l = l.items ++ subscriber_rows l.article l.row-iterator ≡ subscriber_rows l.article l.rows.rows

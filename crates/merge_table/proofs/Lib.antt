@@ -1,0 +1,5 @@
+pub mod Room
+pub mod Slots
+pub mod Counts
+pub mod Ranges
+pub mod Edits
