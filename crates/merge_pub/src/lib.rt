@@ -2,5 +2,7 @@
 #![tactic(auto)]
 
 mod publisher;
+#[cfg(test)]
+mod tests;
 
 pub use publisher::Publisher;

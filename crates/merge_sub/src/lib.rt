@@ -2,5 +2,7 @@
 #![tactic(auto)]
 
 mod subscriber;
+#[cfg(test)]
+mod tests;
 
 pub use subscriber::Subscriber;
