@@ -16,7 +16,7 @@ text_before_bar-cons part [] h = absurd (omega arith)
 text_before_bar-cons part (next ∷ more) h = refl
 
 -- a first line with its line feed
-front_line : (text : List ℕ) (end : ℕ) → position_or_len is_line_feed text ≡ end → end < length text → take (end + 1) text ≡ take end text ++ 10 ∷ []
+pub front_line : (text : List ℕ) (end : ℕ) → position_or_len is_line_feed text ≡ end → end < length text → take (end + 1) text ≡ take end text ++ 10 ∷ []
 front_line text end e h =
     let passes : is_line_feed (get_or text end 0) ≡ true = rw (← e) (passes_at_first is_line_feed text 0 (rw e h)) in
     take_more text end 0 h ∙ ap (λ (b : ℕ). take end text ++ b ∷ []) (eqb-true (get_or text end 0) 10 passes)

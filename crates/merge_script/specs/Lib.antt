@@ -1,4 +1,5 @@
 pub mod Input
 pub mod Lines
 pub mod Names
+pub mod Parting
 pub mod Words

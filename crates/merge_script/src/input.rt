@@ -1,6 +1,6 @@
 //! The input of `play`: a publication, a line that parts, and a script.
-ghost use Rattle.std.specs.Prelude.{◌≡◌};
-ghost use Rattle.merge_script.specs.Input.{is_bar, publication_of, script_of};
+ghost use Rattle.std.specs.Prelude.{◌≡◌, ℕ, List};
+ghost use Rattle.merge_script.specs.Input.{IsCut, is_bar, publication_of, script_of};
 
 use crate::lines::{line_end, without_return};
 
@@ -29,3 +29,9 @@ pub fn cut_input(input: &[u8]) -> (&[u8], &[u8])
     }
     (input, input.split_at(input.len()).1)
 }
+
+/// The publication, the line of three dashes and the script, in order, are the input. The publication
+/// is whole lines, of which none is the bar; an input with no bar is all publication.
+pub fn bar_cuts_its_input()
+    ensures { (input : List ℕ) → IsCut input (publication_of input) (script_of input) }
+{}

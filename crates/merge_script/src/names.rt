@@ -1,10 +1,8 @@
 //! Names and plain decimals.
-ghost use Rattle.std.specs.Prelude.{◌≡◌, true};
+ghost use Rattle.std.specs.Prelude.{◌≡◌, ◌<◌, ◌^◌, ℕ, List};
+ghost use Rattle.std.specs.Fmt.{decimal};
 ghost use Rattle.std.specs.List.{list_all};
-ghost use Rattle.std.specs.Char.{is_ascii_digit};
-ghost use Rattle.merge_script.specs.Names.{begins_decimal, begins_name, continues_name, decimal_of, is_name_text};
-
-use std::str;
+ghost use Rattle.merge_script.specs.Names.{begins_name, continues_name, decimal_of, is_name_text};
 
 /// The most bytes of a name.
 pub const NAME_LIMIT: usize = 64;
@@ -40,42 +38,15 @@ pub fn is_name(word: &[u8]) -> bool
     }
 }
 
-// Whether each byte is a digit.
-fn are_digits(bytes: &[u8]) -> bool
-    ensures { result ≡ list_all is_ascii_digit bytes.now }
-{
-    bytes.iter().all(|byte| byte.is_ascii_digit())
-}
-
-// Whether a word has a first byte, and begins with 0 only where it has no other.
-fn begins_decimal(word: &[u8]) -> bool
-    ensures { result ≡ begins_decimal word.now }
-{
-    match word {
-        [] => false,
-        [_] => true,
-        [first, ..] => *first != b'0',
-    }
-}
-
-// What the digits of a decimal say.
-fn digits_value(digits: &[u8]) -> Option<u64>
-    requires digits { list_all is_ascii_digit digits.now ≡ true }
-    requires some { begins_decimal digits.now ≡ true }
-    ensures { result ≡ decimal_of digits.now }
-{
-    match str::from_utf8(digits) {
-        Ok(text) => text.parse().ok(),
-        Err(_) => None,
-    }
-}
-
 /// The number of a decimal with no sign and no leading zero, where it fits 64 bits.
 pub fn read_decimal(word: &[u8]) -> Option<u64>
     ensures { result ≡ decimal_of word.now }
 {
-    if are_digits(word) && begins_decimal(word) {
-        return digits_value(word);
-    }
-    None
+    merge_types::read_decimal(word)
 }
+
+/// A word is read as the number that prints as it, and each number of 64 bits is read where it stands.
+pub fn decimals_are_read_as_printed()
+    ensures read { (n : ℕ) → n < 2 ^ 64 → decimal_of (decimal n) ≡ Some n }
+    ensures printed { (word : List ℕ) (n : ℕ) → decimal_of word ≡ Some n → word ≡ decimal n }
+{}

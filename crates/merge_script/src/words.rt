@@ -1,5 +1,6 @@
 //! The words of a line.
-ghost use Rattle.std.specs.Prelude.{◌≡◌, ◌≤◌, ◌<◌, ◌+◌, ◌∷◌, ◌++◌, [], length, take, drop, map, IfOk, OnOk};
+ghost use Rattle.std.specs.Prelude.{ℕ, List, ◌≡◌, ◌≤◌, ◌<◌, ◌+◌, ◌∷◌, ◌++◌, [], length, take, drop, map, IfOk, OnOk};
+ghost use Rattle.merge_script.specs.Parting.{IsParted};
 ghost use Rattle.merge_script.specs.Words.{is_blank, is_parting, place_behind, parts_from, words_of, with_word, is_quiet_by, is_quiet_line};
 ghost use Rattle.merge_script.specs.declared.words.Place.TheVariants.{Outside};
 
@@ -110,6 +111,13 @@ fn begins_quiet(line: &[u8]) -> bool
     }
     true
 }
+
+/// The words of a line and the blanks between them, in order, are the line. Each word has a byte and
+/// no blank outside of its quotes, and is followed by a blank or by nothing. No other words do this.
+pub fn words_part_their_line()
+    ensures parted { (line : List ℕ) → IsParted line (words_of line) }
+    ensures alone { (line : List ℕ) (words : List (List ℕ)) → IsParted line words → words ≡ words_of line }
+{}
 
 /// Whether a line asks for nothing: it has no word, or its first word begins with `#`. A line that
 /// is not UTF-8 is never quiet.

@@ -64,3 +64,11 @@ date_text year month date = four_digits year ++ (45 ∷ (two_digits month ++ (45
 -- a day as its date
 unfoldable pub day_text : ℤ → List ℕ
 day_text day = date_text (year_of day) (month_of day) (date_of day)
+
+-- the text is the date with this number
+pub record IsDayText (text : List ℕ) (day : ℤ) : Type 0 where
+  pub year : ℕ
+  pub month : ℕ
+  pub date : ℕ
+  pub spelled : text ≡ date_text year month date
+  pub is_date : IsDateOf year month date day

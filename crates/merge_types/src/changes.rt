@@ -53,3 +53,41 @@ impl Clone for Setting {
 impl Exact for Setting {
     ghost exact = { λ value copy same. same };
 }
+
+impl Clone for Change {
+    ghost use Rattle.std.specs.Prelude.{◌≡◌};
+
+    ghost is_clone = { λ old new. new ≡ old };
+
+    fn clone(&self) -> Result<Change, AllocError> {
+        match self {
+            Change::Insert { article, values } => Ok(Change::Insert {
+                article: *article,
+                values: values.clone()?,
+            }),
+            Change::Update {
+                article,
+                row,
+                values,
+            } => Ok(Change::Update {
+                article: *article,
+                row: *row,
+                values: values.clone()?,
+            }),
+            Change::Delete { article, row } => Ok(Change::Delete {
+                article: *article,
+                row: *row,
+            }),
+        }
+    }
+}
+
+impl Exact for Change {
+    ghost exact = { λ value copy same. same };
+}
+
+impl Exact for Tracking {
+    ghost use Rattle.std.proofs.Common.{rules};
+
+    ghost exact = { Prim.search rules };
+}

@@ -1,8 +1,8 @@
 //! Sites, changes, rows and moments.
-ghost use Rattle.std.specs.Prelude.{◌≡◌, ◌<◌, ◌≤◌, ◌+◌, ◌*◌, ◌^◌, ℕ, IfOk, IfSome, IfNone};
-ghost use Rattle.merge_types.specs.Rows.{row_number, row_text, IsMadeBy};
+ghost use Rattle.std.specs.Prelude.{◌≡◌, ◌≢◌, All, ◌<◌, ◌≤◌, ◌+◌, ◌*◌, ◌^◌, ℕ, IfOk, IfSome, IfNone};
+ghost use Rattle.merge_types.specs.Rows.{row_number, row_text, HasFirstPoint, IsDotText, IsMadeBy, IsRowLiteral};
 
-use crate::literal::guid;
+use crate::literal::{guid, read_decimal};
 use crate::{Exact, NoMemory, Words};
 use std::alloc::{AllocError, Global};
 
@@ -62,6 +62,12 @@ impl Exact for RowId {
     ghost exact = { Prim.search rules };
 }
 
+impl Exact for Moment {
+    ghost use Rattle.std.proofs.Common.{rules};
+
+    ghost exact = { Prim.search rules };
+}
+
 // What one site weighs in an identifier.
 const SITE_UNIT: u128 = 1 << 80;
 
@@ -76,7 +82,8 @@ impl RowId {
     pub fn of(dot: Dot) -> Self
         requires low { 1 ≤ dot.number }
         requires high { dot.number < 2 ^ 62 }
-        ensures { result.0 ≡ row_number dot.site.0 dot.number }
+        ensures number { result.0 ≡ row_number dot.site.0 dot.number }
+        ensures made { IsMadeBy result.0 dot.site.0 dot.number }
     {
         RowId(dot.site.0 as u128 * SITE_UNIT + MARKS + dot.number as u128)
     }
@@ -85,6 +92,7 @@ impl RowId {
     pub fn maker(&self) -> Option<Dot>
         ensures some { IfSome result (λ dot. IsMadeBy self.now.0 dot.site.0 dot.number) }
         ensures none { IfNone result ((site number : ℕ) → IsMadeBy self.now.0 site number → ⊥) }
+        ensures only { IfSome result (λ dot. (site number : ℕ) → IsMadeBy self.now.0 site number → (site ≡ dot.site.0) × (number ≡ dot.number)) }
     {
         let site = self.0 / SITE_UNIT;
         let rest = self.0 % SITE_UNIT;
@@ -97,10 +105,60 @@ impl RowId {
         })
     }
 
+    /// The row that a text names by its 36 characters, in either case, or as SITE.NUMBER by the
+    /// change that makes it. None for every other text, and for an identifier that no change makes.
+    pub fn read(text: &[u8]) -> Option<Self>
+        ensures some { IfSome result (λ row. IsRowLiteral text.now row.0) }
+        ensures none { IfNone result ((row : ℕ) → IsRowLiteral text.now row → ⊥) }
+    {
+        if let Some(number) = guid::read(text) {
+            let row = RowId(number);
+            return match row.maker() {
+                Some(_) => Some(row),
+                None => None,
+            };
+        }
+        match read_dot(text) {
+            Some(dot) => Some(RowId::of(dot)),
+            None => None,
+        }
+    }
+
     /// The 36 characters, in lower case.
     pub fn text(&self, alloc: Global) -> Result<Words, NoMemory>
-        ensures { IfOk result (λ words. words ≡ row_text self.now.0) }
+        ensures text { IfOk result (λ words. words ≡ row_text self.now.0) }
+        ensures reads_back { IfOk result (λ words. (site number : ℕ) → IsMadeBy self.now.0 site number → IsRowLiteral words self.now.0) }
     {
         guid::print(alloc, self.0)
     }
+}
+
+// The change that is written as SITE.NUMBER.
+fn read_dot(text: &[u8]) -> Option<Dot>
+    ensures some { IfSome result (λ dot. IsDotText text.now dot.site.0 dot.number) }
+    ensures none { IfNone result ((site number : ℕ) → IsDotText text.now site number → ⊥) }
+{
+    let (before, behind) = split_at_point(text)?;
+    let site = read_decimal(before)?;
+    let number = read_decimal(behind)?;
+    if site >= 65536 || number == 0 || number as u128 >= NUMBER_LIMIT {
+        return None;
+    }
+    Some(Dot {
+        site: SiteId(site as u16),
+        number,
+    })
+}
+
+// What stands before and behind the first point.
+fn split_at_point(text: &[u8]) -> Option<(&[u8], &[u8])>
+    ensures some { IfSome result (λ x. HasFirstPoint text.now x.0.now x.1.now) }
+    ensures none { IfNone result (All (λ b. b ≢ 46) text.now) }
+{
+    for (i, byte) in text.iter().enumerate() {
+        if *byte == b'.' {
+            return Some((&text[..i], &text[i + 1..]));
+        }
+    }
+    None
 }

@@ -7,6 +7,8 @@ mod identifiers;
 mod listing;
 mod literal;
 mod steps;
+#[cfg(test)]
+mod tests;
 mod values;
 mod words;
 

@@ -1,4 +1,7 @@
 //! Columns and their values.
+ghost use Rattle.std.specs.Prelude.{◌≡◌, ◌-◌, ◌^◌, min};
+ghost use Rattle.merge_types.specs.Length.{stored_length, weight, row_length, row_weight};
+
 use crate::{Exact, Listing, Octets, Words};
 use std::alloc::AllocError;
 
@@ -34,6 +37,57 @@ pub enum Value {
 
 /// A list of values.
 pub type Values = Listing<Value>;
+
+impl Value {
+    /// How many bytes the value takes where it is stored.
+    pub fn length(&self) -> u64
+        ensures { result ≡ stored_length self.now }
+    {
+        match self {
+            Value::Null => 1,
+            Value::Int(_) => 9,
+            Value::Bit(_) => 2,
+            Value::Text(words) => 3 + words.as_str().len() as u64,
+            Value::Day(_) => 5,
+            Value::Guid(_) => 17,
+            Value::Bytes(octets) => 3 + octets.as_slice().len() as u64,
+        }
+    }
+
+    /// The same, with a Null counted as 0.
+    pub fn weight(&self) -> u64
+        ensures { result ≡ weight self.now }
+    {
+        match self {
+            Value::Null => 0,
+            _ => self.length(),
+        }
+    }
+}
+
+impl Listing<Value> {
+    /// How many bytes the values take where they are stored, as far as a `u64` goes.
+    pub fn length(&self) -> u64
+        ensures { result ≡ min (row_length self.now) (2 ^ 64 - 1) }
+    {
+        let mut total = 0u64;
+        for value in self.as_slice() {
+            total = total.saturating_add(value.length());
+        }
+        total
+    }
+
+    /// The same, with each Null counted as 0.
+    pub fn weight(&self) -> u64
+        ensures { result ≡ min (row_weight self.now) (2 ^ 64 - 1) }
+    {
+        let mut total = 0u64;
+        for value in self.as_slice() {
+            total = total.saturating_add(value.weight());
+        }
+        total
+    }
+}
 
 impl Clone for Value {
     ghost use Rattle.std.specs.Prelude.{◌≡◌};
@@ -72,4 +126,10 @@ impl Clone for Column {
 
 impl Exact for Column {
     ghost exact = { λ value copy same. same };
+}
+
+impl Exact for ColType {
+    ghost use Rattle.std.proofs.Common.{rules};
+
+    ghost exact = { Prim.search rules };
 }

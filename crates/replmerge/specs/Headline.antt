@@ -4,7 +4,6 @@ use Rattle.std.specs.declared.option.Option.{Option}
 use Rattle.std.specs.Io.KnownBytes.{Appends}
 use Rattle.merge_ports.specs.Faults.{Rose}
 use Rattle.merge_ports.specs.Parts.{AppendsFront}
-use Rattle.merge_ports.specs.declared.whole.TheConstants.{INPUT_LIMIT}
 use Rattle.merge_script.specs.Input.{publication_of, script_of}
 use Rattle.merge_script.specs.Lines.{lines_of}
 use Rattle.merge_model.specs.declared.event.Event.{Event}
@@ -63,12 +62,12 @@ WrittenInPart old (NoEvent word) before now = now ≡ before
 
 -- the input is not too long, and has the publication before its script
 pub record IsTaken (input : List ℕ) : Type 0 where
-  pub fits : length input ≤ INPUT_LIMIT
+  pub fits : length input ≤ 67108864
   pub publication : is_publication (publication_of input) ≡ true
 
 -- the input is not too long, and has another text before its script
 pub record IsRefused (input : List ℕ) : Type 0 where
-  pub fits : length input ≤ INPUT_LIMIT
+  pub fits : length input ≤ 67108864
   pub publication : is_publication (publication_of input) ≡ false
 
 -- each line of the input's script is an event or quiet, and all events were answered

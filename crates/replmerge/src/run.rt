@@ -6,7 +6,7 @@ ghost use Rattle.replmerge.specs.Headline.{is_play, is_publication, IsTaken, IsR
 
 use crate::play::{Stop, play};
 use crate::publication::is_publication_text;
-use merge_ports::{INPUT_LIMIT, ReadFault, Sink, Source, read_whole};
+use merge_ports::{ReadFault, Sink, Source, read_whole};
 use merge_script::cut_input;
 use merge_types::Words;
 use std::alloc::Global;
@@ -53,7 +53,7 @@ fn is_play_alone(words: &[Words]) -> bool
 
 // Plays the script of an input that was read whole.
 fn play_input<O: Sink>(alloc: Global, input: &[u8], output: &mut O) -> Status
-    requires { length input.now ≤ INPUT_LIMIT }
+    requires { length input.now ≤ 67108864 }
     ensures done { result.0 ≡ 0 → AnsweredWhole input.now (O.written output.old) (O.written output.new) }
     ensures refused { result.0 ≡ 2 → IsRefused input.now }
     ensures line { result.0 ≡ 3 → AnsweredBefore input.now (O.written output.old) (O.written output.new) }
@@ -88,7 +88,7 @@ pub fn run<I: Source, O: Sink>(alloc: Global, words: &[Words], host: &mut Host<I
     ensures read { result.0 ≡ 4 → Rose (I.count host.old.input) (I.count host.new.input) }
     ensures write { result.0 ≡ 5 → Rose (O.count host.old.output) (O.count host.new.output) }
     ensures written { result.0 ≡ 5 → IfSome (I.left host.old.input) IsTaken }
-    ensures long { result.0 ≡ 14 → IfSome (I.left host.old.input) (λ input. INPUT_LIMIT < length input) }
+    ensures long { result.0 ≡ 14 → IfSome (I.left host.old.input) (λ input. 67108864 < length input) }
     ensures part { IfSome (I.left host.old.input) (λ input. AnsweredInPart (lines_of_input input) (O.written host.old.output) (O.written host.new.output)) }
     ensures silent { is_early result.0 ≡ true → O.written host.new.output ≡ O.written host.old.output }
     ensures known { IsTrue (is_status result.0) }

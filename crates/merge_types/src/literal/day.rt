@@ -1,10 +1,22 @@
 //! Days as dates.
-ghost use Rattle.std.specs.Prelude.{◌≡◌, ◌<◌, ◌++◌, IfOk, OnOk, string_bytes};
-ghost use Rattle.merge_types.specs.Day.{IsDay, year_of, month_of, date_of, two_digits, date_text, day_text};
+ghost use Rattle.std.specs.Prelude.{◌≡◌, ◌↔◌, ℕ, ℤ, ◌+◌, ◌*◌, ◌<◌, [], ◌∷◌, ◌++◌, IsTrue, IfOk, IfSome, IfNone, OnOk, string_bytes};
+ghost use Rattle.merge_types.specs.Day.{IsDay, IsDateOf, IsDayText, year_of, month_of, date_of, two_digits, date_text, day_text};
 
 use crate::{NoMemory, Words};
 use jiff_core::civil::Date;
 use std::alloc::{AllocError, Global};
+
+// The days of 0001-01-01 and 9999-12-31.
+const FIRST_DAY: i32 = -719_162;
+
+const LAST_DAY: i32 = 2_932_896;
+
+/// Whether the day lies in the years 0001 to 9999.
+pub fn is_proper(day: i32) -> bool
+    ensures { IsTrue result ↔ IsDay day }
+{
+    FIRST_DAY <= day && day <= LAST_DAY
+}
 
 /// The date of a day, as YYYY-MM-DD.
 pub fn print(alloc: Global, day: i32) -> Result<Words, NoMemory>
@@ -49,4 +61,49 @@ fn push_two(out: &mut String, number: u8) -> Result<(), AllocError>
 {
     out.push((b'0' + number / 10) as char)?;
     out.push((b'0' + number % 10) as char)
+}
+
+/// The day of a date that is written as YYYY-MM-DD.
+pub fn read(text: &[u8]) -> Option<i32>
+    ensures some { IfSome result (IsDayText text.now) }
+    ensures none { IfNone result ((day : ℤ) → IsDayText text.now day → ⊥) }
+{
+    let [a, b, c, d, b'-', e, f, b'-', g, h] = text else {
+        return None;
+    };
+    let century = two_of(*a, *b)?;
+    let year = two_of(*c, *d)?;
+    let month = two_of(*e, *f)?;
+    let date = two_of(*g, *h)?;
+    day_of(century, year, month, date)
+}
+
+// The number that two digits write.
+fn two_of(tens: u8, units: u8) -> Option<u8>
+    ensures some { IfSome result (λ number. (number < 100) × (two_digits number ≡ tens ∷ units ∷ [])) }
+    ensures none { IfNone result ((number : ℕ) → number < 100 → two_digits number ≡ tens ∷ units ∷ [] → ⊥) }
+{
+    if !tens.is_ascii_digit() || !units.is_ascii_digit() {
+        return None;
+    }
+    Some((tens - b'0') * 10 + (units - b'0'))
+}
+
+// The day of a date whose year comes as two pairs of digits.
+fn day_of(century: u8, year: u8, month: u8, date: u8) -> Option<i32>
+    requires century_in { century < 100 }
+    requires year_in { year < 100 }
+    requires month_in { month < 100 }
+    requires date_in { date < 100 }
+    ensures some { IfSome result (IsDateOf (century * 100 + year) month date) }
+    ensures none { IfNone result ((day : ℤ) → IsDateOf (century * 100 + year) month date day → ⊥) }
+{
+    let year = century as u16 * 100 + year as u16;
+    if year == 0 {
+        return None;
+    }
+    match Date::new(year as i16, month as i8, date as i8) {
+        Ok(date) => Some(date.to_unix_epoch_day()),
+        Err(_) => None,
+    }
 }
