@@ -4,10 +4,10 @@
 
 mod answer;
 mod event;
+mod laws;
 mod rows;
-mod worked;
 
 pub use answer::{Answer, Refusal};
 pub use event::{Event, Line};
+pub use laws::{a_row_is_shown, nothing_is_answered, runs_are_determined};
 pub use rows::{Downloaded, Phase, Row, RowList, SiteRow};
-pub use worked::{a_row_is_shown, nothing_is_answered};

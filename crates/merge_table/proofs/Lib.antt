@@ -3,3 +3,4 @@ pub mod Slots
 pub mod Counts
 pub mod Ranges
 pub mod Edits
+pub mod LookUps

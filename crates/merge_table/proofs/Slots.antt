@@ -1,5 +1,5 @@
 -- The rows of a list of slots, as its slots change.
-use Rattle.std.proofs.Common.{◌≡◌, ◌||◌, Bool, true, false, All, IsTrue, List, [], ◌∷◌, Some, None, is_some, refl, sym, ap, ◌∙◌, arith}
+use Rattle.std.proofs.Common.{◌≡◌, ◌||◌, Bool, true, false, All, IsTrue, List, [], ◌∷◌, Some, None, refl, sym, ap, ◌∙◌, arith}
 use Rattle.std.specs.declared.option.Option.{Option}
 use Rattle.std.specs.Option.{option_flatten}
 use Rattle.std.specs.declared.cmp.Ordering.{Ordering}

@@ -1,6 +1,8 @@
 -- Changes of a table, and what they make of a list of rows.
 use Rattle.std.specs.Prelude.{◌≡◌, true, List, [], ◌∷◌, Bool}
 use Rattle.std.specs.List.{All}
+use Rattle.std.specs.declared.option.Option.{Option}
+use Rattle.std.specs.declared.option.Option.TheVariants.{None, Some}
 use Rattle.std.specs.declared.cmp.Ordering.{Ordering}
 use Rattle.std.specs.Map.{remove_entry}
 use Rattle.std.specs.BTreeMap.{is_at, insert_entry}
@@ -8,6 +10,16 @@ use Rattle.std.specs.BTreeSet.{insert_key}
 use Rattle.merge_table.specs.declared.edit.Edit.{Edit}
 use Rattle.merge_table.specs.declared.edit.Edit.TheVariants.{Put, Take}
 use Rattle.merge_table.specs.Contents.{has_room}
+
+-- the key whose row changes
+abbrev pub key_of : {K V : Type 0} → Edit K V → K
+key_of (Put key row) = key
+key_of (Take key) = key
+
+-- the row that is there afterwards
+abbrev pub row_of : {K V : Type 0} → Edit K V → Option V
+row_of (Put key row) = Some row
+row_of (Take key) = None
 
 -- the rows after one change
 abbrev pub rows_after : {K V : Type 0} → (K → K → Ordering) → List (K × V) → Edit K V → List (K × V)

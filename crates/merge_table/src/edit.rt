@@ -51,6 +51,8 @@ impl<K: TableKey, V: Drop> Table<K, V> {
     }
 
     /// Takes all memory that the changes need, and makes none of them.
+    ///
+    /// After a refusal, room that was made stays as room.
     #[tactic(auto, unfolding(crate::specs::Edits::IsReady))]
     pub fn prepare(&mut self, edits: &[Edit<K, V>]) -> Result<(), AllocError>
         ensures rows { self.new.rows ≡ self.old.rows }
@@ -65,7 +67,7 @@ impl<K: TableKey, V: Drop> Table<K, V> {
         Ok(())
     }
 
-    /// Makes the changes in their order.
+    /// Makes the changes in their order. It takes no memory, so it cannot be refused.
     #[tactic(auto, unfolding(crate::specs::Edits::IsReady))]
     pub fn apply(&mut self, edits: Vec<Edit<K, V>>)
         requires { IsReady K.cmp self.old.slots edits.items }

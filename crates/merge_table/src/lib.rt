@@ -7,6 +7,7 @@
 
 mod edit;
 mod key;
+mod laws;
 mod rows;
 mod table;
 #[cfg(test)]
@@ -14,5 +15,6 @@ mod tests;
 
 pub use edit::Edit;
 pub use key::TableKey;
+pub use laws::{look_ups_after, rows_from_look_ups};
 pub use rows::Rows;
 pub use table::Table;

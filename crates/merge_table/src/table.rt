@@ -20,6 +20,9 @@ use std::ops::RangeBounds;
 /// A table whose rows stand in the order of their keys.
 ///
 /// Contracts see its `rows`, and its `slots`: the keys that have a slot, with a row or without.
+/// A type that shows its table as the `rows` alone shows nothing of its room.
+///
+/// A look-up and a change at one key cost the logarithm of the number of slots.
 #[derive(Debug, Drop)]
 pub struct Table<K: TableKey, V: Drop> {
     slots: BTreeMap<K, Option<V>>,
@@ -48,14 +51,14 @@ impl<K: TableKey, V: Drop> Table<K, V> {
         }
     }
 
-    /// How many rows there are.
+    /// How many rows there are, known without a walk.
     pub fn len(&self) -> usize
         ensures { result ≡ length self.now.rows }
     {
         self.held
     }
 
-    /// How many slots are without a row.
+    /// How many slots are without a row, known without a walk.
     pub fn spare(&self) -> usize
         ensures { result + length self.now.rows ≡ length self.now.slots }
     {

@@ -1,4 +1,4 @@
-use Rattle.std.proofs.Common.{sym, ap, ◌∙◌, length}
+use Rattle.std.proofs.Common.{sym, ◌∙◌}
 use Rattle.std.proofs.lemmas.Map.{keys-set_value}
 use Rattle.merge_table.proofs.Slots.{lookup-rows, rows-unset, rows-remove}
 use Rattle.merge_table.proofs.Counts.{taken_le, count-taken}

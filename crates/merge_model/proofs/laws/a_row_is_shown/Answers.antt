@@ -18,7 +18,7 @@ use Rattle.merge_model.specs.Script.{events_of, has_no_event}
 use Rattle.merge_model.specs.Text.{texts}
 use Rattle.merge_model.specs.World.{World, empty_world, joined, answered, fetched, rows_at, Run}
 use Rattle.merge_model.specs.Worked.{a_row_goes_over, its_answers}
-use Rattle.merge_model.proofs.worked.a_row_is_shown.Goals as goal
+use Rattle.merge_model.proofs.laws.a_row_is_shown.Goals as goal
 
 events : List Event
 events = Insert (Int (pos 7)) ∷ Sync ∷ Show (record { 0 = 1 }) ∷ []
