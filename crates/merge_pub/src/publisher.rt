@@ -1,5 +1,6 @@
 //! The publisher, kept in memory.
-ghost use Rattle.std.specs.Prelude.{◌≡◌, ◌<◌, ◌≤◌, ◌^◌, ◌++◌, ◌∷◌, [], IfOk, IfErr, OnOk, OnErr};
+ghost use Rattle.std.specs.Prelude.{◌≡◌, ◌<◌, ◌≤◌, ◌^◌, ◌++◌, ◌∷◌, [], IfOk, IfErr, OnOk, OnErr, true, false, length, map, nat_le};
+ghost use Rattle.std.specs.List.Sorted.{IsNonDecreasingBy, IsPartitionPoint};
 ghost use Rattle.merge_model.specs.Publisher.{IsInsert, FitSettings, with_row, empty_publisher, changed, inserted_values, next_row, closing, items_after, publisher_rows, greatest_counter, MayRefuse, site_row};
 
 use merge_model::{Downloaded, Refusal, Row, RowList, SiteRow};
@@ -25,15 +26,14 @@ pub struct Publisher {
 }
 
 impl Model for Publisher {
-    ghost use Rattle.std.specs.Prelude.{◌≤◌, ◌+◌, ◌^◌};
     ghost use Rattle.merge_model.specs.Publisher.{PublisherTables};
+    ghost use Rattle.merge_pub.specs.Sound.{IsSound};
 
     ghost Value = { PublisherTables };
 
     ghost view = { λ p. record { rows = p.rows.items; made = p.made; closed = p.closed; filled = p.filled } };
 
-    // each closed generation had an entry, and each entry is a change
-    ghost invariant = { λ p. (p.closed + p.filled ≤ p.made) × (p.made ≤ 2 ^ 61) };
+    ghost invariant = { λ p. IsSound p.rows.items p.made p.closed p.filled };
 }
 
 impl Publisher {
@@ -206,17 +206,33 @@ fn site_row_of(row: &Row) -> Result<SiteRow, NoMemory>
     })
 }
 
-// The rows that were made in a generation behind one.
-fn items_of(alloc: Global, rows: &[Row], from: u64) -> Result<RowList, NoMemory>
-    ensures { IfOk result (λ items. items ≡ items_after from rows.now) }
+// How many rows were made in generations up to one, which stand before all others.
+fn count_up_to(rows: &[Row], generation: u64) -> usize
+    requires { IsNonDecreasingBy (λ row. row.generation) rows.now }
+    ensures within { result ≤ length rows.now }
+    ensures point { IsPartitionPoint (λ row. nat_le row.generation generation ≡ true) (λ row. nat_le row.generation generation ≡ false) rows.now result }
+{
+    rows.partition_point(|row| row.generation <= generation)
+}
+
+// The rows without their generations.
+fn site_rows_of(alloc: Global, rows: &[Row]) -> Result<RowList, NoMemory>
+    ensures { IfOk result (λ items. items ≡ map site_row rows.now) }
 {
     let mut items = Listing::empty(alloc);
     for row in rows {
-        if from < row.generation {
-            items.push(site_row_of(row)?)?;
-        }
+        items.push(site_row_of(row)?)?;
     }
     Ok(items)
+}
+
+// The rows that were made in a generation behind one. They stand behind all others.
+fn items_of(alloc: Global, rows: &[Row], from: u64) -> Result<RowList, NoMemory>
+    requires { IsNonDecreasingBy (λ row. row.generation) rows.now }
+    ensures { IfOk result (λ items. items ≡ items_after from rows.now) }
+{
+    let count = count_up_to(rows, from);
+    site_rows_of(alloc, rows.split_at(count).1)
 }
 
 // The rows of an article.
