@@ -1,0 +1,174 @@
+//! The publisher's book of grants.
+ghost use Rattle.std.specs.Prelude.{◌≡◌, ◌<◌, ◌≤◌, ◌+◌, ◌∷◌, [], All, length, insert, vec_len, vec_capacity, IsSome, IfOk, OnErr, IsPermutation};
+ghost use Rattle.merge_ident.specs.declared.grants.Grant.{Grant};
+ghost use Rattle.merge_ident.specs.Grants.{with_grant, AreGrants, AreInOrder};
+ghost use Rattle.merge_ident.specs.Answers.{ask_of, answer_of, grants_after, rule_of, plan_of, plans_of, IsAnswer, NeedsMemory};
+ghost use Rattle.merge_ident.specs.Books.{IsRule, IsReady, book_with, book_with_all};
+
+use crate::{Ask, Grant, GrantAnswer, Grants, IdentFault, Planned, Plans, Rules, asks};
+use merge_types::{Listing, NoMemory, SiteId};
+use std::alloc::Global;
+use std::marker::Model;
+
+/// All ranges that the publisher granted, to subscribers and to itself.
+#[derive(Debug, Drop)]
+pub struct RangeBook {
+    rules: Rules,
+    grants: Vec<Grant>,
+}
+
+impl Model for RangeBook {
+    ghost use Rattle.std.specs.Prelude.{◌-◌, vec_len, vec_capacity};
+    ghost use Rattle.merge_ident.specs.Books.{Book, IsBook};
+
+    ghost Value = { Book };
+
+    ghost view = { λ b. record { rules = b.rules; grants = b.grants.items; room = vec_capacity b.grants - vec_len b.grants } };
+
+    ghost invariant = { λ b. IsBook b.rules b.grants.items };
+}
+
+impl RangeBook {
+    /// A book without grants.
+    pub fn new(alloc: Global, rules: Rules) -> Self
+        requires { All IsRule rules }
+        ensures rules { result.rules ≡ rules }
+        ensures grants { result.grants ≡ [] }
+    {
+        RangeBook {
+            rules,
+            grants: Vec::new(alloc),
+        }
+    }
+
+    /// The book with these grants, in whatever order they come.
+    pub fn restore(rules: Rules, grants: Grants) -> Self
+        requires rules { All IsRule rules }
+        requires grants { AreGrants grants }
+        ensures rules { result.rules ≡ rules }
+        ensures grants { IsPermutation grants result.grants }
+        ensures in_order { AreInOrder result.grants }
+    {
+        let mut grants = grants.into_vec();
+        sort(&mut grants);
+        RangeBook { rules, grants }
+    }
+
+    /// All grants by article and begin, which within an article is the order in which they were
+    /// made.
+    pub fn grants(&self) -> &[Grant]
+        ensures grants { result.now ≡ self.now.grants }
+        ensures in_order { AreInOrder self.now.grants }
+        ensures fit { AreGrants self.now.grants }
+    {
+        &self.grants
+    }
+
+    /// Answers a site that heard of `have` grants of the article. A number that it does not know
+    /// of is told again, so that a lost answer costs no range.
+    pub fn grant(
+        &mut self,
+        site: SiteId,
+        article: u8,
+        have: u64,
+        due: bool,
+    ) -> Result<GrantAnswer, IdentFault>
+        requires { IsSome (rule_of self.old.rules article) }
+        ensures answer { IsAnswer result (answer_of self.old.rules self.old.grants (ask_of site article have due)) }
+        ensures grants { self.new.grants ≡ grants_after self.old.grants (ask_of site article have due) result }
+        ensures rules { self.new.rules ≡ self.old.rules }
+    {
+        let ask = Ask {
+            site,
+            article,
+            have,
+            due,
+        };
+        let planned = self.plan(ask)?;
+        self.make(&planned);
+        planned.answer
+    }
+
+    /// Works out the answer to an ask, takes the memory for it, and grants nothing yet.
+    pub fn plan(&mut self, ask: Ask) -> Result<Planned, NoMemory>
+        requires { IsSome (rule_of self.old.rules ask.article) }
+        ensures planned { IfOk result (λ planned. planned ≡ plan_of self.old.rules self.old.grants ask) }
+        ensures ready { IfOk result (λ planned. IsReady self.new (planned ∷ [])) }
+        ensures memory { OnErr result (NeedsMemory (answer_of self.old.rules self.old.grants ask)) }
+        ensures room { OnErr result (self.old.room ≡ 0) }
+        ensures grants { self.new.grants ≡ self.old.grants }
+        ensures rules { self.new.rules ≡ self.old.rules }
+    {
+        let answer = asks::answer(self.rules.as_slice(), &self.grants, &[], ask);
+        if let Ok(GrantAnswer::Granted { .. }) = answer {
+            self.grants.reserve(1)?;
+        }
+        Ok(Planned { ask, answer })
+    }
+
+    /// Grants what was planned for one ask. It takes no memory.
+    pub fn make(&mut self, planned: &Planned)
+        requires { IsReady self.old (planned.now ∷ []) }
+        ensures { self.new ≡ book_with self.old planned.now }
+    {
+        if let Some(grant) = asks::new_grant(planned) {
+            put(&mut self.grants, grant);
+        }
+    }
+
+    /// Works out the answers to the asks of one step, each as if those before it were granted,
+    /// takes the memory for them all, and grants nothing yet.
+    pub fn plan_all(&mut self, asks: &[Ask]) -> Result<Plans, NoMemory>
+        requires { All (λ ask. IsSome (rule_of self.old.rules ask.article)) asks.now }
+        ensures planned { IfOk result (λ plans. plans ≡ plans_of self.old.rules self.old.grants asks.now) }
+        ensures ready { IfOk result (λ plans. IsReady self.new plans) }
+        ensures grants { self.new.grants ≡ self.old.grants }
+        ensures rules { self.new.rules ≡ self.old.rules }
+    {
+        let alloc = *self.grants.allocator();
+        let (plans, count) = asks::plans(alloc, self.rules.as_slice(), &self.grants, asks)?;
+        self.grants.reserve(count)?;
+        Ok(Listing::new(plans))
+    }
+
+    /// Grants what was planned for the asks of one step. It takes no memory.
+    pub fn make_all(&mut self, plans: &[Planned])
+        requires { IsReady self.old plans.now }
+        ensures { self.new ≡ book_with_all self.old plans.now }
+    {
+        for planned in plans {
+            self.make(planned);
+        }
+    }
+}
+
+// Brings grants into the order of article and begin.
+fn sort(grants: &mut [Grant])
+    requires { AreGrants grants.old }
+    ensures permutation { IsPermutation grants.old grants.new }
+    ensures fit { AreGrants grants.new }
+    ensures in_order { AreInOrder grants.new }
+{
+    grants.sort_unstable_by_key(|grant| (grant.article, grant.range.begin));
+}
+
+// Where a new grant of the article goes.
+fn place(grants: &[Grant], article: u8) -> usize
+    requires { AreInOrder grants.now }
+    ensures bound { result ≤ length grants.now }
+    ensures place { (new : Grant) → new.article ≡ article → insert grants.now result new ≡ with_grant grants.now new }
+{
+    grants.partition_point(|grant| grant.article <= article)
+}
+
+// Writes a grant down where there is room for it.
+fn put(grants: &mut Vec<Grant>, grant: Grant)
+    requires room { vec_len grants.old < vec_capacity grants.old }
+    requires order { AreInOrder grants.old.items }
+    ensures items { grants.new.items ≡ with_grant grants.old.items grant }
+    ensures len { vec_len grants.new ≡ vec_len grants.old + 1 }
+    ensures capacity { vec_capacity grants.new ≡ vec_capacity grants.old }
+{
+    let at = place(grants, grant.article);
+    grants.insert(at, grant).unwrap();
+}

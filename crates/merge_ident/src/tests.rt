@@ -1,0 +1,186 @@
+ghost use Rattle.std.specs.Prelude.{◌≡◌, ◌≤ℤ◌, pos, IfOk, IsSome};
+ghost use Rattle.merge_ident.specs.Answers.{rule_of};
+ghost use Rattle.merge_ident.specs.Holders.{HasValues};
+
+use crate::{
+    Answer, Ask, Grant, GrantAnswer, Holding, IdentFault, IdentityUsedUp, Range, RangeBook,
+    RangeEvent, Ranges, Rule,
+};
+use merge_types::{Listing, SiteId};
+use std::alloc::{AllocError, Global};
+use std::test::Fail;
+
+// A book with one article, whose ranges have two values each.
+fn book(alloc: Global, seed: i64, greatest: i64) -> Result<RangeBook, AllocError>
+    requires seed { pos 1 ≤ℤ seed }
+    requires greatest { pos 1 ≤ℤ greatest }
+    ensures { IfOk result (λ book. IsSome (rule_of book.rules 0)) }
+{
+    let rule = Rule {
+        article: 0,
+        seed,
+        range: 2,
+        pub_range: 2,
+        greatest,
+    };
+    let mut rules = Vec::new(alloc);
+    rules.push(rule)?;
+    Ok(RangeBook::new(alloc, Listing::new(rules)))
+}
+
+fn granted(number: u64, begin: i64, end: i64) -> Answer {
+    Ok(GrantAnswer::Granted {
+        number,
+        range: Range { begin, end },
+    })
+}
+
+fn kept(number: u64, begin: i64, end: i64) -> Answer {
+    Ok(GrantAnswer::Kept {
+        number,
+        range: Range { begin, end },
+    })
+}
+
+fn grant_of(site: u16, number: u64, begin: i64, end: i64) -> Grant {
+    Grant {
+        article: 0,
+        site: SiteId(site),
+        number,
+        range: Range { begin, end },
+    }
+}
+
+#[test]
+fn grants_in_turn(rt: HostRuntime) -> Result<(), Fail> {
+    let mut book = book(rt.alloc(), 1, 8)?;
+    let turns = [
+        (1, 0, true, granted(1, 1, 2)),
+        (1, 0, true, kept(1, 1, 2)),
+        (1, 1, false, Ok(GrantAnswer::NotDue)),
+        (1, 1, true, granted(2, 3, 4)),
+        (0, 0, true, granted(1, 5, 6)),
+        (1, 3, true, Err(IdentFault::TooMany { granted: 2 })),
+        (1, 2, true, granted(3, 7, 8)),
+        (1, 1, true, kept(2, 3, 4)),
+        (
+            1,
+            3,
+            true,
+            Err(IdentFault::NoRange {
+                next: 9,
+                greatest: 8,
+            }),
+        ),
+    ];
+    for (site, have, due, answer) in turns {
+        assert_eq!(rt; book.grant(SiteId(site), 0, have, due), answer);
+    }
+    let grants = [
+        grant_of(1, 1, 1, 2),
+        grant_of(1, 2, 3, 4),
+        grant_of(0, 1, 5, 6),
+        grant_of(1, 3, 7, 8),
+    ];
+    assert_eq!(rt; book.grants(), grants.as_slice());
+    Ok(())
+}
+
+#[test]
+fn ends_at_the_greatest_number(rt: HostRuntime) -> Result<(), Fail> {
+    let mut book = book(rt.alloc(), i64::MAX - 1, i64::MAX)?;
+    assert_eq!(rt;
+        book.grant(SiteId(1), 0, 0, true),
+        granted(1, i64::MAX - 1, i64::MAX)
+    );
+    assert_eq!(rt;
+        book.grant(SiteId(1), 0, 1, true),
+        Err(IdentFault::NoRange {
+            next: 1 << 63,
+            greatest: i64::MAX,
+        })
+    );
+    Ok(())
+}
+
+#[test]
+fn plans_the_asks_of_a_step(rt: HostRuntime) -> Result<(), Fail> {
+    let mut book = book(rt.alloc(), 1, 8)?;
+    let ask = Ask {
+        site: SiteId(1),
+        article: 0,
+        have: 0,
+        due: true,
+    };
+    let plans = book.plan_all(&[ask, ask, Ask { have: 1, ..ask }])?;
+    assert_eq!(rt; book.grants().len(), 0);
+    let answers = [granted(1, 1, 2), kept(1, 1, 2), granted(2, 3, 4)];
+    for (planned, answer) in plans.as_slice().iter().zip(answers) {
+        assert_eq!(rt; planned.answer, answer);
+    }
+    book.make_all(plans.as_slice());
+    assert_eq!(rt; book.grants().len(), 2);
+    Ok(())
+}
+
+// A range of one value, at an end of the integers.
+fn only(value: i64) -> Range
+    ensures { HasValues result }
+{
+    Range {
+        begin: value,
+        end: value,
+    }
+}
+
+#[test]
+fn takes_what_was_received(rt: HostRuntime) -> Result<(), Fail> {
+    let mut ranges = Ranges::new(80);
+    assert_eq!(rt; ranges.take(), Err(IdentityUsedUp { end: 0 }));
+    ranges.receive(1, Range { begin: 1, end: 5 });
+    assert!(rt; ranges.due());
+    ranges.receive(2, only(i64::MAX));
+    for value in [1, 2, 3, 4] {
+        assert!(rt; !ranges.due());
+        assert_eq!(rt; ranges.take(), Ok(value));
+    }
+    assert!(rt; ranges.due());
+    ranges.receive(3, only(i64::MIN));
+    let holding = Holding {
+        have: 3,
+        next: Some(i64::MAX),
+        first: Some(only(i64::MAX)),
+        second: Some(only(i64::MIN)),
+    };
+    assert_eq!(rt; ranges.holding(), holding);
+    assert_eq!(rt; ranges.take(), Ok(i64::MAX));
+    assert_eq!(rt; ranges.take(), Ok(i64::MIN));
+    assert_eq!(rt; ranges.take(), Err(IdentityUsedUp { end: i64::MIN }));
+    Ok(())
+}
+
+#[test]
+fn restores_what_was_kept(rt: HostRuntime) -> Result<(), Fail> {
+    let mut ranges = Ranges::restore(
+        100,
+        3,
+        6,
+        &[Range { begin: 3, end: 4 }, Range { begin: 5, end: 6 }],
+        4,
+    );
+    let events = [
+        RangeEvent::Take,
+        RangeEvent::Receive {
+            number: 4,
+            range: Range { begin: 9, end: 9 },
+        },
+        RangeEvent::Take,
+    ];
+    let plan = ranges.plan(rt.alloc(), &events)?;
+    assert_eq!(rt; plan.answers.as_slice(), [Ok(4), Ok(5)].as_slice());
+    assert_eq!(rt; ranges.next(), Ok(4));
+    ranges.make(plan);
+    assert_eq!(rt; ranges.next(), Ok(6));
+    assert_eq!(rt; ranges.last_end(), 9);
+    Ok(())
+}
