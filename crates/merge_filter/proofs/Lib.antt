@@ -1,0 +1,10 @@
+pub mod Days
+pub mod QuotingLemmas
+pub mod WordLemmas
+pub mod Loop
+pub mod Complete
+pub mod Sound
+pub mod All
+pub mod AnswerLemmas
+pub mod Known
+pub mod Place

@@ -1,0 +1,13 @@
+pub mod Syntax
+pub mod Code
+pub mod Eval
+pub mod Runs
+pub mod Literals
+pub mod Words
+pub mod Quoting
+pub mod Tokens
+pub mod Names
+pub mod Form
+pub mod Types
+pub mod Grammar
+pub mod Answers

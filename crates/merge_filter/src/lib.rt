@@ -1,0 +1,25 @@
+//! The filter language of publications: which rows of an article a subscriber gets.
+#![tactic(auto)]
+
+mod datum;
+mod evaluation;
+mod fault;
+mod filters;
+mod form;
+mod kind;
+mod literals;
+mod names;
+mod parsing;
+mod pieces;
+mod quoted;
+#[cfg(test)]
+mod tests;
+mod tokens;
+mod tree;
+mod types;
+mod word;
+
+pub use evaluation::{Truth, eval};
+pub use fault::FilterFault;
+pub use filters::Filter;
+pub use parsing::parse;

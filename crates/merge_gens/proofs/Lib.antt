@@ -1,0 +1,5 @@
+pub mod ClosedGenerations
+pub mod Plans
+pub mod Sets
+pub mod EntryLists
+pub mod RowLists

@@ -1,0 +1,21 @@
+//! Generations: how a site's entries fill them, what is kept of the closed ones, and when a site has expired.
+#![tactic(auto)]
+
+mod book;
+mod closings;
+mod filling;
+mod index;
+mod plan;
+mod retention;
+mod sites;
+
+pub use book::GenBook;
+pub use closings::{Closing, Closings};
+pub use filling::Filling;
+pub use index::{GenIndex, IndexChange, IndexChanges, IndexEntry, IndexPlan};
+pub use plan::{GenAnswer, GenAnswers, GenChange, GenPlan, Generations};
+pub use retention::expired;
+pub use sites::{Marks, SiteState};
+
+#[cfg(test)]
+mod tests;

@@ -1,0 +1,5 @@
+pub mod Rising
+pub mod Numbers
+pub mod Place
+pub mod Joined
+pub mod Covers

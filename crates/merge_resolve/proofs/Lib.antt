@@ -1,0 +1,4 @@
+pub mod Changes
+pub mod Asked
+pub mod Tallies
+pub mod FitLists

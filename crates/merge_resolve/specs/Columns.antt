@@ -1,0 +1,30 @@
+-- The values of the column that an article names for its resolver.
+use Rattle.std.specs.Prelude.{ℕ, List, [], Option, Some, None, slice_get, if◌then◌else◌, ◌==◌}
+use Rattle.merge_types.specs.declared.Value.{Value}
+use Rattle.merge_units.specs.declared.version.Cell.{Cell}
+use Rattle.merge_units.specs.declared.version.Body.{Body}
+use Rattle.merge_units.specs.declared.version.Body.TheVariants.{Live, Dead}
+
+-- the value at a place of a cell
+abbrev pub cell_value : Option Cell → ℕ → Option Value
+cell_value None at = None
+cell_value (Some cell) at = slice_get cell.values at
+
+-- with row tracking, kind 1, the one cell has all values; with column tracking, kind 2, each column has its own cell.
+-- Kind 3, where one body is dead, compares no column
+abbrev pub value_in : ℕ → List Cell → ℕ → Option Value
+value_in kind cells column =
+    if kind == 1 then cell_value (slice_get cells 0) column else if kind == 2 then cell_value (slice_get cells column) 0 else None
+
+-- the value of the column, where the case names one that the body has
+abbrev pub body_value : ℕ → Body → Option ℕ → Option Value
+body_value kind (Live cells) (Some column) = value_in kind cells column
+body_value kind _ _ = None
+
+-- all values of a row, with row tracking
+abbrev pub values_of : Option Cell → List Value
+values_of None = []
+values_of (Some cell) = cell.values
+
+abbrev pub first_values : List Cell → List Value
+first_values cells = values_of (slice_get cells 0)

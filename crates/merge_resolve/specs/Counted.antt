@@ -1,0 +1,93 @@
+-- What a decision counts as.
+use Rattle.std.specs.Prelude.{ℕ, pos, negsuc, int_le, nat_le, ◌+◌, ◌==◌, ◌&&◌, Bool, true, false, if◌then◌else◌, List, [], ◌∷◌, length, slice_get, slice_set, Option, Some, None}
+use Rattle.merge_types.specs.declared.ColType.{ColType}
+use Rattle.merge_types.specs.declared.ColType.TheVariants as column
+use Rattle.merge_types.specs.declared.Value.{Value}
+use Rattle.merge_types.specs.declared.Value.TheVariants.{Null, Int, Bit, Text, Day, Guid, Bytes}
+use Rattle.merge_units.specs.declared.version.Cell.{Cell}
+use Rattle.merge_units.specs.declared.version.Body.{Body}
+use Rattle.merge_units.specs.declared.version.Body.TheVariants.{Live, Dead}
+use Rattle.merge_units.specs.declared.case.Side.{Side}
+use Rattle.merge_units.specs.declared.case.Side.TheVariants as side
+use Rattle.merge_units.specs.declared.result.Decision.{Decision}
+use Rattle.merge_units.specs.declared.result.Decision.TheVariants.{KeepPublisher, TakeSubscriber, Custom}
+use Rattle.merge_types.specs.Length.{row_length}
+use Rattle.merge_conflict.specs.declared.case.ConflictCase.{ConflictCase}
+use Rattle.merge_resolve.specs.Columns.{body_value}
+
+-- a Null, or a value of the column's type: a text or bytes of at most 4,000 bytes, a day of the years 0001 to 9999
+unfoldable pub fits_column : ColType → Value → Bool
+fits_column ty Null = true
+fits_column column.Int (Int number) = true
+fits_column column.Bit (Bit bit) = true
+fits_column column.Text (Text text) = nat_le (length text) 4000
+fits_column column.Day (Day day) = int_le (negsuc 719161) day && int_le day (pos 2932896)
+fits_column column.Guid (Guid guid) = true
+fits_column column.Bytes (Bytes bytes) = nat_le (length bytes) 4000
+fits_column _ _ = false
+
+-- the same, of the column at a place
+abbrev pub fits_some : Option ColType → Value → Bool
+fits_some None value = false
+fits_some (Some ty) value = fits_column ty value
+
+abbrev pub fits_place : List ColType → ℕ → Value → Bool
+fits_place types place value = fits_some (slice_get types place) value
+
+-- there is one value for each, and it fits
+abbrev pub fit_all : {A : Type 0} → (A → Value → Bool) → List A → List Value → Bool
+fit_all fits [] [] = true
+fit_all fits (x ∷ xs) (value ∷ values) = fits x value && fit_all fits xs values
+fit_all fits _ _ = false
+
+-- with row tracking there is one value for each column, else one for each conflicting cell in order
+abbrev pub fit_columns : ℕ → List ColType → List ℕ → List Value → Bool
+fit_columns kind types cells values = if kind == 1 then fit_all fits_column types values else fit_all (fits_place types) cells values
+
+-- the identity column keeps its value
+abbrev pub own_placed : ℕ → Value → List ℕ → List Value → List Value
+own_placed identity own [] values = []
+own_placed identity own (place ∷ places) [] = []
+own_placed identity own (place ∷ places) (value ∷ values) = (if place == identity then own else value) ∷ own_placed identity own places values
+
+abbrev pub with_own_value : ℕ → List ℕ → ℕ → Value → List Value → List Value
+with_own_value kind cells identity own values = if kind == 1 then slice_set values identity own else own_placed identity own cells values
+
+abbrev pub with_own : ConflictCase → Option ℕ → Option Value → List Value → List Value
+with_own case (Some identity) (Some own) values = with_own_value case.kind case.cells identity own values
+with_own case _ _ values = values
+
+-- the bytes of the cells that do not conflict
+abbrev pub side_length : Side → Cell → Cell → ℕ
+side_length side.Both ours theirs = 0
+side_length side.Incoming ours theirs = row_length theirs.values
+side_length _ ours theirs = row_length ours.values
+
+abbrev pub kept_length : List Side → List Cell → List Cell → ℕ
+kept_length [] ours theirs = 0
+kept_length (s ∷ sides) [] theirs = 0
+kept_length (s ∷ sides) (p ∷ ours) [] = 0
+kept_length (s ∷ sides) (p ∷ ours) (i ∷ theirs) = side_length s p i + kept_length sides ours theirs
+
+-- each cell has its side, and the row that the values give has at most 8,000 bytes
+abbrev pub is_within : List Side → List Cell → List Cell → List Value → Bool
+is_within sides ours theirs values =
+    length sides == length ours && length sides == length theirs && nat_le (row_length values + kept_length sides ours theirs) 8000
+
+abbrev pub within_or_kept : Bool → List Value → Decision
+within_or_kept true values = Custom values
+within_or_kept false values = KeepPublisher
+
+-- a list that fits counts as one with the identity column's own value. One that does not fit, or gives too long a row,
+-- and each list where one of the bodies is a delete, counts as keeping the publisher's version
+abbrev pub counted_list : List ColType → Option ℕ → List Side → ConflictCase → Body → Body → List Value → Decision
+counted_list types identity sides case (Live ours) (Live theirs) values =
+    if fit_columns case.kind types case.cells values
+    then (let kept = with_own case identity (body_value case.kind case.publisher identity) values in within_or_kept (is_within sides ours theirs kept) kept)
+    else KeepPublisher
+counted_list types identity sides case _ _ values = KeepPublisher
+
+abbrev pub counted_decision : List ColType → Option ℕ → List Side → ConflictCase → Decision → Decision
+counted_decision types identity sides case KeepPublisher = KeepPublisher
+counted_decision types identity sides case TakeSubscriber = TakeSubscriber
+counted_decision types identity sides case (Custom values) = counted_list types identity sides case case.publisher case.incoming values

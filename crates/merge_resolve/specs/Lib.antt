@@ -1,0 +1,10 @@
+pub mod Changes
+pub mod Asked
+pub mod AskingLaws
+pub mod Questions
+pub mod Columns
+pub mod Rules
+pub mod Extremes
+pub mod Sums
+pub mod Losers
+pub mod Counted

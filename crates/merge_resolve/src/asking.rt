@@ -1,0 +1,75 @@
+//! Asking the resolvers of a list.
+ghost use Rattle.std.specs.Prelude.{◌≡◌, ◌<◌, ◌≤◌, ◌+◌, ◌^◌, ◌-◌, ◌≢◌, ℕ, min, IfOk, length, slice_get, slice_index, map, take, All, OnOk, Some};
+ghost use Rattle.merge_resolve.specs.Asked.{raised, says_at, decisions_of, tallies_after};
+ghost use Rattle.merge_resolve.specs.Questions.{question_of};
+ghost use Rattle.merge_resolve.specs.Changes.{ChangesAt};
+
+use crate::Handed;
+use merge_conflict::ConflictCase;
+use merge_types::{Listing, NoMemory};
+use merge_units::Decision;
+use std::alloc::Global;
+
+/// A conflict, and the place of its resolver in the list that was handed in.
+#[derive(Debug, Drop)]
+pub struct Question {
+    pub place: usize,
+    pub case: ConflictCase,
+}
+
+/// The decisions on questions, in their order.
+pub type Decisions = Listing<Decision>;
+
+/// Asks the resolver once.
+pub fn ask(resolver: &mut Handed, alloc: Global, case: &ConflictCase) -> Result<Decision, NoMemory>
+    ensures decision { IfOk result (λ decision. decision ≡ says resolver.old (tally_of resolver.old) case.now) }
+    ensures counted { tally_of resolver.new ≡ min (tally_of resolver.old + 1) (2 ^ 64 - 1) }
+    ensures steady { (n : ℕ) (asked : _) → says resolver.new n asked ≡ says resolver.old n asked }
+{
+    resolver.decide(alloc, case)
+}
+
+/// Asks the resolver at a place once, and no other.
+pub fn ask_at(
+    alloc: Global,
+    resolvers: &mut Vec<Handed>,
+    at: usize,
+    case: &ConflictCase,
+) -> Result<Decision, NoMemory>
+    requires { at < length resolvers.old.items }
+    ensures decision { IfOk result (λ decision. Some decision ≡ says_at (λ r. says r) resolvers.old.items at (slice_index (map (λ r. tally_of r) resolvers.old.items) at) case.now) }
+    ensures tallies { map (λ r. tally_of r) resolvers.new.items ≡ raised (map (λ r. tally_of r) resolvers.old.items) at }
+    ensures steady { (k n : ℕ) (asked : _) → says_at (λ r. says r) resolvers.new.items k n asked ≡ says_at (λ r. says r) resolvers.old.items k n asked }
+    ensures len { length resolvers.new.items ≡ length resolvers.old.items }
+    ensures others { ChangesAt
+        (λ r s. (tally_of s ≡ min (tally_of r + 1) (2 ^ 64 - 1)) × ((n : ℕ) (asked : _) → says s n asked ≡ says r n asked))
+        resolvers.old.items resolvers.new.items at }
+{
+    let resolver = &mut resolvers[at];
+    ask(resolver, alloc, case)
+}
+
+/// Asks about each conflict once, in order.
+pub fn ask_all(
+    alloc: Global,
+    resolvers: &mut Vec<Handed>,
+    questions: &[Question],
+) -> Result<Decisions, NoMemory>
+    requires { All (λ question. question.place < length resolvers.old.items) questions.now }
+    ensures decisions { IfOk result (λ decisions. map Some decisions
+        ≡ decisions_of (says_at (λ r. says r) resolvers.old.items) (map (λ r. tally_of r) resolvers.old.items) (map question_of questions.now)) }
+    ensures tallies { OnOk result (map (λ r. tally_of r) resolvers.new.items
+        ≡ tallies_after (map (λ r. tally_of r) resolvers.old.items) (map question_of questions.now)) }
+
+    // Where memory is wanting, some first questions were asked.
+    ensures asked { (n : ℕ) × (n ≤ length questions.now) × (map (λ r. tally_of r) resolvers.new.items
+        ≡ tallies_after (map (λ r. tally_of r) resolvers.old.items) (map question_of (take n questions.now))) }
+    ensures steady { (k n : ℕ) (asked : _) → says_at (λ r. says r) resolvers.new.items k n asked ≡ says_at (λ r. says r) resolvers.old.items k n asked }
+    ensures len { length resolvers.new.items ≡ length resolvers.old.items }
+{
+    let mut decisions = Decisions::empty(alloc);
+    for question in questions {
+        decisions.push(ask_at(alloc, resolvers, question.place, &question.case)?)?;
+    }
+    Ok(decisions)
+}
