@@ -15,7 +15,7 @@ pub returns : goal.returns
 returns c =
     let count = c.count_up_to-count in
     let behind : filter (is_after c.args.from) c.args.rows.now ≡ drop count.result c.args.rows.now =
-        suffix (is_after c.args.from) c.args.rows.now count.result count.ensures.within
-        (λ k d l m. up_to c.args.from _ (count.ensures.point.0 k d l m))
-        (λ k d l m. above c.args.from _ (count.ensures.point.1 k d l m)) in
+    suffix (is_after c.args.from) c.args.rows.now count.result count.ensures.within
+    (λ k d l m. up_to c.args.from _ (count.ensures.point.0 k d l m))
+    (λ k d l m. above c.args.from _ (count.ensures.point.1 k d l m)) in
     rw (behind, ← c.split_at.ensures.back) c.site_rows_of.ensures
