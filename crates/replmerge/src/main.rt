@@ -14,16 +14,20 @@ use merge_ports::{Reading, Writing};
 use merge_types::{NoMemory, Words};
 use run::{Host, Status, run};
 use std::env;
+use std::io::ErrorKind;
 use std::process::ExitCode;
 
-// The words behind the program's name. Where some are no text, none counts.
+// The words behind the program's name. Where one is no text, there are none.
 fn words(rt: &HostRuntime) -> Result<Vec<Words>, NoMemory> {
     let mut words = Vec::new(rt.alloc());
-    let Ok(args) = env::args(rt) else {
-        return Ok(words);
-    };
-    for arg in args.skip(1) {
-        words.push(Words::new(arg))?;
+    match env::args(rt) {
+        Ok(args) => {
+            for arg in args.skip(1) {
+                words.push(Words::new(arg))?;
+            }
+        }
+        Err(fault) if fault.kind() == ErrorKind::OutOfMemory => return Err(NoMemory),
+        Err(_) => {}
     }
     Ok(words)
 }

@@ -131,6 +131,7 @@ fn words_and_publications(rt: HostRuntime) -> Result<(), Fail> {
     let bare = Listing::new(publication_text().to_vec(rt.alloc())?);
     let mut bare = host(rt.alloc(), bare, &[], &[])?;
     assert_eq!(rt; run(rt.alloc(), words.as_slice(), &mut bare), Status::DONE);
+    assert_eq!(rt; bare.output.bytes.as_slice(), b"".as_slice());
     words.push(Words::of(rt.alloc(), "extra")?)?;
     let mut extra = host(rt.alloc(), input(rt.alloc(), b"")?, &[], &[])?;
     assert_eq!(rt;
