@@ -1,5 +1,5 @@
 -- Lists that do not fit.
-use Rattle.std.proofs.Common.{◌≡◌, ◌≢◌, ℕ, ◌+◌, Bool, true, false, List, [], ◌∷◌, length, refl, arith}
+use Rattle.std.proofs.Common.{◌≡◌, ◌≢◌, Bool, false, List, [], ◌∷◌, length, refl, arith}
 use Rattle.merge_types.specs.declared.Value.{Value}
 use Rattle.merge_resolve.specs.Counted.{fit_all}
 

@@ -3,7 +3,7 @@ use Rattle.std.specs.Prelude.{ℕ, List, [], Option, Some, None, slice_get, if�
 use Rattle.merge_types.specs.declared.Value.{Value}
 use Rattle.merge_units.specs.declared.version.Cell.{Cell}
 use Rattle.merge_units.specs.declared.version.Body.{Body}
-use Rattle.merge_units.specs.declared.version.Body.TheVariants.{Live, Dead}
+use Rattle.merge_units.specs.declared.version.Body.TheVariants.{Live}
 
 -- the value at a place of a cell
 abbrev pub cell_value : Option Cell → ℕ → Option Value

@@ -3,12 +3,12 @@ ghost use Rattle.std.specs.Prelude.{◌≡◌, IfOk};
 
 use crate::{
     Additive, Handed, Maximum, Minimum, Priority, Question, Resolver, SubscriberWins, ask_all,
-    losing_rows,
+    counted_decision, losing_rows,
 };
 use merge_conflict::{ConflictCase, Places, Verdict};
 use merge_lineage::Lineage;
-use merge_types::{Dot, Moment, NoMemory, RowId, SiteId, Value, Values};
-use merge_units::{Body, Cell, Cells, Decision, Version};
+use merge_types::{ColType, Dot, Moment, NoMemory, RowId, SiteId, Value, Values};
+use merge_units::{Body, Cell, Cells, Decision, Side, Version};
 use std::alloc::Global;
 use std::test::Fail;
 
@@ -239,6 +239,36 @@ fn losers_are_kept(rt: HostRuntime) -> Result<(), Fail> {
         for row in rows.as_slice() {
             assert_eq!(rt; (row.kind, row.from, row.verdict), (*kind, *from, *verdict));
         }
+    }
+    // Where other values are decided both lose, the publisher's first.
+    let custom = Decision::Custom(Values::empty(rt.alloc()));
+    let rows = losing_rows(rt.alloc(), 5, &asked, &ours, &theirs, &custom)?;
+    assert_eq!(rt; rows.len(), 2);
+    let told = [(5, SiteId(0)), (6, SiteId(7))];
+    for (row, (number, from)) in rows.as_slice().iter().zip(&told) {
+        assert_eq!(rt; (row.number, row.from), (*number, *from));
+    }
+    Ok(())
+}
+
+#[test]
+fn lists_count_where_they_fit(rt: HostRuntime) -> Result<(), Fail> {
+    let asked = case(rt.alloc(), 2, &Value::Int(1), &Value::Int(2), false)?;
+    let types = [ColType::Int, ColType::Int];
+    let sides = [Side::Both, Side::Neither];
+    let lists = [
+        (1, None, Expected::Sum(Value::Int(42))),
+        (1, Some(0), Expected::Sum(Value::Int(1))),
+        (2, None, Expected::Keep),
+    ];
+    for (count, identity, told) in &lists {
+        let mut values = Values::empty(rt.alloc());
+        for _ in 0..*count {
+            values.push(Value::Int(42))?;
+        }
+        let decision = Decision::Custom(values);
+        let counted = counted_decision(rt.alloc(), &types, *identity, &sides, &asked, decision)?;
+        assert!(rt; is_expected(&counted, told, 2, false));
     }
     Ok(())
 }
