@@ -2,7 +2,7 @@
 ghost use Rattle.std.specs.Prelude.{◌≡◌, ◌≢◌, All, ◌<◌, ◌≤◌, ◌+◌, ◌*◌, ◌^◌, ℕ, IfOk, IfSome, IfNone};
 ghost use Rattle.merge_types.specs.Rows.{row_number, row_text, HasFirstPoint, IsDotText, IsMadeBy, IsRowLiteral};
 
-use crate::literal::{guid, read_decimal};
+use crate::literal::{guid, read_decimal, read_guid};
 use crate::{Exact, NoMemory, Words};
 use std::alloc::{AllocError, Global};
 
@@ -111,7 +111,7 @@ impl RowId {
         ensures some { IfSome result (λ row. IsRowLiteral text.now row.0) }
         ensures none { IfNone result ((row : ℕ) → IsRowLiteral text.now row → ⊥) }
     {
-        if let Some(number) = guid::read(text) {
+        if let Some(number) = read_guid(text) {
             let row = RowId(number);
             return match row.maker() {
                 Some(_) => Some(row),

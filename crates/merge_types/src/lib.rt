@@ -16,7 +16,7 @@ pub use changes::{Change, Setting, Settings, Tracking};
 pub use fault::NoMemory;
 pub use identifiers::{Dot, HostName, Moment, RowId, SiteId};
 pub use listing::{Exact, Listing, Octets};
-pub use literal::{read_decimal, read_int};
+pub use literal::{read_day, read_decimal, read_guid, read_int};
 pub use steps::Steps;
 pub use values::{ColType, Column, Value, Values};
 pub use words::Words;

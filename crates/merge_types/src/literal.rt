@@ -10,6 +10,8 @@ mod number;
 mod quoted;
 
 use crate::{NoMemory, Value, Words};
+pub use day::read_day;
+pub use guid::read_guid;
 pub use number::{read_decimal, read_int};
 use std::alloc::Global;
 
@@ -68,10 +70,10 @@ fn read_literal(alloc: Global, text: &[u8]) -> Result<Option<Value>, NoMemory>
     if let Some(number) = read_int(text) {
         return Ok(Some(Value::Int(number)));
     }
-    if let Some(day) = day::read(text) {
+    if let Some(day) = day::read_day(text) {
         return Ok(Some(Value::Day(day)));
     }
-    if let Some(number) = guid::read(text) {
+    if let Some(number) = guid::read_guid(text) {
         return Ok(Some(Value::Guid(number)));
     }
     if let Some(words) = quoted::read(alloc, text)? {

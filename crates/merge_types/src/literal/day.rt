@@ -64,7 +64,7 @@ fn push_two(out: &mut String, number: u8) -> Result<(), AllocError>
 }
 
 /// The day of a date that is written as YYYY-MM-DD.
-pub fn read(text: &[u8]) -> Option<i32>
+pub fn read_day(text: &[u8]) -> Option<i32>
     ensures some { IfSome result (IsDayText text.now) }
     ensures none { IfNone result ((day : ℤ) → IsDayText text.now day → ⊥) }
 {

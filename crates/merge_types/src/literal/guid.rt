@@ -18,7 +18,7 @@ pub fn print(alloc: Global, number: u128) -> Result<Words, NoMemory>
 }
 
 /// The number of the 36 characters, in either case.
-pub fn read(text: &[u8]) -> Option<u128>
+pub fn read_guid(text: &[u8]) -> Option<u128>
     ensures some { IfSome result (IsGuidText text.now) }
     ensures none { IfNone result ((number : ℕ) → IsGuidText text.now number → ⊥) }
 {

@@ -33,8 +33,8 @@ returns-in-None-clause-none c = no_literal c.args.text.now (record {
   null = c.in_default.ensures.null;
   bit = c.in_default.ensures.bit;
   int = λ number is. c.in_default-read_int.ensures.none number is.0 is.1;
-  day = c.in_default-read.ensures.none;
-  guid = c.in_default-read-2.ensures.none;
+  day = c.in_default-read_day.ensures.none;
+  guid = c.in_default-read_guid.ensures.none;
   text_is = rw c.in_default-2.is at c.in_ok-words.ensures.none;
   bytes = rw c.in-None.is at c.in_ok-octets.ensures.none;
 })

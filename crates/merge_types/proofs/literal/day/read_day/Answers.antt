@@ -2,7 +2,7 @@ use Rattle.std.proofs.Common.{rules, ℕ, ℤ, ◌<◌, ◌+◌, ◌*◌, List, 
 use Rattle.std.specs.Prelude.{IfSome, IfNone}
 use Rattle.merge_types.specs.Day.{IsDateOf, IsDayText}
 use Rattle.merge_types.proofs.DateTexts.{Reads, day_from, day_only}
-use Rattle.merge_types.proofs.literal.day.read.Goals as goal
+use Rattle.merge_types.proofs.literal.day.read_day.Goals as goal
 
 some_day : (t : List ℕ) (c y m d : ℕ) (o : Option ℤ) → c < 100 → y < 100 → Reads t c y m d → IfSome o (IsDateOf (c * 100 + y) m d) → IfSome o (IsDayText t)
 some_day t c y m d (Some day) lc ly r is = day_from t c y m d day lc ly r is

@@ -4,7 +4,7 @@ use Rattle.std.specs.Char.{to_ascii_lowercase}
 use Rattle.merge_types.specs.Guid.{guid_text}
 use Rattle.merge_types.proofs.Guids.{length-IsGuidText, IsAscii-guid_text}
 use Rattle.merge_types.proofs.Texts.{IsUtf8-same_ascii}
-use Rattle.merge_types.proofs.literal.guid.read.Goals as goal
+use Rattle.merge_types.proofs.literal.guid.read_guid.Goals as goal
 
 pub returns-then-text-ne36-clause-none : goal.returns-then-text-ne36-clause-none
 returns-then-text-ne36-clause-none c = λ n is. omega (arith, length-IsGuidText c.args.text.now n is)
