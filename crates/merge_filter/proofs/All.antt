@@ -1,17 +1,14 @@
 -- The two laws of all of the words.
-use Rattle.std.proofs.Common.{◌≡◌, ℕ, ◌≤◌, List, [], ◌∷◌, ◌++◌, length, Ok, None, refl, sym, ap, ◌∙◌, arith}
+use Rattle.std.proofs.Common.{◌≡◌, ℕ, ◌≤◌, List, [], ◌∷◌, ◌++◌, length, Ok, refl, sym, ap, ◌∙◌, arith}
 use Rattle.std.proofs.lemmas.List.{append-nil}
 use Rattle.merge_types.specs.declared.values.Column.{Column}
 use Rattle.merge_filter.specs.declared.word.Word.{Word}
 use Rattle.merge_filter.specs.Syntax.{Syntax}
-use Rattle.merge_filter.specs.Form.{behind_and, behind_or, filter_of, neg_at, many, ended, all_of}
+use Rattle.merge_filter.specs.Form.{filter_of, neg_at, many, ended, all_of}
 use Rattle.merge_filter.specs.Grammar.{IsFilter, filter_words}
 use Rattle.merge_filter.proofs.Complete.{filter_reads}
+use Rattle.merge_filter.proofs.Heads.{no_word}
 use Rattle.merge_filter.proofs.Sound.{all_sound, bind_ok}
-
-no_word : (behind_and [] ≡ None) × (behind_or [] ≡ None)
-unfolding behind_and behind_or
-no_word = (refl, refl)
 
 ended_is : (x : Syntax) (ws : List Word) (t : Syntax) → ended x ws ≡ Ok t → (x ≡ t) × (ws ≡ [])
 ended_is x [] t e = (cc, refl)

@@ -1,5 +1,5 @@
--- The answers for the words of a text.
-use Rattle.std.proofs.Common.{◌≡◌, ℕ, ◌≤◌, length, slice_index_or, Bool, true, false, List, Option, Some, None, Err, sym, ap}
+-- The answers for the words of a text, but for want of memory.
+use Rattle.std.proofs.Common.{◌≡◌, ℕ, slice_index_or, Bool, true, false, List, Option, Some, None, Result, Err, refl, sym, ap, ◌⊎◌, inl, inr}
 use Rattle.merge_types.specs.declared.values.Column.{Column}
 use Rattle.merge_filter.specs.declared.fault.FilterFault.{FilterFault}
 use Rattle.merge_filter.specs.declared.fault.FilterFault.TheVariants as faults
@@ -8,12 +8,12 @@ use Rattle.merge_filter.specs.declared.form.FormFault.TheVariants as forms
 use Rattle.merge_filter.specs.declared.form.Stuck.TheVariants as stuck
 use Rattle.merge_filter.specs.declared.word.Word.{Word}
 use Rattle.merge_filter.specs.Answers.{IsReading, name_fault, unknown, mismatch, form_fault}
-use Rattle.merge_filter.specs.Form.{all_of, Fails, many}
+use Rattle.merge_filter.specs.Form.{all_of, Fails}
 use Rattle.merge_filter.specs.Grammar.{IsFilter}
 use Rattle.merge_filter.specs.Names.{unknown_name}
 use Rattle.merge_filter.specs.Syntax.{Syntax}
 use Rattle.merge_filter.specs.Types.{unlike_sign}
-use Rattle.merge_filter.proofs.Place.{bad_form_is, too_deep_is}
+use Rattle.merge_filter.proofs.Place.{AreFew, bad_form_is, too_deep_is}
 
 abbrev some : FilterFault → Option FilterFault
 some f = Some f
@@ -29,17 +29,18 @@ later places (Some index) m f e = let same : faults.UnknownColumn (slice_index_o
 later places None (Some place) f e = let same : faults.TypeMismatch place ≡ f = cc in ap is_later (sym same)
 later places None None f e = absurd cc
 
+-- what is answered for the words, or want of memory
+abbrev pub IsReadingOr : List ℕ → List Column → List Word → List ℕ → Result Syntax FilterFault → Type 0
+IsReadingOr text columns words places answer = (answer ≡ Err faults.NoMemory) ⊎ IsReading text columns words places answer
+
 pub name_refusal : (text : List ℕ) (columns : List Column) (words : List Word) (places : List ℕ) (tree : Syntax) (f : FilterFault)
     → IsFilter columns 32 words tree → name_fault columns words places tree ≡ some f → IsReading text columns words places (Err f)
 name_refusal text columns words places tree (faults.UnknownColumn place) is e = (tree, is, e)
 name_refusal text columns words places tree (faults.TypeMismatch place) is e = (tree, is, e)
-name_refusal text columns words places tree (faults.BadToken place) is e = absurd (let no = later places (unknown_name columns words) (unlike_sign columns tree) _ e in cc)
-name_refusal text columns words places tree (faults.BadForm place) is e = absurd (let no = later places (unknown_name columns words) (unlike_sign columns tree) _ e in cc)
-name_refusal text columns words places tree faults.TooDeep is e = absurd (let no = later places (unknown_name columns words) (unlike_sign columns tree) _ e in cc)
-name_refusal text columns words places tree faults.NoMemory is e = tt
+name_refusal text columns words places tree f is e = absurd (let no = later places (unknown_name columns words) (unlike_sign columns tree) _ e in cc)
 
-pub form_refusal : (text : List ℕ) (columns : List Column) (words : List Word) (places : List ℕ) (f : FormFault) → length words ≤ many
-    → Fails f (all_of columns 32 words) → IsReading text columns words places (Err (form_fault text places f))
-form_refusal text columns words places forms.NoMemory fits e = tt
-form_refusal text columns words places (forms.Stuck (stuck.BadForm left)) fits e = bad_form_is columns text words places left fits e
-form_refusal text columns words places (forms.Stuck (stuck.TooDeep left)) fits e = too_deep_is columns words left fits e
+pub form_refusal : (text : List ℕ) (columns : List Column) (words : List Word) (places : List ℕ) (f : FormFault) → AreFew words
+    → Fails f (all_of columns 32 words) → IsReadingOr text columns words places (Err (form_fault text places f))
+form_refusal text columns words places forms.NoMemory few e = inl refl
+form_refusal text columns words places (forms.Stuck (stuck.BadForm left)) few e = inr (bad_form_is columns text words places left few e)
+form_refusal text columns words places (forms.Stuck (stuck.TooDeep left)) few e = inr (too_deep_is columns words left few e)

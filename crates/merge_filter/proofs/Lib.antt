@@ -1,4 +1,3 @@
-pub mod Days
 pub mod QuotingLemmas
 pub mod WordLemmas
 pub mod Loop
@@ -7,4 +6,12 @@ pub mod Sound
 pub mod All
 pub mod AnswerLemmas
 pub mod Known
+pub mod Refusal
+pub mod Heads
+pub mod Atoms
+pub mod Parts
+pub mod Levels
 pub mod Place
+pub mod Cut
+pub mod UniqueWords
+pub mod UniqueAnswers

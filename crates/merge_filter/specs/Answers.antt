@@ -71,18 +71,13 @@ IsReading text columns words places (Err (faults.BadForm place)) = IsBadForm tex
 IsReading text columns words places (Err (faults.UnknownColumn place)) = IsNameFault columns words places (faults.UnknownColumn place)
 IsReading text columns words places (Err (faults.TypeMismatch place)) = IsNameFault columns words places (faults.TypeMismatch place)
 IsReading text columns words places (Err faults.TooDeep) = IsTooDeep words
-IsReading text columns words places (Err faults.NoMemory) = Unit {0}
+IsReading text columns words places (Err faults.NoMemory) = ⊥
 
 -- the words of the text have this answer
 abbrev pub IsWordAnswer : List Column → List ℕ → Result Syntax FilterFault → Type 0
 IsWordAnswer columns text answer = (words : List Word) × (places : List ℕ) × AreAllWords text words places × IsReading text columns words places answer
 
--- all words are read first; want of memory is always an answer
+-- the answer that the language gives a text: all words are read first, and want of memory is no such answer
 abbrev pub IsAnswer : List Column → List ℕ → Result Syntax FilterFault → Type 0
-IsAnswer columns text (Ok tree) = IsWordAnswer columns text (Ok tree)
 IsAnswer columns text (Err (faults.BadToken place)) = IsBadToken text place
-IsAnswer columns text (Err (faults.BadForm place)) = IsWordAnswer columns text (Err (faults.BadForm place))
-IsAnswer columns text (Err (faults.UnknownColumn place)) = IsWordAnswer columns text (Err (faults.UnknownColumn place))
-IsAnswer columns text (Err (faults.TypeMismatch place)) = IsWordAnswer columns text (Err (faults.TypeMismatch place))
-IsAnswer columns text (Err faults.TooDeep) = IsWordAnswer columns text (Err faults.TooDeep)
-IsAnswer columns text (Err faults.NoMemory) = Unit {0}
+IsAnswer columns text answer = IsWordAnswer columns text answer

@@ -1,5 +1,5 @@
 -- The grammar: what each part is made of, the words that spell it, its tree, and the levels that it opens.
-use Rattle.std.specs.Prelude.{◌≡◌, ℕ, suc, ◌≤◌, max, ℤ, pos, Bool, true, false, List, [], ◌∷◌, ◌++◌, Option, Some, ◌^◌, ◌<◌, length}
+use Rattle.std.specs.Prelude.{◌≡◌, ℕ, suc, ◌≤◌, max, ℤ, pos, Bool, true, false, List, [], ◌∷◌, ◌++◌, Option, Some}
 use Rattle.merge_types.specs.declared.values.Column.{Column}
 use Rattle.merge_types.specs.declared.values.Value.TheVariants as values
 use Rattle.merge_filter.specs.declared.word.Word.{Word}
@@ -151,17 +151,15 @@ Begins levels words = (f : Filter) × (more : List Word) × (filter_words f ≡ 
 abbrev pub BeginsSome : List Word → Type 0
 BeginsSome words = (f : Filter) × (more : List Word) × (filter_words f ≡ words ++ more)
 
--- None of the following speaks of filters of 2 ^ 64 words or more, which no text has.
-
 -- no filter begins with these words
 abbrev pub NoneBegins : List Word → Type 0
-NoneBegins words = (f : Filter) (more : List Word) → length (filter_words f) < 2 ^ 64 → filter_words f ≡ words ++ more → ⊥
+NoneBegins words = (f : Filter) (more : List Word) → filter_words f ≡ words ++ more → ⊥
 
 -- no filter with at most so many levels open begins with these words
 abbrev pub NoneBeginsWithin : ℕ → List Word → Type 0
-NoneBeginsWithin levels words = (f : Filter) (more : List Word) → length (filter_words f) < 2 ^ 64 → filter_levels f ≤ levels → filter_words f ≡ words ++ more → ⊥
+NoneBeginsWithin levels words = (f : Filter) (more : List Word) → filter_levels f ≤ levels → filter_words f ≡ words ++ more → ⊥
 
 -- no filter goes on with the first of the words that are left; where none is left, the words before are no filter
 abbrev pub NoneGoesOn : List Word → List Word → Type 0
-NoneGoesOn front [] = (f : Filter) → length (filter_words f) < 2 ^ 64 → filter_words f ≡ front → ⊥
+NoneGoesOn front [] = (f : Filter) → filter_words f ≡ front → ⊥
 NoneGoesOn front (v ∷ left) = NoneBegins (front ++ v ∷ [])

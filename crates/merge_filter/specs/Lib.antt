@@ -2,7 +2,6 @@ pub mod Syntax
 pub mod Code
 pub mod Eval
 pub mod Runs
-pub mod Literals
 pub mod Words
 pub mod Quoting
 pub mod Tokens

@@ -12,7 +12,8 @@ use Rattle.merge_filter.specs.declared.kind.Kind.TheVariants as kinds
 use Rattle.merge_filter.specs.declared.word.Sign.TheVariants.{Equal, Unequal, Less, AtMost, Greater, AtLeast}
 use Rattle.merge_filter.specs.declared.word.Word.{Word}
 use Rattle.merge_filter.specs.declared.word.Word.TheVariants as w
-use Rattle.merge_filter.specs.Literals.{IsDayText, IsGuidText}
+use Rattle.merge_types.specs.Day.{IsDayText}
+use Rattle.merge_types.specs.Guid.{IsGuidText}
 use Rattle.merge_filter.specs.Runs.{is_letter, is_name_byte, behind_blanks, kind_of, run_len}
 
 -- whether two texts are one but for the case of letters of ASCII

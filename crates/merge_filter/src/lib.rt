@@ -7,7 +7,6 @@ mod fault;
 mod filters;
 mod form;
 mod kind;
-mod literals;
 mod names;
 mod parsing;
 mod pieces;

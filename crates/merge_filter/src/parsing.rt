@@ -1,8 +1,8 @@
 //! Filter texts.
-ghost use Rattle.std.specs.Prelude.{◌≡◌, ◌≤◌, length, slice_index_or, IfOk};
+ghost use Rattle.std.specs.Prelude.{◌≡◌, ◌≤◌, ◌⊎◌, length, slice_index_or, Result, Err, IfOk};
 ghost use Rattle.merge_filter.specs.Answers.{IsAnswer, IsReading, token_fault, form_fault, name_fault, place_left};
 ghost use Rattle.merge_filter.specs.Eval.{width};
-ghost use Rattle.merge_filter.specs.Syntax.{syntax};
+ghost use Rattle.merge_filter.specs.Syntax.{Syntax, syntax};
 
 use crate::fault::FilterFault;
 use crate::filters::Filter;
@@ -76,7 +76,7 @@ fn filter_of(
     columns: &[Column],
     tokens: &Tokens,
 ) -> Result<Filter, FilterFault>
-    ensures answer { IsReading text.now columns.now tokens.now.words.items tokens.now.places.items result }
+    ensures answer { (result ≡ Err FilterFault.NoMemory) ⊎ IsReading text.now columns.now tokens.now.words.items tokens.now.places.items result }
     ensures fits { IfOk result (λ filter. width filter ≤ length columns.now) }
 {
     match form(alloc, columns, &tokens.words) {
@@ -89,9 +89,11 @@ fn filter_of(
 }
 
 /// The filter that a text writes over these columns. All words are read first, then their form
-/// and depth in reading order, then the names, then the types; the first fault is answered.
+/// and depth in reading order, then the names, then the types; the first fault is answered. The
+/// language gives a text one answer, and this is it unless memory ran out.
 pub fn parse(alloc: Global, text: &[u8], columns: &[Column]) -> Result<Filter, FilterFault>
-    ensures answer { IsAnswer columns.now text.now result }
+    ensures answer { (result ≡ Err FilterFault.NoMemory) ⊎ IsAnswer columns.now text.now result }
+    ensures only { (answer : Result Syntax FilterFault) → IsAnswer columns.now text.now answer → (result ≡ Err FilterFault.NoMemory) ⊎ (result ≡ answer) }
     // A row with a value for each column is one that the filter can be evaluated on.
     ensures fits { IfOk result (λ filter. width filter ≤ length columns.now) }
 {

@@ -10,11 +10,10 @@ ghost use Rattle.merge_filter.specs.declared.word.Word.{Word};
 ghost use Rattle.merge_filter.specs.declared.kind.Kind.TheVariants as kinds;
 
 use crate::kind::{Kind, is_letter, is_name_byte};
-use crate::literals::{read_day, read_guid};
 use crate::quoted::unquoted;
 use crate::word::{Sign, Word};
 use hex::FromHexError;
-use merge_types::{NoMemory, Octets, Words, read_int};
+use merge_types::{NoMemory, Octets, Words, read_day, read_guid, read_int};
 use std::alloc::Global;
 use std::str;
 

@@ -1,7 +1,11 @@
 //! Texts with their answers, and truth tables.
-use crate::{FilterFault, Truth, parse};
-use merge_types::{ColType, Column, HostName, NoMemory, Octets, Value, Words};
+ghost use Rattle.std.specs.Prelude.{◌≡◌, ◌≤◌};
+
+use crate::{FilterFault, Truth, eval, parse};
+use merge_types::{ColType, Column, HostName, NoMemory, Octets, Steps, Value, Words};
 use std::alloc::Global;
+use std::marker::Brand;
+use std::sync::ledger::{Blank, Ledger};
 use std::test::Fail;
 
 fn column(alloc: Global, name: &str, ty: ColType) -> Result<Column, NoMemory> {
@@ -318,17 +322,31 @@ fn row(alloc: Global) -> Result<Vec<Value>, NoMemory> {
 }
 
 fn truth_of(alloc: Global, text: &str) -> Result<Option<Truth>, NoMemory> {
+    truth_counted::<Brand>(alloc, text.as_bytes(), Blank::new(1))
+}
+
+// The same, with the steps counted in the ledger that the blank opens.
+fn truth_counted<L: Ledger>(
+    alloc: Global,
+    text: &[u8],
+    blank: Blank,
+) -> Result<Option<Truth>, NoMemory>
+    requires name { blank.name ≡ L.name }
+    requires parts { blank.parts ≡ L.parts }
+    requires some { 1 ≤ blank.parts }
+{
+    let mut steps = Steps::<L>::new(blank);
     let columns = columns(alloc)?;
     let row = row(alloc)?;
     let host = HostName(Words::of(alloc, "north")?);
-    let Ok(filter) = parse(alloc, text.as_bytes(), &columns) else {
+    let Ok(filter) = parse(alloc, text, &columns) else {
         return Ok(None);
     };
     if row.len() < columns.len() {
         return Ok(None);
     }
     let copy = filter.clone()?;
-    Ok(Some(copy.truth(&row, &host)))
+    Ok(Some(eval(&copy, &row, &host, &mut steps)))
 }
 
 const TRUTHS: [(Truth, &str); 26] = [
