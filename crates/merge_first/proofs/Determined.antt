@@ -3,13 +3,13 @@ use Rattle.std.proofs.Common.{◌≡◌, ℕ, ◌∙◌, refl, sym, ap, subst, a
 use Rattle.std.specs.List.{list_any}
 use Rattle.merge_types.specs.declared.identifiers.RowId.{RowId}
 use Rattle.merge_types.specs.declared.values.Value.{Value}
-use Rattle.merge_model.specs.declared.event.Event.{Event}
-use Rattle.merge_model.specs.declared.event.Event.TheVariants.{Insert, Sync, Show}
-use Rattle.merge_model.specs.declared.answer.Answer.{Answer}
-use Rattle.merge_model.specs.declared.answer.Answer.TheVariants.{Made, Refused, Done, Stopped, Rows}
-use Rattle.merge_model.specs.declared.answer.Refusal.TheVariants.{CounterEnd, NoMemory}
-use Rattle.merge_model.specs.World.{World, InsertStep, SyncStep, ShowStep, Step, Run}
-use Rattle.merge_model.specs.Determined.{wants_memory}
+use Rattle.merge_first.specs.declared.event.Event.{Event}
+use Rattle.merge_first.specs.declared.event.Event.TheVariants.{Insert, Sync, Show}
+use Rattle.merge_first.specs.declared.answer.Answer.{Answer}
+use Rattle.merge_first.specs.declared.answer.Answer.TheVariants.{Made, Refused, Done, Stopped, Rows}
+use Rattle.merge_first.specs.declared.answer.Refusal.TheVariants.{CounterEnd, NoMemory}
+use Rattle.merge_first.specs.World.{World, InsertStep, SyncStep, ShowStep, Step, Run}
+use Rattle.merge_first.specs.Determined.{wants_memory}
 
 same_row : (a b : RowId) → a.0 ≡ b.0 → a ≡ b
 same_row a b e = let made : ℕ → RowId = λ n. record { 0 = n } in ap made e

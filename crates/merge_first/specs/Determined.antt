@@ -1,11 +1,11 @@
 -- A run is free only in its want of memory.
 use Rattle.std.specs.Prelude.{◌≡◌, List, Bool, true, false}
 use Rattle.std.specs.List.{list_any}
-use Rattle.merge_model.specs.declared.event.Event.{Event}
-use Rattle.merge_model.specs.declared.answer.Answer.{Answer}
-use Rattle.merge_model.specs.declared.answer.Answer.TheVariants.{Refused, Stopped}
-use Rattle.merge_model.specs.declared.answer.Refusal.TheVariants.{NoMemory}
-use Rattle.merge_model.specs.World.{World, Run}
+use Rattle.merge_first.specs.declared.event.Event.{Event}
+use Rattle.merge_first.specs.declared.answer.Answer.{Answer}
+use Rattle.merge_first.specs.declared.answer.Answer.TheVariants.{Refused, Stopped}
+use Rattle.merge_first.specs.declared.answer.Refusal.TheVariants.{NoMemory}
+use Rattle.merge_first.specs.World.{World, Run}
 
 -- the answer wants memory
 abbrev pub wants_memory : Answer → Bool

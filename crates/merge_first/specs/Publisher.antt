@@ -6,10 +6,10 @@ use Rattle.merge_types.specs.declared.changes.Change.{Change}
 use Rattle.merge_types.specs.declared.changes.Change.TheVariants.{Insert}
 use Rattle.merge_types.specs.declared.changes.Setting.{Setting}
 use Rattle.merge_types.specs.Rows.{row_number}
-use Rattle.merge_model.specs.declared.answer.Refusal.{Refusal}
-use Rattle.merge_model.specs.declared.answer.Refusal.TheVariants.{CounterEnd, NoMemory}
-use Rattle.merge_model.specs.declared.rows.Row.{Row}
-use Rattle.merge_model.specs.declared.rows.SiteRow.{SiteRow}
+use Rattle.merge_first.specs.declared.answer.Refusal.{Refusal}
+use Rattle.merge_first.specs.declared.answer.Refusal.TheVariants.{CounterEnd, NoMemory}
+use Rattle.merge_first.specs.declared.rows.Row.{Row}
+use Rattle.merge_first.specs.declared.rows.SiteRow.{SiteRow}
 
 -- rows in the order of their identifiers, how many changes were made, the last closed generation and how many entries the open one has
 pub record PublisherTables : Type 0 where

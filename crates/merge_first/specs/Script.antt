@@ -10,10 +10,10 @@ use Rattle.merge_types.specs.declared.identifiers.SiteId.{SiteId}
 use Rattle.merge_types.specs.declared.values.Value.{Value}
 use Rattle.merge_types.specs.declared.values.Value.TheVariants.{Null, Int}
 use Rattle.merge_script.specs.Words.{words_of}
-use Rattle.merge_model.specs.declared.event.Event.{Event}
-use Rattle.merge_model.specs.declared.event.Event.TheVariants.{Insert, Sync, Show}
-use Rattle.merge_model.specs.declared.event.Line.{Line}
-use Rattle.merge_model.specs.declared.event.Line.TheVariants.{Quiet, Event as Does, NoEvent}
+use Rattle.merge_first.specs.declared.event.Event.{Event}
+use Rattle.merge_first.specs.declared.event.Event.TheVariants.{Insert, Sync, Show}
+use Rattle.merge_first.specs.declared.event.Line.{Line}
+use Rattle.merge_first.specs.declared.event.Line.TheVariants.{Quiet, Event as Does, NoEvent}
 
 abbrev pub same : List ℕ → List ℕ → Bool
 same a b = pointwise nat_eq a b

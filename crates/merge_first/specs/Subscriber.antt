@@ -2,9 +2,9 @@
 use Rattle.std.specs.Prelude.{ℕ, List, [], ◌∷◌, map, filter, ◌==◌}
 use Rattle.std.specs.Ordering.{nat_cmp}
 use Rattle.std.specs.BTreeMap.{insert_entry}
-use Rattle.merge_model.specs.declared.rows.SiteRow.{SiteRow}
-use Rattle.merge_model.specs.declared.rows.Phase.{Phase}
-use Rattle.merge_model.specs.declared.rows.Phase.TheVariants.{Joining}
+use Rattle.merge_first.specs.declared.rows.SiteRow.{SiteRow}
+use Rattle.merge_first.specs.declared.rows.Phase.{Phase}
+use Rattle.merge_first.specs.declared.rows.Phase.TheVariants.{Joining}
 
 -- its phase, its rows by the numbers of their identifiers, and the last generation that it holds
 pub record SubscriberTables : Type 0 where

@@ -5,11 +5,11 @@ use Rattle.std.specs.Fmt.{decimal, signed_decimal}
 use Rattle.merge_types.specs.declared.values.Value.{Value}
 use Rattle.merge_types.specs.declared.values.Value.TheVariants.{Null, Int}
 use Rattle.merge_types.specs.Rows.{row_text}
-use Rattle.merge_model.specs.declared.rows.SiteRow.{SiteRow}
-use Rattle.merge_model.specs.declared.answer.Answer.{Answer}
-use Rattle.merge_model.specs.declared.answer.Answer.TheVariants.{Made, Refused, Done, Stopped, Rows}
-use Rattle.merge_model.specs.declared.answer.Refusal.{Refusal}
-use Rattle.merge_model.specs.declared.answer.Refusal.TheVariants.{CounterEnd, NoMemory}
+use Rattle.merge_first.specs.declared.rows.SiteRow.{SiteRow}
+use Rattle.merge_first.specs.declared.answer.Answer.{Answer}
+use Rattle.merge_first.specs.declared.answer.Answer.TheVariants.{Made, Refused, Done, Stopped, Rows}
+use Rattle.merge_first.specs.declared.answer.Refusal.{Refusal}
+use Rattle.merge_first.specs.declared.answer.Refusal.TheVariants.{CounterEnd, NoMemory}
 
 abbrev pub line_feed : List ℕ
 line_feed = 10 ∷ []

@@ -2,10 +2,10 @@
 use Rattle.std.specs.Prelude.{◌≡◌, List, ℕ, codes, false}
 use Rattle.merge_script.specs.Input.{script_of}
 use Rattle.merge_script.specs.Lines.{lines_of}
-use Rattle.merge_model.specs.declared.answer.Answer.{Answer}
-use Rattle.merge_model.specs.Script.{events_of, has_no_event}
-use Rattle.merge_model.specs.Text.{texts}
-use Rattle.merge_model.specs.World.{World, empty_world, Run}
+use Rattle.merge_first.specs.declared.answer.Answer.{Answer}
+use Rattle.merge_first.specs.Script.{events_of, has_no_event}
+use Rattle.merge_first.specs.Text.{texts}
+use Rattle.merge_first.specs.World.{World, empty_world, Run}
 
 -- Each line of the input's script is an event or quiet, and some run over its events has this text.
 pub record Plays (input text : List ℕ) : Type 0 where

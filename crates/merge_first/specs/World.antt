@@ -1,16 +1,16 @@
 -- The world of both sites, what an event may make of it, and a run over events.
 use Rattle.std.specs.Prelude.{◌≡◌, ◌⊎◌, ◌≤◌, ◌<◌, ◌^◌, ℕ, List, [], ◌∷◌, nat_lt, ◌||◌, if◌then◌else◌, ◌==◌}
 use Rattle.merge_types.specs.declared.values.Value.{Value}
-use Rattle.merge_model.specs.declared.event.Event.{Event}
-use Rattle.merge_model.specs.declared.event.Event.TheVariants.{Insert, Sync, Show}
-use Rattle.merge_model.specs.declared.answer.Answer.{Answer}
-use Rattle.merge_model.specs.declared.answer.Answer.TheVariants.{Made, Refused, Done, Stopped, Rows}
-use Rattle.merge_model.specs.declared.answer.Refusal.{Refusal}
-use Rattle.merge_model.specs.declared.answer.Refusal.TheVariants.{CounterEnd, NoMemory}
-use Rattle.merge_model.specs.declared.rows.SiteRow.{SiteRow}
-use Rattle.merge_model.specs.declared.rows.Phase.TheVariants.{Joined}
-use Rattle.merge_model.specs.Publisher.{PublisherTables, empty_publisher, with_row, next_row, closing, items_after, publisher_rows, greatest_counter, MayRefuse}
-use Rattle.merge_model.specs.Subscriber.{SubscriberTables, empty_subscriber, taken_over, subscriber_rows}
+use Rattle.merge_first.specs.declared.event.Event.{Event}
+use Rattle.merge_first.specs.declared.event.Event.TheVariants.{Insert, Sync, Show}
+use Rattle.merge_first.specs.declared.answer.Answer.{Answer}
+use Rattle.merge_first.specs.declared.answer.Answer.TheVariants.{Made, Refused, Done, Stopped, Rows}
+use Rattle.merge_first.specs.declared.answer.Refusal.{Refusal}
+use Rattle.merge_first.specs.declared.answer.Refusal.TheVariants.{CounterEnd, NoMemory}
+use Rattle.merge_first.specs.declared.rows.SiteRow.{SiteRow}
+use Rattle.merge_first.specs.declared.rows.Phase.TheVariants.{Joined}
+use Rattle.merge_first.specs.Publisher.{PublisherTables, empty_publisher, with_row, next_row, closing, items_after, publisher_rows, greatest_counter, MayRefuse}
+use Rattle.merge_first.specs.Subscriber.{SubscriberTables, empty_subscriber, taken_over, subscriber_rows}
 
 pub record World : Type 0 where
   pub publisher : PublisherTables

@@ -15,7 +15,7 @@ pub enum Refusal {
 
 impl From<NoMemory> for Refusal {
     ghost use Rattle.std.specs.Prelude.{◌≡◌};
-    ghost use Rattle.merge_model.specs.declared.answer.Refusal.TheVariants.{NoMemory as no_memory};
+    ghost use Rattle.merge_first.specs.declared.answer.Refusal.TheVariants.{NoMemory as no_memory};
 
     ghost from_gives = { λ _ refusal. refusal ≡ no_memory };
 

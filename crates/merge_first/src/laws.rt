@@ -1,7 +1,7 @@
 //! Theorems about the definitions. These functions do nothing.
 ghost use Rattle.std.specs.Prelude.{[]};
-ghost use Rattle.merge_model.specs.Determined.{RunsAreDetermined};
-ghost use Rattle.merge_model.specs.Worked.{Plays, publication_alone, a_row_goes_over, its_answers};
+ghost use Rattle.merge_first.specs.Determined.{RunsAreDetermined};
+ghost use Rattle.merge_first.specs.Worked.{Plays, publication_alone, a_row_goes_over, its_answers};
 
 /// Without a script nothing is answered.
 pub fn nothing_is_answered()

@@ -1,7 +1,7 @@
 -- What a publisher keeps true of its tables.
 use Rattle.std.specs.Prelude.{ℕ, ◌+◌, ◌^◌, ◌≤◌, List, All}
 use Rattle.std.specs.List.Sorted.{IsNonDecreasingBy}
-use Rattle.merge_model.specs.declared.rows.Row.{Row}
+use Rattle.merge_first.specs.declared.rows.Row.{Row}
 
 -- Each closed generation had an entry, and each entry is a change. Rows stand in the order of their generations, up to the open one.
 pub record IsSound (rows : List Row) (made closed filled : ℕ) : Type 0 where

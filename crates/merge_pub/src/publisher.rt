@@ -1,9 +1,9 @@
 //! The publisher, kept in memory.
 ghost use Rattle.std.specs.Prelude.{◌≡◌, ◌<◌, ◌≤◌, ◌^◌, ◌++◌, ◌∷◌, [], IfOk, IfErr, OnOk, OnErr, true, false, length, map, nat_le};
 ghost use Rattle.std.specs.List.Sorted.{IsNonDecreasingBy, IsPartitionPoint};
-ghost use Rattle.merge_model.specs.Publisher.{IsInsert, FitSettings, with_row, empty_publisher, changed, inserted_values, next_row, closing, items_after, publisher_rows, greatest_counter, MayRefuse, site_row};
+ghost use Rattle.merge_first.specs.Publisher.{IsInsert, FitSettings, with_row, empty_publisher, changed, inserted_values, next_row, closing, items_after, publisher_rows, greatest_counter, MayRefuse, site_row};
 
-use merge_model::{Downloaded, Refusal, Row, RowList, SiteRow};
+use merge_first::{Downloaded, Refusal, Row, RowList, SiteRow};
 use merge_types::{
     Change, Dot, Listing, Moment, NoMemory, RowId, Setting, SiteId, Steps, Value, Values,
 };
@@ -26,7 +26,7 @@ pub struct Publisher {
 }
 
 impl Model for Publisher {
-    ghost use Rattle.merge_model.specs.Publisher.{PublisherTables};
+    ghost use Rattle.merge_first.specs.Publisher.{PublisherTables};
     ghost use Rattle.merge_pub.specs.Sound.{IsSound};
 
     ghost Value = { PublisherTables };

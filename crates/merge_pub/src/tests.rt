@@ -1,5 +1,5 @@
 ghost use Rattle.std.specs.Prelude.{◌≡◌, ◌≤◌, IfOk};
-ghost use Rattle.merge_model.specs.Publisher.{IsInsert, FitsColumn};
+ghost use Rattle.merge_first.specs.Publisher.{IsInsert, FitsColumn};
 
 use crate::Publisher;
 use merge_types::{Change, Listing, Moment, Setting, Steps, Value};

@@ -2,7 +2,7 @@
 use Rattle.std.specs.Prelude.{ℕ}
 use Rattle.merge_table.specs.declared.edit.Edit.{Edit}
 use Rattle.merge_table.specs.declared.edit.Edit.TheVariants.{Put}
-use Rattle.merge_model.specs.declared.rows.SiteRow.{SiteRow}
+use Rattle.merge_first.specs.declared.rows.SiteRow.{SiteRow}
 
 -- the row is put at its identifier
 abbrev pub put : SiteRow → Edit ℕ SiteRow

@@ -1,10 +1,10 @@
 //! The subscriber, kept in memory.
 ghost use Rattle.std.specs.Prelude.{◌≡◌, IfOk, OnOk, OnErr, map};
 ghost use Rattle.merge_sub.specs.Puts.{put};
-ghost use Rattle.merge_model.specs.declared.rows.Phase.TheVariants.{Joined};
-ghost use Rattle.merge_model.specs.Subscriber.{empty_subscriber, taken_over, subscriber_rows};
+ghost use Rattle.merge_first.specs.declared.rows.Phase.TheVariants.{Joined};
+ghost use Rattle.merge_first.specs.Subscriber.{empty_subscriber, taken_over, subscriber_rows};
 
-use merge_model::{Downloaded, Phase, RowList, SiteRow};
+use merge_first::{Downloaded, Phase, RowList, SiteRow};
 use merge_table::{Edit, Table};
 use merge_types::{Listing, NoMemory};
 use std::alloc::Global;
@@ -20,7 +20,7 @@ pub struct Subscriber {
 }
 
 impl Model for Subscriber {
-    ghost use Rattle.merge_model.specs.Subscriber.{SubscriberTables};
+    ghost use Rattle.merge_first.specs.Subscriber.{SubscriberTables};
 
     ghost Value = { SubscriberTables };
 

@@ -1,5 +1,5 @@
 use crate::Subscriber;
-use merge_model::{Downloaded, Phase, SiteRow};
+use merge_first::{Downloaded, Phase, SiteRow};
 use merge_types::{Listing, RowId, Value, Values};
 use std::alloc::Global;
 use std::test::Fail;

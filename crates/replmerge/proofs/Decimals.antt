@@ -6,7 +6,7 @@ use Rattle.std.proofs.lemmas.Slice.Eq.{bytes_eq-Decides}
 use Rattle.std.specs.Fmt.{decimal, signed_decimal}
 use Rattle.std.specs.Str.Parse.{digits_value, signed_digits_value, without_leading_sign, starts_with_minus}
 use Rattle.merge_types.specs.declared.values.Value.TheVariants.{Int}
-use Rattle.merge_model.specs.Script.{same, fits, number_written}
+use Rattle.merge_first.specs.Script.{same, fits, number_written}
 
 first_digit : (n : ℕ) → n < 2 ^ 64 → 48 ≤ slice_index (decimal n) 0
 first_digit zero h = rw (decimal_digit 0 (lit< tt)) (lit≤ tt)

@@ -6,9 +6,9 @@ use Rattle.std.specs.Fmt.{signed_decimal}
 use Rattle.std.specs.List.{starts_with}
 use Rattle.std.specs.Str.Parse.{signed_digits_value}
 use Rattle.merge_types.specs.declared.values.Value.{Value}
-use Rattle.merge_model.specs.declared.event.Line.{Line}
-use Rattle.merge_model.specs.Publisher.{FitsColumn}
-use Rattle.merge_model.specs.Script.{same, fits, number_written, literal_of, setting_of, insert_value, insert_setting, insert_article, insert_site, sync_site, show_article, show_site, begins_comment, event_of}
+use Rattle.merge_first.specs.declared.event.Line.{Line}
+use Rattle.merge_first.specs.Publisher.{FitsColumn}
+use Rattle.merge_first.specs.Script.{same, fits, number_written, literal_of, setting_of, insert_value, insert_setting, insert_article, insert_site, sync_site, show_article, show_site, begins_comment, event_of}
 use Rattle.replmerge.specs.Session.{FitsLine}
 
 -- what holds of both choices holds of the one that is taken

@@ -7,13 +7,13 @@ use Rattle.std.specs.declared.option.Option.{Option}
 use Rattle.std.specs.Prelude.{Some, None, IfSome, ℕ}
 use Rattle.std.specs.Io.KnownBytes.{Appends}
 use Rattle.merge_ports.proofs.Known.{Appends-append}
-use Rattle.merge_model.specs.declared.event.Event.{Event}
-use Rattle.merge_model.specs.declared.answer.Answer.{Answer}
-use Rattle.merge_model.specs.declared.event.Line.{Line}
-use Rattle.merge_model.specs.declared.event.Line.TheVariants.{Quiet, Event as Does, NoEvent}
-use Rattle.merge_model.specs.World.{World, empty_world, Run, Step}
-use Rattle.merge_model.specs.Script.{events_of, has_no_event, is_no_event, reading_of}
-use Rattle.merge_model.specs.Text.{texts, answer_text}
+use Rattle.merge_first.specs.declared.event.Event.{Event}
+use Rattle.merge_first.specs.declared.answer.Answer.{Answer}
+use Rattle.merge_first.specs.declared.event.Line.{Line}
+use Rattle.merge_first.specs.declared.event.Line.TheVariants.{Quiet, Event as Does, NoEvent}
+use Rattle.merge_first.specs.World.{World, empty_world, Run, Step}
+use Rattle.merge_first.specs.Script.{events_of, has_no_event, is_no_event, reading_of}
+use Rattle.merge_first.specs.Text.{texts, answer_text}
 use Rattle.replmerge.specs.Headline.{lines_of_input, Answered, AnsweredInPart, LineAnswered, WrittenInPart}
 
 -- the lines up to the rest are answered, and the world is as they left it

@@ -6,13 +6,13 @@ use Rattle.merge_ports.specs.Faults.{Rose}
 use Rattle.merge_ports.specs.Parts.{AppendsFront}
 use Rattle.merge_script.specs.Input.{publication_of, script_of}
 use Rattle.merge_script.specs.Lines.{lines_of}
-use Rattle.merge_model.specs.declared.event.Event.{Event}
-use Rattle.merge_model.specs.declared.answer.Answer.{Answer}
-use Rattle.merge_model.specs.declared.event.Line.{Line}
-use Rattle.merge_model.specs.declared.event.Line.TheVariants.{Quiet, Event as Does, NoEvent}
-use Rattle.merge_model.specs.World.{World, empty_world, Run, Step}
-use Rattle.merge_model.specs.Script.{same, events_of, has_no_event}
-use Rattle.merge_model.specs.Text.{texts, answer_text}
+use Rattle.merge_first.specs.declared.event.Event.{Event}
+use Rattle.merge_first.specs.declared.answer.Answer.{Answer}
+use Rattle.merge_first.specs.declared.event.Line.{Line}
+use Rattle.merge_first.specs.declared.event.Line.TheVariants.{Quiet, Event as Does, NoEvent}
+use Rattle.merge_first.specs.World.{World, empty_world, Run, Step}
+use Rattle.merge_first.specs.Script.{same, events_of, has_no_event}
+use Rattle.merge_first.specs.Text.{texts, answer_text}
 
 -- the words are `play` alone
 abbrev pub is_play : List (List ℕ) → Bool

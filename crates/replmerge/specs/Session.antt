@@ -1,16 +1,16 @@
 -- The end of a session, and the events that a world takes.
 use Rattle.std.specs.Prelude.{◌≡◌, ℕ}
-use Rattle.merge_model.specs.declared.event.Event.{Event}
-use Rattle.merge_model.specs.declared.event.Event.TheVariants.{Insert}
-use Rattle.merge_model.specs.declared.event.Line.{Line}
-use Rattle.merge_model.specs.declared.event.Line.TheVariants.{Event as Does}
-use Rattle.merge_model.specs.declared.answer.Answer.{Answer}
-use Rattle.merge_model.specs.declared.answer.Answer.TheVariants.{Done, Stopped}
-use Rattle.merge_model.specs.declared.answer.Refusal.TheVariants.{NoMemory}
-use Rattle.merge_model.specs.declared.rows.Downloaded.{Downloaded}
-use Rattle.merge_model.specs.Publisher.{FitsColumn}
-use Rattle.merge_model.specs.Subscriber.{taken_over}
-use Rattle.merge_model.specs.World.{World}
+use Rattle.merge_first.specs.declared.event.Event.{Event}
+use Rattle.merge_first.specs.declared.event.Event.TheVariants.{Insert}
+use Rattle.merge_first.specs.declared.event.Line.{Line}
+use Rattle.merge_first.specs.declared.event.Line.TheVariants.{Event as Does}
+use Rattle.merge_first.specs.declared.answer.Answer.{Answer}
+use Rattle.merge_first.specs.declared.answer.Answer.TheVariants.{Done, Stopped}
+use Rattle.merge_first.specs.declared.answer.Refusal.TheVariants.{NoMemory}
+use Rattle.merge_first.specs.declared.rows.Downloaded.{Downloaded}
+use Rattle.merge_first.specs.Publisher.{FitsColumn}
+use Rattle.merge_first.specs.Subscriber.{taken_over}
+use Rattle.merge_first.specs.World.{World}
 
 -- an insert gives the column a value of its type
 abbrev pub FitsEvent : Event → Type 0

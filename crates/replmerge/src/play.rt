@@ -2,13 +2,13 @@
 ghost use Rattle.std.specs.Prelude.{◌≡◌, ◌≤◌, OnOk, OnErr, IsErrOf, Err, true, false, length};
 ghost use Rattle.merge_ports.specs.Faults.{Rose};
 ghost use Rattle.merge_script.specs.Lines.{lines_of};
-ghost use Rattle.merge_model.specs.Script.{reading_of, is_no_event, has_no_event};
+ghost use Rattle.merge_first.specs.Script.{reading_of, is_no_event, has_no_event};
 ghost use Rattle.replmerge.specs.Headline.{LineAnswered, WrittenInPart, Answered, AnsweredInPart};
 ghost use Rattle.replmerge.specs.Session.{FitsEvent};
 
 use crate::world::World;
 use crate::{reading, texts};
-use merge_model::{Event, Line};
+use merge_first::{Event, Line};
 use merge_ports::{Failed, Sink, write_whole};
 use merge_script::cut_line;
 use merge_types::NoMemory;

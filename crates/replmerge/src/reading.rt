@@ -1,10 +1,10 @@
 //! What the lines of a script say.
 ghost use Rattle.std.specs.Prelude.{◌≡◌, ◌∷◌, IfOk, map};
-ghost use Rattle.merge_model.specs.Script.{same, literal_of, setting_of, ends, insert_value, insert_setting, insert_article, insert_site, sync_site, show_article, show_site, begins_comment, event_of, reading_of, number_written};
+ghost use Rattle.merge_first.specs.Script.{same, literal_of, setting_of, ends, insert_value, insert_setting, insert_article, insert_site, sync_site, show_article, show_site, begins_comment, event_of, reading_of, number_written};
 ghost use Rattle.std.specs.Str.Parse.{signed_digits_value};
 ghost use Rattle.replmerge.specs.Session.{FitsLine};
 
-use merge_model::{Event, Line};
+use merge_first::{Event, Line};
 use merge_script::{is_text, split_words};
 use merge_types::{NoMemory, SiteId, Value, read_int};
 use std::alloc::Global;

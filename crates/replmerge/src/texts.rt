@@ -2,9 +2,9 @@
 ghost use Rattle.std.specs.Prelude.{◌≡◌, ◌++◌, ◌∷◌, [], codes, IfOk, OnOk};
 ghost use Rattle.std.specs.Fmt.{decimal};
 ghost use Rattle.merge_types.specs.Rows.{row_text};
-ghost use Rattle.merge_model.specs.Text.{answer_text, refusal_text, value_text, row_line, rows_lines};
+ghost use Rattle.merge_first.specs.Text.{answer_text, refusal_text, value_text, row_line, rows_lines};
 
-use merge_model::{Answer, Refusal, SiteRow};
+use merge_first::{Answer, Refusal, SiteRow};
 use merge_types::{NoMemory, Octets, RowId, Value};
 use std::alloc::Global;
 

@@ -1,10 +1,10 @@
 //! Both sites, and what an event makes of them.
 ghost use Rattle.std.specs.Prelude.{◌≡◌, ◌≤◌, ◌∷◌, [], IfOk};
-ghost use Rattle.merge_model.specs.Publisher.{FitsColumn};
-ghost use Rattle.merge_model.specs.World.{empty_world, Step, InsertStep, SyncStep, ShowStep, downloads};
+ghost use Rattle.merge_first.specs.Publisher.{FitsColumn};
+ghost use Rattle.merge_first.specs.World.{empty_world, Step, InsertStep, SyncStep, ShowStep, downloads};
 ghost use Rattle.replmerge.specs.Session.{FitsEvent, TakesReply};
 
-use merge_model::{Answer, Downloaded, Event, Refusal};
+use merge_first::{Answer, Downloaded, Event, Refusal};
 use merge_pub::Publisher;
 use merge_sub::Subscriber;
 use merge_types::{Change, Listing, Moment, NoMemory, Setting, Settings, SiteId, Steps, Value};
@@ -27,7 +27,7 @@ pub struct World {
 }
 
 impl Model for World {
-    ghost use Rattle.merge_model.specs.World.{World as Tables};
+    ghost use Rattle.merge_first.specs.World.{World as Tables};
 
     ghost Value = { Tables };
 

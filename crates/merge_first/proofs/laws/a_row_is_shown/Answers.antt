@@ -9,16 +9,16 @@ use Rattle.merge_types.specs.declared.values.Value.TheVariants.{Int}
 use Rattle.merge_types.specs.Rows.{row_number}
 use Rattle.merge_script.specs.Input.{script_of}
 use Rattle.merge_script.specs.Lines.{lines_of}
-use Rattle.merge_model.specs.declared.event.Event.{Event}
-use Rattle.merge_model.specs.declared.event.Event.TheVariants.{Insert, Sync, Show}
-use Rattle.merge_model.specs.declared.answer.Answer.{Answer}
-use Rattle.merge_model.specs.declared.answer.Answer.TheVariants.{Made, Done, Rows}
-use Rattle.merge_model.specs.Publisher.{with_row}
-use Rattle.merge_model.specs.Script.{events_of, has_no_event}
-use Rattle.merge_model.specs.Text.{texts}
-use Rattle.merge_model.specs.World.{World, empty_world, joined, answered, fetched, rows_at, Run}
-use Rattle.merge_model.specs.Worked.{a_row_goes_over, its_answers}
-use Rattle.merge_model.proofs.laws.a_row_is_shown.Goals as goal
+use Rattle.merge_first.specs.declared.event.Event.{Event}
+use Rattle.merge_first.specs.declared.event.Event.TheVariants.{Insert, Sync, Show}
+use Rattle.merge_first.specs.declared.answer.Answer.{Answer}
+use Rattle.merge_first.specs.declared.answer.Answer.TheVariants.{Made, Done, Rows}
+use Rattle.merge_first.specs.Publisher.{with_row}
+use Rattle.merge_first.specs.Script.{events_of, has_no_event}
+use Rattle.merge_first.specs.Text.{texts}
+use Rattle.merge_first.specs.World.{World, empty_world, joined, answered, fetched, rows_at, Run}
+use Rattle.merge_first.specs.Worked.{a_row_goes_over, its_answers}
+use Rattle.merge_first.proofs.laws.a_row_is_shown.Goals as goal
 
 events : List Event
 events = Insert (Int (pos 7)) ∷ Sync ∷ Show (record { 0 = 1 }) ∷ []

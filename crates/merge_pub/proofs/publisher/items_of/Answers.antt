@@ -1,7 +1,7 @@
 -- What is behind the rows up to a generation is what was made after it.
 use Rattle.std.proofs.Common.{◌≡◌, ℕ, true, false, arith, nat_le, nat_lt, drop, filter}
 use Rattle.std.proofs.lemmas.Bool.Decides.{nat_tests}
-use Rattle.merge_model.specs.Publisher.{is_after}
+use Rattle.merge_first.specs.Publisher.{is_after}
 use Rattle.merge_pub.proofs.Suffix.{suffix}
 use Rattle.merge_pub.proofs.publisher.items_of.Goals as goal
 

@@ -1,6 +1,6 @@
 -- The article's rows so far.
 use Rattle.std.proofs.Common.{◌≡◌, take}
-use Rattle.merge_model.specs.Publisher.{publisher_rows}
+use Rattle.merge_first.specs.Publisher.{publisher_rows}
 use Rattle.merge_pub.proofs.publisher.rows_of.Given as goal
 
 abbrev pub invariant-loop-row : goal.invariant-loop-row

@@ -1,6 +1,6 @@
 -- The article's rows so far, and those that are left.
 use Rattle.std.proofs.Common.{◌≡◌, ◌++◌}
-use Rattle.merge_model.specs.Subscriber.{subscriber_rows}
+use Rattle.merge_first.specs.Subscriber.{subscriber_rows}
 use Rattle.merge_sub.proofs.subscriber.rows_of.Given as goal
 
 abbrev pub invariant-loop-row : goal.invariant-loop-row

@@ -1,6 +1,6 @@
 use Rattle.std.proofs.Common.{◌≡◌, arith, true}
 use Rattle.std.proofs.lemmas.Grind.{common_steps}
-use Rattle.merge_model.specs.Script.{is_no_event, reading_of}
+use Rattle.merge_first.specs.Script.{is_no_event, reading_of}
 use Rattle.replmerge.proofs.SoFar.{so_far_at_start, so_far_more, so_far_no_event, so_far_cut, so_far_in_part}
 use Rattle.replmerge.proofs.play.play.Goals as goal
 
