@@ -1,11 +1,11 @@
 //! Filters, which contracts see as their syntax trees.
-ghost use Rattle.std.specs.Prelude.{◌≡◌, ◌≤◌, length};
+ghost use Rattle.std.specs.Prelude.{◌≡◌, ◌≤◌, length, IfOk};
 ghost use Rattle.merge_filter.specs.Syntax.{syntax};
 ghost use Rattle.merge_filter.specs.Eval.{truth, width};
 
 use crate::evaluation::{Truth, node_truth};
 use crate::tree::{Node, copied};
-use merge_types::{Exact, HostName, Value};
+use merge_types::{Exact, HostName, NoMemory, Value};
 use std::alloc::{AllocError, Global};
 use std::marker::Model;
 
@@ -33,6 +33,13 @@ impl Filter {
         ensures { result ≡ syntax node }
     {
         Filter { alloc, node }
+    }
+
+    /// An equal filter.
+    pub fn copy(&self) -> Result<Filter, NoMemory>
+        ensures { IfOk result (λ copy. copy ≡ self.now) }
+    {
+        Ok(self.clone()?)
     }
 
     /// What the filter says of a row.

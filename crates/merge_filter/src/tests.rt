@@ -345,7 +345,7 @@ fn truth_counted<L: Ledger>(
     if row.len() < columns.len() {
         return Ok(None);
     }
-    let copy = filter.clone()?;
+    let copy = filter.copy()?;
     Ok(Some(eval(&copy, &row, &host, &mut steps)))
 }
 
