@@ -1,0 +1,17 @@
+pub mod Arrays
+pub mod KnownKeys
+pub mod Each
+pub mod JoinedValues
+pub mod ListMembers
+pub mod Partitions
+pub mod WorkedPartitions
+pub mod Placed
+pub mod Found
+pub mod Counts
+pub mod AncestorPaths
+pub mod Orders
+pub mod Identities
+pub mod Validity
+pub mod Searches
+pub mod Distinct
+pub mod WorkedFiles

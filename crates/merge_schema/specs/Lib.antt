@@ -1,0 +1,17 @@
+pub mod Steps
+pub mod Values
+pub mod Keys
+pub mod Tables
+pub mod Lookups
+pub mod Checks
+pub mod Ancestors
+pub mod AncestorLaws
+pub mod ParentsFirst
+pub mod Valid
+pub mod ValidTables
+pub mod Building
+pub mod Answers
+pub mod Built
+pub mod EvaluationOrder
+pub mod Partition
+pub mod PartitionLaws

@@ -1,0 +1,27 @@
+//! Publications: what a publication file says, and what is known of one that is accepted.
+#![tactic(auto)]
+
+mod building;
+mod built;
+mod checks;
+mod choices;
+mod draft;
+mod fault;
+mod joins;
+mod keys;
+mod laws;
+mod names;
+mod places;
+mod publication;
+mod reading;
+mod tables;
+#[cfg(test)]
+mod tests;
+mod values;
+
+pub use built::is_built;
+pub use fault::SchemaFault;
+pub use laws::{ancestor_laws, partition_laws};
+pub use merge_types::Tracking;
+pub use publication::{Article, Identity, JoinFilter, Publication, SubKind, Subscription};
+pub use reading::read;

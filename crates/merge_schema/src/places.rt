@@ -1,0 +1,43 @@
+//! Places in a publication, by name and by site.
+ghost use Rattle.std.specs.Prelude.{◌≡◌, ◌<◌, ◌==◌, IfSome, bytes_eq, length, position};
+ghost use Rattle.merge_schema.specs.declared.publication.Article.{Article};
+ghost use Rattle.merge_schema.specs.declared.publication.Subscription.{Subscription};
+ghost use Rattle.merge_schema.specs.Lookups.{column_place};
+
+use crate::names;
+use crate::publication::{Article, Publication};
+use merge_types::SiteId;
+
+impl Publication {
+    /// The place of the article with this name, and none where no article has it.
+    pub fn article_place(&self, name: &str) -> Option<usize>
+        ensures place { result ≡ position (λ (article : Article). bytes_eq article.name name.now) self.now.articles }
+        ensures within { IfSome result (λ place. place < length self.now.articles) }
+    {
+        let articles = self.articles.as_slice();
+        articles
+            .iter()
+            .position(|article| article.name.as_str() == name)
+    }
+
+    /// The place of the subscription of a site, and none where it does not subscribe.
+    pub fn subscription_place(&self, site: SiteId) -> Option<usize>
+        ensures place { result ≡ position (λ (subscription : Subscription). subscription.site.0 == site.0) self.now.subscriptions }
+        ensures within { IfSome result (λ place. place < length self.now.subscriptions) }
+    {
+        let subscriptions = self.subscriptions.as_slice();
+        subscriptions
+            .iter()
+            .position(|subscription| subscription.site.0 == site.0)
+    }
+}
+
+impl Article {
+    /// The place of the column with this name, and none where no column has it.
+    pub fn column_place(&self, name: &str) -> Option<usize>
+        ensures place { result ≡ column_place self.now.columns name.now }
+        ensures within { IfSome result (λ place. place < length self.now.columns) }
+    {
+        names::column_place(self.columns.as_slice(), name)
+    }
+}
