@@ -1,0 +1,13 @@
+use Rattle.merge_join.proofs.RowSearch.{remove-at_place, remove-in_gap, sorted-remove}
+use Rattle.merge_join.proofs.children.Children.remove.Goals as goal
+
+pub invariant_of-self : goal.invariant_of-self
+invariant_of-self c =
+    let sorted = rw c.self.view_is at c.self.invariant in
+    rw (c.remove.ensures.items, c.self.view_is, remove-at_place c.args.self.now sorted c.args.row c.in-Ok.at c.in-Ok.ensures.found) (sorted-remove _ _ sorted)
+
+pub returns-in-Ok : goal.returns-in-Ok
+returns-in-Ok c = rw (c.remove.ensures.items, c.self.view_is) (remove-at_place _ (rw c.self.view_is at c.self.invariant) _ _ c.in-Ok.ensures.found)
+
+pub returns-in_default : goal.returns-in_default
+returns-in_default c = remove-in_gap _ _ _ c.in_default.ensures.absent

@@ -1,0 +1,15 @@
+use Rattle.std.proofs.Common.{List, ap, ◌∙◌}
+use Rattle.merge_table.specs.Contents.{Contents}
+use Rattle.merge_join.specs.declared.groups.Group.{Group}
+use Rattle.merge_join.specs.declared.key.JoinKey.{JoinKey}
+use Rattle.merge_join.specs.declared.plan.JoinChange.TheVariants.{Remove}
+use Rattle.merge_join.specs.Index.{groups_at, seen}
+use Rattle.merge_join.proofs.Puts.{Rows}
+use Rattle.merge_join.proofs.Steps.{changed-step}
+use Rattle.merge_join.proofs.index.JoinIndex.remove.Goals as goal
+
+pub returns : goal.returns
+returns c join value =
+    ap (λ (rows : Rows). seen (groups_at rows) join value) c.sweep.ensures
+    ∙ changed-step c.args.self.now.rows c.self.inside.lists.rows c.taken-groups.new.lists.rows c.place.new.lists.rows c.of-key.result (Remove (record { join = c.args.join; value = c.args.value.now; child = c.args.child })) c.taken-groups.result c.remove.new.self
+    (ap (λ (index : Contents JoinKey (List Group)). index.rows) c.self.view_is) c.of-key.ensures c.taken-groups.ensures.groups c.remove.ensures c.taken-groups.ensures.put c.place.ensures.put join value
