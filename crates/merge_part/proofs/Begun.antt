@@ -1,0 +1,38 @@
+-- A membership without rows.
+use Rattle.std.proofs.Common.{◌≡◌, ℕ, true, false, List, [], None, Some, sym, ◌∙◌}
+use Rattle.merge_schema.specs.declared.publication.Publication.{Publication}
+use Rattle.merge_schema.specs.EvaluationOrder.{IsEvaluationOrder}
+use Rattle.merge_part.specs.declared.index.Indexes.{Indexes}
+use Rattle.merge_part.specs.declared.link.Link.{Link}
+use Rattle.merge_part.specs.Draft.{no_sites}
+use Rattle.merge_part.specs.Rules.{IsUsable, AreRules, IsKept, links_of}
+use Rattle.merge_part.specs.Sites.{has_site}
+use Rattle.merge_part.proofs.Bits.{no_site}
+use Rattle.merge_part.proofs.Orders.{links_within, none_itself, all_among, parents_first}
+
+pub begun_rules : (publication : Publication) (links : List Link) (order : List ℕ) → IsUsable publication → IsEvaluationOrder publication order → links ≡ links_of publication
+    → AreRules publication (record { links = links; order = order })
+begun_rules publication links order usable is links_are = record {
+  few = usable.few_subscriptions;
+  filters = usable.filters;
+  sites = usable.sites;
+  evaluation = (order, is);
+  links_are = links_are;
+  order = parents_first publication order is links links_are;
+  apart = none_itself publication order is links links_are;
+  within = links_within publication order is links links_are;
+  all = all_among publication order is links links_are;
+}
+
+none_marked : (place : ℕ) → has_site no_sites place ≡ true → true ≡ false
+none_marked place h = sym h ∙ no_site place
+
+pub begun_kept : (publication : Publication) (links : List Link) (index : Indexes) → IsKept publication links index [] []
+begun_kept publication links index = record {
+  met = λ key. record {
+    reason = λ place h. let bad : true ≡ false = none_marked place h in absurd cc;
+    reached = λ place content live why. let bad : None ≡ Some content = live in absurd cc;
+  };
+  filtered = λ key content live place. let bad : None ≡ Some content = live in absurd cc;
+  indexed = (λ key content live number link at below. let bad : None ≡ Some content = live in absurd cc, λ key content live number link at above. let bad : None ≡ Some content = live in absurd cc);
+}

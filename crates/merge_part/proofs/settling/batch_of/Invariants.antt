@@ -1,0 +1,10 @@
+use Rattle.std.proofs.Common.{◌≡◌, ◌++◌, drop}
+use Rattle.std.specs.Prelude.{◌==◌, filter, All}
+use Rattle.merge_part.specs.declared.key.RowKey.{RowKey}
+use Rattle.merge_part.proofs.settling.batch_of.Given as goal
+
+abbrev pub invariant-loop-key : goal.invariant-loop-key
+invariant-loop-key l = record {
+  batch : l.batch.items ++ filter (λ (key : RowKey). key.article == l.article) (drop l.key-index l.waiting) ≡ filter (λ (key : RowKey). key.article == l.article) l.waiting;
+  of_article : All (λ (key : RowKey). key.article ≡ l.article) l.batch.items;
+}

@@ -1,0 +1,13 @@
+use Rattle.std.proofs.Common.{◌≡◌, ℕ, List, ◌∷◌, drop}
+use Rattle.merge_part.specs.Draft.{rows_in, marks_in}
+use Rattle.merge_part.specs.Settling.{AllMeet, pends, ChildrenCome}
+use Rattle.merge_part.proofs.Settled.{pends_within}
+use Rattle.merge_part.proofs.settling.settle_article.Given as goal
+
+abbrev pub invariant-loop-key : goal.invariant-loop-key
+invariant-loop-key l = record {
+  rows : l.draft.rows ≡ l.fn.draft.rows;
+  met : (articles : List ℕ) → ChildrenCome l.rules.links l.article articles
+      → AllMeet l.rules.links (rows_in l.held.rows.rows l.fn.draft.rows) (marks_in l.held.marks.rows l.fn.draft.marks.rows) (pends (l.article ∷ articles) l.fn.waiting.items)
+      → AllMeet l.rules.links (rows_in l.held.rows.rows l.fn.draft.rows) (marks_in l.held.marks.rows l.draft.marks.rows) (pends_within (drop l.key-index l.key-items) articles l.waiting.items);
+}

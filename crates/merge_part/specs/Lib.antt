@@ -1,0 +1,16 @@
+pub mod Keys
+pub mod Sites
+pub mod Draft
+pub mod Places
+pub mod Rule
+pub mod Index
+pub mod Waiting
+pub mod Filtering
+pub mod Taking
+pub mod Live
+pub mod Moves
+pub mod Rules
+pub mod Settling
+pub mod View
+pub mod Subscribers
+pub mod Notes

@@ -1,0 +1,51 @@
+-- How the marks of waiting rows are worked out anew.
+use Rattle.std.specs.Prelude.{◌≡◌, ◌<◌, ◌+◌, ◌⊎◌, ℕ, Bool, true, false, ◌&&◌, ◌==◌, List, length, drop, slice_index, Option, Some}
+use Rattle.std.specs.List.{list_any}
+use Rattle.std.specs.BTreeMap.{is_at}
+use Rattle.merge_part.specs.declared.key.RowKey.{RowKey}
+use Rattle.merge_part.specs.declared.sites.Sites.{Sites}
+use Rattle.merge_part.specs.declared.content.Content.{Content}
+use Rattle.merge_part.specs.declared.link.Link.{Link}
+use Rattle.merge_part.specs.Keys.{key_cmp}
+use Rattle.merge_part.specs.Sites.{has_site}
+use Rattle.merge_part.specs.Rule.{IsAt, Reason, Meets}
+use Rattle.merge_part.specs.Index.{Entries}
+use Rattle.merge_part.specs.Waiting.{waits, ReachedByMarks}
+
+-- these marks of a row are what the rule says of it
+pub record AreMarksOf (links : List Link) (rows : RowKey → Option Content) (marks : RowKey → Sites) (key : RowKey) (sites : Sites) : Type 0 where
+  pub reason : (place : ℕ) → has_site sites place ≡ true → (content : Content) × (rows key ≡ Some content) × Reason links rows marks key content place
+  pub reached : (place : ℕ) (content : Content) → rows key ≡ Some content → Reason links rows marks key content place → has_site sites place ≡ true
+
+-- the row's marks become what the rule says of it, and its children wait where they change
+pub record IsSettled (links : List Link) (children : Entries) (rows : RowKey → Option Content) (marks marks' : RowKey → Sites) (key : RowKey) (waiting : List RowKey) : Type 0 where
+  pub others : (k : RowKey) → is_at (key_cmp key) k ≡ false → marks' k ≡ marks k
+  pub itself : AreMarksOf links rows marks key (marks' key)
+  pub children_wait : (marks' key ≡ marks key) ⊎ ReachedByMarks links (length links) children key.article (rows key) waiting
+
+-- each row that does not wait meets the rule
+abbrev pub AllMeet : List Link → (RowKey → Option Content) → (RowKey → Sites) → (RowKey → Bool) → Type 0
+AllMeet links rows marks waits = (k : RowKey) → waits k ≡ false → Meets links rows marks k
+
+abbrev pub is_among : List ℕ → ℕ → Bool
+is_among articles article = list_any (λ a. article == a) articles
+
+-- whether the row waits, and is of one of the articles that are yet to come
+abbrev pub pends : List ℕ → List RowKey → RowKey → Bool
+pends articles waiting key = is_among articles key.article && waits waiting key
+
+-- the children of an article are of articles that are yet to come
+abbrev pub ChildrenCome : List Link → ℕ → List ℕ → Type 0
+ChildrenCome links article articles = (number : ℕ) (link : Link) → IsAt links number link → link.parent ≡ article → is_among articles link.child ≡ true
+
+-- in this order parents come before their children
+abbrev pub ParentsComeFirst : List Link → List ℕ → Type 0
+ParentsComeFirst links order = (i : ℕ) → i < length order → ChildrenCome links (slice_index order i) (drop (i + 1) order)
+
+-- no article follows itself
+abbrev pub NoneFollowsItself : List Link → Type 0
+NoneFollowsItself links = (number : ℕ) (link : Link) → IsAt links number link → link.child ≡ link.parent → ⊥
+
+-- the children of each link are of articles in this order
+abbrev pub LinksAreWithin : List Link → List ℕ → Type 0
+LinksAreWithin links order = (number : ℕ) (link : Link) → IsAt links number link → is_among order link.child ≡ true

@@ -1,0 +1,37 @@
+-- Rows that wait to be looked at.
+use Rattle.std.specs.Prelude.{◌≡◌, ◌<◌, ◌⊎◌, ℕ, Bool, true, List, Option}
+use Rattle.std.specs.List.{list_any}
+use Rattle.std.specs.BTreeMap.{is_at}
+use Rattle.merge_types.specs.declared.identifiers.RowId.{RowId}
+use Rattle.merge_types.specs.declared.values.Value.{Value}
+use Rattle.merge_types.specs.declared.values.Value.TheVariants.{Null}
+use Rattle.merge_part.specs.declared.key.RowKey.{RowKey}
+use Rattle.merge_part.specs.declared.content.Content.{Content}
+use Rattle.merge_part.specs.declared.link.Link.{Link}
+use Rattle.merge_part.specs.Keys.{key_cmp}
+use Rattle.merge_part.specs.Rule.{parent_value, IsAt}
+use Rattle.merge_part.specs.Index.{Entries, HasEntry}
+
+abbrev pub waits : List RowKey → RowKey → Bool
+waits waiting key = list_any (is_at (key_cmp key)) waiting
+
+abbrev pub child_of : Link → RowId → RowKey
+child_of link row = record { article = link.child; row = row }
+
+-- each child by the link that is found by the value waits
+abbrev pub ChildrenWait : Entries → ℕ → Link → Value → List RowKey → Type 0
+ChildrenWait children number link value waiting = (row : RowId) → HasEntry children number value row → (value ≡ Null → ⊥) → waits waiting (child_of link row) ≡ true
+
+abbrev pub KeepsWaiting : (old new : List RowKey) → Type 0
+KeepsWaiting old new = (key : RowKey) → waits old key ≡ true → waits new key ≡ true
+
+-- at each link from the article below this number, the children of a row with this content wait
+abbrev pub ReachedByMarks : List Link → ℕ → Entries → ℕ → Option Content → List RowKey → Type 0
+ReachedByMarks links count children article content waiting =
+    (number : ℕ) (link : Link) → number < count → IsAt links number link → link.parent ≡ article → ChildrenWait children number link (parent_value link content) waiting
+
+-- at each link from the article below this number, the parent value stays or the children of both wait
+abbrev pub ReachedByRow : List Link → ℕ → Entries → ℕ → (old new : Option Content) → List RowKey → Type 0
+ReachedByRow links count children article old new waiting =
+    (number : ℕ) (link : Link) → number < count → IsAt links number link → link.parent ≡ article
+    → (parent_value link old ≡ parent_value link new) ⊎ (ChildrenWait children number link (parent_value link old) waiting × ChildrenWait children number link (parent_value link new) waiting)

@@ -1,0 +1,272 @@
+//! Who has which row.
+ghost use Rattle.std.specs.Prelude.{◌≡◌, ◌≤◌, ◌+◌, ◌*◌, [], All, length, IfOk, OnOk, OnErr};
+ghost use Rattle.merge_schema.specs.Partition.{is_in_at};
+ghost use Rattle.merge_part.specs.Live.{live_rows, live_after_all};
+ghost use Rattle.merge_part.specs.Moves.{AreMoves};
+ghost use Rattle.merge_part.specs.Taking.{FitsArticle, EachRowOnce, living};
+ghost use Rattle.merge_table.specs.Edits.{IsReady, rows_after_all};
+ghost use Rattle.merge_part.specs.Keys.{key_cmp};
+ghost use Rattle.std.specs.List.Sorted.{IsStrictlySortedBy};
+ghost use Rattle.std.specs.Map.{keys_of};
+ghost use Rattle.merge_part.specs.declared.key.RowKey.{RowKey as OneKey};
+ghost use Rattle.merge_part.specs.Draft.{rows_in, marks_of, marks_in, mark_edit, mark_edits};
+ghost use Rattle.merge_part.specs.Index.{AreIndexed};
+ghost use Rattle.merge_part.specs.Rule.{Meets};
+ghost use Rattle.merge_part.specs.Settling.{AllMeet, pends, ParentsComeFirst, NoneFollowsItself};
+ghost use Rattle.merge_schema.specs.EvaluationOrder.{IsEvaluationOrder};
+ghost use Rattle.merge_part.specs.Rules.{IsUsable};
+ghost use Rattle.merge_part.specs.View.{live_in, live_after_plan, IsPrepared};
+
+use crate::change::{Moves, RowChange};
+use crate::draft::{Draft, Held, RowEdit, marks_held};
+use crate::forgetting::forget_rows;
+use crate::index::Indexes;
+use crate::key::RowKey;
+use crate::link::{Rules, links_of};
+use crate::moves::moves_of;
+use crate::settling::settle;
+use crate::sites::Sites;
+use crate::subscribers::place_of;
+use crate::taking::{Taken, take_up_all};
+use merge_join::JoinIndex;
+use merge_schema::Publication;
+use merge_table::{Edit, Table};
+use merge_types::{Listing, NoMemory, RowId, SiteId, Steps};
+use std::alloc::Global;
+use std::marker::Model;
+use std::sync::ledger::Ledger;
+
+/// The live rows, and in the partition of which subscribers each of them is.
+///
+/// A question costs the logarithm of the number of rows. A change costs that for its row, for each
+/// link of its article, and for each child that it reaches: the children by a value that the row
+/// had or gets in a column by which they follow it, and all its children where it enters a
+/// partition or leaves one. A child looks at each parent that has its value.
+#[derive(Drop)]
+pub struct Membership {
+    alloc: Global,
+    publication: Publication,
+    rules: Rules,
+    index: Indexes,
+    held: Held,
+}
+
+impl Model for Membership {
+    ghost use Rattle.std.specs.Coded.{codes};
+    ghost use Rattle.merge_part.specs.View.{View, IsSound, filter_code};
+
+    ghost Value = { View };
+
+    ghost coded = { Prim.hlevel (codes, filter_code) };
+
+    ghost view = { λ m. record { publication = m.publication; rules = m.rules; index = m.index; held = m.held } };
+
+    ghost invariant = { λ m. IsSound (record { publication = m.publication; rules = m.rules; index = m.index; held = m.held }) };
+}
+
+/// The changes of a step, for which a membership has taken the memory.
+#[derive(Drop)]
+pub struct MembershipPlan {
+    rows: Vec<RowEdit>,
+    marks: Vec<Edit<RowKey, Sites>>,
+}
+
+impl Model for MembershipPlan {
+    ghost use Rattle.merge_part.specs.View.{Plan};
+
+    ghost Value = { Plan };
+
+    ghost view = { λ p. record { rows = p.rows.items; marks = p.marks.items } };
+}
+
+impl Membership {
+    /// No rows of the publication. Its evaluation order names each article once, with parents
+    /// first.
+    pub fn new(
+        alloc: Global,
+        publication: &Publication,
+        order: Listing<u8>,
+    ) -> Result<Membership, NoMemory>
+        requires usable { IsUsable publication.now }
+        requires order { IsEvaluationOrder publication.now order }
+        ensures publication { IfOk result (λ membership. membership.publication ≡ publication.now) }
+        ensures live { IfOk result (λ membership. live_in membership ≡ []) }
+    {
+        let links = links_of(alloc, publication)?;
+        Ok(Membership {
+            alloc,
+            publication: publication.copy()?,
+            rules: Rules { links, order },
+            index: Indexes {
+                children: JoinIndex::new(alloc),
+                parents: JoinIndex::new(alloc),
+            },
+            held: Held {
+                rows: Table::new(alloc),
+                marks: Table::new(alloc),
+            },
+        })
+    }
+
+    /// Takes the memory for the changes, and gives the moves that they make and the plan. The rows
+    /// stay as they are. It takes a step for each subscription and row that changes and lives
+    /// afterwards, at most.
+    pub fn prepare<L: Ledger>(
+        &mut self,
+        changes: &[RowChange],
+        steps: &mut Steps<L>,
+    ) -> Result<(Moves, MembershipPlan), NoMemory>
+        requires fits { All (FitsArticle self.old.publication) changes.now }
+        requires once { EachRowOnce changes.now }
+        ensures moves { IfOk result (λ prepared. AreMoves self.old.publication (live_rows (live_in self.old)) (live_rows (live_after_all (live_in self.old) changes.now)) prepared.0) }
+        ensures plan { IfOk result (λ prepared. live_after_plan self.new prepared.1 ≡ live_after_all (live_in self.old) changes.now) }
+        ensures ready { IfOk result (λ prepared. IsPrepared self.new prepared.1) }
+        ensures publication { self.new.publication ≡ self.old.publication }
+        ensures live { live_in self.new ≡ live_in self.old }
+        ensures cost { steps.new ≤ steps.old + length self.old.publication.subscriptions * living changes.now }
+    {
+        let taken = take_up_all(
+            self.alloc,
+            &self.publication,
+            &self.rules,
+            &mut self.index,
+            &self.held,
+            changes,
+            steps,
+        )?;
+        let draft = settled(self.alloc, &self.rules, &self.index, &self.held, taken)?;
+        let subscriptions = self.publication.subscriptions.as_slice();
+        let moves = moves_of(self.alloc, subscriptions, &self.held, &draft.marks)?;
+        let plan = planned(self.alloc, &mut self.held, draft)?;
+        Ok((Listing::new(moves), plan))
+    }
+
+    /// Makes the changes of a plan, which is the last one that was prepared. No memory is taken,
+    /// and spare memory may go back.
+    pub fn make(&mut self, plan: MembershipPlan)
+        requires { IsPrepared self.old plan }
+        ensures publication { self.new.publication ≡ self.old.publication }
+        ensures live { live_in self.new ≡ live_after_plan self.old plan }
+    {
+        let MembershipPlan { rows, marks } = plan;
+        forget_rows(&self.rules, &mut self.index, &self.held, &rows);
+        apply(&mut self.held.rows, rows);
+        apply(&mut self.held.marks, marks);
+    }
+
+    /// Makes the changes, and gives the moves that they make: each row that entered the partition
+    /// of a site or left it, by article, row and site, each once. After a refusal the rows are as
+    /// before. It takes a step for each subscription and row that changes and lives afterwards, at
+    /// most.
+    pub fn update<L: Ledger>(
+        &mut self,
+        changes: &[RowChange],
+        steps: &mut Steps<L>,
+    ) -> Result<Moves, NoMemory>
+        requires fits { All (FitsArticle self.old.publication) changes.now }
+        requires once { EachRowOnce changes.now }
+        ensures moves { IfOk result (λ moves. AreMoves self.old.publication (live_rows (live_in self.old)) (live_rows (live_in self.new)) moves) }
+        ensures ok { OnOk result (live_in self.new ≡ live_after_all (live_in self.old) changes.now) }
+        ensures err { OnErr result (live_in self.new ≡ live_in self.old) }
+        ensures publication { self.new.publication ≡ self.old.publication }
+        ensures cost { steps.new ≤ steps.old + length self.old.publication.subscriptions * living changes.now }
+    {
+        let (moves, plan) = self.prepare(changes, steps)?;
+        self.make(plan);
+        Ok(moves)
+    }
+
+    /// Whether the row is live and in the partition of the site. A site that does not subscribe
+    /// has none.
+    pub fn is_in(&self, article: u8, row: RowId, site: SiteId) -> bool
+        ensures { result ≡ is_in_at self.now.publication site (live_rows (live_in self.now)) article row }
+    {
+        let _ = self.held.rows.iter();
+        match place_of(self.publication.subscriptions.as_slice(), site) {
+            Some(place) => marks_held(&self.held.marks, &RowKey { article, row }).contains(place),
+            None => false,
+        }
+    }
+}
+
+// Makes the changes in their order, and lets go of spare slots once they are the most.
+fn apply<V: Drop>(table: &mut Table<RowKey, V>, edits: Vec<Edit<RowKey, V>>)
+    requires { IsReady key_cmp table.old.slots edits.items }
+    ensures { table.new.rows ≡ rows_after_all key_cmp table.old.rows edits.items }
+{
+    table.apply(edits);
+    if table.spare() > table.len() {
+        table.sweep();
+    }
+}
+
+// The draft of the changes that were taken up, in which each row is marked by the rule.
+fn settled(
+    alloc: Global,
+    rules: &Rules,
+    index: &Indexes,
+    held: &Held,
+    taken: Taken,
+) -> Result<Draft, NoMemory>
+    requires indexed { AreIndexed rules.now.links index.now (rows_in held.now.rows.rows taken.rows) }
+    requires apart { NoneFollowsItself rules.now.links }
+    requires order { ParentsComeFirst rules.now.links rules.now.order }
+    requires met { AllMeet rules.now.links (rows_in held.now.rows.rows taken.rows) (marks_of held.now.marks.rows) (pends rules.now.order taken.waiting.items) }
+    ensures rows { IfOk result (λ draft. draft.rows ≡ taken.rows) }
+    ensures met { IfOk result (λ draft. (key : OneKey) → Meets rules.now.links (rows_in held.now.rows.rows taken.rows) (marks_in held.now.marks.rows draft.marks.rows) key) }
+    ensures drafted { IfOk result (λ draft. IsStrictlySortedBy key_cmp (keys_of draft.marks.rows)) }
+    ensures ordered { IsStrictlySortedBy key_cmp (keys_of held.now.rows.rows) }
+    ensures marked { IsStrictlySortedBy key_cmp (keys_of held.now.marks.rows) }
+{
+    let Taken { rows, waiting } = taken;
+    let mut draft = Draft {
+        rows,
+        marks: Table::new(alloc),
+    };
+    let _ = held.rows.iter();
+    let _ = held.marks.iter();
+    settle(alloc, rules, index, held, &mut draft, waiting)?;
+    let _ = draft.marks.iter();
+    Ok(draft)
+}
+
+// What a draft changes, with the memory for it taken.
+fn planned(alloc: Global, held: &mut Held, draft: Draft) -> Result<MembershipPlan, NoMemory>
+    ensures rows { held.new.rows.rows ≡ held.old.rows.rows }
+    ensures marks { held.new.marks.rows ≡ held.old.marks.rows }
+    ensures edits { IfOk result (λ plan. plan.rows ≡ draft.rows) }
+    ensures marked { IfOk result (λ plan. plan.marks ≡ mark_edits draft.marks.rows) }
+    ensures rows_ready { IfOk result (λ plan. IsReady key_cmp held.new.rows.slots plan.rows) }
+    ensures marks_ready { IfOk result (λ plan. IsReady key_cmp held.new.marks.slots plan.marks) }
+{
+    let marks = mark_edits(alloc, &draft.marks)?;
+    let rows = draft.rows.into_edits();
+    held.rows.prepare(&rows)?;
+    held.marks.prepare(&marks)?;
+    Ok(MembershipPlan { rows, marks })
+}
+
+// The changes by which the drafted marks take their place.
+fn mark_edits(
+    alloc: Global,
+    drafted: &Table<RowKey, Sites>,
+) -> Result<Vec<Edit<RowKey, Sites>>, NoMemory>
+    ensures { IfOk result (λ edits. edits.items ≡ mark_edits drafted.now.rows) }
+{
+    let mut edits = Vec::new(alloc);
+    for (key, sites) in drafted.iter() {
+        edits.push(mark_edit(*key, *sites))?;
+    }
+    Ok(edits)
+}
+
+// The change after which the row has this mark, or none if it is empty.
+fn mark_edit(key: RowKey, sites: Sites) -> Edit<RowKey, Sites>
+    ensures { result ≡ mark_edit key sites }
+{
+    if sites.0 == 0 {
+        Edit::Take(key)
+    } else {
+        Edit::Put(key, sites)
+    }
+}
