@@ -1,0 +1,10 @@
+mod Examples
+pub mod Values
+pub mod Makers
+pub mod Ascending
+pub mod Tracking
+pub mod Search
+pub mod Firsts
+pub mod AllMet
+pub mod Valid
+pub mod Counts

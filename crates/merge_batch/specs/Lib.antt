@@ -1,0 +1,11 @@
+pub mod Refusals
+pub mod Search
+pub mod Makers
+pub mod Known
+pub mod Articles
+pub mod Lineages
+pub mod Uploads
+pub mod Asks
+pub mod Replies
+pub mod Opened
+pub mod Laws

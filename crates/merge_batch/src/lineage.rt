@@ -1,0 +1,71 @@
+//! What is asked of the lineage of a row.
+ghost use Rattle.std.specs.Prelude.{◌≡◌};
+ghost use Rattle.std.specs.List.{list_any, list_all};
+ghost use Rattle.merge_units.specs.declared.version.Body.TheVariants.{Live};
+ghost use Rattle.merge_units.specs.Version.{is_new};
+ghost use Rattle.merge_batch.specs.Lineages.{is_subscription, is_site, is_change_number, is_pair, is_well_formed, has_pair_of, knows_tops};
+
+use merge_lineage::Lineage;
+use merge_schema::Publication;
+use merge_types::{Dot, SiteId};
+use merge_units::Cell;
+
+// Numbers of changes lie below this.
+pub const NUMBER_LIMIT: u64 = 1 << 62;
+
+// Whether the site subscribes.
+pub fn is_subscription(publication: &Publication, site: SiteId) -> bool
+    ensures { result ≡ is_subscription publication.now site.0 }
+{
+    let subscriptions = publication.subscriptions.as_slice();
+    subscriptions
+        .iter()
+        .any(|subscription| subscription.site.0 == site.0)
+}
+
+fn is_site(publication: &Publication, site: SiteId) -> bool
+    ensures { result ≡ is_site publication.now site.0 }
+{
+    site.0 == 0 || is_subscription(publication, site)
+}
+
+fn is_pair(publication: &Publication, dot: Dot) -> bool
+    ensures { result ≡ is_pair publication.now dot }
+{
+    is_site(publication, dot.site) && 0 < dot.number && dot.number < NUMBER_LIMIT
+}
+
+// Whether each site is the publisher or subscribes, and has a number that a change can have. That
+// the sites ascend holds of every lineage.
+pub fn is_well_formed(publication: &Publication, lineage: &Lineage) -> bool
+    ensures { result ≡ is_well_formed publication.now lineage.now }
+{
+    pairs_fit(publication, lineage.dots())
+}
+
+fn pairs_fit(publication: &Publication, dots: &[Dot]) -> bool
+    ensures { result ≡ list_all (is_pair publication.now) dots.now }
+{
+    dots.iter().all(|dot| is_pair(publication, *dot))
+}
+
+// Whether the site has a pair.
+pub fn has_pair_of(lineage: &Lineage, site: SiteId) -> bool
+    ensures { result ≡ has_pair_of site.0 lineage.now }
+{
+    lineage.dots().iter().any(|dot| dot.site.0 == site.0)
+}
+
+// Whether the lineage knows each top of live cells.
+pub fn knows_tops(lineage: &Lineage, cells: &[Cell]) -> bool
+    ensures { result ≡ knows_tops lineage.now (Live cells.now) }
+{
+    !any_new(lineage, cells)
+}
+
+// Whether a top is not known.
+fn any_new(lineage: &Lineage, cells: &[Cell]) -> bool
+    ensures { result ≡ list_any (λ cell. is_new lineage.now cell.top) cells.now }
+{
+    cells.iter().any(|cell| !lineage.knows(cell.top))
+}
