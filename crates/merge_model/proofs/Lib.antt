@@ -1,0 +1,23 @@
+mod FirstFaults
+mod LineExamples
+mod LiteralExamples
+mod ReadDays
+mod ReadEvents
+mod ReadLiterals
+pub mod ReadRows
+mod ReadTexts
+pub mod ReadValues
+mod ReadWords
+mod TextExamples
+pub mod Refused
+pub mod Kept
+pub mod Reports
+pub mod Events
+pub mod PublisherSteps
+pub mod Publishers
+pub mod Rising
+pub mod Sorted
+pub mod DoneOnce
+pub mod SubscriberSteps
+pub mod Subscribers
+pub mod Runs

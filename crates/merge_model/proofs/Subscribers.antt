@@ -1,0 +1,237 @@
+-- What the calls of a subscriber keep.
+use Rattle.std.specs.Prelude.{◌≡◌, ◌≤◌, ◌+◌, ◌/◌, ◌%◌, ◌<◌, ◌==◌, ◌++◌, ℕ, ℤ, List, [], ◌∷◌, Bool, true, false, Option, Some, None, Result, Ok, Err, refl, if◌then◌else◌, IfOk, max, map, filter, length, nat_lt, unwrap_or, option_map}
+use Rattle.std.specs.List.{fold, AllByRecursion}
+use Rattle.std.specs.List.Sorted.{IsStrictlySortedBy}
+use Rattle.std.specs.Map.{keys_of}
+use Rattle.std.proofs.Common.{arith, subst, sym, ap}
+use Rattle.std.proofs.lemmas.Bool.Decides.{nat_tests}
+use Rattle.std.proofs.lemmas.List.Elements.{All-filter}
+use Rattle.std.proofs.lemmas.List.Kept.{AllPairs-filter}
+use Rattle.merge_types.specs.declared.identifiers.SiteId.{SiteId}
+use Rattle.merge_types.specs.declared.identifiers.Moment.{Moment}
+use Rattle.merge_types.specs.declared.identifiers.RowId.{RowId}
+use Rattle.merge_types.specs.declared.values.Value.{Value}
+use Rattle.merge_types.specs.declared.changes.Change.{Change}
+use Rattle.merge_units.specs.declared.version.Version.{Version}
+use Rattle.merge_conflict.specs.declared.row.ConflictRow.{ConflictRow}
+use Rattle.merge_gens.specs.declared.filling.Filling.{Filling}
+use Rattle.merge_gens.specs.declared.closings.Closing.{Closing}
+use Rattle.merge_gens.specs.Filling as fill
+use Rattle.merge_gens.specs.Book.{Book, IsSound, entered, closed_now}
+use Rattle.merge_ident.specs.Holders.{Holder}
+use Rattle.merge_batch.specs.declared.refusal.Refusal.{Refusal}
+use Rattle.merge_batch.specs.declared.request.Outstanding.{Outstanding}
+use Rattle.merge_batch.specs.declared.reply.Reply.{Reply}
+use Rattle.merge_batch.specs.declared.reply.Reply.TheVariants as reply
+use Rattle.merge_batch.specs.declared.reply.Downloaded.{Downloaded}
+use Rattle.merge_batch.specs.declared.reply.DownloadItem.{DownloadItem}
+use Rattle.merge_batch.specs.declared.reply.Act.{Act as Order}
+use Rattle.merge_batch.specs.declared.reply.Act.TheVariants as order
+use Rattle.merge_schema.specs.declared.publication.Publication.{Publication}
+use Rattle.merge_model.specs.Tables.{Key, SubscriberRow, SubscriberTables}
+use Rattle.merge_model.specs.Keys.{key_cmp, put_row, drop_row}
+use Rattle.merge_model.specs.Refusals.{unless, counter_end}
+use Rattle.merge_model.specs.Changes.{key_of, version_after}
+use Rattle.merge_model.specs.Judge.{SubscriberJudge}
+use Rattle.merge_model.specs.Faults.{reply_fault}
+use Rattle.merge_model.specs.Subscriber.{sub_local, sub_local_refusal, sub_drawn, sub_made_locally, sub_version_at, sub_next_dot, with_version_if, with_version, close_sub_generation, sub_closed, sub_at_moment, sub_counters, sub_last_closed}
+use Rattle.merge_model.specs.Sending.{with_message}
+use Rattle.merge_model.specs.Taking.{Taken, Acted, Missed, taken, take_reply, met_by, seq_of, after_reply, row_above, gens_above, with_received, with_item, with_items, with_order, key_of_download}
+use Rattle.merge_model.specs.Reinit.{reinitialise, reinitialised, made_anew, numbered_from, discarded}
+use Rattle.merge_model.specs.World.{World, Judges, Saying}
+use Rattle.merge_model.specs.Steps.{Action, step_by}
+use Rattle.merge_model.specs.Laws.{SubscriberRises, SubscriberNumbersRise, AreSubSorted}
+use Rattle.merge_model.proofs.Sorted.{key_total, closed_filling-small, closed_filling-rises, entered-sound, closed-sound}
+use Rattle.merge_gens.proofs.Sets.{sorted_put, sorted_take}
+use Rattle.merge_model.proofs.SubscriberSteps.{AllHold, sub-step-holds}
+
+unless-ok : {A : Type 0} (P : A → Type 0) (refusal : Option Refusal) (a : A) → P a → IfOk (unless refusal a) P
+unless-ok P (Some refusal) a h = tt
+unless-ok P None a h = h
+
+-- by what holds of the tables that a change, a reply or a making anew leaves
+sub_drawn-ok : (S : SubscriberTables → Type 0) (publication : Publication) (now : Moment) (change : Change) (s : SubscriberTables) (draw : Result (Value × List (ℕ × Holder)) Refusal)
+    → ((d : Value × List (ℕ × Holder)) → S (sub_made_locally publication change d (sub_at_moment now s)).0)
+    → (let done : Result (SubscriberTables × RowId) Refusal = elim draw [ Err refusal ↦ Err refusal | Ok d ↦ Ok (sub_made_locally publication change d (sub_at_moment now s)) ] in IfOk done (λ a. S a.0))
+sub_drawn-ok S publication now change s (Err refusal) each = tt
+sub_drawn-ok S publication now change s (Ok d) each = each d
+
+sub_local-ok : (S : SubscriberTables → Type 0) (publication : Publication) (now : Moment) (change : Change) (s : SubscriberTables)
+    → ((d : Value × List (ℕ × Holder)) → S (sub_made_locally publication change d (sub_at_moment now s)).0) → IfOk (sub_local publication now change s) (λ done. S done.0)
+sub_local-ok S publication now change s each = elim (sub_local_refusal publication change s)
+    as (λ (refusal : Option Refusal). (let done : Result (SubscriberTables × RowId) Refusal = elim refusal [
+      | Some why ↦ Err why
+      | None ↦ elim (sub_drawn s change) [ Err why ↦ Err why | Ok d ↦ Ok (sub_made_locally publication change d (sub_at_moment now s)) ]
+    ] in IfOk done (λ a. S a.0))) [
+      | Some why ↦ tt
+      | None ↦ sub_drawn-ok S publication now change s (sub_drawn s change) each
+    ]
+
+close-ok : (S : SubscriberTables → Type 0) (now : Moment) (s : SubscriberTables) → S (sub_closed (sub_at_moment now s)) → IfOk (close_sub_generation now s) (λ done. S done.0)
+close-ok S now s h = unless-ok (λ (done : SubscriberTables × ℕ). S done.0) (counter_end (sub_counters s)) (sub_closed (sub_at_moment now s), sub_last_closed (sub_closed (sub_at_moment now s))) h
+
+if-ok : (S : SubscriberTables → Type 0) (b : Bool) (x y : Result (SubscriberTables × Taken) Refusal) → IfOk x (λ done. S done.0) → IfOk y (λ done. S done.0) → IfOk (if b then x else y) (λ done. S done.0)
+if-ok S true x y first second = first
+if-ok S false x y first second = second
+
+met-ok : (S : SubscriberTables → Type 0) (publication : Publication) (judge : SubscriberJudge) (now : Moment) (m : Reply) (s : SubscriberTables) (found : Option (ℕ × Outstanding))
+    → S s → S (taken judge now m s) → IfOk (met_by publication judge now m s found) (λ done. S done.0)
+met-ok S publication judge now m s None same news = same
+met-ok S publication judge now m s (Some sent) same news =
+    if-ok S (sent.0 == seq_of m) (unless (reply_fault publication sent.1 m s) (taken judge now m s, Acted)) (Ok (s, Missed (seq_of m) sent.0))
+    (unless-ok (λ (done : SubscriberTables × Taken). S done.0) (reply_fault publication sent.1 m s) (taken judge now m s, Acted) news) same
+
+reply-ok : (S : SubscriberTables → Type 0) (publication : Publication) (judge : SubscriberJudge) (now : Moment) (m : Reply) (s : SubscriberTables)
+    → S s → S (taken judge now m s) → IfOk (take_reply publication judge now m s) (λ done. S done.0)
+reply-ok S publication judge now (reply.Joined m) s same news = met-ok S publication judge now (reply.Joined m) s s.outstanding same news
+reply-ok S publication judge now (reply.Uploaded m) s same news = met-ok S publication judge now (reply.Uploaded m) s s.outstanding same news
+reply-ok S publication judge now (reply.Ranged m) s same news = met-ok S publication judge now (reply.Ranged m) s s.outstanding same news
+reply-ok S publication judge now (reply.Downloaded m) s same news = met-ok S publication judge now (reply.Downloaded m) s s.outstanding same news
+reply-ok S publication judge now (reply.Refused number values) s same news = same
+
+anew-ok : (S : SubscriberTables → Type 0) (judge : SubscriberJudge) (now : Moment) (s : SubscriberTables) → S (reinitialised judge (sub_at_moment now s)).0 → IfOk (reinitialise judge now s) (λ done. S done.0)
+anew-ok S judge now s h = unless-ok (λ (done : SubscriberTables × ℕ). S done.0) (counter_end (sub_counters s)) (reinitialised judge (sub_at_moment now s)) h
+
+-- Numbers rise.
+
+version-rises : (b s : SubscriberTables) (key : Key) (version : Option Version) → SubscriberRises b s → SubscriberRises b (with_version_if key version s)
+version-rises b s key None r = r
+version-rises b s key (Some version) r = record {
+  changes_rise = r.changes_rise;
+  closed_rises = omega (arith, r.closed_rises);
+  seq_rises = r.seq_rises;
+  conflicts_rise = r.conflicts_rise;
+  latest_rises = r.latest_rises;
+}
+
+made-rises : (publication : Publication) (now : Moment) (change : Change) (s : SubscriberTables) (d : Value × List (ℕ × Holder)) → SubscriberRises s (sub_made_locally publication change d (sub_at_moment now s)).0
+made-rises publication now change s d =
+    let t : SubscriberTables = sub_at_moment now s in
+    let u : SubscriberTables = record t { changes = t.changes + 1; held = d.1 } in
+    version-rises s u (key_of (sub_next_dot t) change) (version_after publication (sub_next_dot t) d.0 change (sub_version_at t (key_of (sub_next_dot t) change)))
+    (record { changes_rise = omega arith; closed_rises = omega arith; seq_rises = omega arith; conflicts_rise = omega arith; latest_rises = omega arith })
+
+closing-rises : (now : Moment) (s : SubscriberTables) → SubscriberRises s (sub_closed (sub_at_moment now s))
+closing-rises now s = record {
+  changes_rise = omega arith;
+  closed_rises = closed_filling-rises s.gens.filling;
+  seq_rises = omega arith;
+  conflicts_rise = omega arith;
+  latest_rises = omega arith;
+}
+
+message-rises : (sent : Outstanding) (s : SubscriberTables) → SubscriberRises s (with_message sent s)
+message-rises sent s = record { changes_rise = omega arith; closed_rises = omega arith; seq_rises = omega arith; conflicts_rise = omega arith; latest_rises = omega arith }
+
+same-rises : (s : SubscriberTables) → SubscriberRises s s
+same-rises s = record { changes_rise = omega arith; closed_rises = omega arith; seq_rises = omega arith; conflicts_rise = omega arith; latest_rises = omega arith }
+
+taken-rises : (judge : SubscriberJudge) (now : Moment) (m : Reply) (s : SubscriberTables) → SubscriberRises s (taken judge now m s)
+taken-rises judge now (reply.Joined m) s = record { changes_rise = omega arith; closed_rises = omega arith; seq_rises = omega arith; conflicts_rise = omega arith; latest_rises = omega arith }
+taken-rises judge now (reply.Uploaded m) s = record { changes_rise = omega arith; closed_rises = omega arith; seq_rises = omega arith; conflicts_rise = omega arith; latest_rises = omega arith }
+taken-rises judge now (reply.Ranged m) s = record { changes_rise = omega arith; closed_rises = omega arith; seq_rises = omega arith; conflicts_rise = omega arith; latest_rises = omega arith }
+taken-rises judge now (reply.Downloaded m) s = record { changes_rise = omega arith; closed_rises = omega arith; seq_rises = omega arith; conflicts_rise = omega arith; latest_rises = omega arith }
+taken-rises judge now (reply.Refused number values) s = record { changes_rise = omega arith; closed_rises = omega arith; seq_rises = omega arith; conflicts_rise = omega arith; latest_rises = omega arith }
+
+anew-rises : (judge : SubscriberJudge) (now : Moment) (s : SubscriberTables) → SubscriberRises s (reinitialised judge (sub_at_moment now s)).0
+anew-rises judge now s = record {
+  changes_rise = omega arith;
+  closed_rises = closed_filling-rises s.gens.filling;
+  seq_rises = omega arith;
+  conflicts_rise = omega arith;
+  latest_rises = omega arith;
+}
+
+pub subscriber_numbers_rise : SubscriberNumbersRise
+subscriber_numbers_rise = record {
+  by_change = λ publication now change s. sub_local-ok (SubscriberRises s) publication now change s (made-rises publication now change s);
+  by_close = λ now s. close-ok (SubscriberRises s) now s (closing-rises now s);
+  by_message = message-rises;
+  by_closing = closing-rises;
+  by_reply = λ publication judge now m s. reply-ok (SubscriberRises s) publication judge now m s (same-rises s) (taken-rises judge now m s);
+  by_anew = λ judge now s. anew-ok (SubscriberRises s) judge now s (anew-rises judge now s);
+}
+
+-- Lists stay in order.
+
+above-keys : (received : ℕ) (rows : List (Key × SubscriberRow)) → keys_of (map (row_above received) rows) ≡ keys_of rows
+above-keys received [] = refl
+above-keys received (row ∷ rows) = ap (λ (ks : List Key). row.0 ∷ ks) (above-keys received rows)
+
+above-sound : (received : ℕ) (book : Book) → IsSound book → IsSound (gens_above received book)
+above-sound received book sound = record {
+  unfilled = sound.unfilled;
+  ascending = AllPairs-filter (λ (a b : Closing). a.generation < b.generation) (λ (c : Closing). nat_lt received c.generation) book.closings sound.ascending;
+  closed = All-filter (λ (c : Closing). nat_lt received c.generation) (λ (c : Closing). c.generation ≤ book.filling.last_closed) book.closings sound.closed;
+}
+
+received-sorted : (received : ℕ) (s : SubscriberTables) → AreSubSorted s → AreSubSorted (with_received received s)
+received-sorted received s k = record {
+  rows_ascend = subst (λ (ks : List Key). IsStrictlySortedBy key_cmp ks) (sym (above-keys received s.rows)) k.rows_ascend;
+  generations_ascend = above-sound received s.gens k.generations_ascend;
+}
+
+order-sorted : (key : Key) (o : Order) (rows : List (Key × SubscriberRow)) → IsStrictlySortedBy key_cmp (keys_of rows) → IsStrictlySortedBy key_cmp (keys_of (with_order key o rows))
+order-sorted key (order.Put lineage live) rows k = sorted_put key_cmp key_total key _ rows k
+order-sorted key order.RemoveDeleted rows k = sorted_take key_cmp key_total key rows k
+order-sorted key order.RemoveLeft rows k = sorted_take key_cmp key_total key rows k
+
+if-sorted : (b : Bool) (x y : List (Key × SubscriberRow)) → IsStrictlySortedBy key_cmp (keys_of x) → IsStrictlySortedBy key_cmp (keys_of y) → IsStrictlySortedBy key_cmp (keys_of (if b then x else y))
+if-sorted true x y first second = first
+if-sorted false x y first second = second
+
+items-sorted : (judge : SubscriberJudge) (received : ℕ) (items : List DownloadItem) (rows : List (Key × SubscriberRow)) → IsStrictlySortedBy key_cmp (keys_of rows) → IsStrictlySortedBy key_cmp (keys_of (fold (with_item judge received) rows items))
+items-sorted judge received [] rows k = k
+items-sorted judge received (item ∷ items) rows k = items-sorted judge received items (with_item judge received rows item)
+    (if-sorted (judge.is_unsent received (key_of_download item)) rows (with_order (key_of_download item) item.act rows) k (order-sorted (key_of_download item) item.act rows k))
+
+at_moment-sorted : (now : Moment) (s : SubscriberTables) → AreSubSorted s → AreSubSorted (sub_at_moment now s)
+at_moment-sorted now s k = record { rows_ascend = k.rows_ascend; generations_ascend = k.generations_ascend }
+
+version-sorted : (key : Key) (version : Option Version) (s : SubscriberTables) → AreSubSorted s → AreSubSorted (with_version_if key version s)
+version-sorted key None s k = k
+version-sorted key (Some version) s k = record {
+  rows_ascend = sorted_put key_cmp key_total key _ s.rows k.rows_ascend;
+  generations_ascend = entered-sound s.gens 1 (record { 0 = s.changes }) k.generations_ascend;
+}
+
+made-sorted : (publication : Publication) (change : Change) (d : Value × List (ℕ × Holder)) (t : SubscriberTables) → AreSubSorted t → AreSubSorted (sub_made_locally publication change d t).0
+made-sorted publication change d t k =
+    let u : SubscriberTables = record t { changes = t.changes + 1; held = d.1 } in
+    version-sorted (key_of (sub_next_dot t) change) (version_after publication (sub_next_dot t) d.0 change (sub_version_at t (key_of (sub_next_dot t) change))) u
+    (record { rows_ascend = k.rows_ascend; generations_ascend = k.generations_ascend })
+
+closing-sorted : (now : Moment) (s : SubscriberTables) → AreSubSorted s → AreSubSorted (sub_closed (sub_at_moment now s))
+closing-sorted now s k = record { rows_ascend = k.rows_ascend; generations_ascend = closed-sound s.gens (record { 0 = s.changes }) k.generations_ascend }
+
+message-sorted : (sent : Outstanding) (s : SubscriberTables) → AreSubSorted s → AreSubSorted (with_message sent s)
+message-sorted sent s k = record { rows_ascend = k.rows_ascend; generations_ascend = k.generations_ascend }
+
+taken-sorted : (judge : SubscriberJudge) (now : Moment) (m : Reply) (s : SubscriberTables) → AreSubSorted s → AreSubSorted (taken judge now m s)
+taken-sorted judge now (reply.Joined m) s k = record { rows_ascend = k.rows_ascend; generations_ascend = k.generations_ascend }
+taken-sorted judge now (reply.Uploaded m) s k =
+    let t : SubscriberTables = record (sub_at_moment now s) { outstanding = None } in
+    received-sorted m.received t (record { rows_ascend = k.rows_ascend; generations_ascend = k.generations_ascend })
+taken-sorted judge now (reply.Ranged m) s k = record { rows_ascend = k.rows_ascend; generations_ascend = k.generations_ascend }
+taken-sorted judge now (reply.Downloaded m) s k =
+    let t : SubscriberTables = record (sub_at_moment now s) { outstanding = None } in
+    let r : AreSubSorted (with_received m.received t) = received-sorted m.received t (record { rows_ascend = k.rows_ascend; generations_ascend = k.generations_ascend }) in
+    record { rows_ascend = items-sorted judge m.received m.items (with_received m.received t).rows r.rows_ascend; generations_ascend = r.generations_ascend }
+taken-sorted judge now (reply.Refused number values) s k = record { rows_ascend = k.rows_ascend; generations_ascend = k.generations_ascend }
+
+anew-sorted : (judge : SubscriberJudge) (now : Moment) (s : SubscriberTables) → AreSubSorted s → AreSubSorted (reinitialised judge (sub_at_moment now s)).0
+unfolding IsStrictlySortedBy
+anew-sorted judge now s k = record {
+  rows_ascend = tt;
+  generations_ascend = record { unfilled = closed_filling-small s.gens.filling k.generations_ascend.unfilled; ascending = λ i j d before within. absurd (omega arith); closed = λ i d within. absurd (omega arith) };
+}
+
+pub step-sub-sorted : (publication : Publication) (says : Saying) (judges : Judges) (w : World) (action : Action) → AllHold AreSubSorted w.subscribers → AllHold AreSubSorted (step_by publication says judges w action).0.subscribers
+step-sub-sorted publication says judges w action k = sub-step-holds publication AreSubSorted
+    (λ now change s h. sub_local-ok AreSubSorted publication now change s (λ d. made-sorted publication change d (sub_at_moment now s) (at_moment-sorted now s h)))
+    (λ now s h. close-ok AreSubSorted now s (closing-sorted now s h))
+    message-sorted
+    closing-sorted
+    (λ judge now m s h. reply-ok AreSubSorted publication judge now m s h (taken-sorted judge now m s h))
+    (λ judge now s h. anew-ok AreSubSorted judge now s (anew-sorted judge now s h))
+    says judges w action k

@@ -1,0 +1,6 @@
+use Rattle.merge_model.proofs.Refused.{step_by-leaves}
+use Rattle.merge_model.proofs.Reports.{model_step-leaves}
+use Rattle.merge_model.proofs.laws.refusals_change_nothing.Goals as goal
+
+pub returns : goal.returns
+returns c = record { world = step_by-leaves; history = model_step-leaves }

@@ -1,0 +1,121 @@
+-- A session: one step after another, of whatever world takes the steps.
+use Rattle.std.specs.List.{last_or}
+use Rattle.std.specs.Prelude.{Bool, None, Option, Some, false, if◌then◌else◌, length, map, nat_le, nat_lt, option_map, suc, true, unwrap_or, zero, ℕ, ◌+◌, ◌-◌}
+use Rattle.merge_types.specs.declared.identifiers.SiteId.{SiteId}
+use Rattle.merge_batch.specs.declared.refusal.Refusal.{Refusal}
+use Rattle.merge_batch.specs.declared.reply.Downloaded.{Downloaded}
+use Rattle.merge_model.specs.Steps.{Action, Deliver, Outcome, Posted, Refuses, Send, SendDownload, SendJoin, SendRanges, SendUpload, Sending, Took}
+use Rattle.merge_model.specs.Tables.{SubscriberTables}
+use Rattle.merge_model.specs.Taking.{taken}
+use Rattle.merge_model.specs.World.{Letter, Message, Replies, World, subscriber_at}
+use Rattle.merge_batch.specs.declared.reply.Reply.TheVariants as reply
+
+-- a world of some kind that takes steps, and what can be seen of it
+pub record Stepping (W : Type 0) : Type 0 where
+  pub act : W → Action → W × Outcome
+  pub look : W → World
+
+-- a session under way: how many uploads were answered, how many replies brought generations, and the refusal that ended it
+pub record Session (W : Type 0) : Type 0 where
+  pub world : W
+  pub uploads : ℕ
+  pub downloads : ℕ
+  pub stop : Option Refusal
+
+module _ {W : Type 0} (stepping : Stepping W) (site : SiteId) where
+  -- a message that was made comes to where it goes
+  abbrev pub then_deliver : W × Outcome → W × Outcome
+  then_deliver (w, Posted number) = stepping.act w (Deliver number)
+  then_deliver (w, outcome) = (w, outcome)
+
+  -- a message, its delivery, and that of its reply
+  abbrev pub exchange : Sending → W → W × Outcome
+  exchange sending w = then_deliver (then_deliver (stepping.act w (Send site sending)))
+
+  -- after an exchange the session goes on where the reply acted, ends where something was refused, and is past this message where there was none to make
+  abbrev pub after_exchange : Session W → W × Outcome → (Session W → Session W) → Session W
+  after_exchange s (w, Took taken) next = next (record s { world = w })
+  after_exchange s (w, Refuses refusal) next = record s { world = w; stop = Some refusal }
+  after_exchange s (w, outcome) next = record s { world = w }
+
+  -- what goes on where nothing ended the session
+  abbrev pub unless_stopped : (Session W → Session W) → Session W → Session W
+  unless_stopped next s = elim s.stop [
+    | Some refusal ↦ s
+    | None ↦ next s
+  ]
+
+  abbrev pub tables_in : W → Option SubscriberTables
+  tables_in w = subscriber_at (stepping.look w) site
+
+  -- a site that is joining joins
+  abbrev pub is_joined_in : W → Bool
+  is_joined_in w = unwrap_or (option_map (λ (s : SubscriberTables). s.is_joined) (tables_in w)) true
+
+  abbrev pub joining : Session W → Session W
+  joining s = if is_joined_in s.world then s else after_exchange s (exchange SendJoin s.world) (λ (t : Session W). t)
+
+  -- uploads, until there is none to make. Each takes at least one generation
+  abbrev pub uploading : ℕ → Session W → Session W
+  uploading zero s = s
+  uploading (suc n) s = after_exchange s (exchange SendUpload s.world) (λ (t : Session W). uploading n (record t { uploads = t.uploads + 1 }))
+
+  abbrev pub unsent_generations : W → ℕ
+  unsent_generations w = unwrap_or (option_map (λ (s : SubscriberTables). s.gens.filling.last_closed + 2 - s.received) (tables_in w)) 0
+
+  abbrev pub all_uploads : Session W → Session W
+  all_uploads s = uploading (unsent_generations s.world) s
+
+  -- range requests, until a reply has no grant
+  abbrev pub last_message : W → Option Message
+  last_message w = last_or None (map (λ (letter : Letter). letter.message) (stepping.look w).pool)
+
+  abbrev pub has_grant : Option Message → Bool
+  has_grant (Some (Replies (reply.Ranged m))) = nat_lt 0 (length m.grants)
+  has_grant message = false
+
+  -- A range that was granted and not heard of comes first. Then a site is granted at most two more of an article
+  -- before it is not due.
+  abbrev pub asking_ranges : ℕ → Session W → Session W
+  asking_ranges zero s = s
+  asking_ranges (suc n) s = after_exchange s (exchange SendRanges s.world) (λ (t : Session W). if has_grant (last_message t.world) then asking_ranges n t else t)
+
+  abbrev pub range_asks : W → ℕ
+  range_asks w = length (stepping.look w).publisher.grants + 4
+
+  abbrev pub all_ranges : Session W → Session W
+  all_ranges s = asking_ranges (range_asks s.world) s
+
+  -- Downloads: with the last closed generation that the first reply tells, the site asks until it asked from there.
+  abbrev pub downloaded_in : Option Message → Option Downloaded
+  downloaded_in (Some (Replies (reply.Downloaded m))) = Some m
+  downloaded_in message = None
+
+  abbrev pub brings_generations : Downloaded → Bool
+  brings_generations m = nat_lt m.from m.to
+
+  abbrev pub with_download : Downloaded → Session W → Session W
+  with_download m s = record s { downloads = if brings_generations m then s.downloads + 1 else s.downloads }
+
+  abbrev pub after_download : (Downloaded → Session W → Session W) → Session W → Session W
+  after_download next s = elim (downloaded_in (last_message s.world)) [
+    | None ↦ s
+    | Some m ↦ next m (with_download m s)
+  ]
+
+  abbrev pub downloading : ℕ → ℕ → Session W → Session W
+  downloading zero target s = s
+  downloading (suc n) target s = after_exchange s (exchange SendDownload s.world)
+      (after_download (λ (m : Downloaded) (t : Session W). if nat_le target m.from then t else downloading n target t))
+
+  abbrev pub all_downloads : Session W → Session W
+  all_downloads s = after_exchange s (exchange SendDownload s.world)
+      (after_download (λ (m : Downloaded) (t : Session W). if nat_le m.last m.from then t else downloading (m.last + 1 - m.from) m.last t))
+
+  abbrev pub session : W → Session W
+  session w = unless_stopped all_downloads (unless_stopped all_ranges (unless_stopped all_uploads (joining (record {
+    world = w;
+    uploads = 0;
+    downloads = 0;
+    stop = None;
+  }))))

@@ -1,0 +1,17 @@
+//! What a world of merge replication does: the tables of its sites, each step of them, and the
+//! history that the promises speak of.
+#![tactic(auto)]
+
+mod event;
+mod laws;
+mod reading;
+
+pub use event::{Event, Line, NamedValue, NamedValues};
+pub use laws::{
+    answered_uploads_change_nothing, events_keep_what_steps_keep, lists_stay_sorted,
+    no_generation_acts_twice, numbers_only_rise, ranges_never_overlap, refusals_change_nothing,
+    reports_change_nothing,
+};
+pub use reading::{
+    events_are_read_exactly, literals_are_read_exactly, reading_stops_at_the_first_fault,
+};
