@@ -1,0 +1,10 @@
+pub mod Finding
+pub mod Subscribing
+pub mod Replying
+pub mod Publishing
+pub mod Worlds
+pub mod Arrivals
+pub mod Steps
+pub mod Sendings
+pub mod Deliveries
+pub mod Models

@@ -1,0 +1,7 @@
+//! What holds of the model over every list of events. These functions do nothing: their contracts
+//! are the laws.
+#![tactic(auto)]
+
+mod laws;
+
+pub use laws::received_numbers_are_the_generations_that_acted;
