@@ -1,5 +1,5 @@
--- Values that join.
-use Rattle.std.proofs.Common.{◌≡◌, Bool, true, false, Some, refl, ap, subst}
+-- Values that join, and rows that have a parent.
+use Rattle.std.proofs.Common.{◌≡◌, Bool, true, false, ◌&&◌, ◌==◌, List, Some, refl, ap, subst}
 use Rattle.std.specs.Prelude.{◌↔◌}
 use Rattle.std.specs.declared.cmp.Ordering.{Ordering}
 use Rattle.std.specs.declared.cmp.Ordering.TheVariants.{Less, Equal, Greater}
@@ -12,7 +12,9 @@ use Rattle.merge_types.specs.declared.values.Value.{Value}
 use Rattle.merge_types.specs.declared.values.Value.TheVariants as values
 use Rattle.merge_filter.specs.declared.word.Sign.TheVariants as signs
 use Rattle.merge_filter.specs.Eval.{truth_at}
-use Rattle.merge_schema.specs.Partition.{are_joined, is_true}
+use Rattle.merge_schema.specs.declared.publication.JoinFilter.{JoinFilter}
+use Rattle.merge_schema.specs.Partition.{LiveRow, value_at, are_joined, is_true, is_parent, has_parent}
+use Rattle.merge_schema.proofs.ListMembers.{any_found}
 
 -- an order of values at which `=` is true, and where it is
 tied : (o : Ordering) → is_true (truth_at signs.Equal (Some o)) ≡ true → o ≡ Equal
@@ -49,3 +51,17 @@ joined_itself (values.Bytes a) some = ties (slice_cmp nat_cmp) nat_list_cmp_tota
 
 pub same_values_join : (child parent : Value) → (are_joined child parent ≡ true) ↔ ((child ≡ parent) × (child ≡ values.Null → ⊥))
 same_values_join child parent = (joined_same child parent, λ same. subst (λ (value : Value). are_joined child value ≡ true) same.0 (joined_itself child same.1))
+
+second : (b c : Bool) → (b && c) ≡ true → c ≡ true
+second true c holds = holds
+second false c holds = absurd cc
+
+pub null_has_no_parent : (inside : List LiveRow) (row : LiveRow) (join : JoinFilter) → value_at row join.column ≡ values.Null → has_parent inside row join ≡ false
+null_has_no_parent inside row join null = by (has_parent inside row join) refl
+  where
+    by : (b : Bool) → has_parent inside row join ≡ b → has_parent inside row join ≡ false
+    by false none = none
+    by true one =
+        let found = any_found (is_parent join row) inside one in
+        let parent : LiveRow = found.0 in
+        absurd ((joined_same (value_at row join.column) (value_at parent join.parent_column) (second (parent.article == join.parent) (are_joined (value_at row join.column) (value_at parent join.parent_column)) found.2)).1 null)

@@ -10,8 +10,11 @@ pub mod Found
 pub mod Counts
 pub mod AncestorPaths
 pub mod Orders
+pub mod FoundOrders
+pub mod Ranks
 pub mod Identities
 pub mod Validity
+pub mod ValidParts
 pub mod Searches
 pub mod Distinct
 pub mod WorkedFiles

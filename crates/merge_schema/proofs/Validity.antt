@@ -164,7 +164,7 @@ module _ (draft : Draft) (articles : List Article) (zipped : AllZip (IsPlaced dr
   valid_decider_of article (Some name) has lacks fits = (column_known article.columns name lacks, not_false (decides_by article (Some name)) fits)
 
   valid_article : (resolvers : ℕ) (article : ArticleDraft) → Contains draft.articles article → IsValidDraft resolvers article → (filter : Option Syntax)
-      → joins_alike articles (placed_article draft.articles article filter) ≡ Ok tt → FilterFits article.columns filter → IsValidArticle resolvers articles (placed_article draft.articles article filter)
+      → joins_alike articles (placed_article draft.articles article filter) ≡ Ok tt → FilterFits filter (length article.columns) → IsValidArticle resolvers articles (placed_article draft.articles article filter)
   valid_article resolvers article inside valid filter alike fits = record {
     named = valid.named;
     some_columns = valid.some_columns;
@@ -215,7 +215,7 @@ accepted_parts (Err fault) p q h = absurd (unlike h)
     unlike e = cc
 
 valid_publication : (resolvers : ℕ) (draft : Draft) (articles : List Article) → HasValidTables resolvers draft → AreChecked draft → AllZip (IsPlaced draft.articles) draft.articles articles → joins_checked articles ≡ Ok tt
-    → All (λ (article : Article). FilterFits article.columns article.filter) articles → IsValid resolvers (publication_of draft articles)
+    → All (λ (article : Article). FilterFits article.filter (length article.columns)) articles → IsValid resolvers (publication_of draft articles)
 unfolding joins_checked
 valid_publication resolvers draft articles tables good zipped joins fits =
     let parts = both (every (joins_alike articles) articles) (no_own_ancestor articles 0 articles) joins in
@@ -224,7 +224,7 @@ valid_publication resolvers draft articles tables good zipped joins fits =
     let from = placed_from draft.articles draft.articles articles zipped article there in
     let same : article ≡ placed_article draft.articles from.0 article.filter = from.2.1 in
     let alike = subst (λ (a : Article). joins_alike articles a ≡ Ok tt) same (every_at (joins_alike articles) articles parts.0 article there) in
-    let fit = subst (λ (cs : List Column). FilterFits cs article.filter) (ap (λ (a : Article). a.columns) same) (all_at (λ (a : Article). FilterFits a.columns a.filter) articles article fits there) in
+    let fit = subst (λ (cs : List Column). FilterFits article.filter (length cs)) (ap (λ (a : Article). a.columns) same) (all_at (λ (a : Article). FilterFits a.filter (length a.columns)) articles article fits there) in
     subst (λ (a : Article). IsValidArticle resolvers articles a) (sym same)
     (valid_article draft articles zipped good resolvers from.0 from.1 (all_at (λ (d : ArticleDraft). IsValidDraft resolvers d) draft.articles from.0 tables.valid_articles from.1) article.filter alike fit) in
     record {
@@ -244,7 +244,7 @@ valid_publication resolvers draft articles tables good zipped joins fits =
 
 -- what a checked file says is valid
 pub valid_from : (resolvers : ℕ) (draft : Draft) (publication : Publication) → HasValidTables resolvers draft → names_checked draft ≡ Ok tt → IsCheckedAnswer draft (Ok publication)
-    → All (λ (article : Article). FilterFits article.columns article.filter) publication.articles → IsValid resolvers publication
+    → All (λ (article : Article). FilterFits article.filter (length article.columns)) publication.articles → IsValid resolvers publication
 valid_from resolvers draft publication tables checked (placed, are, same) fits = by placed are same
   where
     by : (placed : Result (List Article) SchemaFault) → ArePlaced draft.articles placed → Ok publication ≡ accepted draft placed → IsValid resolvers publication
@@ -254,7 +254,7 @@ valid_from resolvers draft publication tables checked (placed, are, same) fits =
         unlike e = cc
     by (Ok articles) are same =
         let parts = accepted_parts (joins_checked articles) (publication_of draft articles) publication same in
-        let fit = subst (λ (p : Publication). All (λ (article : Article). FilterFits article.columns article.filter) p.articles) parts.1 fits in
+        let fit = subst (λ (p : Publication). All (λ (article : Article). FilterFits article.filter (length article.columns)) p.articles) parts.1 fits in
         subst (λ (p : Publication). IsValid resolvers p) (sym parts.1) (valid_publication resolvers draft articles tables (are_checked draft checked) are parts.0 fit)
 
 pub few_places : (resolvers : ℕ) (draft : Draft) → HasValidTables resolvers draft → HasFewPlaces draft.articles
@@ -264,6 +264,6 @@ few_places resolvers draft valid = record {
 }
 
 pub valid_result : (resolvers : ℕ) (draft : Draft) (result : Result Publication SchemaFault) → HasValidTables resolvers draft → names_checked draft ≡ Ok tt → UnlessMemory (IsCheckedAnswer draft) result
-    → IfOk result (λ (publication : Publication). All (λ (article : Article). FilterFits article.columns article.filter) publication.articles) → IfOk result (λ (publication : Publication). IsValid resolvers publication)
+    → IfOk result (λ (publication : Publication). All (λ (article : Article). FilterFits article.filter (length article.columns)) publication.articles) → IfOk result (λ (publication : Publication). IsValid resolvers publication)
 valid_result resolvers draft (Ok publication) tables checked answer fits = valid_from resolvers draft publication tables checked answer fits
 valid_result resolvers draft (Err fault) tables checked answer fits = tt

@@ -7,8 +7,10 @@ pub mod Checks
 pub mod Ancestors
 pub mod AncestorLaws
 pub mod ParentsFirst
+pub mod Ranks
 pub mod Valid
 pub mod ValidTables
+pub mod ValidityLaws
 pub mod Building
 pub mod Answers
 pub mod Built

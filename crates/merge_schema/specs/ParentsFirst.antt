@@ -13,10 +13,10 @@ count_below test (suc n) = cond (test n) (suc (count_below test n)) (count_below
 abbrev pub ancestors_of : List Article → ℕ → ℕ
 ancestors_of articles place = count_below (λ ancestor. is_ancestor articles ancestor place) (length articles)
 
--- a place before those that have more
-abbrev pub put_by : (ℕ → ℕ) → ℕ → List ℕ → List ℕ
-put_by number place [] = place ∷ []
-put_by number place (next ∷ others) = if nat_le (number place) (number next) then place ∷ next ∷ others else next ∷ put_by number place others
+-- before the first whose number is not lower
+abbrev pub put_by : {X : Type 0} → (X → ℕ) → X → List X → List X
+put_by number x [] = x ∷ []
+put_by number x (next ∷ others) = if nat_le (number x) (number next) then x ∷ next ∷ others else next ∷ put_by number x others
 
 -- the places below a bound, by their numbers
 abbrev pub ordered_below : (ℕ → ℕ) → ℕ → List ℕ

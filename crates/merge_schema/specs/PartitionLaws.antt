@@ -1,12 +1,13 @@
 -- What is proved of every partition.
-use Rattle.std.specs.Prelude.{◌≡◌, ◌↔◌, ℕ, true, List, Contains}
+use Rattle.std.specs.Prelude.{◌≡◌, ◌↔◌, ℕ, true, false, List, Contains}
 use Rattle.merge_types.specs.declared.identifiers.HostName.{HostName}
 use Rattle.merge_types.specs.declared.identifiers.RowId.{RowId}
 use Rattle.merge_types.specs.declared.values.Value.{Value}
 use Rattle.merge_types.specs.declared.values.Value.TheVariants as values
+use Rattle.merge_schema.specs.declared.publication.JoinFilter.{JoinFilter}
 use Rattle.merge_schema.specs.declared.publication.Publication.{Publication}
 use Rattle.merge_schema.specs.EvaluationOrder.{IsEvaluationOrder}
-use Rattle.merge_schema.specs.Partition.{LiveRow, belongs, partition_of, is_in, are_joined}
+use Rattle.merge_schema.specs.Partition.{LiveRow, value_at, are_joined, has_parent, belongs, partition_of, is_in}
 
 -- a set of rows has each live row that belongs where the set is inside
 abbrev pub MeetsRule : Publication → HostName → List LiveRow → List LiveRow → Type 0
@@ -41,6 +42,10 @@ PartitionIsOnly = (publication : Publication) (order : List ℕ) → IsEvaluatio
 abbrev pub IsInByPartition : Type 0
 IsInByPartition = (publication : Publication) (host : HostName) (live : List LiveRow) (place : ℕ) (row : RowId)
     → (is_in publication host live place row ≡ true) ↔ ((inside : LiveRow) × Contains (partition_of publication host live) inside × (inside.article ≡ place) × (inside.row ≡ row))
+
+-- a row whose value in the join's column is Null has no parent
+abbrev pub NullHasNoParent : Type 0
+NullHasNoParent = (inside : List LiveRow) (row : LiveRow) (join : JoinFilter) → value_at row join.column ≡ values.Null → has_parent inside row join ≡ false
 
 -- values join where they are the same and not Null
 abbrev pub SameValuesJoin : Type 0

@@ -51,10 +51,10 @@ abbrev pub IsValidDecider : List Column → Option Identity → ℕ → Option �
 IsValidDecider columns identity resolver None = needs_column resolver ≢ true
 IsValidDecider columns identity resolver (Some place) = (place < length columns) × (can_decide resolver (column_type columns place) (is_identity identity place) ≡ true)
 
--- a row with a value for each column is one that the filter can be evaluated on
-abbrev pub FilterFits : List Column → Option Syntax → Type 0
-FilterFits columns None = Unit {0}
-FilterFits columns (Some tree) = width tree ≤ length columns
+-- a row with so many values is one that the filter can be evaluated on
+abbrev pub FilterFits : Option Syntax → ℕ → Type 0
+FilterFits None count = Unit {0}
+FilterFits (Some filter) count = width filter ≤ count
 
 pub record IsValidArticle (resolvers : ℕ) (articles : List Article) (article : Article) : Type 0 where
   pub named : is_name_text article.name ≡ true
@@ -66,7 +66,7 @@ pub record IsValidArticle (resolvers : ℕ) (articles : List Article) (article :
   pub valid_resolver : article.resolver < resolvers
   pub valid_decider : IsValidDecider article.columns article.identity article.resolver article.resolver_column
   pub valid_identity : HasValidIdentity article.columns article.identity
-  pub filter_fits : FilterFits article.columns article.filter
+  pub filter_fits : FilterFits article.filter (length article.columns)
 
 pub record IsValidSubscription (subscription : Subscription) : Type 0 where
   pub valid_site : IsWithin 1 63 subscription.site.0

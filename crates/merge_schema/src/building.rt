@@ -26,7 +26,7 @@ fn filter_of(
     text: &Option<Words>,
 ) -> Result<Option<Filter>, SchemaFault>
     ensures filter { IfOk result (λ filter. IsFilterOf columns.now text.now filter) }
-    ensures fits { IfOk result (λ filter. FilterFits columns.now filter) }
+    ensures fits { IfOk result (λ filter. FilterFits filter (length columns.now)) }
     ensures fault { IfErr result (λ e. e ≢ NoMemory → IsNoFilter columns.now text.now × (e ≡ BadValue (codes "filter"))) }
 {
     match text {
@@ -112,7 +112,7 @@ fn article_of(
     requires few { HasFewPlaces articles.now }
     requires own { length draft.now.columns ≤ 64 }
     ensures article { IfOk result (λ article. IsPlaced articles.now draft.now article) }
-    ensures fits { IfOk result (λ article. FilterFits article.columns article.filter) }
+    ensures fits { IfOk result (λ article. FilterFits article.filter (length article.columns)) }
     ensures fault { IfErr result (λ e. e ≢ NoMemory → IsNoFilter draft.now.columns draft.now.filter × (e ≡ BadValue (codes "filter"))) }
 {
     let filter = filter_of(alloc, draft.columns.as_slice(), &draft.filter)?;
@@ -122,7 +122,7 @@ fn article_of(
 fn articles_of(alloc: Global, drafts: &[ArticleDraft]) -> Result<Listing<Article>, SchemaFault>
     requires { HasFewPlaces drafts.now }
     ensures articles { UnlessMemory (ArePlaced drafts.now) result }
-    ensures fits { IfOk result (λ articles. All (λ (article : Article). FilterFits article.columns article.filter) articles) }
+    ensures fits { IfOk result (λ articles. All (λ (article : Article). FilterFits article.filter (length article.columns)) articles) }
 {
     let mut articles = Listing::empty(alloc);
     for draft in drafts {
@@ -135,7 +135,7 @@ fn articles_of(alloc: Global, drafts: &[ArticleDraft]) -> Result<Listing<Article
 pub fn publication_of(alloc: Global, draft: Draft) -> Result<Publication, SchemaFault>
     requires { HasFewPlaces draft.articles }
     ensures publication { UnlessMemory (IsCheckedAnswer draft) result }
-    ensures fits { IfOk result (λ publication. All (λ (article : Article). FilterFits article.columns article.filter) publication.articles) }
+    ensures fits { IfOk result (λ publication. All (λ (article : Article). FilterFits article.filter (length article.columns)) publication.articles) }
 {
     let articles = articles_of(alloc, draft.articles.as_slice())?;
     joins_checked(alloc, articles.as_slice())?;

@@ -1,5 +1,5 @@
 //! Joins between articles: their types, and the articles that they lead to.
-ghost use Rattle.std.specs.Prelude.{◌≡◌, ◌==◌, ◌||◌, IfOk, length, map, slice_get, slice_index_or, false, not, Ok};
+ghost use Rattle.std.specs.Prelude.{◌≡◌, ◌==◌, ◌||◌, IfOk, length, map, slice_get, slice_index_or, false, not};
 ghost use Rattle.std.specs.List.{list_any};
 ghost use Rattle.merge_filter.specs.Types.{column_type, are_alike};
 ghost use Rattle.merge_schema.specs.declared.publication.Article.{Article};
@@ -9,7 +9,7 @@ ghost use Rattle.merge_schema.specs.Steps.{Gives, every};
 use crate::checks::column_type;
 use crate::fault::SchemaFault;
 use crate::publication::{Article, JoinFilter};
-use merge_types::{ColType, Column, Listing};
+use merge_types::{ColType, Column, Listing, NoMemory};
 use std::alloc::Global;
 
 fn are_alike(left: Option<ColType>, right: Option<ColType>) -> bool
@@ -96,8 +96,8 @@ fn step_back(
     articles: &[Article],
     place: usize,
     marks: &[bool],
-) -> Result<Listing<bool>, SchemaFault>
-    ensures { Gives (λ x. x) result (Ok (map (λ (article : Article). leads_to place marks.now article.joins) articles.now)) }
+) -> Result<Listing<bool>, NoMemory>
+    ensures { IfOk result (λ stepped. stepped ≡ map (λ (article : Article). leads_to place marks.now article.joins) articles.now) }
 {
     let mut stepped = Listing::empty(alloc);
     for article in articles {
@@ -107,12 +107,8 @@ fn step_back(
 }
 
 // For each article, whether joins lead from it to the article at a place.
-fn descendants(
-    alloc: Global,
-    articles: &[Article],
-    place: usize,
-) -> Result<Listing<bool>, SchemaFault>
-    ensures { Gives (λ x. x) result (Ok (descendants_within (length articles.now) articles.now place)) }
+fn descendants(alloc: Global, articles: &[Article], place: usize) -> Result<Listing<bool>, NoMemory>
+    ensures { IfOk result (λ marks. marks ≡ descendants_within (length articles.now) articles.now place) }
 {
     let mut marks = Listing::empty(alloc);
     for _ in 0..articles.len() {
@@ -127,8 +123,8 @@ pub fn is_ancestor(
     articles: &[Article],
     ancestor: usize,
     place: usize,
-) -> Result<bool, SchemaFault>
-    ensures { Gives (λ x. x) result (Ok (is_ancestor articles.now ancestor place)) }
+) -> Result<bool, NoMemory>
+    ensures { IfOk result (λ is. is ≡ is_ancestor articles.now ancestor place) }
 {
     let marks = descendants(alloc, articles, ancestor)?;
     Ok(mark(marks.as_slice(), place))

@@ -11,6 +11,7 @@ mod joins;
 mod keys;
 mod laws;
 mod names;
+mod order;
 mod places;
 mod publication;
 mod reading;
@@ -21,7 +22,7 @@ mod values;
 
 pub use built::is_built;
 pub use fault::SchemaFault;
-pub use laws::{ancestor_laws, partition_laws};
+pub use laws::{ancestor_laws, partition_laws, validity_laws};
 pub use merge_types::Tracking;
 pub use publication::{Article, Identity, JoinFilter, Publication, SubKind, Subscription};
 pub use reading::read;

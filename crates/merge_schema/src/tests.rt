@@ -685,6 +685,37 @@ fn places(rt: HostRuntime) -> Result<(), Fail> {
     Ok(())
 }
 
+const C: &str = "[[article]]\nname = \"c\"\ncolumn = [{ name = \"i\", type = \"int\" }]\n";
+
+const ORDERS: [(&str, &str, [u8; 3]); 2] = [
+    (
+        "join = [{ column = \"i\", parent = \"b\", parent_column = \"i\" }]\n",
+        "join = [{ column = \"i\", parent = \"a\", parent_column = \"i\" }]\n",
+        [2, 1, 0],
+    ),
+    (
+        "join = [{ column = \"i\", parent = \"a\", parent_column = \"i\" }]\n",
+        "join = [{ column = \"i\", parent = \"c\", parent_column = \"i\" }, { column = \"i\", parent = \"a\", parent_column = \"i\" }]\n",
+        [2, 0, 1],
+    ),
+];
+
+// A chain of three, and an article with two joins.
+#[test]
+fn orders(rt: HostRuntime) -> Result<(), Fail> {
+    let alloc = rt.alloc();
+    for (first, second, expected) in ORDERS {
+        let text = text_of(alloc, &[TOP, C, first, B, second, A])?;
+        let Ok(publication) = read(alloc, text.as_bytes(), 5) else {
+            assert!(rt; false, "refused");
+            return Ok(());
+        };
+        let order = publication.evaluation_order(alloc)?;
+        assert_eq!(rt; order.as_slice(), expected.as_slice());
+    }
+    Ok(())
+}
+
 const UNBUILT: [(&str, &str); 7] = [
     ("ok", ""),
     ("ok", "resolver = \"priority\"\nresolver_column = \"qty\"\n"),

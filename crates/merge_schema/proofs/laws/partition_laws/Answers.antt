@@ -1,5 +1,5 @@
 use Rattle.merge_schema.proofs.Partitions.{partition_least, partition_reasons, partition_meets, partition_only, in_by_partition}
-use Rattle.merge_schema.proofs.JoinedValues.{same_values_join}
+use Rattle.merge_schema.proofs.JoinedValues.{null_has_no_parent, same_values_join}
 use Rattle.merge_schema.proofs.laws.partition_laws.Goals as goal
 
 pub returns-clause-meets_rule : goal.returns-clause-meets_rule
@@ -16,6 +16,9 @@ returns-clause-only c = λ publication order is host live. partition_only public
 
 pub returns-clause-is_in : goal.returns-clause-is_in
 returns-clause-is_in c = in_by_partition
+
+pub returns-clause-null : goal.returns-clause-null
+returns-clause-null c = null_has_no_parent
 
 pub returns-clause-joined : goal.returns-clause-joined
 returns-clause-joined c = same_values_join
