@@ -8,3 +8,9 @@ pub mod Steps
 pub mod Sendings
 pub mod Deliveries
 pub mod Models
+pub mod LastLineKeys
+pub mod LastLineAdded
+pub mod LastLineEntries
+pub mod LastLineGone
+pub mod LastLineNotes
+pub mod LastLineSteps

@@ -1,5 +1,6 @@
 //! The laws.
 ghost use Rattle.merge_laws.specs.Laws.{OfEveryModel, ReceivedIsDone, ActedIsDone, GapIsDone, TakesOnlyClosed};
+ghost use Rattle.merge_laws.specs.LastLines.{MappingIsLastLine, ChangedIsLastChange, LeftByLine, TouchedInsideByLine, TouchedOutsideByLine};
 
 /// The one number that the publisher keeps of a site says which of its generations have acted,
 /// whatever happened: local changes, messages that come late, twice or never, joins, and sites made
@@ -9,4 +10,15 @@ pub fn received_numbers_are_the_generations_that_acted()
     ensures acted { OfEveryModel ActedIsDone }
     ensures gap { OfEveryModel GapIsDone }
     ensures closed { OfEveryModel TakesOnlyClosed }
+{}
+
+/// The publisher keeps the last move of a row for a site, and with each row the generation of its
+/// last change. Both are what its last lines say, whatever happened; and so is what it reads of
+/// them: whether a row left a site's partition, and in which generation it was touched for the site.
+pub fn mappings_are_the_last_lines()
+    ensures mappings { OfEveryModel MappingIsLastLine }
+    ensures changes { OfEveryModel ChangedIsLastChange }
+    ensures has_left { OfEveryModel LeftByLine }
+    ensures touch_inside { OfEveryModel TouchedInsideByLine }
+    ensures touch_outside { OfEveryModel TouchedOutsideByLine }
 {}

@@ -4,4 +4,4 @@
 
 mod laws;
 
-pub use laws::received_numbers_are_the_generations_that_acted;
+pub use laws::{mappings_are_the_last_lines, received_numbers_are_the_generations_that_acted};
