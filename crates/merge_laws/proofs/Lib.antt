@@ -8,3 +8,10 @@ pub mod Steps
 pub mod Sendings
 pub mod Deliveries
 pub mod Models
+pub mod KeptLists
+pub mod KeptDecisions
+pub mod KeptRows
+pub mod KeptSubscriber
+pub mod KeptHistories
+pub mod KeptWorlds
+pub mod KeptModels

@@ -1,5 +1,6 @@
 //! The laws.
 ghost use Rattle.merge_laws.specs.Laws.{OfEveryModel, ReceivedIsDone, ActedIsDone, GapIsDone, TakesOnlyClosed};
+ghost use Rattle.merge_laws.specs.Kept.{SubscribersDecideAlike};
 
 /// The one number that the publisher keeps of a site says which of its generations have acted,
 /// whatever happened: local changes, messages that come late, twice or never, joins, and sites made
@@ -9,4 +10,11 @@ pub fn received_numbers_are_the_generations_that_acted()
     ensures acted { OfEveryModel ActedIsDone }
     ensures gap { OfEveryModel GapIsDone }
     ensures closed { OfEveryModel TakesOnlyClosed }
+{}
+
+/// With each row a subscriber keeps the generations in which it changed the row and that the
+/// publisher has not taken. By these it finds which rows it has to send, and which ones an answer
+/// must leave as they are: the same that the changes which it made tell, whatever happened.
+pub fn kept_generations_are_those_of_the_changes_made()
+    ensures { OfEveryModel SubscribersDecideAlike }
 {}
