@@ -21,7 +21,7 @@ use Rattle.merge_model.specs.History.{MadeChange, made_at}
 use Rattle.merge_model.specs.Model.{Model}
 use Rattle.merge_model.proofs.Sorted.{key_total}
 use Rattle.merge_laws.specs.Kept.{KeepsMade, has_generation, is_changed_in}
-use Rattle.merge_laws.proofs.KeptLists.{IsGreatest, is_it, never, greatest-unique, greatest-alike, greatest-more, greatest-itself, last-greatest}
+use Rattle.merge_laws.proofs.KeptLists.{IsGreatest, is_it, never, greatest-unique, greatest-alike, greatest-more, greatest-itself, last-greatest, none-kept}
 
 -- Keys, and rows that are put and dropped.
 
@@ -44,9 +44,12 @@ found-put {A = A} rows key other row = lookup-insert_entry key_cmp key_total key
 pub found-drop : {A : Type 0} (rows : List (Key × A)) (key other : Key) → IsStrictlySortedBy key_cmp (keys_of rows) → row_at (drop_row rows key) other ≡ cond (same_key other key) None (row_at rows other)
 found-drop {A = A} rows key other sorted = lookup-remove_entry key_cmp key_total key other rows sorted ∙ ap (λ (b : Bool). (let found : Option A = cond b None (row_at rows other) in found)) (same-at other key)
 
--- the generations that are kept with a row of a list
+-- the generations that are kept with a row, where there is one, and with a row of a list
+abbrev pub kept_with : Option SubscriberRow → List ℕ
+kept_with found = unwrap_or (option_map (λ (row : SubscriberRow). row.generations) found) []
+
 abbrev pub generations_in : List (Key × SubscriberRow) → Key → List ℕ
-generations_in rows key = unwrap_or (option_map (λ (row : SubscriberRow). row.generations) (row_at rows key)) []
+generations_in rows key = kept_with (row_at rows key)
 
 -- Of the changes made: the greatest generation in which a row was changed.
 
@@ -93,15 +96,11 @@ changed-step true false change key n kept made same ih = grind (arith, nat_tests
 changed-step false true change key n kept made same ih = grind (arith, nat_tests, ih, same)
 changed-step false false change key n kept made same ih = ih
 
-none-changed : (b : Bool) → false ≡ (b && false)
-none-changed true = refl
-none-changed false = refl
-
 abbrev between : ℕ → ℕ → ℕ → Bool
 between from to n = nat_lt from n && nat_le n to
 
 filter-changed : (from to : ℕ) (made : List MadeChange) (key : Key) (n : ℕ) → is_changed_in (filter (is_between_made from to) made) key n ≡ (between from to n && is_changed_in made key n)
-filter-changed from to [] key n = none-changed (between from to n)
+filter-changed from to [] key n = none-kept (between from to n)
 filter-changed from to (change ∷ made) key n =
     changed-step (is_between_made from to change) (between from to n) change key n (filter (is_between_made from to) made) made (λ same. ap (λ (g : ℕ). between from to g) same) (filter-changed from to made key n)
 
@@ -148,7 +147,7 @@ found-between from to key (row ∷ rows) sorted =
     found-step (is_at (key_cmp key) row.0) key row.0 (last_between from to row.1.generations) (last_between from to (generations_in rows key)) rest refl
     (λ is. lookup_above key_cmp key rest (above-between from to key rows (rest_above key_cmp key_total key row.0 (keys_of rows) sorted (at-equal key row.0 is)))) (found-between from to key rows sorted.1)
     ∙ (elim (is_at (key_cmp key) row.0) as (λ (b : Bool). cond b (last_between from to row.1.generations) (last_between from to (generations_in rows key))
-    ≡ last_between from to (unwrap_or (option_map (λ (r : SubscriberRow). r.generations) (let found : Option SubscriberRow = cond b (Some row.1) (row_at rows key) in found)) [])) [
+    ≡ last_between from to (kept_with (cond b (Some row.1) (row_at rows key)))) [
       | true ↦ refl
       | false ↦ refl
     ])
@@ -196,7 +195,7 @@ has-any test (x ∷ xs) n passes has = elim (x == n) as (λ (b : Bool). (x == n)
   | false ↦ (λ e. (let rest : list_any test xs ≡ true = has-any test xs n passes (grind (arith, e, has)) in grind (arith, rest)))
 ] refl
 
-abbrev any_changed : (ℕ → Bool) → Key → List MadeChange → Bool
+abbrev pub any_changed : (ℕ → Bool) → Key → List MadeChange → Bool
 any_changed test key made = list_any (λ (change : MadeChange). test change.generation && same_key key change.key) made
 
 any-changed : (test : ℕ → Bool) (key : Key) (made : List MadeChange) → any_changed test key made ≡ true → (n : ℕ) × ((test n ≡ true) × (is_changed_in made key n ≡ true))

@@ -63,7 +63,7 @@ has-step true false x n kept xs same ih = grind (arith, nat_tests, ih, same)
 has-step false true x n kept xs same ih = grind (arith, nat_tests, ih, same)
 has-step false false x n kept xs same ih = ih
 
-none-kept : (b : Bool) → false ≡ (b && false)
+pub none-kept : (b : Bool) → false ≡ (b && false)
 none-kept true = refl
 none-kept false = refl
 

@@ -27,20 +27,16 @@ use Rattle.merge_laws.specs.Kept.{AllKeep, KeepsMade, Kept}
 use Rattle.merge_laws.specs.Received.{Received}
 use Rattle.merge_laws.proofs.KeptHistories.{anew-made, delivery-made, posted-made, publisher-made, purge-made, same-made}
 use Rattle.merge_laws.proofs.KeptRows.{no-pairs}
-use Rattle.merge_laws.proofs.KeptWorlds.{all-found, anew-stays, at-stays, close-stays, delivery-stays, make-stays, noted-keep, publisher-stays, same-keep, send-stays}
+use Rattle.merge_laws.proofs.KeptWorlds.{KeepsNoted, all-found, anew-stays, at-stays, close-stays, delivery-stays, make-stays, noted-keep, publisher-stays, same-keep, send-stays}
 use Rattle.merge_laws.proofs.Models.{model-fine, received-always}
 
 module _ (publication : Publication) (says : Saying) (w : World) (h : History) (r : Received w h) (keeps : Kept w h) where
   abbrev judges : Judges
   judges = by_history h
 
-  -- a step, with what it notes where it did something
-  abbrev KeepsNoted : World × Outcome → History → Type 0
-  KeepsNoted done k = AllKeep (noted_if (did_something done.1) k h) done.0.subscribers
-
   make-keeps : (site : SiteId) (change : Change) (b : Bool) → (let done : World × Outcome = if b then make_at_publisher publication judges change w else at_subscriber site w (make_at_subscriber publication change w) in
       let k : History = if b then Noting.noted_at_publisher publication (judges.publisher 0) change (at_moment w.moment w.publisher) h
-      else elim (subscriber_at w site) [ None ↦ h | Some s ↦ Noting.noted_at_subscriber publication change s h ] in KeepsNoted done k)
+      else elim (subscriber_at w site) [ None ↦ h | Some s ↦ Noting.noted_at_subscriber publication change s h ] in KeepsNoted done k h)
   make-keeps site change true =
       let done : World × Outcome = make_at_publisher publication judges change w in
       let p : PublisherTables = at_moment w.moment w.publisher in
@@ -52,7 +48,7 @@ module _ (publication : Publication) (says : Saying) (w : World) (h : History) (
   close-keeps site true = publisher-stays publication w h r keeps (close_generation w.moment w.publisher) (λ (generation : ℕ). Closes generation)
   close-keeps site false = at-stays publication w h r keeps site (close_subscriber w) (λ s at. close-stays publication w h r keeps site s at)
 
-  action-keeps : (action : Action) → KeepsNoted (step_by publication says judges w action) (noted publication says judges w action h)
+  action-keeps : (action : Action) → KeepsNoted (step_by publication says judges w action) (noted publication says judges w action h) h
   action-keeps (Pass seconds) = keeps.subscribers
   action-keeps (Make site change) = make-keeps site change (site.0 == 0)
   action-keeps (CloseAt site) =

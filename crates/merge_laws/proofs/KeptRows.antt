@@ -1,6 +1,6 @@
 -- The rows of a subscriber keep the generations of its changes: as it changes a row, as the publisher has more of its generations, and as rows are put and dropped.
-use Rattle.std.specs.Prelude.{◌≡◌, ◌≤◌, ◌<◌, ◌&&◌, ℕ, List, [], ◌∷◌, Bool, true, false, Option, Some, None, refl, nat_lt, option_map, unwrap_or, filter, map, cond, AllPairs}
-use Rattle.std.specs.List.{AllByRecursion, list_any}
+use Rattle.std.specs.Prelude.{◌≡◌, ◌≤◌, ◌<◌, ℕ, List, [], ◌∷◌, Bool, true, false, Option, Some, None, refl, nat_lt, option_map, filter, map, cond, AllPairs}
+use Rattle.std.specs.List.{AllByRecursion}
 use Rattle.std.specs.List.Sorted.{IsStrictlySortedBy}
 use Rattle.std.specs.Map.{keys_of}
 use Rattle.std.specs.BTreeMap.{is_at}
@@ -15,16 +15,13 @@ use Rattle.merge_model.specs.Subscriber.{with_open}
 use Rattle.merge_model.specs.Taking.{row_above}
 use Rattle.merge_laws.specs.Kept.{has_generation, is_changed_in}
 use Rattle.merge_laws.proofs.KeptLists.{has-filter, has-open, ascending-open}
-use Rattle.merge_laws.proofs.KeptDecisions.{same-is, found-put, found-drop, generations_in}
+use Rattle.merge_laws.proofs.KeptDecisions.{any_changed, found-drop, found-put, generations_in, kept_with, same-is}
 
 pub record RowsKeep (made : List MadeChange) (received : ℕ) (rows : List (Key × SubscriberRow)) : Type 0 where
   pub kept : (key : Key) (generation : ℕ) → received < generation → has_generation (generations_in rows key) generation ≡ is_changed_in made key generation
   pub ascending : (key : Key) → AllPairs (λ (a b : ℕ). a < b) (generations_in rows key)
 
 -- What is kept with a row after it is put or dropped, and after the publisher took more.
-
-abbrev kept_with : Option SubscriberRow → List ℕ
-kept_with found = unwrap_or (option_map (λ (row : SubscriberRow). row.generations) found) []
 
 chosen : (b : Bool) (new there : Option SubscriberRow) → kept_with (cond b new there) ≡ cond b (kept_with new) (kept_with there)
 chosen true new there = refl
@@ -106,7 +103,7 @@ received-keep made before received rows more keeps = record {
 -- A row is put or dropped that has no change above the received generation.
 
 abbrev pub is_unsent_in : List MadeChange → ℕ → Key → Bool
-is_unsent_in made received key = list_any (λ (change : MadeChange). nat_lt received change.generation && same_key key change.key) made
+is_unsent_in made received key = any_changed (λ (generation : ℕ). nat_lt received generation) key made
 
 none-unsent : (made : List MadeChange) (received : ℕ) (key : Key) (n : ℕ) → is_unsent_in made received key ≡ false → received < n → false ≡ is_changed_in made key n
 none-unsent [] received key n none low = refl

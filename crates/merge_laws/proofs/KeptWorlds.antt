@@ -93,6 +93,10 @@ pub noted-keep : (b : Bool) (h k : History) (subscribers : List (ℕ × Subscrib
 noted-keep true h k subscribers same all = same-keep h k subscribers same all
 noted-keep false h k subscribers same all = all
 
+-- a step keeps them, with what it notes where it did something
+abbrev pub KeepsNoted : World × Outcome → History → History → Type 0
+KeepsNoted done after before = AllKeep (noted_if (did_something done.1) after before) done.0.subscribers
+
 upload-ends : (from to other last : ℕ) (sent : Outstanding) → sent ≡ ask.Upload from to → sent ≡ ask.Upload other last → from ≤ to → from ≤ last
 upload-ends from to other last sent is e low = let both : ask.Upload from to ≡ ask.Upload other last = sym is ∙ e in let same : to ≡ last = cc in omega (arith, same, low)
 
@@ -225,9 +229,6 @@ module _ (publication : Publication) (w : World) (h : History) (r : Received w h
 
     -- A local change, which the history has too.
 
-    abbrev KeepsNoted : World × Outcome → History → Type 0
-    KeepsNoted done k = AllKeep (noted_if (did_something done.1) k h) done.0.subscribers
-
     change-goes : (change : MadeChange) (k : History) (version : Version) (u : SubscriberTables) → k.made ≡ change ∷ h.made → change.dot.site.0 ≡ s.site.0 → u.site ≡ s.site → change.generation ≡ sub_last_closed u + 1 → (1 ≤ s.site.0 → KeepsMade made u)
         → AllKeep k (with_subscriber (with_version_if change.key (Some version) u) w).subscribers
     change-goes change k version u noted site_is same is fine =
@@ -244,7 +245,7 @@ module _ (publication : Publication) (w : World) (h : History) (r : Received w h
           | None ↦ elim draw [ Err why ↦ Err why | Ok d ↦ Ok (sub_made_locally publication change d (sub_at_moment w.moment s)) ]
         ] in
         let k : History = elim draw [ Err why ↦ h | Ok d ↦ Noting.with_change publication (sub_next_dot s) (sub_last_closed s + 1) change d.0 h ] in
-        KeepsNoted (unless_refused w done (λ (made : SubscriberTables × RowId). (with_subscriber made.0 w, Made made.1))) k)
+        KeepsNoted (unless_refused w done (λ (made : SubscriberTables × RowId). (with_subscriber made.0 w, Made made.1))) k h)
     local-stays change (Some why) is draw = keeps.subscribers
     local-stays change None is (Err why) = keeps.subscribers
     local-stays change None is (Ok d) =
@@ -267,7 +268,7 @@ module _ (publication : Publication) (w : World) (h : History) (r : Received w h
   pub make-stays : (site : SiteId) (change : Change) (found : Option SubscriberTables) → subscriber_at w site ≡ found
       → (let done : World × Outcome = elim found [ None ↦ (w, Refuses (UnknownSite site)) | Some s ↦ make_at_subscriber publication change w s ] in
       let k : History = elim found [ None ↦ h | Some s ↦ Noting.noted_at_subscriber publication change s h ] in
-      AllKeep (noted_if (did_something done.1) k h) done.0.subscribers)
+      KeepsNoted done k h)
   make-stays site change None at = keeps.subscribers
   make-stays site change (Some s) at = local-stays site s at change (sub_local_refusal publication change s) refl (sub_drawn s change)
 
