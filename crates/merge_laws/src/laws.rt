@@ -22,6 +22,8 @@ pub fn mappings_are_the_last_lines()
     ensures has_left { OfEveryModel LeftByLine }
     ensures touch_inside { OfEveryModel TouchedInsideByLine }
     ensures touch_outside { OfEveryModel TouchedOutsideByLine }
+{}
+
 /// With each row a subscriber keeps the generations in which it changed the row and that the
 /// publisher has not taken. By these it finds which rows it has to send, and which ones an answer
 /// must leave as they are: the same that the changes which it made tell, whatever happened.
