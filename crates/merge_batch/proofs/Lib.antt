@@ -8,3 +8,4 @@ pub mod Firsts
 pub mod AllMet
 pub mod Valid
 pub mod Counts
+pub mod KeyTexts

@@ -1,5 +1,6 @@
 -- The numbers of the refusals, and what a reply tells of one.
-use Rattle.std.specs.Prelude.{ℕ, List, [], ◌∷◌, Option, Some, None, option_map}
+use Rattle.std.specs.Prelude.{ℕ, ◌/◌, ◌%◌, false, List, [], ◌∷◌, flat_map, Option, Some, None, option_map}
+use Rattle.std.specs.Fmt.{digit_glyph}
 use Rattle.merge_batch.specs.declared.refusal.Refusal.{Refusal}
 use Rattle.merge_batch.specs.declared.refusal.Refusal.TheVariants as refusal
 use Rattle.merge_batch.specs.declared.reply.Reply.{Reply}
@@ -43,3 +44,12 @@ told_fields _ = None
 -- the reply that tells a refusal
 abbrev pub reply_to : Refusal → Option Reply
 reply_to refused = option_map (λ fields. reply.Refused (number_of refused) fields) (told_fields refused)
+
+-- a byte in two hexadecimal digits
+abbrev pub hex_pair : ℕ → List ℕ
+hex_pair byte = digit_glyph false (byte / 16) ∷ digit_glyph false (byte % 16) ∷ []
+
+-- how the key of a record is printed: byte by byte, and `-` where it has none
+abbrev pub key_text : List ℕ → List ℕ
+key_text [] = 45 ∷ []
+key_text (byte ∷ bytes) = flat_map hex_pair (byte ∷ bytes)

@@ -79,6 +79,11 @@ pub enum Refusal {
 struct KeyText<'a>(&'a Octets);
 
 impl fmt::Display for KeyText<'_> {
+    ghost use Rattle.std.specs.Prelude.{Some};
+    ghost use Rattle.merge_batch.specs.Refusals.{key_text};
+
+    ghost output = { λ key. Some (key_text key.0.now) };
+
     fn fmt<W: fmt::Write>(&self, f: &mut fmt::Formatter<W>) -> fmt::Result {
         if self.0.len() == 0 {
             return write!(f, "-");

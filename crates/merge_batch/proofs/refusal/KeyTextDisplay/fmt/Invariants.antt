@@ -1,0 +1,7 @@
+use Rattle.std.proofs.Common.{flat_map, take}
+use Rattle.std.specs.Fmt.{HasWritten, IsPlainFormatter}
+use Rattle.merge_batch.specs.Refusals.{hex_pair}
+use Rattle.merge_batch.proofs.refusal.KeyTextDisplay.fmt.Given as goal
+
+abbrev pub invariant-loop-byte : goal.invariant-loop-byte
+invariant-loop-byte g l = IsPlainFormatter l.initial.f → HasWritten g.W.Write.write_str_gives l.initial.f (flat_map hex_pair (take l.byte-index l.byte-items)) l.f
