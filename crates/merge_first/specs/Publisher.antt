@@ -1,5 +1,6 @@
 -- The publisher's tables, and what each of its calls makes of them.
 use Rattle.std.specs.Prelude.{◌≡◌, ℕ, ◌+◌, ◌^◌, ◌≤◌, List, [], ◌∷◌, ◌++◌, Bool, nat_lt, filter, map, max, if◌then◌else◌, ◌==◌}
+use Rattle.merge_types.specs.declared.identifiers.SiteId.{SiteId}
 use Rattle.merge_types.specs.declared.values.Value.{Value}
 use Rattle.merge_types.specs.declared.values.Value.TheVariants.{Null, Int}
 use Rattle.merge_types.specs.declared.changes.Change.{Change}
@@ -11,16 +12,17 @@ use Rattle.merge_first.specs.declared.answer.Refusal.TheVariants.{CounterEnd, No
 use Rattle.merge_first.specs.declared.rows.Row.{Row}
 use Rattle.merge_first.specs.declared.rows.SiteRow.{SiteRow}
 
--- rows in the order of their identifiers, how many changes were made, the last closed generation and how many entries the open one has
+-- the sites that subscribe, rows in the order of their identifiers, how many changes were made, the last closed generation and how many entries the open one has
 pub record PublisherTables : Type 0 where
+  pub sites : List SiteId
   pub rows : List Row
   pub made : ℕ
   pub closed : ℕ
   pub filled : ℕ
 
--- nothing was done yet
-abbrev pub empty_publisher : PublisherTables
-empty_publisher = record { rows = []; made = 0; closed = 0; filled = 0 }
+-- these sites subscribe, and nothing was done yet
+abbrev pub empty_publisher : List SiteId → PublisherTables
+empty_publisher sites = record { sites = sites; rows = []; made = 0; closed = 0; filled = 0 }
 
 -- the one column takes a whole number or Null
 abbrev pub FitsColumn : Value → Type 0

@@ -1,5 +1,6 @@
 -- The world of both sites, what an event may make of it, and a run over events.
 use Rattle.std.specs.Prelude.{◌≡◌, ◌⊎◌, ◌≤◌, ◌<◌, ◌^◌, ℕ, List, [], ◌∷◌, nat_lt, ◌||◌, if◌then◌else◌, ◌==◌}
+use Rattle.merge_types.specs.declared.identifiers.SiteId.{SiteId}
 use Rattle.merge_types.specs.declared.values.Value.{Value}
 use Rattle.merge_first.specs.declared.event.Event.{Event}
 use Rattle.merge_first.specs.declared.event.Event.TheVariants.{Insert, Sync, Show}
@@ -16,9 +17,13 @@ pub record World : Type 0 where
   pub publisher : PublisherTables
   pub subscriber : SubscriberTables
 
+-- the one subscription of the publication
+abbrev pub subscribed_sites : List SiteId
+subscribed_sites = record { 0 = 1 } ∷ []
+
 -- both sites are empty
 abbrev pub empty_world : World
-empty_world = record { publisher = empty_publisher; subscriber = empty_subscriber }
+empty_world = record { publisher = empty_publisher subscribed_sites; subscriber = empty_subscriber }
 
 -- the subscriber has joined, which it does once
 abbrev pub joined : World → World

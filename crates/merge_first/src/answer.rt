@@ -7,8 +7,8 @@ use thiserror::Error;
 #[derive(Clone, Copy, Debug, PartialEq, Eq, Error)]
 pub enum Refusal {
     /// A counter of the site stands at 2^61 or above. The value is the greatest of them.
-    #[error("16 counter end {0}")]
-    CounterEnd(u64),
+    #[error("16 counter end {value}")]
+    CounterEnd { value: u64 },
     #[error("no memory")]
     NoMemory,
 }

@@ -14,11 +14,12 @@ use std::sync::ledger::Ledger;
 // From here on a counter takes no further step.
 const COUNTER_END: u64 = 1 << 61;
 
-/// The publisher: its rows in the order of their identifiers, and its generations. A generation
-/// collects the changes that go to the subscribers together.
+/// The publisher: the sites that subscribe, its rows in the order of their identifiers, and its
+/// generations. A generation collects the changes that go to the subscribers together.
 #[derive(Drop)]
 pub struct Publisher {
     alloc: Global,
+    sites: Listing<SiteId>,
     rows: Vec<Row>,
     made: u64,
     closed: u64,
@@ -31,23 +32,31 @@ impl Model for Publisher {
 
     ghost Value = { PublisherTables };
 
-    ghost view = { λ p. record { rows = p.rows.items; made = p.made; closed = p.closed; filled = p.filled } };
+    ghost view = { λ p. record { sites = p.sites; rows = p.rows.items; made = p.made; closed = p.closed; filled = p.filled } };
 
     ghost invariant = { λ p. IsSound p.rows.items p.made p.closed p.filled };
 }
 
 impl Publisher {
-    /// A publisher without rows.
-    pub fn start(alloc: Global) -> Self
-        ensures { result ≡ empty_publisher }
+    /// A publisher without rows, to which these sites subscribe. They stay as they are.
+    pub fn start(alloc: Global, sites: Listing<SiteId>) -> Self
+        ensures { result ≡ empty_publisher sites }
     {
         Publisher {
             alloc,
+            sites,
             rows: Vec::new(alloc),
             made: 0,
             closed: 0,
             filled: 0,
         }
+    }
+
+    /// The sites that subscribe.
+    pub fn sites(&self) -> &[SiteId]
+        ensures { result.now ≡ self.now.sites }
+    {
+        self.sites.as_slice()
     }
 
     /// Makes a change, and gives the identifier of its row. Refused where a counter stands at its
@@ -79,7 +88,7 @@ impl Publisher {
         ensures refused { IfErr result (λ refusal. (refusal ≡ Refusal.CounterEnd (greatest_counter self.now)) × (2 ^ 61 ≤ greatest_counter self.now)) }
     {
         if self.made >= COUNTER_END {
-            return Err(Refusal::CounterEnd(self.made));
+            return Err(Refusal::CounterEnd { value: self.made });
         }
         Ok(())
     }

@@ -2,7 +2,7 @@ ghost use Rattle.std.specs.Prelude.{◌≡◌, ◌≤◌, IfOk};
 ghost use Rattle.merge_first.specs.Publisher.{IsInsert, FitsColumn};
 
 use crate::Publisher;
-use merge_types::{Change, Listing, Moment, Setting, Steps, Value};
+use merge_types::{Change, Listing, Moment, Setting, SiteId, Steps, Value};
 use std::alloc::Global;
 use std::marker::Brand;
 use std::sync::ledger::{Blank, Ledger};
@@ -25,7 +25,9 @@ fn two_rows<L: Ledger>(alloc: Global, blank: Blank) -> Result<Publisher, Fail>
     requires some { 1 ≤ blank.parts }
 {
     let mut steps = Steps::<L>::new(blank);
-    let mut publisher = Publisher::start(alloc);
+    let mut sites = Listing::empty(alloc);
+    sites.push(SiteId(1))?;
+    let mut publisher = Publisher::start(alloc, sites);
     publisher.local(&insert(alloc, Value::Int(7))?, START, &mut steps)?;
     publisher.local(&insert(alloc, Value::Null)?, START, &mut steps)?;
     Ok(publisher)
@@ -34,6 +36,7 @@ fn two_rows<L: Ledger>(alloc: Global, blank: Blank) -> Result<Publisher, Fail>
 #[test]
 fn rows_go_out_once(rt: HostRuntime) -> Result<(), Fail> {
     let mut publisher = two_rows::<Brand>(rt.alloc(), Blank::new(1))?;
+    assert_eq!(rt; publisher.sites(), [SiteId(1)].as_slice());
     assert_eq!(rt; publisher.filled(), 2);
     assert_eq!(rt; publisher.last_closed(), 0);
     let first = publisher.download(0, START)?;

@@ -5,4 +5,4 @@ mod subscriber;
 #[cfg(test)]
 mod tests;
 
-pub use subscriber::Subscriber;
+pub use subscriber::{Subscriber, UnknownSite};

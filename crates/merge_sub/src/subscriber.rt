@@ -1,14 +1,22 @@
 //! The subscriber, kept in memory.
-ghost use Rattle.std.specs.Prelude.{◌≡◌, IfOk, OnOk, OnErr, map};
+ghost use Rattle.std.specs.Prelude.{◌≡◌, IfOk, IfErr, OnOk, OnErr, map, true, false};
 ghost use Rattle.merge_sub.specs.Puts.{put};
 ghost use Rattle.merge_first.specs.declared.rows.Phase.TheVariants.{Joined};
-ghost use Rattle.merge_first.specs.Subscriber.{empty_subscriber, taken_over, subscriber_rows};
+ghost use Rattle.merge_first.specs.Subscriber.{empty_subscriber, subscribes, taken_over, subscriber_rows};
 
 use merge_first::{Downloaded, Phase, RowList, SiteRow};
 use merge_table::{Edit, Table};
-use merge_types::{Listing, NoMemory};
+use merge_types::{Listing, Moment, NoMemory, SiteId};
 use std::alloc::Global;
 use std::marker::Model;
+use thiserror::Error;
+
+/// Why no subscriber starts: the site is no subscription.
+#[derive(Clone, Copy, Debug, PartialEq, Eq, Error)]
+#[error("1 unknown site {}", .site.0)]
+pub struct UnknownSite {
+    pub site: SiteId,
+}
 
 /// The subscriber: its rows by identifier, and the last generation that it holds.
 #[derive(Drop)]
@@ -28,16 +36,22 @@ impl Model for Subscriber {
 }
 
 impl Subscriber {
-    /// A subscriber without rows, which has yet to join.
-    pub fn start(alloc: Global) -> Self
-        ensures { result ≡ empty_subscriber }
+    /// The subscriber at a site, without rows, which has yet to join. Refused where the site is
+    /// none of those that subscribe.
+    pub fn start(alloc: Global, sites: &[SiteId], site: SiteId) -> Result<Self, UnknownSite>
+        ensures ok { IfOk result (λ subscriber. subscriber ≡ empty_subscriber) }
+        ensures known { OnOk result (subscribes sites.now site ≡ true) }
+        ensures refused { IfErr result (λ refusal. (refusal.site ≡ site) × (subscribes sites.now site ≡ false)) }
     {
-        Subscriber {
+        if !sites.contains(&site) {
+            return Err(UnknownSite { site });
+        }
+        Ok(Subscriber {
             alloc,
             phase: Phase::Joining,
             rows: Table::new(alloc),
             watermark: 0,
-        }
+        })
     }
 
     /// Joins, where it has not.
@@ -62,8 +76,9 @@ impl Subscriber {
     }
 
     /// Takes over the rows of a download, all or none. A row replaces the one with its identifier.
+    /// Nothing is kept of the moment yet.
     #[tactic(auto, using(crate::proofs::Puts::puts_taken_over))]
-    pub fn take_reply(&mut self, reply: &Downloaded) -> Result<(), NoMemory>
+    pub fn take_reply(&mut self, reply: &Downloaded, _now: Moment) -> Result<(), NoMemory>
         ensures ok { OnOk result (self.new ≡ record self.old { rows = taken_over self.old.rows reply.now.items; watermark = reply.now.to }) }
         ensures err { OnErr result (self.new ≡ self.old) }
     {

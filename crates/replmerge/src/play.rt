@@ -97,7 +97,7 @@ pub fn play<O: Sink>(alloc: Global, script: &[u8], output: &mut O) -> Result<(),
     ensures fault { IsErrOf result Stop.WriteFault → Rose (O.count output.old) (O.count output.new) }
     ensures later { O.count output.old ≤ O.count output.new }
 {
-    let mut world = World::start(alloc);
+    let mut world = World::start(alloc)?;
     let mut rest = script;
     while !rest.is_empty() {
         let (line, more) = cut_line(rest);

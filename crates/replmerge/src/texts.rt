@@ -69,7 +69,7 @@ fn add_refusal(alloc: Global, text: &mut Octets, refusal: Refusal) -> Result<(),
     ensures { OnOk result (text.new ≡ text.old ++ refusal_text refusal) }
 {
     match refusal {
-        Refusal::CounterEnd(value) => {
+        Refusal::CounterEnd { value } => {
             text.extend(b"refused 16 counter end ")?;
             add_number(alloc, text, value)
         }

@@ -4,6 +4,7 @@ ghost use Rattle.merge_first.specs.Publisher.{FitsColumn};
 ghost use Rattle.merge_first.specs.World.{empty_world, Step, InsertStep, SyncStep, ShowStep, downloads};
 ghost use Rattle.replmerge.specs.Session.{FitsEvent, TakesReply};
 
+use crate::publication::{SUBSCRIBER, sites};
 use merge_first::{Answer, Downloaded, Event, Refusal};
 use merge_pub::Publisher;
 use merge_sub::Subscriber;
@@ -36,14 +37,18 @@ impl Model for World {
 
 impl World {
     /// Empty sites.
-    pub fn start(alloc: Global) -> Self
-        ensures { result ≡ empty_world }
+    pub fn start(alloc: Global) -> Result<Self, NoMemory>
+        ensures { IfOk result (λ world. world ≡ empty_world) }
     {
-        World {
+        let publisher = Publisher::start(alloc, sites(alloc)?);
+        let Ok(subscriber) = Subscriber::start(alloc, publisher.sites(), SUBSCRIBER) else {
+            unreachable!()
+        };
+        Ok(World {
             alloc,
-            publisher: Publisher::start(alloc),
-            subscriber: Subscriber::start(alloc),
-        }
+            publisher,
+            subscriber,
+        })
     }
 
     /// Makes the step of an event, and gives its answer.
@@ -117,7 +122,7 @@ impl World {
     fn take_reply(&mut self, count: u64, reply: &Downloaded) -> Answer
         ensures { TakesReply self.old count reply.now result self.new }
     {
-        match self.subscriber.take_reply(reply) {
+        match self.subscriber.take_reply(reply, NOW) {
             Ok(()) => Answer::Done(count, reply.to),
             Err(NoMemory) => Answer::Stopped(Refusal::NoMemory),
         }

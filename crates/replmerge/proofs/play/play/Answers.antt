@@ -1,11 +1,14 @@
 use Rattle.std.proofs.Common.{◌≡◌, arith, true}
 use Rattle.std.proofs.lemmas.Grind.{common_steps}
 use Rattle.merge_first.specs.Script.{is_no_event, reading_of}
-use Rattle.replmerge.proofs.SoFar.{so_far_at_start, so_far_more, so_far_no_event, so_far_cut, so_far_in_part}
+use Rattle.replmerge.proofs.SoFar.{so_far_at_start, nothing_written, so_far_more, so_far_no_event, so_far_cut, so_far_in_part}
 use Rattle.replmerge.proofs.play.play.Goals as goal
 
+pub returns-in_err-world-clause-part : goal.returns-in_err-world-clause-part
+returns-in_err-world-clause-part g c = nothing_written _ _
+
 pub loop-rest-init : goal.loop-rest-init
-loop-rest-init g c = record { answered = rw c.start-world.ensures (so_far_at_start _ _); later = omega arith }
+loop-rest-init g c = record { answered = rw c.in_ok-world.ensures (so_far_at_start _ _); later = omega arith }
 
 pub loop-rest-preserved : goal.loop-rest-preserved
 loop-rest-preserved g c = record {
