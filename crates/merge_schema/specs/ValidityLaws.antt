@@ -1,5 +1,5 @@
 -- What follows from a publication's validity.
-use Rattle.std.specs.Prelude.{◌≡◌, ℕ, List, length, slice_get, All, Some}
+use Rattle.std.specs.Prelude.{◌≡◌, ℕ, length, slice_get, All, Some}
 use Rattle.merge_schema.specs.declared.publication.Article.{Article}
 use Rattle.merge_schema.specs.declared.publication.Publication.{Publication}
 use Rattle.merge_schema.specs.declared.publication.Subscription.{Subscription}

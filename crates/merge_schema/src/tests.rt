@@ -710,6 +710,7 @@ fn orders(rt: HostRuntime) -> Result<(), Fail> {
             assert!(rt; false, "refused");
             return Ok(());
         };
+        assert!(rt; publication.articles.len() <= 32);
         let order = publication.evaluation_order(alloc)?;
         assert_eq!(rt; order.as_slice(), expected.as_slice());
     }

@@ -1,4 +1,4 @@
-use Rattle.std.proofs.Common.{◌≡◌, ℕ, List, length, nat_le, unwrap_or, ap, ◌∙◌, arith}
+use Rattle.std.proofs.Common.{◌≡◌, List, length, nat_le, unwrap_or, ap, ◌∙◌, arith}
 use Rattle.std.specs.List.{insert, position}
 use Rattle.merge_schema.specs.declared.order.Ranked.{Ranked}
 use Rattle.merge_schema.proofs.Ranks.{put_into}
