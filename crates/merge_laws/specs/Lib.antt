@@ -1,4 +1,3 @@
 pub mod Received
 pub mod Laws
 pub mod LastLines
-pub mod Kept
