@@ -8,3 +8,9 @@ pub mod Steps
 pub mod Sendings
 pub mod Deliveries
 pub mod Models
+pub mod Walking
+pub mod Noted
+pub mod Through
+pub mod Telling
+pub mod Numbers
+pub mod Tellings

@@ -1,5 +1,5 @@
 //! The laws.
-ghost use Rattle.merge_laws.specs.Laws.{OfEveryModel, ReceivedIsDone, ActedIsDone, GapIsDone, TakesOnlyClosed};
+ghost use Rattle.merge_laws.specs.Laws.{OfEveryModel, ReceivedIsDone, ActedIsDone, GapIsDone, TakesOnlyClosed, ReceivedNumberIsDone, UnmetIsDone, ClosingsKeepTheLast, UploadsTellTheLast};
 
 /// The one number that the publisher keeps of a site says which of its generations have acted,
 /// whatever happened: local changes, messages that come late, twice or never, joins, and sites made
@@ -9,4 +9,15 @@ pub fn received_numbers_are_the_generations_that_acted()
     ensures acted { OfEveryModel ActedIsDone }
     ensures gap { OfEveryModel GapIsDone }
     ensures closed { OfEveryModel TakesOnlyClosed }
+{}
+
+/// The number that the publisher keeps of a site's last change is that of the last change in the
+/// generations that have acted, whatever happened. So a change has acted just where its number is no
+/// greater. A site keeps the same of each closed generation that is not received, and an upload tells
+/// it of its last generation.
+pub fn received_change_numbers_are_the_last_that_acted()
+    ensures number { OfEveryModel ReceivedNumberIsDone }
+    ensures unmet { OfEveryModel UnmetIsDone }
+    ensures kept { OfEveryModel ClosingsKeepTheLast }
+    ensures told { OfEveryModel UploadsTellTheLast }
 {}

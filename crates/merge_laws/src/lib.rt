@@ -4,4 +4,7 @@
 
 mod laws;
 
-pub use laws::received_numbers_are_the_generations_that_acted;
+pub use laws::{
+    received_change_numbers_are_the_last_that_acted,
+    received_numbers_are_the_generations_that_acted,
+};
