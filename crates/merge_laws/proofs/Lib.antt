@@ -14,3 +14,8 @@ pub mod Through
 pub mod Telling
 pub mod Numbers
 pub mod Tellings
+pub mod KeyLookUps
+pub mod Generations
+pub mod Unsending
+pub mod Changed
+pub mod UnsentKept

@@ -8,6 +8,7 @@ use Rattle.merge_batch.specs.declared.request.Upload.{Upload}
 use Rattle.merge_batch.specs.declared.request.Request.TheVariants as request
 use Rattle.merge_model.specs.ByNumbers.{received_by_number, received_number_by_number, has_acted_by_number, is_gap_by_number, is_unmet_by_number}
 use Rattle.merge_model.specs.ByHistory.{received_by_done, received_number_by_done, has_acted_by_done, is_gap_by_done, is_unmet_by_done}
+use Rattle.merge_model.specs.Bridge.{SubscriberDecidesAlike}
 use Rattle.merge_model.specs.Keys.{at_number}
 use Rattle.merge_model.specs.Tables.{SubscriberTables}
 use Rattle.merge_model.specs.Subscriber.{sub_last_closed}
@@ -49,3 +50,7 @@ ClosingsKeepTheLast m = (site generation : ℕ) (s : SubscriberTables) → at_nu
 
 abbrev pub UploadsTellTheLast : Model → Type 0
 UploadsTellTheLast m = (number : ℕ) (site : SiteId) (u : Upload) → letter_at m.world number ≡ Some (record { site = site; message = Asks (request.Upload u) }) → u.from < u.to → u.through ≡ last_through m.history site.0 u.to
+
+-- A subscriber decides alike by what it keeps with its rows and by the changes that it made.
+abbrev pub SubscribersDecideAlike : Model → Type 0
+SubscribersDecideAlike m = (s : SubscriberTables) → 1 ≤ s.site.0 → at_number m.world.subscribers s.site.0 ≡ Some s → SubscriberDecidesAlike m s

@@ -1,3 +1,4 @@
 pub mod Received
 pub mod Numbered
+pub mod Unsent
 pub mod Laws

@@ -1,5 +1,5 @@
 //! The laws.
-ghost use Rattle.merge_laws.specs.Laws.{OfEveryModel, ReceivedIsDone, ActedIsDone, GapIsDone, TakesOnlyClosed, ReceivedNumberIsDone, UnmetIsDone, ClosingsKeepTheLast, UploadsTellTheLast};
+ghost use Rattle.merge_laws.specs.Laws.{OfEveryModel, ReceivedIsDone, ActedIsDone, GapIsDone, TakesOnlyClosed, ReceivedNumberIsDone, UnmetIsDone, ClosingsKeepTheLast, UploadsTellTheLast, SubscribersDecideAlike};
 
 /// The one number that the publisher keeps of a site says which of its generations have acted,
 /// whatever happened: local changes, messages that come late, twice or never, joins, and sites made
@@ -20,4 +20,10 @@ pub fn received_change_numbers_are_the_last_that_acted()
     ensures unmet { OfEveryModel UnmetIsDone }
     ensures kept { OfEveryModel ClosingsKeepTheLast }
     ensures told { OfEveryModel UploadsTellTheLast }
+{}
+
+/// A subscriber decides by the generations that it keeps with its rows as by the changes that it made,
+/// whatever happened: which rows are unsent, and which rows an upload has.
+pub fn subscribers_decide_as_their_changes_do()
+    ensures { OfEveryModel SubscribersDecideAlike }
 {}

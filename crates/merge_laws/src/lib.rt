@@ -6,5 +6,5 @@ mod laws;
 
 pub use laws::{
     received_change_numbers_are_the_last_that_acted,
-    received_numbers_are_the_generations_that_acted,
+    received_numbers_are_the_generations_that_acted, subscribers_decide_as_their_changes_do,
 };
