@@ -19,3 +19,7 @@ pub mod Generations
 pub mod Unsending
 pub mod Changed
 pub mod UnsentKept
+pub mod LineageLists
+pub mod Lineages
+pub mod LineagesKept
+pub mod BehindKept

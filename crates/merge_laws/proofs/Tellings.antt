@@ -232,7 +232,7 @@ module _ (publication : Publication) (says : Saying) where
     joins = λ w h number m r i at fine acts. join-comes w h number m r i at;
     joins_again = λ w h number m r i at acts. answer-on w h m.site (reply.Joined (record { seq = m.seq })) (with_publisher (here w) w) (own-on w h h (here w) r i (alike-itself h) (same-sites w.publisher (here w) refl));
     uploads = λ w h number m r i at fine news. upload-comes w h number m r i at fine news;
-    uploads_again = λ w h number m r i at. (let judge : PublisherJudge = by_past h (pasts_with h number) in
+    uploads_again = λ w h number m r i at none. (let judge : PublisherJudge = by_past h (pasts_with h number) in
         answer-on w h m.site (reply.Uploaded (told_by judge m)) (uploaded_world publication says judge m (here w) w) (with-tallies (with_publisher (here w) w) h (uploaded_world publication says judge m (here w) w).tallies
         (own-on w h h (here w) r i (alike-itself h) (same-sites w.publisher (here w) refl))));
     answers_ranges = λ w h site m r i. (let q : PublisherTables = with_grants (plans publication m w.publisher) (here w) in

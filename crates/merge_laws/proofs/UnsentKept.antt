@@ -105,7 +105,7 @@ reply-rows publication made judge now sent (reply.Downloaded m) s judges sorted 
     (received-rows made s.received m.received s.rows (downloaded-least publication sent m s none) f, received-sorted m.received s.rows sorted.rows_ascend)).0
 reply-rows publication made judge now sent (reply.Refused number values) s judges sorted none out knows f = f
 
-reply-site : (judge : SubscriberJudge) (now : Moment) (m : Reply) (s : SubscriberTables) → (taken judge now m s).site.0 ≡ s.site.0
+pub reply-site : (judge : SubscriberJudge) (now : Moment) (m : Reply) (s : SubscriberTables) → (taken judge now m s).site.0 ≡ s.site.0
 reply-site judge now (reply.Joined m) s = refl
 reply-site judge now (reply.Uploaded m) s = refl
 reply-site judge now (reply.Ranged m) s = refl
@@ -117,7 +117,7 @@ version-rows : (made : List MadeChange) (c : MadeChange) (now : Moment) (held : 
 version-rows made c now held s None there stands o f = absurd (grind (arith, there))
 version-rows made c now held s (Some version) there stands o f = change-rows s.changes (sub_last_closed s + 1) made c stands o s.received s.rows version f
 
-version-site : (key : Key) (found : Option Version) (u : SubscriberTables) → (with_version_if key found u).site.0 ≡ u.site.0
+pub version-site : (key : Key) (found : Option Version) (u : SubscriberTables) → (with_version_if key found u).site.0 ≡ u.site.0
 version-site key None u = refl
 version-site key (Some version) u = refl
 
@@ -185,7 +185,7 @@ module _ (publication : Publication) (says : Saying) where
     joins_again = λ w h number m b u at acts. u;
     uploads = λ w h number m b u at fine news. (let judge : PublisherJudge = by_past h (pasts_with h number) in
         unsent-alike w h (Noting.with_acts_noted publication judge m (acts_in publication says judge m w) (pasts_with h number) (here w) h) (uploaded-alike publication says judge m (pasts_with h number) w h).made u);
-    uploads_again = λ w h number m b u at. u;
+    uploads_again = λ w h number m b u at none. u;
     answers_ranges = λ w h site m b u. u;
     answers_ask = λ w h number site m b u at fine. u;
     replies = λ w h s number m sent b u at there out none. reply-kept w h s number m sent b u at out none;

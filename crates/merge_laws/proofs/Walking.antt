@@ -122,7 +122,7 @@ pub record StepsKeep (publication : Publication) (says : Saying) (B P : World �
       → Sends P m.site (Replies (reply.Uploaded (told_by judge m))) (uploaded_world publication says judge m (taken_in publication judge m (acts_in publication says judge m w) (here w)) w)
       (Noting.with_acts_noted publication judge m (acts_in publication says judge m w) (pasts_with h number) (here w) h))
   pub uploads_again : (w : World) (h : History) (number : ℕ) (m : Upload) → B w h → P w h → comes w number m.site (Asks (request.Upload m))
-      → (let judge : PublisherJudge = by_past h (pasts_with h number) in Sends P m.site (Replies (reply.Uploaded (told_by judge m))) (uploaded_world publication says judge m (here w) w) h)
+      → (let judge : PublisherJudge = by_past h (pasts_with h number) in brings_news judge m ≡ false → Sends P m.site (Replies (reply.Uploaded (told_by judge m))) (uploaded_world publication says judge m (here w) w) h)
   pub answers_ranges : (w : World) (h : History) (site : SiteId) (m : RangeAsk) → B w h → P w h
       → Sends P site (Replies (reply.Ranged (ranged m (plans publication m w.publisher)))) (with_publisher (with_grants (plans publication m w.publisher) (here w)) w) h
   pub answers_ask : (w : World) (h : History) (number : ℕ) (site : SiteId) (m : Download) → B w h → P w h → comes w number site (Asks (request.Download m)) → download_refusal publication w.moment m w.publisher ≡ None
@@ -354,7 +354,7 @@ module _ (publication : Publication) (says : Saying) (B P : World → History �
         let k : History = if b then Noting.with_acts_noted publication judge m (acts_in publication says judge m w) (pasts_with h number) (here w) h else h in
         Sends P m.site (Replies (reply.Uploaded (told_by judge m))) (uploaded_world publication says judge m q w) k))
     upload-taken number m true at fine news = keeps.uploads w h number m b p at fine news
-    upload-taken number m false at fine news = keeps.uploads_again w h number m b p at
+    upload-taken number m false at fine news = keeps.uploads_again w h number m b p at news
 
     upload-come : (number : ℕ) (m : Upload) → comes w number m.site (Asks (request.Upload m))
         → (let judge : PublisherJudge = by_past h (pasts_with h number) in

@@ -1,5 +1,5 @@
 -- What holds after every list of events.
-use Rattle.std.specs.Prelude.{◌≡◌, ◌≤◌, ◌<◌, ℕ, List, Some}
+use Rattle.std.specs.Prelude.{true, ◌≡◌, ◌≤◌, ◌<◌, ℕ, List, Some}
 use Rattle.merge_schema.specs.declared.publication.Publication.{Publication}
 use Rattle.merge_model.specs.declared.event.Event.{Event}
 use Rattle.merge_types.specs.declared.identifiers.SiteId.{SiteId}
@@ -15,6 +15,7 @@ use Rattle.merge_model.specs.Subscriber.{sub_last_closed}
 use Rattle.merge_model.specs.World.{Asks, Saying, letter_at}
 use Rattle.merge_model.specs.Events.{after}
 use Rattle.merge_model.specs.Model.{Model, empty_model, model}
+use Rattle.merge_laws.specs.Lineages.{LineagesAreMade}
 use Rattle.merge_laws.specs.Numbered.{last_through}
 
 -- what a model is after some events, whatever they were
@@ -54,3 +55,11 @@ UploadsTellTheLast m = (number : ℕ) (site : SiteId) (u : Upload) → letter_at
 -- A subscriber decides alike by what it keeps with its rows and by the changes that it made.
 abbrev pub SubscribersDecideAlike : Model → Type 0
 SubscribersDecideAlike m = (s : SubscriberTables) → 1 ≤ s.site.0 → at_number m.world.subscribers s.site.0 ≡ Some s → SubscriberDecidesAlike m s
+
+-- Every lineage, of a row, in a message or of a version that lost, has its sites in order, and knows of none a change that it did not make.
+abbrev pub KnowsOnlyMade : Model → Type 0
+KnowsOnlyMade m = LineagesAreMade m.world
+
+-- A site that has joined takes no generation for received that has not acted.
+abbrev pub JoinedTakesActed : Model → Type 0
+JoinedTakesActed m = (site generation : ℕ) (s : SubscriberTables) → at_number m.world.subscribers site ≡ Some s → s.is_joined ≡ true → 1 ≤ generation → generation ≤ s.received → has_acted_by_done m.history site generation ≡ true

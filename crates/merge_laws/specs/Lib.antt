@@ -1,4 +1,6 @@
 pub mod Received
 pub mod Numbered
 pub mod Unsent
+pub mod Lineages
+pub mod Behind
 pub mod Laws

@@ -1,5 +1,5 @@
 //! The laws.
-ghost use Rattle.merge_laws.specs.Laws.{OfEveryModel, ReceivedIsDone, ActedIsDone, GapIsDone, TakesOnlyClosed, ReceivedNumberIsDone, UnmetIsDone, ClosingsKeepTheLast, UploadsTellTheLast, SubscribersDecideAlike};
+ghost use Rattle.merge_laws.specs.Laws.{OfEveryModel, ReceivedIsDone, ActedIsDone, GapIsDone, TakesOnlyClosed, ReceivedNumberIsDone, UnmetIsDone, ClosingsKeepTheLast, UploadsTellTheLast, SubscribersDecideAlike, KnowsOnlyMade, JoinedTakesActed};
 
 /// The one number that the publisher keeps of a site says which of its generations have acted,
 /// whatever happened: local changes, messages that come late, twice or never, joins, and sites made
@@ -26,4 +26,16 @@ pub fn received_change_numbers_are_the_last_that_acted()
 /// whatever happened: which rows are unsent, and which rows an upload has.
 pub fn subscribers_decide_as_their_changes_do()
     ensures { OfEveryModel SubscribersDecideAlike }
+{}
+
+/// No lineage knows a change that was not made, whatever happened: of rows at all sites, in messages
+/// that may come late or never, and of versions that lost. And its sites are in order.
+pub fn lineages_know_only_changes_that_were_made()
+    ensures { OfEveryModel KnowsOnlyMade }
+{}
+
+/// A site that has joined takes no generation for received that has not acted at the publisher,
+/// whatever happened.
+pub fn joined_sites_take_for_received_what_has_acted()
+    ensures { OfEveryModel JoinedTakesActed }
 {}
