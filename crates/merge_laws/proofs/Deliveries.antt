@@ -123,7 +123,7 @@ module _ (w : World) (h : History) (r : Received w h) where
   upload-closed m site None fits = fits
   upload-closed m site (Some s) fits = fits.1
 
-  news-above : (incoming : List (Key × Past)) (m : Upload) → brings_news (by_past h incoming) m ≡ true → received_by_number w.publisher m.site.0 < m.to
+  pub news-above : (incoming : List (Key × Past)) (m : Upload) → brings_news (by_past h incoming) m ≡ true → received_by_number w.publisher m.site.0 < m.to
   news-above incoming m news = grind (arith, nat_tests, received-is h w.publisher m.site.0 r.done, news)
 
   upload-taken : (publication : Publication) (incoming : List (Key × Past)) (m : Upload) (acts : List Act) (tallies : List ℕ) (told : Uploaded) (b : Bool) → brings_news (by_past h incoming) m ≡ b
@@ -183,4 +183,4 @@ module _ (w : World) (h : History) (r : Received w h) where
   request-fine publication says incoming site (request.Download m) fits =
       let judge : PublisherJudge = by_past h incoming in
       answered-fine site (λ (made : Downloaded). reply.Downloaded made) (λ q a. tt) (download publication judge w.moment m w.publisher)
-      (download-ok (λ (q : PublisherTables). SameNumbers w.publisher q) publication judge w.moment m w.publisher (record { received = λ n. (asked-same m here).received n; joined = λ x. (asked-same m here).joined x }))
+      (download-ok (λ (q : PublisherTables). SameNumbers w.publisher q) publication judge w.moment m w.publisher (record { received = λ n. (asked-same m here).received n; number = λ n. (asked-same m here).number n; joined = λ x. (asked-same m here).joined x }))

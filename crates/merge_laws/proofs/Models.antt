@@ -32,7 +32,7 @@ use Rattle.merge_model.specs.Publications.{by_site}
 use Rattle.merge_model.specs.ByNumbers.{is_gap_by_number}
 use Rattle.merge_model.specs.History.{no_history}
 use Rattle.merge_model.specs.Subscriber.{empty_subscriber}
-use Rattle.merge_model.specs.World.{empty_world}
+use Rattle.merge_model.specs.World.{empty_subscribers, empty_world}
 use Rattle.merge_model.specs.Model.{empty_model, model}
 use Rattle.merge_model.specs.Events.{after}
 use Rattle.merge_model.specs.declared.event.Event.{Event}
@@ -104,7 +104,7 @@ module _ (publication : Publication) (says : Saying) (w : World) (h : History) (
   action-fine Forget = history-same (with_publisher (purge publication w.moment w.publisher).0 w) h (Noting.noted_purge publication (judges.publisher 0) (at_moment w.moment w.publisher) h)
       (purge-done publication (judges.publisher 0) (at_moment w.moment w.publisher) h) (sites-fine w h r (purge publication w.moment w.publisher).0 refl)
 
-model-fine : (publication : Publication) (says : Saying) (m : Model) (action : Action) → Received m.world m.history → (let n : Model = (model_step publication says m action).0 in Received n.world n.history)
+pub model-fine : (publication : Publication) (says : Saying) (m : Model) (action : Action) → Received m.world m.history → (let n : Model = (model_step publication says m action).0 in Received n.world n.history)
 model-fine publication says m action r =
     let done : World × Outcome = step_by publication says (by_history m.history) m.world action in
     let kept : History = noted_if (did_something done.1) (noted publication says (by_history m.history) m.world action m.history) m.history in
@@ -140,16 +140,20 @@ at-map publication (e ∷ es) n = elim (is_at (nat_cmp n) e.0)
 empty-fits : (publication : Publication) (n : ℕ) (site : SiteId) → site.0 ≡ n → SubscriberFits 0 n (empty_subscriber publication site)
 empty-fits publication n site keyed = record { keyed = keyed; idle = λ joining. refl; own = omega arith; last = λ seq sent e. absurd (grind (arith, e)); taken = omega arith }
 
-begins-as : (publication : Publication) (n : ℕ) (s : SubscriberTables) (found : Option Subscription) → at_number (by_site publication) n ≡ found → option_map (λ (x : Subscription). empty_subscriber publication x.site) found ≡ Some s → SubscriberFits 0 n s
-begins-as publication n s None at is = absurd (grind (arith, is))
-begins-as publication n s (Some x) at is =
+begins-as : (publication : Publication) (P : ℕ → SubscriberTables → Type 0) → ((n : ℕ) (site : SiteId) → site.0 ≡ n → P n (empty_subscriber publication site)) → (n : ℕ) (s : SubscriberTables) (found : Option Subscription) → at_number (by_site publication) n ≡ found
+    → option_map (λ (x : Subscription). empty_subscriber publication x.site) found ≡ Some s → P n s
+begins-as publication P empty n s None at is = absurd (grind (arith, is))
+begins-as publication P empty n s (Some x) at is =
     let both : empty_subscriber publication x.site ≡ s = cc in
-    subst (λ (t : SubscriberTables). SubscriberFits 0 n t) both
-    (empty-fits publication n x.site (keyed-fold publication.subscriptions [] (λ k y none. absurd (grind (arith, none))) n x at))
+    subst (λ (t : SubscriberTables). P n t) both (empty n x.site (keyed-fold publication.subscriptions [] (λ k y none. absurd (grind (arith, none))) n x at))
 
-begins : (publication : Publication) (tallies : List ℕ) → Received (empty_world publication tallies) no_history
+-- each subscriber begins with empty tables
+pub begins-with : (publication : Publication) (P : ℕ → SubscriberTables → Type 0) → ((n : ℕ) (site : SiteId) → site.0 ≡ n → P n (empty_subscriber publication site)) → (n : ℕ) (s : SubscriberTables) → at_number (empty_subscribers publication) n ≡ Some s → P n s
+begins-with publication P empty n s at = begins-as publication P empty n s (at_number (by_site publication) n) refl (sym (at-map publication (by_site publication) n) ∙ at)
+
+pub begins : (publication : Publication) (tallies : List ℕ) → Received (empty_world publication tallies) no_history
 begins publication tallies = record {
-  subscribers = λ n s at. begins-as publication n s (at_number (by_site publication) n) refl (sym (at-map publication (by_site publication) n) ∙ at);
+  subscribers = λ n s at. begins-with publication (λ (k : ℕ) (t : SubscriberTables). SubscriberFits 0 k t) (empty-fits publication) n s at;
   letters = tt;
   done = λ n generation from. grind (arith, nat_tests, from);
 }

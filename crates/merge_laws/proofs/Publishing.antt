@@ -12,7 +12,7 @@ use Rattle.merge_batch.specs.declared.request.Upload.{Upload}
 use Rattle.merge_batch.specs.declared.request.Download.{Download}
 use Rattle.merge_model.specs.Tables.{PublisherTables}
 use Rattle.merge_model.specs.Keys.{at_number}
-use Rattle.merge_model.specs.ByNumbers.{received_by_number}
+use Rattle.merge_model.specs.ByNumbers.{received_by_number, received_number_by_number}
 use Rattle.merge_model.specs.Publisher.{state_of, no_state}
 use Rattle.merge_model.specs.PublisherJoin.{join_taken, joined_state}
 use Rattle.merge_model.specs.PublisherDownload.{asked, synced}
@@ -79,33 +79,38 @@ done-joins h site from to n generation up =
 
 -- The numbers of the sites.
 
+-- a number that is kept of a site, 0 where none is
+abbrev pub number_in : (SiteState → ℕ) → Option SiteState → ℕ
+number_in field found = unwrap_or (option_map field found) 0
+
 -- none of the numbers that a step reads has changed
 pub record SameNumbers (p q : PublisherTables) : Type 0 where
   pub received : (n : ℕ) → received_by_number q n ≡ received_by_number p n
+  pub number : (n : ℕ) → received_number_by_number q n ≡ received_number_by_number p n
   pub joined : (site : SiteId) → joined_at q site ≡ joined_at p site
 
 pub same-sites : (p q : PublisherTables) → q.sites ≡ p.sites → SameNumbers p q
 same-sites p q e = record {
-  received = λ n. ap (λ (sites : List (ℕ × SiteState)). unwrap_or (option_map (λ (state : SiteState). state.received) (at_number sites n)) 0) e;
+  received = λ n. ap (λ (sites : List (ℕ × SiteState)). number_in (λ (state : SiteState). state.received) (at_number sites n)) e;
+  number = λ n. ap (λ (sites : List (ℕ × SiteState)). number_in (λ (state : SiteState). state.received_number) (at_number sites n)) e;
   joined = λ site. ap (λ (sites : List (ℕ × SiteState)). (unwrap_or (at_number sites site.0) no_state).joined_at) e;
 }
 
 -- an ask moves the watermark alone
-abbrev pub number_in : (SiteState → ℕ) → Option SiteState → ℕ
-number_in field found = unwrap_or (option_map field found) 0
+found-number : (field : SiteState → ℕ) → field no_state ≡ 0 → (found : Option SiteState) → field (unwrap_or found no_state) ≡ number_in field found
+found-number field none None = none
+found-number field none (Some x) = refl
 
-received-found : (found : Option SiteState) (state : SiteState) → state.received ≡ (unwrap_or found no_state).received → state.received ≡ number_in (λ (x : SiteState). x.received) found
-received-found None state e = e
-received-found (Some x) state e = e
-
-asked-received : (m : Download) (p : PublisherTables) (n : ℕ) (b : Bool) → same_number n m.site.0 b → received_by_number (asked m p) n ≡ received_by_number p n
-asked-received m p n true same =
+asked-number : (field : SiteState → ℕ) → field no_state ≡ 0 → (m : Download) (p : PublisherTables) (n : ℕ) (b : Bool) → field (synced m p (state_of p m.site)) ≡ field (state_of p m.site) → same_number n m.site.0 b
+    → number_in field (at_number (asked m p).sites n) ≡ number_in field (at_number p.sites n)
+asked-number field none m p n true kept same =
     let put = at_put_same m.site.0 (synced m p (state_of p m.site)) p.sites in
-    ap (λ (k : ℕ). received_by_number (asked m p) k) same
-    ∙ ap (λ (found : Option SiteState). number_in (λ (x : SiteState). x.received) found) put
-    ∙ received-found (at_number p.sites m.site.0) (synced m p (state_of p m.site)) refl
-    ∙ ap (λ (k : ℕ). received_by_number p k) (sym same)
-asked-received m p n false differs = ap (λ (found : Option SiteState). number_in (λ (x : SiteState). x.received) found) (at_put_other m.site.0 n (synced m p (state_of p m.site)) p.sites differs)
+    ap (λ (k : ℕ). number_in field (at_number (asked m p).sites k)) same
+    ∙ ap (λ (found : Option SiteState). number_in field found) put
+    ∙ kept
+    ∙ found-number field none (at_number p.sites m.site.0)
+    ∙ ap (λ (k : ℕ). number_in field (at_number p.sites k)) (sym same)
+asked-number field none m p n false kept differs = ap (λ (found : Option SiteState). number_in field found) (at_put_other m.site.0 n (synced m p (state_of p m.site)) p.sites differs)
 
 asked-joined : (m : Download) (p : PublisherTables) (site : SiteId) (b : Bool) → same_number site.0 m.site.0 b → joined_at (asked m p) site ≡ joined_at p site
 asked-joined m p site true same =
@@ -116,16 +121,24 @@ asked-joined m p site false differs = ap (λ (found : Option SiteState). (unwrap
 
 pub asked-same : (m : Download) (p : PublisherTables) → SameNumbers p (asked m p)
 asked-same m p = record {
-  received = λ n. asked-received m p n (n == m.site.0) (number-decided n m.site.0);
+  received = λ n. asked-number (λ (x : SiteState). x.received) refl m p n (n == m.site.0) refl (number-decided n m.site.0);
+  number = λ n. asked-number (λ (x : SiteState). x.received_number) refl m p n (n == m.site.0) refl (number-decided n m.site.0);
   joined = λ site. asked-joined m p site (site.0 == m.site.0) (number-decided site.0 m.site.0);
 }
 
--- a join that acts sets both numbers of its site
+-- a join that acts sets the numbers of its site
+joined-number : (field : SiteState → ℕ) (m : Join) (p : PublisherTables) (n : ℕ) (b : Bool) → same_number n m.site.0 b
+    → number_in field (at_number (join_taken m p).sites n) ≡ (if b then field (joined_state m p.latest (state_of p m.site)) else number_in field (at_number p.sites n))
+joined-number field m p n true same =
+    ap (λ (k : ℕ). number_in field (at_number (join_taken m p).sites k)) same
+    ∙ ap (λ (found : Option SiteState). number_in field found) (at_put_same m.site.0 (joined_state m p.latest (state_of p m.site)) p.sites)
+joined-number field m p n false differs = ap (λ (found : Option SiteState). number_in field found) (at_put_other m.site.0 n (joined_state m p.latest (state_of p m.site)) p.sites differs)
+
 pub joined-received : (m : Join) (p : PublisherTables) (n : ℕ) (b : Bool) → same_number n m.site.0 b → received_by_number (join_taken m p) n ≡ (if b then m.generation else received_by_number p n)
-joined-received m p n true same =
-    ap (λ (k : ℕ). received_by_number (join_taken m p) k) same
-    ∙ ap (λ (found : Option SiteState). number_in (λ (x : SiteState). x.received) found) (at_put_same m.site.0 (joined_state m p.latest (state_of p m.site)) p.sites)
-joined-received m p n false differs = ap (λ (found : Option SiteState). number_in (λ (x : SiteState). x.received) found) (at_put_other m.site.0 n (joined_state m p.latest (state_of p m.site)) p.sites differs)
+joined-received m p n b same = joined-number (λ (x : SiteState). x.received) m p n b same
+
+pub joined-change : (m : Join) (p : PublisherTables) (n : ℕ) (b : Bool) → same_number n m.site.0 b → received_number_by_number (join_taken m p) n ≡ (if b then m.number else received_number_by_number p n)
+joined-change m p n b same = joined-number (λ (x : SiteState). x.received_number) m p n b same
 
 pub joined-joined : (m : Join) (p : PublisherTables) (site : SiteId) (b : Bool) → same_number site.0 m.site.0 b → joined_at (join_taken m p) site ≡ (if b then m.seq else joined_at p site)
 joined-joined m p site true same =
@@ -157,16 +170,16 @@ taken_entry m b e = if b then (e.0, record e.1 { received = m.to; received_numbe
 abbrev head_at : ℕ × SiteState → ℕ → Option SiteState → Option SiteState
 head_at e n rest = cond (is_at (nat_cmp n) e.0) (Some e.1) rest
 
-taken-head : (m : Upload) (e : ℕ × SiteState) (n : ℕ) (b : Bool) → (e.0 == m.site.0) ≡ b → (rest more : Option SiteState)
-    → number_in (λ (x : SiteState). x.received) more ≡ (if (n == m.site.0) && is_some rest then m.to else number_in (λ (x : SiteState). x.received) rest)
-    → number_in (λ (x : SiteState). x.received) (head_at (taken_entry m b e) n more) ≡ (if (n == m.site.0) && is_some (head_at e n rest) then m.to else number_in (λ (x : SiteState). x.received) (head_at e n rest))
-taken-head m e n true eb rest more h = grind (arith, nat_tests, eb, h)
-taken-head m e n false eb rest more h = grind (arith, nat_tests, eb, h)
+taken-head : (field : SiteState → ℕ) (v : ℕ) (m : Upload) (e : ℕ × SiteState) (n : ℕ) (b : Bool) → (e.0 == m.site.0) ≡ b → field (record e.1 { received = m.to; received_number = m.through }) ≡ v → (rest more : Option SiteState)
+    → number_in field more ≡ (if (n == m.site.0) && is_some rest then v else number_in field rest)
+    → number_in field (head_at (taken_entry m b e) n more) ≡ (if (n == m.site.0) && is_some (head_at e n rest) then v else number_in field (head_at e n rest))
+taken-head field v m e n true eb set rest more h = grind (arith, nat_tests, eb, set, h)
+taken-head field v m e n false eb set rest more h = grind (arith, nat_tests, eb, h)
 
-taken-at : (m : Upload) (es : List (ℕ × SiteState)) (n : ℕ)
-    → number_in (λ (x : SiteState). x.received) (at_number (with_taken m es) n) ≡ (if (n == m.site.0) && is_some (at_number es n) then m.to else number_in (λ (x : SiteState). x.received) (at_number es n))
-taken-at m [] n = grind (arith)
-taken-at m (e ∷ es) n = taken-head m e n (e.0 == m.site.0) refl (at_number es n) (at_number (with_taken m es) n) (taken-at m es n)
+taken-at : (field : SiteState → ℕ) (v : ℕ) (m : Upload) → ((state : SiteState) → field (record state { received = m.to; received_number = m.through }) ≡ v) → (es : List (ℕ × SiteState)) (n : ℕ)
+    → number_in field (at_number (with_taken m es) n) ≡ (if (n == m.site.0) && is_some (at_number es n) then v else number_in field (at_number es n))
+taken-at field v m set [] n = grind (arith)
+taken-at field v m set (e ∷ es) n = taken-head field v m e n (e.0 == m.site.0) refl (set e.1) (at_number es n) (at_number (with_taken m es) n) (taken-at field v m set es n)
 
 joined-head : (m : Upload) (e : ℕ × SiteState) (n : ℕ) (b : Bool) (rest more : Option SiteState) → (unwrap_or more no_state).joined_at ≡ (unwrap_or rest no_state).joined_at
     → (unwrap_or (head_at (taken_entry m b e) n more) no_state).joined_at ≡ (unwrap_or (head_at e n rest) no_state).joined_at
@@ -181,14 +194,22 @@ joined-kept m (e ∷ es) n = joined-head m e n (e.0 == m.site.0) (at_number es n
 abbrev pub sites_taken : Upload → List Act → List (ℕ × SiteState) → List (ℕ × SiteState)
 sites_taken m acts sites = with_taken m (map (state_seeing acts) sites)
 
+upload-number : (field : SiteState → ℕ) (v : ℕ) (m : Upload) (acts : List Act) → ((state : SiteState) → field (record state { received = m.to; received_number = m.through }) ≡ v) → ((state : SiteState) (k : ℕ) → field (seeing acts k state) ≡ field state)
+    → (sites : List (ℕ × SiteState)) (n : ℕ) → number_in field (at_number (sites_taken m acts sites) n) ≡ (if (n == m.site.0) && is_some (at_number sites n) then v else number_in field (at_number sites n))
+upload-number field v m acts set kept sites n =
+    let seen = seeing-at acts sites n (λ (found : Option SiteState). number_in field found) kept in
+    let some = seeing-some acts sites n in
+    taken-at field v m set (map (state_seeing acts) sites) n
+    ∙ ap (λ (b : Bool). if (n == m.site.0) && b then v else number_in field (at_number (map (state_seeing acts) sites) n)) some
+    ∙ ap (λ (k : ℕ). if (n == m.site.0) && is_some (at_number sites n) then v else k) seen
+
 pub upload-received : (m : Upload) (acts : List Act) (sites : List (ℕ × SiteState)) (n : ℕ)
     → number_in (λ (x : SiteState). x.received) (at_number (sites_taken m acts sites) n) ≡ (if (n == m.site.0) && is_some (at_number sites n) then m.to else number_in (λ (x : SiteState). x.received) (at_number sites n))
-upload-received m acts sites n =
-    let seen = seeing-at acts sites n (λ (found : Option SiteState). number_in (λ (x : SiteState). x.received) found) (λ state k. refl) in
-    let some = seeing-some acts sites n in
-    taken-at m (map (state_seeing acts) sites) n
-    ∙ ap (λ (b : Bool). if (n == m.site.0) && b then m.to else number_in (λ (x : SiteState). x.received) (at_number (map (state_seeing acts) sites) n)) some
-    ∙ ap (λ (k : ℕ). if (n == m.site.0) && is_some (at_number sites n) then m.to else k) seen
+upload-received m acts sites n = upload-number (λ (x : SiteState). x.received) m.to m acts (λ state. refl) (λ state k. refl) sites n
+
+pub upload-change : (m : Upload) (acts : List Act) (sites : List (ℕ × SiteState)) (n : ℕ)
+    → number_in (λ (x : SiteState). x.received_number) (at_number (sites_taken m acts sites) n) ≡ (if (n == m.site.0) && is_some (at_number sites n) then m.through else number_in (λ (x : SiteState). x.received_number) (at_number sites n))
+upload-change m acts sites n = upload-number (λ (x : SiteState). x.received_number) m.through m acts (λ state. refl) (λ state k. refl) sites n
 
 pub upload-joined : (m : Upload) (acts : List Act) (sites : List (ℕ × SiteState)) (n : ℕ) → (unwrap_or (at_number (sites_taken m acts sites) n) no_state).joined_at ≡ (unwrap_or (at_number sites n) no_state).joined_at
 upload-joined m acts sites n = joined-kept m (map (state_seeing acts) sites) n ∙ seeing-at acts sites n (λ (found : Option SiteState). (unwrap_or found no_state).joined_at) (λ state k. refl)

@@ -23,19 +23,39 @@ use Rattle.merge_laws.specs.Received.{MessageFits, SubscriberFits}
 use Rattle.merge_laws.proofs.Subscribing.{Goes}
 
 -- a reply that fits tells of no generation that the site has not closed
-uploaded-bound : (publication : Publication) (sent : Outstanding) (m : Uploaded) (s : SubscriberTables) → reply_fault publication sent (reply.Uploaded m) s ≡ None → m.received ≤ sub_last_closed s
+pub uploaded-bound : (publication : Publication) (sent : Outstanding) (m : Uploaded) (s : SubscriberTables) → reply_fault publication sent (reply.Uploaded m) s ≡ None → m.received ≤ sub_last_closed s
 unfolding broken_by_reply
 uploaded-bound publication (ask.Upload from to) m s e = grind (arith, nat_tests, e)
 uploaded-bound publication ask.Join m s e = absurd (grind (arith, e))
 uploaded-bound publication ask.Ranges m s e = absurd (grind (arith, e))
 uploaded-bound publication (ask.Download from) m s e = absurd (grind (arith, e))
 
-downloaded-bound : (publication : Publication) (sent : Outstanding) (m : Downloaded) (s : SubscriberTables) → reply_fault publication sent (reply.Downloaded m) s ≡ None → m.received ≤ sub_last_closed s
+pub downloaded-bound : (publication : Publication) (sent : Outstanding) (m : Downloaded) (s : SubscriberTables) → reply_fault publication sent (reply.Downloaded m) s ≡ None → m.received ≤ sub_last_closed s
 unfolding broken_by_reply
 downloaded-bound publication (ask.Download from) m s e = grind (arith, nat_tests, e)
 downloaded-bound publication ask.Join m s e = absurd (grind (arith, e))
 downloaded-bound publication ask.Ranges m s e = absurd (grind (arith, e))
 downloaded-bound publication (ask.Upload from to) m s e = absurd (grind (arith, e))
+
+-- nor less than the site knows, where it knows no more than what it sent
+uploaded-reaches : (publication : Publication) (from to : ℕ) (m : Uploaded) (s : SubscriberTables) → reply_fault publication (ask.Upload from to) (reply.Uploaded m) s ≡ None → to ≤ m.received
+unfolding broken_by_reply
+uploaded-reaches publication from to m s e = grind (arith, nat_tests, e)
+
+pub uploaded-least : (publication : Publication) (sent : Outstanding) (m : Uploaded) (s : SubscriberTables) (seq : ℕ) → reply_fault publication sent (reply.Uploaded m) s ≡ None → s.outstanding ≡ Some (seq, sent)
+    → ((other from to : ℕ) → s.outstanding ≡ Some (other, ask.Upload from to) → s.received ≤ to) → s.received ≤ m.received
+unfolding broken_by_reply
+uploaded-least publication (ask.Upload from to) m s seq e out knows = let reaches = uploaded-reaches publication from to m s e in let least = knows seq from to out in omega (arith, reaches, least)
+uploaded-least publication ask.Join m s seq e out knows = absurd (grind (arith, e))
+uploaded-least publication ask.Ranges m s seq e out knows = absurd (grind (arith, e))
+uploaded-least publication (ask.Download from) m s seq e out knows = absurd (grind (arith, e))
+
+pub downloaded-least : (publication : Publication) (sent : Outstanding) (m : Downloaded) (s : SubscriberTables) → reply_fault publication sent (reply.Downloaded m) s ≡ None → s.received ≤ m.received
+unfolding broken_by_reply
+downloaded-least publication (ask.Download from) m s e = grind (arith, nat_tests, e)
+downloaded-least publication ask.Join m s e = absurd (grind (arith, e))
+downloaded-least publication ask.Ranges m s e = absurd (grind (arith, e))
+downloaded-least publication (ask.Upload from to) m s e = absurd (grind (arith, e))
 
 -- nothing happens
 stays : (received joined : ℕ) (s : SubscriberTables) → SubscriberFits received s.site.0 s → Goes received joined s s

@@ -43,8 +43,20 @@ last-within test zero from last d o fits up = up
 last-within test (suc n) from last d o fits up =
     last-step (test from) last from d o (filter test (range_with_len (from + 1) n)) (omega (arith, fits)) up (λ p low. last-within test n (from + 1) last d p (omega (arith, fits)) low)
 
-batch-bound : (items : ℕ → ℕ) (from last : ℕ) → from ≤ last → batch_end items from last ≤ last
+pub batch-bound : (items : ℕ → ℕ) (from last : ℕ) → from ≤ last → batch_end items from last ≤ last
 batch-bound items from last up = last-within (λ (to : ℕ). nat_le (items to) item_limit) (min generation_limit (last - from)) (from + 1) last from None (grind (arith, nat_tests, up)) up
+
+-- nor before the begin
+least-step : (b : Bool) (least from d : ℕ) (o : Option ℕ) (kept : List ℕ) → least ≤ from → least ≤ unwrap_or o d → ((p : Option ℕ) → least ≤ unwrap_or p d → least ≤ unwrap_or (last_or p kept) d) → least ≤ unwrap_or (last_or o (cond b (from ∷ kept) kept)) d
+least-step true least from d o kept low up more = more (Some from) low
+least-step false least from d o kept low up more = more o up
+
+least-within : (test : ℕ → Bool) (n from least d : ℕ) (o : Option ℕ) → least ≤ from → least ≤ unwrap_or o d → least ≤ unwrap_or (last_or o (filter test (range_with_len from n))) d
+least-within test zero from least d o low up = up
+least-within test (suc n) from least d o low up = least-step (test from) least from d o (filter test (range_with_len (from + 1) n)) low up (λ p below. least-within test n (from + 1) least d p (omega (arith, low)) below)
+
+pub batch-begin : (items : ℕ → ℕ) (from last : ℕ) → from ≤ batch_end items from last
+batch-begin items from last = least-within (λ (to : ℕ). nat_le (items to) item_limit) (min generation_limit (last - from)) (from + 1) from from None (omega arith) (omega arith)
 
 then-message : (received joined : ℕ) (sent : Outstanding) (s c : SubscriberTables) → Goes received joined s c → Goes received joined s (with_message sent c)
 then-message received joined sent s c g = record {

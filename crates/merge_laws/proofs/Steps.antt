@@ -78,7 +78,7 @@ local-sites : (publication : Publication) (judge : PublisherJudge) (now : Moment
 local-sites publication judge now change p (Ok d) = refl
 local-sites publication judge now change p (Err refusal) = tt
 
-joined-flag : (s : SubscriberTables) → is_joining s ≡ None → s.is_joined ≡ true
+pub joined-flag : (s : SubscriberTables) → is_joining s ≡ None → s.is_joined ≡ true
 joined-flag s none = grind (arith, none)
 
 drawn-goes : (publication : Publication) (received joined : ℕ) (now : Moment) (change : Change) (s : SubscriberTables) (draw : Result (Value × List (ℕ × Holder)) Refusal) → s.is_joined ≡ true → SubscriberFits received s.site.0 s

@@ -1,15 +1,22 @@
 -- What holds after every list of events.
-use Rattle.std.specs.Prelude.{◌≡◌, ◌≤◌, ℕ, List, Some}
+use Rattle.std.specs.Prelude.{true, ◌≡◌, ◌≤◌, ◌<◌, ℕ, List, Some}
 use Rattle.merge_schema.specs.declared.publication.Publication.{Publication}
 use Rattle.merge_model.specs.declared.event.Event.{Event}
-use Rattle.merge_model.specs.ByNumbers.{received_by_number, has_acted_by_number, is_gap_by_number}
-use Rattle.merge_model.specs.ByHistory.{received_by_done, has_acted_by_done, is_gap_by_done}
+use Rattle.merge_types.specs.declared.identifiers.SiteId.{SiteId}
+use Rattle.merge_gens.specs.Book.{moment_of}
+use Rattle.merge_batch.specs.declared.request.Upload.{Upload}
+use Rattle.merge_batch.specs.declared.request.Request.TheVariants as request
+use Rattle.merge_model.specs.ByNumbers.{received_by_number, received_number_by_number, has_acted_by_number, is_gap_by_number, is_unmet_by_number}
+use Rattle.merge_model.specs.ByHistory.{received_by_done, received_number_by_done, has_acted_by_done, is_gap_by_done, is_unmet_by_done}
+use Rattle.merge_model.specs.Bridge.{SubscriberDecidesAlike}
 use Rattle.merge_model.specs.Keys.{at_number}
 use Rattle.merge_model.specs.Tables.{SubscriberTables}
 use Rattle.merge_model.specs.Subscriber.{sub_last_closed}
-use Rattle.merge_model.specs.World.{Saying}
+use Rattle.merge_model.specs.World.{Asks, Saying, letter_at}
 use Rattle.merge_model.specs.Events.{after}
 use Rattle.merge_model.specs.Model.{Model, empty_model, model}
+use Rattle.merge_laws.specs.Lineages.{LineagesAreMade}
+use Rattle.merge_laws.specs.Numbered.{last_through}
 
 -- what a model is after some events, whatever they were
 abbrev pub OfEveryModel : (Model → Type 0) → Type 0
@@ -29,3 +36,30 @@ GapIsDone m = (site from : ℕ) → is_gap_by_number m.world.publisher site from
 -- A site never takes as received, nor does the publisher, a generation that the site has not closed.
 abbrev pub TakesOnlyClosed : Model → Type 0
 TakesOnlyClosed m = (site : ℕ) (s : SubscriberTables) → at_number m.world.subscribers site ≡ Some s → (s.received ≤ sub_last_closed s) × (received_by_number m.world.publisher site ≤ sub_last_closed s)
+
+-- The publisher's number of a site's last change is the greatest number of a change in the generations that have acted.
+abbrev pub ReceivedNumberIsDone : Model → Type 0
+ReceivedNumberIsDone m = (site : ℕ) → received_number_by_number m.world.publisher site ≡ received_number_by_done m.history site
+
+-- So a change has not acted just where its number is greater.
+abbrev pub UnmetIsDone : Model → Type 0
+UnmetIsDone m = (site number : ℕ) → 1 ≤ number → is_unmet_by_number m.world.publisher site number ≡ is_unmet_by_done m.history site number
+
+-- A subscriber keeps of each closed generation that is not received the greatest number of a change up to it, and so does an upload tell that of its last generation.
+abbrev pub ClosingsKeepTheLast : Model → Type 0
+ClosingsKeepTheLast m = (site generation : ℕ) (s : SubscriberTables) → at_number m.world.subscribers site ≡ Some s → s.received < generation → generation ≤ sub_last_closed s → moment_of s.gens.closings generation ≡ Some (last_through m.history site generation)
+
+abbrev pub UploadsTellTheLast : Model → Type 0
+UploadsTellTheLast m = (number : ℕ) (site : SiteId) (u : Upload) → letter_at m.world number ≡ Some (record { site = site; message = Asks (request.Upload u) }) → u.from < u.to → u.through ≡ last_through m.history site.0 u.to
+
+-- A subscriber decides alike by what it keeps with its rows and by the changes that it made.
+abbrev pub SubscribersDecideAlike : Model → Type 0
+SubscribersDecideAlike m = (s : SubscriberTables) → 1 ≤ s.site.0 → at_number m.world.subscribers s.site.0 ≡ Some s → SubscriberDecidesAlike m s
+
+-- Every lineage, of a row, in a message or of a version that lost, has its sites in order, and knows of none a change that it did not make.
+abbrev pub KnowsOnlyMade : Model → Type 0
+KnowsOnlyMade m = LineagesAreMade m.world
+
+-- A site that has joined takes no generation for received that has not acted.
+abbrev pub JoinedTakesActed : Model → Type 0
+JoinedTakesActed m = (site generation : ℕ) (s : SubscriberTables) → at_number m.world.subscribers site ≡ Some s → s.is_joined ≡ true → 1 ≤ generation → generation ≤ s.received → has_acted_by_done m.history site generation ≡ true

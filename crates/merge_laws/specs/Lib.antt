@@ -1,3 +1,7 @@
 pub mod Received
+pub mod Numbered
+pub mod Unsent
+pub mod Lineages
+pub mod Behind
 pub mod Laws
 pub mod LastLines

@@ -1,5 +1,5 @@
 //! The laws.
-ghost use Rattle.merge_laws.specs.Laws.{OfEveryModel, ReceivedIsDone, ActedIsDone, GapIsDone, TakesOnlyClosed};
+ghost use Rattle.merge_laws.specs.Laws.{OfEveryModel, ReceivedIsDone, ActedIsDone, GapIsDone, TakesOnlyClosed, ReceivedNumberIsDone, UnmetIsDone, ClosingsKeepTheLast, UploadsTellTheLast, SubscribersDecideAlike, KnowsOnlyMade, JoinedTakesActed};
 ghost use Rattle.merge_laws.specs.LastLines.{MappingIsLastLine, ChangedIsLastChange, LeftByLine, TouchedInsideByLine, TouchedOutsideByLine};
 
 /// The one number that the publisher keeps of a site says which of its generations have acted,
@@ -21,4 +21,33 @@ pub fn mappings_are_the_last_lines()
     ensures has_left { OfEveryModel LeftByLine }
     ensures touch_inside { OfEveryModel TouchedInsideByLine }
     ensures touch_outside { OfEveryModel TouchedOutsideByLine }
+{}
+
+/// The number that the publisher keeps of a site's last change is that of the last change in the
+/// generations that have acted, whatever happened. So a change has acted just where its number is no
+/// greater. A site keeps the same of each closed generation that is not received, and an upload tells
+/// it of its last generation.
+pub fn received_change_numbers_are_the_last_that_acted()
+    ensures number { OfEveryModel ReceivedNumberIsDone }
+    ensures unmet { OfEveryModel UnmetIsDone }
+    ensures kept { OfEveryModel ClosingsKeepTheLast }
+    ensures told { OfEveryModel UploadsTellTheLast }
+{}
+
+/// A subscriber decides by the generations that it keeps with its rows as by the changes that it made,
+/// whatever happened: which rows are unsent, and which rows an upload has.
+pub fn subscribers_decide_as_their_changes_do()
+    ensures { OfEveryModel SubscribersDecideAlike }
+{}
+
+/// No lineage knows a change that was not made, whatever happened: of rows at all sites, in messages
+/// that may come late or never, and of versions that lost. And its sites are in order.
+pub fn lineages_know_only_changes_that_were_made()
+    ensures { OfEveryModel KnowsOnlyMade }
+{}
+
+/// A site that has joined takes no generation for received that has not acted at the publisher,
+/// whatever happened.
+pub fn joined_sites_take_for_received_what_has_acted()
+    ensures { OfEveryModel JoinedTakesActed }
 {}
