@@ -14,3 +14,11 @@ pub mod LastLineEntries
 pub mod LastLineGone
 pub mod LastLineNotes
 pub mod LastLineSteps
+mod IdentityCalls
+mod IdentityGrants
+mod IdentityNotes
+mod IdentityPlaces
+mod IdentitySums
+mod IdentityDraws
+mod IdentityTakes
+mod IdentitySteps
