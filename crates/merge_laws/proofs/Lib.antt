@@ -22,3 +22,4 @@ mod IdentitySums
 mod IdentityDraws
 mod IdentityTakes
 mod IdentitySteps
+mod IdentityExamples
