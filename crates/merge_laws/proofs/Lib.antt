@@ -29,3 +29,12 @@ pub mod LineageLists
 pub mod Lineages
 pub mod LineagesKept
 pub mod BehindKept
+mod IdentityCalls
+mod IdentityGrants
+mod IdentityNotes
+mod IdentityPlaces
+mod IdentitySums
+mod IdentityDraws
+mod IdentityTakes
+mod IdentitySteps
+mod IdentityExamples

@@ -5,3 +5,4 @@ pub mod Lineages
 pub mod Behind
 pub mod Laws
 pub mod LastLines
+pub mod Identities

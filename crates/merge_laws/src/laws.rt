@@ -1,6 +1,8 @@
 //! The laws.
 ghost use Rattle.merge_laws.specs.Laws.{OfEveryModel, ReceivedIsDone, ActedIsDone, GapIsDone, TakesOnlyClosed, ReceivedNumberIsDone, UnmetIsDone, ClosingsKeepTheLast, UploadsTellTheLast, SubscribersDecideAlike, KnowsOnlyMade, JoinedTakesActed};
 ghost use Rattle.merge_laws.specs.LastLines.{MappingIsLastLine, ChangedIsLastChange, LeftByLine, TouchedInsideByLine, TouchedOutsideByLine};
+ghost use Rattle.merge_model.specs.Promises.{IdentitiesApart};
+ghost use Rattle.merge_laws.specs.Identities.{OfEveryRuledModel, TakenWereGranted};
 
 /// The one number that the publisher keeps of a site says which of its generations have acted,
 /// whatever happened: local changes, messages that come late, twice or never, joins, and sites made
@@ -50,4 +52,12 @@ pub fn lineages_know_only_changes_that_were_made()
 /// whatever happened.
 pub fn joined_sites_take_for_received_what_has_acted()
     ensures { OfEveryModel JoinedTakesActed }
+{}
+
+/// No two inserts of an article take one identity value, at whatever sites and whenever they are
+/// made, where the publication's ranges have values: messages may come late, twice or never, and
+/// sites may be made anew. What an insert took lies in a range that was granted to its site.
+pub fn identity_values_are_taken_once()
+    ensures apart { OfEveryRuledModel IdentitiesApart }
+    ensures granted { OfEveryRuledModel TakenWereGranted }
 {}

@@ -5,7 +5,8 @@
 mod laws;
 
 pub use laws::{
-    joined_sites_take_for_received_what_has_acted, lineages_know_only_changes_that_were_made,
-    mappings_are_the_last_lines, received_change_numbers_are_the_last_that_acted,
+    identity_values_are_taken_once, joined_sites_take_for_received_what_has_acted,
+    lineages_know_only_changes_that_were_made, mappings_are_the_last_lines,
+    received_change_numbers_are_the_last_that_acted,
     received_numbers_are_the_generations_that_acted, subscribers_decide_as_their_changes_do,
 };
