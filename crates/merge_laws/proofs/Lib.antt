@@ -14,3 +14,10 @@ pub mod LastLineEntries
 pub mod LastLineGone
 pub mod LastLineNotes
 pub mod LastLineSteps
+pub mod KeptLists
+pub mod KeptDecisions
+pub mod KeptRows
+pub mod KeptSubscriber
+pub mod KeptHistories
+pub mod KeptWorlds
+pub mod KeptModels

@@ -1,3 +1,4 @@
 pub mod Received
 pub mod Laws
 pub mod LastLines
+pub mod Kept

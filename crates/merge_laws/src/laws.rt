@@ -1,6 +1,7 @@
 //! The laws.
 ghost use Rattle.merge_laws.specs.Laws.{OfEveryModel, ReceivedIsDone, ActedIsDone, GapIsDone, TakesOnlyClosed};
 ghost use Rattle.merge_laws.specs.LastLines.{MappingIsLastLine, ChangedIsLastChange, LeftByLine, TouchedInsideByLine, TouchedOutsideByLine};
+ghost use Rattle.merge_laws.specs.Kept.{SubscribersDecideAlike};
 
 /// The one number that the publisher keeps of a site says which of its generations have acted,
 /// whatever happened: local changes, messages that come late, twice or never, joins, and sites made
@@ -21,4 +22,11 @@ pub fn mappings_are_the_last_lines()
     ensures has_left { OfEveryModel LeftByLine }
     ensures touch_inside { OfEveryModel TouchedInsideByLine }
     ensures touch_outside { OfEveryModel TouchedOutsideByLine }
+{}
+
+/// With each row a subscriber keeps the generations in which it changed the row and that the
+/// publisher has not taken. By these it finds which rows it has to send, and which ones an answer
+/// must leave as they are: the same that the changes which it made tell, whatever happened.
+pub fn kept_generations_are_those_of_the_changes_made()
+    ensures { OfEveryModel SubscribersDecideAlike }
 {}

@@ -4,4 +4,7 @@
 
 mod laws;
 
-pub use laws::{mappings_are_the_last_lines, received_numbers_are_the_generations_that_acted};
+pub use laws::{
+    kept_generations_are_those_of_the_changes_made, mappings_are_the_last_lines,
+    received_numbers_are_the_generations_that_acted,
+};
