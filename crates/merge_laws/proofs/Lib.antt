@@ -21,3 +21,8 @@ pub mod KeptSubscriber
 pub mod KeptHistories
 pub mod KeptWorlds
 pub mod KeptModels
+pub mod PurgeLists
+pub mod PurgeNotes
+pub mod PurgeSteps
+pub mod PurgeModels
+pub mod Downloads

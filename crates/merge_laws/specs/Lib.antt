@@ -2,3 +2,4 @@ pub mod Received
 pub mod Laws
 pub mod LastLines
 pub mod Kept
+pub mod Purges

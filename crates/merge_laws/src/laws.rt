@@ -1,5 +1,7 @@
 //! The laws.
 ghost use Rattle.merge_laws.specs.Laws.{OfEveryModel, ReceivedIsDone, ActedIsDone, GapIsDone, TakesOnlyClosed};
+ghost use Rattle.merge_laws.specs.Laws.{OfEach, OfEveryRun};
+ghost use Rattle.merge_model.specs.Promises.{OldIsPast, RepliesStayInside};
 ghost use Rattle.merge_laws.specs.LastLines.{MappingIsLastLine, ChangedIsLastChange, LeftByLine, TouchedInsideByLine, TouchedOutsideByLine};
 ghost use Rattle.merge_laws.specs.Kept.{SubscribersDecideAlike};
 
@@ -29,4 +31,18 @@ pub fn mappings_are_the_last_lines()
 /// must leave as they are: the same that the changes which it made tell, whatever happened.
 pub fn kept_generations_are_those_of_the_changes_made()
     ensures { OfEveryModel SubscribersDecideAlike }
+{}
+
+/// A purge takes what stands in generations that closed long ago. Whatever happened, no joined and
+/// unexpired site still needs it: the site has asked for what lies above the generation, or the
+/// generation had closed when it last joined.
+pub fn purges_take_nothing_that_live_sites_need()
+    ensures { OfEveryRun OldIsPast }
+{}
+
+/// The answer to a download puts a row only where it is in the site's partition now, and removes one
+/// only where the last line of it for the site says that it left. This holds of every model, so of
+/// each that a list of events leads to, and of the tables that an ask leaves.
+pub fn downloads_stay_in_the_partition()
+    ensures { OfEach RepliesStayInside }
 {}

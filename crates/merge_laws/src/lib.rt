@@ -5,6 +5,7 @@
 mod laws;
 
 pub use laws::{
-    kept_generations_are_those_of_the_changes_made, mappings_are_the_last_lines,
+    downloads_stay_in_the_partition, kept_generations_are_those_of_the_changes_made,
+    mappings_are_the_last_lines, purges_take_nothing_that_live_sites_need,
     received_numbers_are_the_generations_that_acted,
 };
