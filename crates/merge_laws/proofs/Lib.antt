@@ -26,3 +26,6 @@ pub mod PurgeNotes
 pub mod PurgeSteps
 pub mod PurgeModels
 pub mod Downloads
+pub mod WatermarkLists
+pub mod WatermarkSites
+pub mod WatermarkModels

@@ -69,11 +69,11 @@ purge-in-step moment publication p bases s =
 
 -- An upload moves neither watermarks nor when sites were in step.
 
-if-entry : (Q : ℕ × SiteState → Type 0) (b : Bool) (x y : ℕ × SiteState) → Q x → Q y → Q (if b then x else y)
+pub if-entry : (Q : ℕ × SiteState → Type 0) (b : Bool) (x y : ℕ × SiteState) → Q x → Q y → Q (if b then x else y)
 if-entry Q true x y first second = first
 if-entry Q false x y first second = second
 
-abbrev taken_entry : Upload → ℕ × SiteState → ℕ × SiteState
+abbrev pub taken_entry : Upload → ℕ × SiteState → ℕ × SiteState
 taken_entry m entry = if entry.0 == m.site.0 then (entry.0, record entry.1 { received = m.to; received_number = m.through }) else entry
 
 pub taken-sites : (latest : ℕ) (book : Book) (m : Upload) (acts : List Act) (sites : List (ℕ × SiteState)) (bases : List (ℕ × ℕ)) → AllInStep latest book sites bases → AllInStep latest book (with_taken m (map (state_seeing acts) sites)) bases

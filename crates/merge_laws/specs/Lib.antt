@@ -3,3 +3,4 @@ pub mod Laws
 pub mod LastLines
 pub mod Kept
 pub mod Purges
+pub mod Watermarks

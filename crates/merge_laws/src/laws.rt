@@ -2,6 +2,7 @@
 ghost use Rattle.merge_laws.specs.Laws.{OfEveryModel, ReceivedIsDone, ActedIsDone, GapIsDone, TakesOnlyClosed};
 ghost use Rattle.merge_laws.specs.Laws.{OfEach, OfEveryRun};
 ghost use Rattle.merge_model.specs.Promises.{OldIsPast, RepliesStayInside};
+ghost use Rattle.merge_laws.specs.Watermarks.{WatermarksAreHeld};
 ghost use Rattle.merge_laws.specs.LastLines.{MappingIsLastLine, ChangedIsLastChange, LeftByLine, TouchedInsideByLine, TouchedOutsideByLine};
 ghost use Rattle.merge_laws.specs.Kept.{SubscribersDecideAlike};
 
@@ -45,4 +46,11 @@ pub fn purges_take_nothing_that_live_sites_need()
 /// each that a list of events leads to, and of the tables that an ask leaves.
 pub fn downloads_stay_in_the_partition()
     ensures { OfEach RepliesStayInside }
+{}
+
+/// The publisher keeps of each site how far the site holds its generations, and purges by it. Whatever
+/// happened, a site that has joined holds that much: no ask that comes late, twice, or after the site
+/// was made anew says more.
+pub fn watermarks_are_held()
+    ensures { OfEveryModel WatermarksAreHeld }
 {}

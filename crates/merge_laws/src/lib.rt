@@ -7,5 +7,5 @@ mod laws;
 pub use laws::{
     downloads_stay_in_the_partition, kept_generations_are_those_of_the_changes_made,
     mappings_are_the_last_lines, purges_take_nothing_that_live_sites_need,
-    received_numbers_are_the_generations_that_acted,
+    received_numbers_are_the_generations_that_acted, watermarks_are_held,
 };
