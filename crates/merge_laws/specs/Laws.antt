@@ -22,6 +22,14 @@ use Rattle.merge_laws.specs.Numbered.{last_through}
 abbrev pub OfEveryModel : (Model → Type 0) → Type 0
 OfEveryModel Holds = (publication : Publication) (says : Saying) (tallies : List ℕ) (events : List Event) → Holds (after publication (model publication says) (empty_model publication tallies) events)
 
+-- the same of what depends on the publication
+abbrev pub OfEveryRun : (Publication → Model → Type 0) → Type 0
+OfEveryRun Holds = (publication : Publication) (says : Saying) (tallies : List ℕ) (events : List Event) → Holds publication (after publication (model publication says) (empty_model publication tallies) events)
+
+-- and of every model, however it came about
+abbrev pub OfEach : (Publication → Model → Type 0) → Type 0
+OfEach Holds = (publication : Publication) (m : Model) → Holds publication m
+
 -- The publisher keeps of a site one number; the history keeps the set of its generations that have acted.
 -- They say the same: which is the last one, which have acted, and whether a batch would leave a gap.
 abbrev pub ReceivedIsDone : Model → Type 0

@@ -6,3 +6,6 @@ pub mod Behind
 pub mod Laws
 pub mod LastLines
 pub mod Identities
+pub mod Kept
+pub mod Purges
+pub mod Watermarks

@@ -3,6 +3,12 @@ ghost use Rattle.merge_laws.specs.Laws.{OfEveryModel, ReceivedIsDone, ActedIsDon
 ghost use Rattle.merge_laws.specs.LastLines.{MappingIsLastLine, ChangedIsLastChange, LeftByLine, TouchedInsideByLine, TouchedOutsideByLine};
 ghost use Rattle.merge_model.specs.Promises.{IdentitiesApart};
 ghost use Rattle.merge_laws.specs.Identities.{OfEveryRuledModel, TakenWereGranted};
+ghost use Rattle.merge_laws.specs.Laws.{OfEveryModel, ReceivedIsDone, ActedIsDone, GapIsDone, TakesOnlyClosed};
+ghost use Rattle.merge_laws.specs.Laws.{OfEach, OfEveryRun};
+ghost use Rattle.merge_model.specs.Promises.{OldIsPast, RepliesStayInside};
+ghost use Rattle.merge_laws.specs.Watermarks.{WatermarksAreHeld};
+ghost use Rattle.merge_laws.specs.LastLines.{MappingIsLastLine, ChangedIsLastChange, LeftByLine, TouchedInsideByLine, TouchedOutsideByLine};
+ghost use Rattle.merge_laws.specs.Kept.{SubscribersDecideAlike};
 
 /// The one number that the publisher keeps of a site says which of its generations have acted,
 /// whatever happened: local changes, messages that come late, twice or never, joins, and sites made
@@ -60,4 +66,30 @@ pub fn joined_sites_take_for_received_what_has_acted()
 pub fn identity_values_are_taken_once()
     ensures apart { OfEveryRuledModel IdentitiesApart }
     ensures granted { OfEveryRuledModel TakenWereGranted }
+/// With each row a subscriber keeps the generations in which it changed the row and that the
+/// publisher has not taken. By these it finds which rows it has to send, and which ones an answer
+/// must leave as they are: the same that the changes which it made tell, whatever happened.
+pub fn kept_generations_are_those_of_the_changes_made()
+    ensures { OfEveryModel SubscribersDecideAlike }
+{}
+
+/// A purge takes what stands in generations that closed long ago. Whatever happened, no joined and
+/// unexpired site still needs it: the site has asked for what lies above the generation, or the
+/// generation had closed when it last joined.
+pub fn purges_take_nothing_that_live_sites_need()
+    ensures { OfEveryRun OldIsPast }
+{}
+
+/// The answer to a download puts a row only where it is in the site's partition now, and removes one
+/// only where the last line of it for the site says that it left. This holds of every model, so of
+/// each that a list of events leads to, and of the tables that an ask leaves.
+pub fn downloads_stay_in_the_partition()
+    ensures { OfEach RepliesStayInside }
+{}
+
+/// The publisher keeps of each site how far the site holds its generations, and purges by it. Whatever
+/// happened, a site that has joined holds that much: no ask that comes late, twice, or after the site
+/// was made anew says more.
+pub fn watermarks_are_held()
+    ensures { OfEveryModel WatermarksAreHeld }
 {}

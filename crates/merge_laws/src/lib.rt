@@ -9,4 +9,7 @@ pub use laws::{
     lineages_know_only_changes_that_were_made, mappings_are_the_last_lines,
     received_change_numbers_are_the_last_that_acted,
     received_numbers_are_the_generations_that_acted, subscribers_decide_as_their_changes_do,
+    downloads_stay_in_the_partition, kept_generations_are_those_of_the_changes_made,
+    mappings_are_the_last_lines, purges_take_nothing_that_live_sites_need,
+    received_numbers_are_the_generations_that_acted, watermarks_are_held,
 };

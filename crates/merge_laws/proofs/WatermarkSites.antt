@@ -1,0 +1,186 @@
+-- Each step of a subscriber keeps what the publisher takes it to hold.
+use Rattle.std.specs.Prelude.{◌≡◌, ◌≤◌, ◌==◌, ◌+◌, ℕ, List, Bool, true, false, Option, Some, None, Result, Ok, Err, refl, if◌then◌else◌, IfOk}
+use Rattle.std.proofs.Common.{arith, sym, ap, ◌∙◌}
+use Rattle.std.proofs.lemmas.Bool.Decides.{nat_tests}
+use Rattle.merge_types.specs.declared.identifiers.Moment.{Moment}
+use Rattle.merge_types.specs.declared.identifiers.RowId.{RowId}
+use Rattle.merge_types.specs.declared.changes.Change.{Change}
+use Rattle.merge_types.specs.declared.values.Value.{Value}
+use Rattle.merge_units.specs.declared.version.Version.{Version}
+use Rattle.merge_ident.specs.Holders.{Holder}
+use Rattle.merge_gens.specs.declared.sites.SiteState.{SiteState}
+use Rattle.merge_batch.specs.Replies.{broken_by_reply}
+use Rattle.merge_batch.specs.declared.refusal.Refusal.{Refusal}
+use Rattle.merge_batch.specs.declared.reply.Downloaded.{Downloaded}
+use Rattle.merge_batch.specs.declared.reply.Reply.{Reply}
+use Rattle.merge_batch.specs.declared.reply.Reply.TheVariants as reply
+use Rattle.merge_batch.specs.declared.request.Outstanding.{Outstanding}
+use Rattle.merge_batch.specs.declared.request.Outstanding.TheVariants as ask
+use Rattle.merge_schema.specs.declared.publication.Publication.{Publication}
+use Rattle.merge_model.specs.Changes.{key_of, version_after}
+use Rattle.merge_model.specs.Faults.{reply_fault}
+use Rattle.merge_model.specs.Judge.{SubscriberJudge}
+use Rattle.merge_model.specs.Refusals.{unless}
+use Rattle.merge_model.specs.Reinit.{reinitialised}
+use Rattle.merge_model.specs.Sending.{with_message}
+use Rattle.merge_model.specs.Subscriber.{sub_at_moment, sub_drawn, sub_local, sub_local_refusal, sub_made_locally, sub_next_dot, sub_version_at, with_version_if}
+use Rattle.merge_model.specs.Tables.{Key, SubscriberTables}
+use Rattle.merge_model.specs.Taking.{Acted, Missed, Taken, met_by, seq_of, take_reply, taken}
+use Rattle.merge_model.specs.World.{Replies}
+use Rattle.merge_laws.specs.Received.{MessageFits, SubscriberFits}
+use Rattle.merge_laws.specs.Watermarks.{StateHolds}
+use Rattle.merge_laws.proofs.WatermarkLists.{Moves}
+
+module _ (state : SiteState) (s : SubscriberTables) (f : StateHolds state s) where
+  -- a step that leaves all of this alone
+  pub quiet : (t : SubscriberTables) → t.site ≡ s.site → t.seq ≡ s.seq → t.watermark ≡ s.watermark → t.is_joined ≡ s.is_joined → t.outstanding ≡ s.outstanding → Moves state s t
+  quiet t site seq mark flag out = (
+    site,
+    record {
+      at = omega (arith, f.at, seq);
+      behind = λ joins. omega (arith, f.behind (sym flag ∙ joins), mark);
+      anew = λ low. f.anew (omega (arith, low, seq));
+      asked = λ q from e. f.asked q from (sym out ∙ e) ∙ sym mark;
+    },
+    λ m a. record { made = omega (arith, a.made, seq); low = λ later joins. omega (arith, a.low later (sym flag ∙ joins), mark) },
+  )
+
+  -- Local changes.
+
+  version-moves : (key : Key) (version : Option Version) (u : SubscriberTables) → u.site ≡ s.site → u.seq ≡ s.seq → u.watermark ≡ s.watermark → u.is_joined ≡ s.is_joined → u.outstanding ≡ s.outstanding → Moves state s (with_version_if key version u)
+  version-moves key None u site seq mark flag out = quiet u site seq mark flag out
+  version-moves key (Some version) u site seq mark flag out = quiet (with_version_if key (Some version) u) site seq mark flag out
+
+  drawn-moves : (publication : Publication) (now : Moment) (change : Change) (draw : Result (Value × List (ℕ × Holder)) Refusal)
+      → (let done : Result (SubscriberTables × RowId) Refusal = elim draw [ Err refusal ↦ Err refusal | Ok d ↦ Ok (sub_made_locally publication change d (sub_at_moment now s)) ] in IfOk done (λ a. Moves state s a.0))
+  drawn-moves publication now change (Err refusal) = tt
+  drawn-moves publication now change (Ok d) =
+      let t : SubscriberTables = sub_at_moment now s in
+      version-moves (key_of (sub_next_dot t) change) (version_after publication (sub_next_dot t) d.0 change (sub_version_at t (key_of (sub_next_dot t) change))) (record t { changes = t.changes + 1; held = d.1 }) refl refl refl refl refl
+
+  refused-moves : (publication : Publication) (now : Moment) (change : Change) (refusal : Option Refusal)
+      → (let done : Result (SubscriberTables × RowId) Refusal = elim refusal [
+        | Some why ↦ Err why
+        | None ↦ elim (sub_drawn s change) [ Err why ↦ Err why | Ok d ↦ Ok (sub_made_locally publication change d (sub_at_moment now s)) ]
+      ] in IfOk done (λ a. Moves state s a.0))
+  refused-moves publication now change (Some why) = tt
+  refused-moves publication now change None = drawn-moves publication now change (sub_drawn s change)
+
+  pub local-moves : (publication : Publication) (now : Moment) (change : Change) → IfOk (sub_local publication now change s) (λ a. Moves state s a.0)
+  local-moves publication now change = refused-moves publication now change (sub_local_refusal publication change s)
+
+  pub unless-moves : {A : Type 0} (refusal : Option Refusal) (t : SubscriberTables) (a : A) → (refusal ≡ None → Moves state s t) → (let done : Result (SubscriberTables × A) Refusal = unless refusal (t, a) in IfOk done (λ x. Moves state s x.0))
+  unless-moves (Some why) t a moves = tt
+  unless-moves None t a moves = moves refl
+
+  -- Messages.
+
+  abbrev pub begins : Outstanding → ℕ → Type 0
+  begins (ask.Download from) mark = from ≡ mark
+  begins ask.Join mark = Unit {0}
+  begins ask.Ranges mark = Unit {0}
+  begins (ask.Upload from to) mark = Unit {0}
+
+  begins-at : (sent : Outstanding) (from mark : ℕ) → sent ≡ ask.Download from → begins sent mark → from ≡ mark
+  begins-at (ask.Download low) from mark is fits = (let same : low ≡ from = grind (arith, is) in sym same ∙ fits)
+  begins-at ask.Join from mark is fits = absurd (grind (arith, is))
+  begins-at ask.Ranges from mark is fits = absurd (grind (arith, is))
+  begins-at (ask.Upload low to) from mark is fits = absurd (grind (arith, is))
+
+  sent-same : (a b : ℕ × Outstanding) → Some a ≡ Some b → a.1 ≡ b.1
+  sent-same a b e = (let same : a ≡ b = cc in ap (λ (x : ℕ × Outstanding). x.1) same)
+
+  pub sent-moves : (sent : Outstanding) (c : SubscriberTables) → c.site ≡ s.site → c.seq ≡ s.seq → c.watermark ≡ s.watermark → c.is_joined ≡ s.is_joined → begins sent c.watermark → Moves state s (with_message sent c)
+  sent-moves sent c site seq mark flag fits = (
+    site,
+    record {
+      at = omega (arith, f.at, seq);
+      behind = λ joins. omega (arith, f.behind (sym flag ∙ joins), mark);
+      anew = λ low. absurd (omega (arith, low, seq, f.at));
+      asked = λ q from e. begins-at sent from c.watermark (sent-same (c.seq + 1, sent) (q, ask.Download from) e) fits;
+    },
+    λ m a. record { made = omega (arith, a.made, seq); low = λ later joins. omega (arith, a.low later (sym flag ∙ joins), mark) },
+  )
+
+  -- Making anew.
+
+  pub anew-moves : (judge : SubscriberJudge) (now : Moment) → Moves state s (reinitialised judge (sub_at_moment now s)).0
+  anew-moves judge now = (
+    refl,
+    record { at = f.at; behind = λ joins. absurd (grind (arith, joins)); anew = f.anew; asked = λ q from e. absurd (grind (arith, e)) },
+    λ m a. record { made = a.made; low = λ later joins. absurd (grind (arith, joins)) },
+  )
+
+  -- Replies.
+
+  goes-up : (publication : Publication) (sent : Outstanding) (m : Downloaded) → reply_fault publication sent (reply.Downloaded m) s ≡ None → (from : ℕ) → sent ≡ ask.Download from → from ≤ m.to
+  unfolding broken_by_reply
+  goes-up publication (ask.Download low) m none from is = (let same : low ≡ from = grind (arith, is) in let up : low ≤ m.to = grind (arith, nat_tests, none) in omega (arith, same, up))
+  goes-up publication ask.Join m none from is = absurd (grind (arith, is))
+  goes-up publication ask.Ranges m none from is = absurd (grind (arith, is))
+  goes-up publication (ask.Upload low to) m none from is = absurd (grind (arith, is))
+
+  is-ask : (publication : Publication) (sent : Outstanding) (m : Downloaded) → reply_fault publication sent (reply.Downloaded m) s ≡ None → (from : ℕ) × (sent ≡ ask.Download from)
+  unfolding broken_by_reply
+  is-ask publication (ask.Download low) m none = (low, refl)
+  is-ask publication ask.Join m none = absurd (grind (arith, none))
+  is-ask publication ask.Ranges m none = absurd (grind (arith, none))
+  is-ask publication (ask.Upload low to) m none = absurd (grind (arith, none))
+
+  taken-moves : (publication : Publication) (judge : SubscriberJudge) (now : Moment) (q : ℕ) (sent : Outstanding) (m : Reply) → MessageFits state.joined_at s.site (Some s) (Replies m) → s.outstanding ≡ Some (q, sent) → s.seq ≡ seq_of m
+      → reply_fault publication sent m s ≡ None → Moves state s (taken judge now m s)
+  taken-moves publication judge now q sent (reply.Joined m) fits out same none =
+      let low : s.seq ≤ state.joined_at = omega (arith, fits, same) in (
+        refl,
+        record { at = f.at; behind = λ joins. omega (arith, f.anew low); anew = f.anew; asked = λ k from e. absurd (grind (arith, e)) },
+        λ a x. record { made = x.made; low = λ later joins. absurd (omega (arith, later, x.made, low)) },
+      )
+  taken-moves publication judge now q sent (reply.Uploaded m) fits out same none = (
+    refl,
+    record { at = f.at; behind = f.behind; anew = f.anew; asked = λ k from e. absurd (grind (arith, e)) },
+    λ a x. record { made = x.made; low = x.low },
+  )
+  taken-moves publication judge now q sent (reply.Ranged m) fits out same none = (
+    refl,
+    record { at = f.at; behind = f.behind; anew = f.anew; asked = λ k from e. absurd (grind (arith, e)) },
+    λ a x. record { made = x.made; low = x.low },
+  )
+  taken-moves publication judge now q sent (reply.Downloaded m) fits out same none =
+      let begun = is-ask publication sent m none in
+      let low : begun.0 ≡ s.watermark = f.asked q begun.0 (out ∙ ap (λ (x : Outstanding). Some (q, x)) begun.1) in
+      let up : begun.0 ≤ m.to = goes-up publication sent m none begun.0 begun.1 in (
+        refl,
+        record { at = f.at; behind = λ joins. omega (arith, f.behind joins, low, up); anew = f.anew; asked = λ k from e. absurd (grind (arith, e)) },
+        λ a x. record { made = x.made; low = λ later joins. omega (arith, x.low later joins, low, up) },
+      )
+  taken-moves publication judge now q sent (reply.Refused number values) fits out same none = (
+    refl,
+    record { at = f.at; behind = f.behind; anew = f.anew; asked = λ k from e. absurd (grind (arith, e)) },
+    λ a x. record { made = x.made; low = x.low },
+  )
+
+  stays : Moves state s s
+  stays = quiet s refl refl refl refl refl
+
+  if-moves : (b : Bool) (x y : Result (SubscriberTables × Taken) Refusal) → (b ≡ true → IfOk x (λ done. Moves state s done.0)) → IfOk y (λ done. Moves state s done.0) → IfOk (if b then x else y) (λ done. Moves state s done.0)
+  if-moves true x y first second = first refl
+  if-moves false x y first second = second
+
+  same-seq : (a b c : ℕ) → a ≡ b → (a == c) ≡ true → b ≡ c
+  same-seq a b c same e = grind (arith, nat_tests, same, e)
+
+  met-moves : (publication : Publication) (received : ℕ) (judge : SubscriberJudge) (now : Moment) (m : Reply) (found : Option (ℕ × Outstanding)) → s.outstanding ≡ found → MessageFits state.joined_at s.site (Some s) (Replies m)
+      → SubscriberFits received s.site.0 s → IfOk (met_by publication judge now m s found) (λ done. Moves state s done.0)
+  met-moves publication received judge now m None is fits k = stays
+  met-moves publication received judge now m (Some sent) is fits k =
+      if-moves (sent.0 == seq_of m) (unless (reply_fault publication sent.1 m s) (taken judge now m s, Acted)) (Ok (s, Missed (seq_of m) sent.0))
+      (λ same. unless-moves (reply_fault publication sent.1 m s) (taken judge now m s) Acted
+      (λ none. taken-moves publication judge now sent.0 sent.1 m fits is (same-seq sent.0 s.seq (seq_of m) (k.last sent.0 sent.1 is) same) none)) stays
+
+  pub reply-moves : (publication : Publication) (received : ℕ) (judge : SubscriberJudge) (now : Moment) (m : Reply) → MessageFits state.joined_at s.site (Some s) (Replies m) → SubscriberFits received s.site.0 s
+      → IfOk (take_reply publication judge now m s) (λ done. Moves state s done.0)
+  reply-moves publication received judge now (reply.Joined m) fits k = met-moves publication received judge now (reply.Joined m) s.outstanding refl fits k
+  reply-moves publication received judge now (reply.Uploaded m) fits k = met-moves publication received judge now (reply.Uploaded m) s.outstanding refl fits k
+  reply-moves publication received judge now (reply.Ranged m) fits k = met-moves publication received judge now (reply.Ranged m) s.outstanding refl fits k
+  reply-moves publication received judge now (reply.Downloaded m) fits k = met-moves publication received judge now (reply.Downloaded m) s.outstanding refl fits k
+  reply-moves publication received judge now (reply.Refused number values) fits k = stays

@@ -1,0 +1,5 @@
+use Rattle.merge_laws.proofs.Downloads.{replies-stay}
+use Rattle.merge_laws.proofs.laws.downloads_stay_in_the_partition.Goals as goal
+
+pub returns : goal.returns
+returns c publication m = replies-stay publication m
