@@ -38,13 +38,6 @@ mod IdentityDraws
 mod IdentityTakes
 mod IdentitySteps
 mod IdentityExamples
-pub mod KeptLists
-pub mod KeptDecisions
-pub mod KeptRows
-pub mod KeptSubscriber
-pub mod KeptHistories
-pub mod KeptWorlds
-pub mod KeptModels
 pub mod PurgeLists
 pub mod PurgeNotes
 pub mod PurgeSteps

@@ -6,6 +6,5 @@ pub mod Behind
 pub mod Laws
 pub mod LastLines
 pub mod Identities
-pub mod Kept
 pub mod Purges
 pub mod Watermarks

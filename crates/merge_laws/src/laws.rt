@@ -1,14 +1,9 @@
 //! The laws.
-ghost use Rattle.merge_laws.specs.Laws.{OfEveryModel, ReceivedIsDone, ActedIsDone, GapIsDone, TakesOnlyClosed, ReceivedNumberIsDone, UnmetIsDone, ClosingsKeepTheLast, UploadsTellTheLast, SubscribersDecideAlike, KnowsOnlyMade, JoinedTakesActed};
+ghost use Rattle.merge_laws.specs.Laws.{OfEveryModel, ReceivedIsDone, ActedIsDone, GapIsDone, TakesOnlyClosed, ReceivedNumberIsDone, UnmetIsDone, ClosingsKeepTheLast, UploadsTellTheLast, SubscribersDecideAlike, KnowsOnlyMade, JoinedTakesActed, OfEach, OfEveryRun};
 ghost use Rattle.merge_laws.specs.LastLines.{MappingIsLastLine, ChangedIsLastChange, LeftByLine, TouchedInsideByLine, TouchedOutsideByLine};
-ghost use Rattle.merge_model.specs.Promises.{IdentitiesApart};
+ghost use Rattle.merge_model.specs.Promises.{IdentitiesApart, OldIsPast, RepliesStayInside};
 ghost use Rattle.merge_laws.specs.Identities.{OfEveryRuledModel, TakenWereGranted};
-ghost use Rattle.merge_laws.specs.Laws.{OfEveryModel, ReceivedIsDone, ActedIsDone, GapIsDone, TakesOnlyClosed};
-ghost use Rattle.merge_laws.specs.Laws.{OfEach, OfEveryRun};
-ghost use Rattle.merge_model.specs.Promises.{OldIsPast, RepliesStayInside};
 ghost use Rattle.merge_laws.specs.Watermarks.{WatermarksAreHeld};
-ghost use Rattle.merge_laws.specs.LastLines.{MappingIsLastLine, ChangedIsLastChange, LeftByLine, TouchedInsideByLine, TouchedOutsideByLine};
-ghost use Rattle.merge_laws.specs.Kept.{SubscribersDecideAlike};
 
 /// The one number that the publisher keeps of a site says which of its generations have acted,
 /// whatever happened: local changes, messages that come late, twice or never, joins, and sites made
@@ -66,11 +61,6 @@ pub fn joined_sites_take_for_received_what_has_acted()
 pub fn identity_values_are_taken_once()
     ensures apart { OfEveryRuledModel IdentitiesApart }
     ensures granted { OfEveryRuledModel TakenWereGranted }
-/// With each row a subscriber keeps the generations in which it changed the row and that the
-/// publisher has not taken. By these it finds which rows it has to send, and which ones an answer
-/// must leave as they are: the same that the changes which it made tell, whatever happened.
-pub fn kept_generations_are_those_of_the_changes_made()
-    ensures { OfEveryModel SubscribersDecideAlike }
 {}
 
 /// A purge takes what stands in generations that closed long ago. Whatever happened, no joined and
