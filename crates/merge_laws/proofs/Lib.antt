@@ -14,3 +14,12 @@ pub mod LastLineEntries
 pub mod LastLineGone
 pub mod LastLineNotes
 pub mod LastLineSteps
+pub mod Knowing
+pub mod KnownRows
+pub mod KnownNotes
+pub mod KnownLetters
+pub mod KnownCounts
+pub mod KnownSteps
+pub mod Standing
+pub mod Telling
+pub mod ToldVersions

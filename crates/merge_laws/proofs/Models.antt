@@ -104,7 +104,7 @@ module _ (publication : Publication) (says : Saying) (w : World) (h : History) (
   action-fine Forget = history-same (with_publisher (purge publication w.moment w.publisher).0 w) h (Noting.noted_purge publication (judges.publisher 0) (at_moment w.moment w.publisher) h)
       (purge-done publication (judges.publisher 0) (at_moment w.moment w.publisher) h) (sites-fine w h r (purge publication w.moment w.publisher).0 refl)
 
-model-fine : (publication : Publication) (says : Saying) (m : Model) (action : Action) → Received m.world m.history → (let n : Model = (model_step publication says m action).0 in Received n.world n.history)
+pub model-fine : (publication : Publication) (says : Saying) (m : Model) (action : Action) → Received m.world m.history → (let n : Model = (model_step publication says m action).0 in Received n.world n.history)
 model-fine publication says m action r =
     let done : World × Outcome = step_by publication says (by_history m.history) m.world action in
     let kept : History = noted_if (did_something done.1) (noted publication says (by_history m.history) m.world action m.history) m.history in
@@ -147,7 +147,7 @@ begins-as publication n s (Some x) at is =
     subst (λ (t : SubscriberTables). SubscriberFits 0 n t) both
     (empty-fits publication n x.site (keyed-fold publication.subscriptions [] (λ k y none. absurd (grind (arith, none))) n x at))
 
-begins : (publication : Publication) (tallies : List ℕ) → Received (empty_world publication tallies) no_history
+pub begins : (publication : Publication) (tallies : List ℕ) → Received (empty_world publication tallies) no_history
 begins publication tallies = record {
   subscribers = λ n s at. begins-as publication n s (at_number (by_site publication) n) refl (sym (at-map publication (by_site publication) n) ∙ at);
   letters = tt;

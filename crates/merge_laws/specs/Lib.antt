@@ -1,3 +1,5 @@
 pub mod Received
 pub mod Laws
 pub mod LastLines
+pub mod Knowledge
+pub mod Standing

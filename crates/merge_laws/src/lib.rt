@@ -4,4 +4,7 @@
 
 mod laws;
 
-pub use laws::{mappings_are_the_last_lines, received_numbers_are_the_generations_that_acted};
+pub use laws::{
+    known_changes_were_made, lineages_that_tell_stand, mappings_are_the_last_lines,
+    received_numbers_are_the_generations_that_acted,
+};
