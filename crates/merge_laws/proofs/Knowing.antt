@@ -1,14 +1,13 @@
 -- What a version knows, as changes are made and versions are merged.
-use Rattle.std.specs.Prelude.{◌≡◌, ◌≤◌, ◌<◌, ◌==◌, ◌&&◌, ◌||◌, ◌+◌, ◌++◌, ℕ, zero, suc, List, [], ◌∷◌, Bool, true, false, refl, map, filter, cond}
+use Rattle.std.specs.Prelude.{◌≡◌, ◌<◌, ◌==◌, ◌++◌, ℕ, zero, suc, List, [], ◌∷◌, Bool, true, false, refl, map, filter, cond}
 use Rattle.std.specs.List.{AllByRecursion, list_any}
-use Rattle.std.proofs.Common.{arith, subst, sym, ap, ◌∙◌}
+use Rattle.std.proofs.Common.{arith, sym, ap, ◌∙◌}
 use Rattle.std.proofs.lemmas.Bool.Decides.{nat_tests}
 use Rattle.std.proofs.lemmas.List.Folds.{list_any-append}
 use Rattle.merge_types.specs.declared.identifiers.Dot.{Dot}
-use Rattle.merge_model.specs.History.{History, MadeChange, has, made_at}
+use Rattle.merge_model.specs.History.{History, MadeChange, has}
 use Rattle.merge_model.specs.Tables.{Key}
 use Rattle.merge_laws.specs.Knowledge.{AreNumbered, KnowsItsPast, Knows, counts_down, is_made, number_of_change, same_dot}
-use Rattle.merge_laws.proofs.Finding.{all-weaker}
 
 -- A new change.
 

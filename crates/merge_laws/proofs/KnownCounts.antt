@@ -9,7 +9,6 @@ use Rattle.merge_types.specs.declared.values.Value.{Value}
 use Rattle.merge_units.specs.declared.version.Version.{Version}
 use Rattle.merge_ident.specs.Holders.{Holder}
 use Rattle.merge_batch.specs.declared.refusal.Refusal.{Refusal}
-use Rattle.merge_batch.specs.declared.refusal.Refusal.TheVariants.{UnknownSite}
 use Rattle.merge_batch.specs.declared.request.Outstanding.{Outstanding}
 use Rattle.merge_batch.specs.declared.request.Outstanding.TheVariants as ask
 use Rattle.merge_batch.specs.declared.request.Download.{Download}
@@ -27,12 +26,12 @@ use Rattle.merge_model.specs.Judge.{SubscriberJudge}
 use Rattle.merge_model.specs.Keys.{at_number, put_number}
 use Rattle.merge_model.specs.Refusals.{counter_end, unless}
 use Rattle.merge_model.specs.Reinit.{reinitialise, reinitialised}
-use Rattle.merge_model.specs.Sending.{join_made, join_of, make_ask, make_join, make_ranges, make_upload, ranges_made, sending_refusal, unsent_rows, upload_end, upload_made, upload_sent, want_of, with_message}
-use Rattle.merge_model.specs.Steps.{Closes, Discards, Outcome, Refuses, SendDownload, SendJoin, SendRanges, SendUpload, Sending, Took, at_subscriber, close_subscriber, deliver_reply, make_anew, post, posted, send_from, unless_refused}
+use Rattle.merge_model.specs.Sending.{join_made, join_of, make_ask, ranges_made, sending_refusal, unsent_rows, upload_end, upload_made, upload_sent, want_of, with_message}
+use Rattle.merge_model.specs.Steps.{Closes, Discards, Outcome, SendDownload, SendJoin, SendRanges, SendUpload, Sending, Took, close_subscriber, deliver_reply, make_anew, post, posted, send_from, unless_refused}
 use Rattle.merge_model.specs.Subscriber.{close_sub_generation, sub_at_moment, sub_closed, sub_counters, sub_last_closed, sub_made_locally, sub_next_dot, sub_version_at, with_version_if}
 use Rattle.merge_model.specs.Tables.{Key, PublisherTables, SubscriberTables}
 use Rattle.merge_model.specs.Taking.{Acted, Missed, Taken, met_by, seq_of, take_reply, taken}
-use Rattle.merge_model.specs.World.{Asks, Judges, Message, World, subscriber_at, with_publisher, with_subscriber}
+use Rattle.merge_model.specs.World.{Asks, Judges, World, with_publisher, with_subscriber}
 use Rattle.merge_laws.specs.Knowledge.{changes_of}
 use Rattle.merge_laws.proofs.Finding.{at_put_other, at_put_same}
 use Rattle.merge_laws.proofs.Subscribing.{number-decided, same_number}

@@ -1,6 +1,6 @@
 -- What a step notes keeps what is known, and counts each change that was made.
-use Rattle.std.specs.Prelude.{◌≡◌, ◌==◌, ◌+◌, ◌++◌, ◌<◌, ℕ, suc, List, [], ◌∷◌, Bool, true, false, Option, Some, None, refl, cond, map, flat_map, if◌then◌else◌}
-use Rattle.std.specs.List.{AllByRecursion, fold}
+use Rattle.std.specs.Prelude.{◌≡◌, ◌==◌, ◌+◌, ◌++◌, ℕ, suc, List, [], ◌∷◌, Bool, true, false, Option, Some, None, refl, cond, map, if◌then◌else◌}
+use Rattle.std.specs.List.{fold}
 use Rattle.std.proofs.Common.{arith, subst, sym, ap, ◌∙◌}
 use Rattle.std.proofs.lemmas.Bool.Decides.{nat_tests}
 use Rattle.merge_types.specs.declared.identifiers.Dot.{Dot}
@@ -11,27 +11,19 @@ use Rattle.merge_types.specs.declared.values.Value.{Value}
 use Rattle.merge_units.specs.declared.case.Case.{Case}
 use Rattle.merge_units.specs.declared.result.Decision.{Decision}
 use Rattle.merge_units.specs.declared.result.Decision.TheVariants.{Custom, KeepPublisher, TakeSubscriber}
-use Rattle.merge_units.specs.declared.version.Version.{Version}
-use Rattle.merge_batch.specs.declared.reply.Act.{Act as Order}
-use Rattle.merge_batch.specs.declared.reply.Act.TheVariants as order
-use Rattle.merge_batch.specs.declared.reply.DownloadItem.{DownloadItem}
-use Rattle.merge_batch.specs.declared.reply.Reply.{Reply}
-use Rattle.merge_batch.specs.declared.reply.Reply.TheVariants as reply
 use Rattle.merge_batch.specs.declared.request.UploadItem.{UploadItem}
 use Rattle.merge_schema.specs.declared.publication.Publication.{Publication}
-use Rattle.merge_model.specs.Acts.{Act, Fate, Met, New, Unknown, act_of, acts_from, changes_by, decided_changes, decision_for, case_met, fate_by, is_new_row, key_of_item, left_by, made_by}
+use Rattle.merge_model.specs.Acts.{Act, Fate, New, Unknown, act_of, acts_from, changes_by, decided_changes, decision_for, case_met, fate_by, is_new_row, key_of_item, left_by, made_by}
 use Rattle.merge_model.specs.Cases.{is_conflict}
 use Rattle.merge_model.specs.Changes.{key_of}
 use Rattle.merge_model.specs.Entries.{Entries}
 use Rattle.merge_model.specs.History.{History, Line, MadeChange, Past, made_at, past_at, past_in}
-use Rattle.merge_model.specs.Judge.{PublisherJudge, SubscriberJudge}
-use Rattle.merge_model.specs.Keys.{put_number, row_at}
+use Rattle.merge_model.specs.Judge.{PublisherJudge}
+use Rattle.merge_model.specs.Keys.{row_at}
 use Rattle.merge_model.specs.Pasts.{past_after, past_by}
-use Rattle.merge_model.specs.Reinit.{discarded}
-use Rattle.merge_model.specs.Tables.{Key, PublisherRow, PublisherTables, SubscriberTables}
-use Rattle.merge_model.specs.Taking.{key_of_download}
+use Rattle.merge_model.specs.Tables.{Key, PublisherRow, PublisherTables}
 use Rattle.merge_model.specs.Noting
-use Rattle.merge_laws.specs.Knowledge.{AllKnow, AreNumbered, Knowledge, Known, Knows, RowKnows, counts_down, number_of_change}
+use Rattle.merge_laws.specs.Knowledge.{AllKnow, Knowledge, Known, Knows, RowKnows, counts_down, number_of_change}
 use Rattle.merge_laws.proofs.Finding.{all-more, all-weaker}
 use Rattle.merge_laws.proofs.Knowing.{IsFresh, fresh-above, knows-both, knows-later, knows-new, knows-nothing}
 use Rattle.merge_laws.proofs.KnownRows.{drop-know, held-knows, past-knows, put-know, put-sites, site-know}

@@ -1,7 +1,7 @@
 -- Every step of the model keeps what is known, and so does every list of events.
 use Rattle.std.specs.Prelude.{◌≡◌, ◌==◌, ◌+◌, ℕ, List, [], ◌∷◌, Bool, true, false, Option, Some, None, Result, Ok, Err, refl, if◌then◌else◌, map, max, cond}
 use Rattle.std.specs.List.{fold}
-use Rattle.std.proofs.Common.{arith, subst, sym, ap, ◌∙◌}
+use Rattle.std.proofs.Common.{arith, sym, ap}
 use Rattle.std.proofs.lemmas.Bool.Decides.{nat_tests}
 use Rattle.merge_types.specs.declared.identifiers.SiteId.{SiteId}
 use Rattle.merge_types.specs.declared.identifiers.RowId.{RowId}
@@ -13,8 +13,6 @@ use Rattle.merge_batch.specs.declared.refusal.Refusal.{Refusal}
 use Rattle.merge_batch.specs.declared.refusal.Refusal.TheVariants.{UnknownSite}
 use Rattle.merge_batch.specs.declared.request.Join.{Join}
 use Rattle.merge_batch.specs.declared.request.Upload.{Upload}
-use Rattle.merge_batch.specs.declared.request.Download.{Download}
-use Rattle.merge_batch.specs.declared.request.RangeAsk.{RangeAsk}
 use Rattle.merge_batch.specs.declared.request.Request.{Request}
 use Rattle.merge_batch.specs.declared.request.Request.TheVariants as request
 use Rattle.merge_batch.specs.declared.reply.Reply.{Reply}
@@ -33,15 +31,14 @@ use Rattle.merge_model.specs.Entries.{Entries}
 use Rattle.merge_model.specs.Refusals.{unless, counter_end}
 use Rattle.merge_model.specs.Publisher.{at_moment, closed, counters, last_closed}
 use Rattle.merge_model.specs.PublisherLocal.{Drawn, drawn, local_refusal, made_locally, next_dot}
-use Rattle.merge_model.specs.PublisherJoin.{join, join_acts, join_refusal, join_taken, joined}
+use Rattle.merge_model.specs.PublisherJoin.{join_acts, join_refusal, join_taken, joined}
 use Rattle.merge_model.specs.PublisherUpload.{brings_news, taken_in, upload_refusal, uploaded}
 use Rattle.merge_model.specs.PublisherRanges.{plans, ranged, ranges_refusal, with_grants}
 use Rattle.merge_model.specs.PublisherDownload.{asked, download_refusal, reply_to}
-use Rattle.merge_model.specs.PublisherPurge.{after_purge}
 use Rattle.merge_model.specs.Subscriber.{sub_at_moment, sub_drawn, sub_last_closed, sub_local_refusal, sub_made_locally, sub_next_dot}
 use Rattle.merge_model.specs.World.{Asks, Judges, Letter, Message, Replies, Saying, World, letter_at, subscriber_at, with_publisher, with_subscriber}
 use Rattle.merge_model.specs.Steps.{Action, CloseAt, Closes, Deliver, Forget, Made, Make, MakeAnew, NoLetter, Outcome, Pass, Refuses, Send, after_upload, answered, at_subscriber, close_at, close_publisher, close_subscriber, deliver_letter, deliver_reply, deliver_request, kept_decisions, make_anew, make_at, make_at_publisher, make_at_subscriber, send_from, step_by, unless_refused, upload_questions}
-use Rattle.merge_model.specs.History.{History, Line, Past, no_history, pasts_with}
+use Rattle.merge_model.specs.History.{History, Line, Past, pasts_with}
 use Rattle.merge_model.specs.ByHistory.{by_history, by_past}
 use Rattle.merge_model.specs.Noting
 use Rattle.std.specs.BTreeMap.{is_at}

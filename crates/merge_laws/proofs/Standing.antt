@@ -1,22 +1,22 @@
 -- A lineage that tells of what is known stands for it; and cases by what each side knows of the other's tops.
-use Rattle.std.specs.Prelude.{◌≡◌, ◌≤◌, ◌==◌, ◌&&◌, ◌||◌, ℕ, List, [], ◌∷◌, Bool, true, false, not, Option, Some, None, refl, filter, map, zip, cond}
+use Rattle.std.specs.Prelude.{◌≡◌, ◌≤◌, ◌==◌, ◌&&◌, ◌||◌, ℕ, List, [], ◌∷◌, Bool, true, false, not, Option, Some, None, refl, filter, map, nat_le, zip, cond}
 use Rattle.std.specs.List.{AllByRecursion, list_any}
 use Rattle.std.proofs.Common.{arith, sym, ap, ◌∙◌}
 use Rattle.std.proofs.lemmas.Bool.Decides.{nat_tests}
 use Rattle.merge_types.specs.declared.identifiers.Dot.{Dot}
-use Rattle.merge_lineage.specs.Lineage.{knows, number_at}
+use Rattle.merge_lineage.specs.Lineage.{knows, number_at, number_of}
 use Rattle.merge_units.specs.Cases.{are_long, live_case, news_case, side_by}
 use Rattle.merge_units.specs.declared.case.Case.{Case}
 use Rattle.merge_units.specs.declared.case.Side.{Side}
 use Rattle.merge_units.specs.declared.version.Body.{Body}
 use Rattle.merge_units.specs.declared.version.Body.TheVariants.{Dead, Live}
 use Rattle.merge_units.specs.declared.version.Cell.{Cell}
-use Rattle.merge_model.specs.Cases.{Knowing, bodies_case, case_by, has_news, new_tops, side_of, sides_of, tops_of}
+use Rattle.merge_model.specs.Cases.{Knowing, bodies_case, case_by, has_news, new_tops, side_of, tops_of}
 use Rattle.merge_model.specs.History.{MadeChange, has}
 use Rattle.merge_model.specs.Keys.{same_key}
 use Rattle.merge_model.specs.Tables.{Key}
 use Rattle.merge_laws.specs.Knowledge.{Knows, KnowsItsPast, is_made, same_dot}
-use Rattle.merge_laws.specs.Standing.{AgreesOn, IsKnownLater, KnewEarlier, StandsAt, StandsFor, Tells}
+use Rattle.merge_laws.specs.Standing.{AgreesOn, IsKnownLater, KnewEarlier, StandsAt, StandsFor, Tells, is_counted}
 use Rattle.merge_laws.proofs.Finding.{all-weaker}
 
 -- What is known of a dot is known of the same dot.
@@ -66,6 +66,36 @@ module _ (made : List MadeChange) (counts : MadeChange → Bool) (key : Key) (li
 
   pub telling-stands : AllByRecursion (IsKnownLater made counts) made → StandsFor made counts key lineage known
   telling-stands all = all-weaker (IsKnownLater made counts) (StandsAt key lineage known counts) stands-at made all
+
+-- What lineages and known changes agree on.
+
+abbrev knows_at : List Dot → ℕ → ℕ → Bool
+knows_at lineage site number = nat_le number (number_of lineage site)
+
+knows-same : (lineage : List Dot) (a b : Dot) → same_dot a b ≡ true → knows lineage a ≡ knows lineage b
+knows-same lineage a b is =
+    let site : a.site.0 ≡ b.site.0 = grind (arith, nat_tests, is) in
+    let number : a.number ≡ b.number = grind (arith, nat_tests, is) in
+    ap (λ (n : ℕ). knows_at lineage n a.number) site ∙ ap (λ (n : ℕ). knows_at lineage b.site.0 n) number
+
+module _ (counts : MadeChange → Bool) (key : Key) (lineage known : List Dot) (top : Dot) where
+  agrees-step : (x : MadeChange) (made : List MadeChange) (b : Bool) → (same_dot x.dot top && (same_key key x.key && counts x)) ≡ b → (b || is_counted made counts key top) ≡ true → StandsAt key lineage known counts x
+      → (is_counted made counts key top ≡ true → knows lineage top ≡ has known top) → knows lineage top ≡ has known top
+  agrees-step x made true same there stands rest =
+      let dots : same_dot x.dot top ≡ true = grind (arith, same) in
+      let keys : same_key key x.key ≡ true = grind (arith, same) in
+      let count : counts x ≡ true = grind (arith, same) in
+      sym (knows-same lineage x.dot top dots) ∙ stands keys count ∙ has-same known x.dot top dots
+  agrees-step x made false same there stands rest = rest there
+
+  counted-agrees : (made : List MadeChange) → is_counted made counts key top ≡ true → StandsFor made counts key lineage known → knows lineage top ≡ has known top
+  counted-agrees [] there all = absurd (grind (arith, there))
+  counted-agrees (x ∷ made) there all = agrees-step x made (same_dot x.dot top && (same_key key x.key && counts x)) refl there all.0 (λ more. counted-agrees made more all.1)
+
+pub standing-agrees : (made : List MadeChange) (counts : MadeChange → Bool) (key : Key) (lineage known : List Dot) (body : Body) → StandsFor made counts key lineage known
+    → AllByRecursion (λ (top : Dot). is_counted made counts key top ≡ true) (tops_of body) → AgreesOn (knows lineage) (has known) body
+standing-agrees made counts key lineage known body stands tops =
+    all-weaker (λ (top : Dot). is_counted made counts key top ≡ true) (λ (top : Dot). knows lineage top ≡ has known top) (λ top there. counted-agrees counts key lineage known top made there stands) (tops_of body) tops
 
 -- Cases.
 

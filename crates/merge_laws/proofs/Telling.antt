@@ -1,10 +1,10 @@
 -- What lineages tell of, as changes are made and versions are merged.
-use Rattle.std.specs.Prelude.{◌≡◌, ◌==◌, ◌&&◌, ◌||◌, ◌++◌, ℕ, List, [], ◌∷◌, Bool, true, false, Option, Some, None, refl, max, if◌then◌else◌}
+use Rattle.std.specs.Prelude.{◌≡◌, ◌==◌, ◌&&◌, ◌||◌, ◌++◌, ℕ, List, ◌∷◌, Bool, true, false, Option, Some, None, refl, max, if◌then◌else◌}
 use Rattle.std.proofs.Common.{arith, sym, ap, ◌∙◌}
 use Rattle.std.proofs.lemmas.Bool.Decides.{nat_tests}
 use Rattle.std.proofs.lemmas.List.Folds.{list_any-append}
 use Rattle.merge_types.specs.declared.identifiers.Dot.{Dot}
-use Rattle.merge_lineage.specs.Lineage.{IsAscending, greater, joined, knows, number_at, with_dot}
+use Rattle.merge_lineage.specs.Lineage.{IsAscending, greater, joined, number_at, with_dot}
 use Rattle.merge_lineage.proofs.Covers.{advance_knows, join_knows}
 use Rattle.merge_lineage.proofs.Joined.{joins-joined}
 use Rattle.merge_lineage.proofs.Numbers.{number-with_dot}

@@ -1,7 +1,7 @@
 -- What the lineage and the tops of a version tell of what is known, after a change and after a merge.
-use Rattle.std.specs.Prelude.{◌≡◌, ◌==◌, ◌||◌, ◌+◌, ◌++◌, ℕ, List, [], ◌∷◌, Bool, true, false, Option, Some, None, refl, take, drop, map}
+use Rattle.std.specs.Prelude.{◌≡◌, ◌+◌, ◌++◌, ℕ, List, [], ◌∷◌, true, Option, Some, None, take, drop, map}
 use Rattle.std.specs.List.{AllByRecursion, enumerate_from}
-use Rattle.std.proofs.Common.{arith, sym, ap, ◌∙◌}
+use Rattle.std.proofs.Common.{arith}
 use Rattle.std.proofs.lemmas.Bool.Decides.{nat_tests}
 use Rattle.std.proofs.lemmas.List.Folds.{list_any-append}
 use Rattle.merge_types.specs.declared.changes.Change.{Change}
@@ -11,7 +11,7 @@ use Rattle.merge_types.specs.declared.changes.Tracking.{Tracking}
 use Rattle.merge_types.specs.declared.changes.Tracking.TheVariants as tracking
 use Rattle.merge_types.specs.declared.identifiers.Dot.{Dot}
 use Rattle.merge_types.specs.declared.values.Value.{Value}
-use Rattle.merge_lineage.specs.Lineage.{IsAscending, joined, with_dot}
+use Rattle.merge_lineage.specs.Lineage.{IsAscending, joined}
 use Rattle.merge_lineage.proofs.Joined.{ascending-joined}
 use Rattle.merge_lineage.proofs.Rising.{ascending_with_dot}
 use Rattle.merge_units.specs.Changes.{cell_after, cells_after, changed, new_cell, removed, set_value, whole_row_after}

@@ -1,6 +1,6 @@
 -- When a lineage stands for what a version knows, and when two ways to know decide a case alike.
-use Rattle.std.specs.Prelude.{◌≡◌, ◌≤◌, ◌==◌, List, Bool, true, Option, Some, None}
-use Rattle.std.specs.List.{AllByRecursion}
+use Rattle.std.specs.Prelude.{◌≡◌, ◌≤◌, ◌==◌, ◌&&◌, List, Bool, true, Option, Some, None}
+use Rattle.std.specs.List.{AllByRecursion, list_any}
 use Rattle.merge_types.specs.declared.identifiers.Dot.{Dot}
 use Rattle.merge_types.specs.declared.changes.Change.{Change}
 use Rattle.merge_types.specs.declared.values.Value.{Value}
@@ -16,7 +16,7 @@ use Rattle.merge_model.specs.History.{MadeChange, Past, has}
 use Rattle.merge_model.specs.Keys.{same_key}
 use Rattle.merge_model.specs.Pasts.{past_after, past_by}
 use Rattle.merge_model.specs.Tables.{Key}
-use Rattle.merge_laws.specs.Knowledge.{Knows}
+use Rattle.merge_laws.specs.Knowledge.{Knows, same_dot}
 
 -- A lineage stands for what is known of a row where each change of the row that counts is known exactly where its number is at
 -- most the lineage's number of its site. A change that is given up does not count.
@@ -68,6 +68,15 @@ ToldAfterMerge = (case : Case) (decision : Decision) (dot : Dot) (ours theirs : 
 -- Two ways to know agree on the changes that made a body.
 abbrev pub AgreesOn : Knowing → Knowing → Body → Type 0
 AgreesOn one other body = AllByRecursion (λ (top : Dot). one top ≡ other top) (tops_of body)
+
+-- whether a change of a row was made, with this dot, that counts
+abbrev pub is_counted : List MadeChange → (MadeChange → Bool) → Key → Dot → Bool
+is_counted made counts key dot = list_any (λ (change : MadeChange). same_dot change.dot dot && (same_key key change.key && counts change)) made
+
+-- A lineage that stands for what is known agrees with it on a body that changes made which count.
+abbrev pub StandingAgrees : Type 0
+StandingAgrees = (made : List MadeChange) (counts : MadeChange → Bool) (key : Key) (lineage known : List Dot) (body : Body) → StandsFor made counts key lineage known
+    → AllByRecursion (λ (top : Dot). is_counted made counts key top ≡ true) (tops_of body) → AgreesOn (knows lineage) (has known) body
 
 -- Which case it is, and which tops are news, depends on no more than what each side knows of the changes that made the other's body.
 abbrev pub CaseIsByTops : Type 0

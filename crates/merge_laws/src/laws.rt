@@ -2,7 +2,7 @@
 ghost use Rattle.merge_laws.specs.Laws.{OfEveryModel, ReceivedIsDone, ActedIsDone, GapIsDone, TakesOnlyClosed};
 ghost use Rattle.merge_laws.specs.LastLines.{MappingIsLastLine, ChangedIsLastChange, LeftByLine, TouchedInsideByLine, TouchedOutsideByLine};
 ghost use Rattle.merge_laws.specs.Knowledge.{MadeAreNumbered, KnownWereMade};
-ghost use Rattle.merge_laws.specs.Standing.{TellingStands, ToldAfterChange, ToldAfterMerge, CaseIsByTops, NewsIsByTops};
+ghost use Rattle.merge_laws.specs.Standing.{TellingStands, ToldAfterChange, ToldAfterMerge, StandingAgrees, CaseIsByTops, NewsIsByTops};
 
 /// The one number that the publisher keeps of a site says which of its generations have acted,
 /// whatever happened: local changes, messages that come late, twice or never, joins, and sites made
@@ -36,12 +36,13 @@ pub fn known_changes_were_made()
 /// A version tells of what its past knows where each number of its lineage is that of a known change, no
 /// change is known above it, and the changes that made its body are known. Changes and merges keep this.
 /// Such a lineage decides as what is known does, of each change that was known to the later changes of its
-/// site on the row where they were made. And a case is decided by no more than what each side knows of the
-/// changes that made the other's body.
+/// site on the row where they were made; so the two agree on a body that such changes made. And a case is
+/// decided by no more than what each side knows of the changes that made the other's body.
 pub fn lineages_that_tell_stand()
     ensures stands { TellingStands }
     ensures after_change { ToldAfterChange }
     ensures after_merge { ToldAfterMerge }
+    ensures agrees { StandingAgrees }
     ensures case { CaseIsByTops }
     ensures news { NewsIsByTops }
 {}
