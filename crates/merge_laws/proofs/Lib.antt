@@ -21,5 +21,5 @@ pub mod KnownLetters
 pub mod KnownCounts
 pub mod KnownSteps
 pub mod Standing
-pub mod Telling
+pub mod LineagesTold
 pub mod ToldVersions
