@@ -46,3 +46,12 @@ pub mod Downloads
 pub mod WatermarkLists
 pub mod WatermarkSites
 pub mod WatermarkModels
+pub mod Knowing
+pub mod KnownRows
+pub mod KnownNotes
+pub mod KnownLetters
+pub mod KnownCounts
+pub mod KnownSteps
+pub mod Standing
+pub mod LineagesTold
+pub mod ToldVersions

@@ -8,3 +8,5 @@ pub mod LastLines
 pub mod Identities
 pub mod Purges
 pub mod Watermarks
+pub mod Knowledge
+pub mod Standing

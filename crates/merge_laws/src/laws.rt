@@ -4,6 +4,8 @@ ghost use Rattle.merge_laws.specs.LastLines.{MappingIsLastLine, ChangedIsLastCha
 ghost use Rattle.merge_model.specs.Promises.{IdentitiesApart, OldIsPast, RepliesStayInside};
 ghost use Rattle.merge_laws.specs.Identities.{OfEveryRuledModel, TakenWereGranted};
 ghost use Rattle.merge_laws.specs.Watermarks.{WatermarksAreHeld};
+ghost use Rattle.merge_laws.specs.Knowledge.{MadeAreNumbered, KnownWereMade};
+ghost use Rattle.merge_laws.specs.Standing.{TellingStands, ToldAfterChange, ToldAfterMerge, StandingAgrees, CaseIsByTops, NewsIsByTops};
 
 /// The one number that the publisher keeps of a site says which of its generations have acted,
 /// whatever happened: local changes, messages that come late, twice or never, joins, and sites made
@@ -82,4 +84,26 @@ pub fn downloads_stay_in_the_partition()
 /// was made anew says more.
 pub fn watermarks_are_held()
     ensures { OfEveryModel WatermarksAreHeld }
+{}
+
+/// The changes that a site made are numbered from 1 on, in the order in which they were made, and its
+/// count is the last number. Whatever a version knows, at a site, in a message or in a conflict table,
+/// was made of its row; and what knows a change knows all that was known where it was made.
+pub fn known_changes_were_made()
+    ensures numbered { OfEveryModel MadeAreNumbered }
+    ensures known { OfEveryModel KnownWereMade }
+{}
+
+/// A version tells of what its past knows where each number of its lineage is that of a known change, no
+/// change is known above it, and the changes that made its body are known. Changes and merges keep this.
+/// Such a lineage decides as what is known does, of each change that was known to the later changes of its
+/// site on the row where they were made; so the two agree on a body that such changes made. And a case is
+/// decided by no more than what each side knows of the changes that made the other's body.
+pub fn lineages_that_tell_stand()
+    ensures stands { TellingStands }
+    ensures after_change { ToldAfterChange }
+    ensures after_merge { ToldAfterMerge }
+    ensures agrees { StandingAgrees }
+    ensures case { CaseIsByTops }
+    ensures news { NewsIsByTops }
 {}

@@ -6,7 +6,8 @@ mod laws;
 
 pub use laws::{
     downloads_stay_in_the_partition, identity_values_are_taken_once,
-    joined_sites_take_for_received_what_has_acted, lineages_know_only_changes_that_were_made,
+    joined_sites_take_for_received_what_has_acted, known_changes_were_made,
+    lineages_know_only_changes_that_were_made, lineages_that_tell_stand,
     mappings_are_the_last_lines, purges_take_nothing_that_live_sites_need,
     received_change_numbers_are_the_last_that_acted,
     received_numbers_are_the_generations_that_acted, subscribers_decide_as_their_changes_do,

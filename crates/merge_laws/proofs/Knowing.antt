@@ -1,0 +1,88 @@
+-- What a version knows, as changes are made and versions are merged.
+use Rattle.std.specs.Prelude.{◌≡◌, ◌<◌, ◌==◌, ◌++◌, ℕ, zero, suc, List, [], ◌∷◌, Bool, true, false, refl, map, filter, cond}
+use Rattle.std.specs.List.{AllByRecursion, list_any}
+use Rattle.std.proofs.Common.{arith, sym, ap, ◌∙◌}
+use Rattle.std.proofs.lemmas.Bool.Decides.{nat_tests}
+use Rattle.std.proofs.lemmas.List.Folds.{list_any-append}
+use Rattle.merge_types.specs.declared.identifiers.Dot.{Dot}
+use Rattle.merge_model.specs.History.{History, MadeChange, has}
+use Rattle.merge_model.specs.Tables.{Key}
+use Rattle.merge_laws.specs.Knowledge.{AreNumbered, KnowsItsPast, Knows, counts_down, is_made, number_of_change, same_dot}
+
+-- A new change.
+
+-- no change has this dot
+abbrev pub IsFresh : List MadeChange → Dot → Type 0
+IsFresh made dot = AllByRecursion (λ (change : MadeChange). same_dot change.dot dot ≡ false) made
+
+fresh-any : (made : List MadeChange) (key : Key) (dot : Dot) → IsFresh made dot → is_made made key dot ≡ false
+fresh-any [] key dot fresh = refl
+fresh-any (c ∷ made) key dot fresh = grind (arith, fresh.0, fresh-any made key dot fresh.1)
+
+-- a number above the count is no change's
+down-above : (count number : ℕ) → count < number → list_any (λ (n : ℕ). n == number) (counts_down count) ≡ false
+down-above zero number above = refl
+down-above (suc n) number above = grind (arith, nat_tests, above, down-above n number (omega (arith, above)))
+
+fresh-step : (c : MadeChange) (dot : Dot) (rest : List MadeChange) (b : Bool) → (c.dot.site.0 == dot.site.0) ≡ b
+    → list_any (λ (n : ℕ). n == dot.number) (map number_of_change (cond b (c ∷ rest) rest)) ≡ false → (same_dot c.dot dot ≡ false) × (list_any (λ (n : ℕ). n == dot.number) (map number_of_change rest) ≡ false)
+fresh-step c dot rest true is none = (grind (arith, none, is), grind (arith, none))
+fresh-step c dot rest false is none = (grind (arith, is), none)
+
+fresh-among : (made : List MadeChange) (dot : Dot) → list_any (λ (n : ℕ). n == dot.number) (map number_of_change (filter (λ (c : MadeChange). c.dot.site.0 == dot.site.0) made)) ≡ false → IsFresh made dot
+fresh-among [] dot none = tt
+fresh-among (c ∷ made) dot none =
+    let step = fresh-step c dot (filter (λ (x : MadeChange). x.dot.site.0 == dot.site.0) made) (c.dot.site.0 == dot.site.0) refl none in
+    (step.0, fresh-among made dot step.1)
+
+pub fresh-above : (count : ℕ → ℕ) (h : History) (dot : Dot) → AreNumbered count h → count dot.site.0 < dot.number → IsFresh h.made dot
+fresh-above count h dot numbered above =
+    fresh-among h.made dot (ap (λ (ns : List ℕ). list_any (λ (n : ℕ). n == dot.number) ns) (numbered dot.site.0) ∙ down-above (count dot.site.0) dot.number above)
+
+-- What versions know.
+
+each-change : (P : MadeChange → Type 0) → ((c : MadeChange) → P c) → (made : List MadeChange) → AllByRecursion P made
+each-change P each [] = tt
+each-change P each (c ∷ made) = (each c, each-change P each made)
+
+pub knows-nothing : (made : List MadeChange) (key : Key) → Knows made key []
+knows-nothing made key = record {
+  made_here = λ dot known. absurd (grind (arith, known));
+  closed = each-change (λ (c : MadeChange). KnowsItsPast [] c) (λ c known. absurd (grind (arith, known))) made;
+}
+
+-- what is known stays so as changes are made
+pub knows-later : (made : List MadeChange) (c : MadeChange) (key : Key) (known : List Dot) → IsFresh made c.dot → Knows made key known → Knows (c ∷ made) key known
+knows-later made c key known fresh k = record {
+  made_here = λ dot is. grind (arith, k.made_here dot is);
+  closed = (λ is dot was. absurd (grind (arith, k.made_here c.dot is, fresh-any made key c.dot fresh)), k.closed);
+}
+
+-- a change knows itself besides what its row knew
+new-closed : (made : List MadeChange) (dot : Dot) (known : List Dot) → IsFresh made dot → AllByRecursion (λ (c : MadeChange). KnowsItsPast known c) made → AllByRecursion (λ (c : MadeChange). KnowsItsPast (dot ∷ known) c) made
+new-closed [] dot known fresh all = tt
+new-closed (c ∷ made) dot known fresh all = (
+  λ is other was. (let before : has known c.dot ≡ true = grind (arith, nat_tests, is, fresh.0) in grind (arith, all.0 before other was)),
+  new-closed made dot known fresh.1 all.1,
+)
+
+pub knows-new : (made : List MadeChange) (c : MadeChange) (known : List Dot) → c.past.known ≡ c.dot ∷ known → IsFresh made c.dot → Knows made c.key known → Knows (c ∷ made) c.key (c.dot ∷ known)
+knows-new made c known is fresh k = record {
+  made_here = λ dot here. grind (arith, nat_tests, here, k.made_here dot);
+  closed = (λ here dot was. sym (ap (λ (dots : List Dot). has dots dot) is) ∙ was, new-closed made c.dot known fresh k.closed);
+}
+
+-- two versions merged know what one of the two knew
+both-closed : (made : List MadeChange) (a b : List Dot) → AllByRecursion (λ (c : MadeChange). KnowsItsPast a c) made → AllByRecursion (λ (c : MadeChange). KnowsItsPast b c) made
+    → AllByRecursion (λ (c : MadeChange). KnowsItsPast (a ++ b) c) made
+both-closed [] a b one other = tt
+both-closed (c ∷ made) a b one other = (
+  λ is dot was. grind (arith, list_any-append (λ (x : Dot). same_dot x c.dot) a b, list_any-append (λ (x : Dot). same_dot x dot) a b, is, one.0, other.0),
+  both-closed made a b one.1 other.1,
+)
+
+pub knows-both : (made : List MadeChange) (key : Key) (a b : List Dot) → Knows made key a → Knows made key b → Knows made key (a ++ b)
+knows-both made key a b one other = record {
+  made_here = λ dot is. grind (arith, list_any-append (λ (x : Dot). same_dot x dot) a b, is, one.made_here dot, other.made_here dot);
+  closed = both-closed made a b one.closed other.closed;
+}
