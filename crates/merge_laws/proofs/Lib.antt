@@ -55,3 +55,4 @@ pub mod KnownSteps
 pub mod Standing
 pub mod LineagesTold
 pub mod ToldVersions
+pub mod LineagesStand

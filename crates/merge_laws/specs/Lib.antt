@@ -10,3 +10,4 @@ pub mod Purges
 pub mod Watermarks
 pub mod Knowledge
 pub mod Standing
+pub mod LineagesStand

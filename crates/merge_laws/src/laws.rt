@@ -5,6 +5,7 @@ ghost use Rattle.merge_model.specs.Promises.{IdentitiesApart, OldIsPast, Replies
 ghost use Rattle.merge_laws.specs.Identities.{OfEveryRuledModel, TakenWereGranted};
 ghost use Rattle.merge_laws.specs.Watermarks.{WatermarksAreHeld};
 ghost use Rattle.merge_laws.specs.Knowledge.{MadeAreNumbered, KnownWereMade};
+ghost use Rattle.merge_laws.specs.LineagesStand.{StandsByInvariant};
 ghost use Rattle.merge_laws.specs.Standing.{TellingStands, ToldAfterChange, ToldAfterMerge, StandingAgrees, CaseIsByTops, NewsIsByTops};
 
 /// The one number that the publisher keeps of a site says which of its generations have acted,
@@ -98,7 +99,9 @@ pub fn known_changes_were_made()
 /// change is known above it, and the changes that made its body are known. Changes and merges keep this.
 /// Such a lineage decides as what is known does, of each change that was known to the later changes of its
 /// site on the row where they were made; so the two agree on a body that such changes made. And a case is
-/// decided by no more than what each side knows of the changes that made the other's body.
+/// decided by no more than what each side knows of the changes that made the other's body. Where the
+/// invariant holds that is to carry this, every lineage stands for what its version knows; that every
+/// list of events keeps it is not proved yet.
 pub fn lineages_that_tell_stand()
     ensures stands { TellingStands }
     ensures after_change { ToldAfterChange }
@@ -106,4 +109,5 @@ pub fn lineages_that_tell_stand()
     ensures agrees { StandingAgrees }
     ensures case { CaseIsByTops }
     ensures news { NewsIsByTops }
+    ensures invariant { StandsByInvariant }
 {}

@@ -1,3 +1,4 @@
+use Rattle.merge_laws.proofs.LineagesStand.{lineages-stand}
 use Rattle.merge_laws.proofs.Standing.{case-alike, news-alike, standing-agrees, telling-stands}
 use Rattle.merge_laws.proofs.ToldVersions.{told-after, told-merged}
 use Rattle.merge_laws.proofs.laws.lineages_that_tell_stand.Goals as goal
@@ -10,4 +11,5 @@ returns c = record {
   agrees = standing-agrees;
   case = λ here here_too there there_too ours theirs one other. case-alike here here_too there there_too ours theirs one other;
   news = λ there there_too body agrees. news-alike there there_too body agrees;
+  invariant = lineages-stand;
 }
