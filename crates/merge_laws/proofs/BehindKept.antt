@@ -1,6 +1,5 @@
 -- Every step, and every list of events, keeps that a joined site takes for received only what has acted.
 use Rattle.std.specs.Prelude.{◌≡◌, ◌≤◌, ◌<◌, ◌==◌, ◌++◌, ◌+◌, ◌&&◌, ℕ, zero, suc, List, [], ◌∷◌, Bool, true, false, Option, Some, None, refl, if◌then◌else◌, is_some, map, max, option_map, unwrap_or}
-use Rattle.std.specs.List.{AllByRecursion, fold}
 use Rattle.std.proofs.Common.{arith, subst, sym, ap, ◌∙◌}
 use Rattle.std.proofs.lemmas.Bool.Decides.{nat_tests}
 use Rattle.merge_types.specs.declared.changes.Change.{Change}
@@ -16,7 +15,6 @@ use Rattle.merge_batch.specs.Replies.{broken_by_reply}
 use Rattle.merge_batch.specs.declared.reply.Joined.{Joined}
 use Rattle.merge_batch.specs.declared.reply.Reply.{Reply}
 use Rattle.merge_batch.specs.declared.reply.Reply.TheVariants as reply
-use Rattle.merge_batch.specs.declared.request.Download.{Download}
 use Rattle.merge_batch.specs.declared.request.Join.{Join}
 use Rattle.merge_batch.specs.declared.request.Outstanding.{Outstanding}
 use Rattle.merge_batch.specs.declared.request.Outstanding.TheVariants as ask
@@ -28,36 +26,36 @@ use Rattle.merge_model.specs.ByNumbers.{received_by_number}
 use Rattle.merge_model.specs.Changes.{key_of, version_after}
 use Rattle.merge_model.specs.Events.{after}
 use Rattle.merge_model.specs.Faults.{reply_fault}
-use Rattle.merge_model.specs.History.{History, no_history, pasts_with}
+use Rattle.merge_model.specs.History.{History, pasts_with}
 use Rattle.merge_model.specs.Judge.{PublisherJudge, SubscriberJudge}
 use Rattle.merge_model.specs.Keys.{at_number, put_number}
 use Rattle.merge_model.specs.Model.{Model, empty_model, model}
-use Rattle.merge_model.specs.Publisher.{at_moment, closed}
+use Rattle.merge_model.specs.Publisher.{closed}
 use Rattle.merge_model.specs.PublisherDownload.{asked, reply_to}
 use Rattle.merge_model.specs.PublisherJoin.{join_acts, join_taken}
-use Rattle.merge_model.specs.PublisherLocal.{Drawn, made_locally}
+use Rattle.merge_model.specs.PublisherLocal.{made_locally}
 use Rattle.merge_model.specs.PublisherPurge.{purge}
 use Rattle.merge_model.specs.PublisherRanges.{plans, ranged, with_grants}
 use Rattle.merge_model.specs.PublisherUpload.{brings_news, taken_in}
 use Rattle.merge_model.specs.Reinit.{reinitialised}
 use Rattle.merge_model.specs.Sending.{join_of, sending_refusal, upload_end, upload_sent, want_of, with_message}
-use Rattle.merge_model.specs.Subscriber.{empty_subscriber, is_joining, sub_at_moment, sub_closed, sub_last_closed, sub_local_refusal, sub_made_locally, sub_next_dot, sub_version_at, with_version_if}
+use Rattle.merge_model.specs.Subscriber.{is_joining, sub_at_moment, sub_closed, sub_last_closed, sub_local_refusal, sub_made_locally, sub_next_dot, sub_version_at, with_version_if}
 use Rattle.merge_model.specs.Tables.{Key, PublisherTables, SubscriberTables}
 use Rattle.merge_model.specs.Taking.{seq_of, taken}
 use Rattle.merge_model.specs.World.{Asks, Letter, Message, Replies, Saying, World, empty_world, letter_at, subscriber_at, with_publisher, with_subscriber}
 use Rattle.merge_model.specs.declared.event.Event.{Event}
 use Rattle.merge_model.proofs.Events.{events-keep}
 use Rattle.merge_laws.specs.Behind.{Behind, StaysBehind, TellsActed}
-use Rattle.merge_laws.specs.Received.{JoinFits, MessageFits, Received, SubscriberFits, joined_at}
+use Rattle.merge_laws.specs.Received.{JoinFits, MessageFits, Received, joined_at}
 use Rattle.merge_laws.proofs.Arrivals.{first-none, upload-known}
 use Rattle.merge_laws.proofs.Deliveries.{news-above}
 use Rattle.merge_laws.proofs.Finding.{all-at, all-more, all-weaker, at_put_other, at_put_same}
 use Rattle.merge_laws.proofs.Models.{begins, begins-with, model-fine}
-use Rattle.merge_laws.proofs.Publishing.{SameNumbers, asked-same, joined-joined, joined-received, number_in, same-sites, upload-joined, upload-received}
+use Rattle.merge_laws.proofs.Publishing.{SameNumbers, asked-same, joined-joined, joined-received, same-sites, upload-joined, upload-received}
 use Rattle.merge_laws.proofs.Steps.{joined-flag}
 use Rattle.merge_laws.proofs.Subscribing.{number-decided, same_number}
 use Rattle.merge_laws.proofs.UnsentKept.{reply-site, version-site}
-use Rattle.merge_laws.proofs.Walking.{Sends, StepsKeep, acts_in, comes, here, step-keeps, told_by, uploaded_world}
+use Rattle.merge_laws.proofs.Walking.{StepsKeep, acts_in, comes, here, step-keeps, told_by, uploaded_world}
 use Rattle.merge_laws.proofs.Worlds.{received-is}
 
 -- What a subscriber does.

@@ -1,5 +1,5 @@
 -- From what every version tells, and from what was known where changes were made: lineages stand for what is known.
-use Rattle.std.specs.Prelude.{◌≡◌, ◌==◌, ℕ, List, [], ◌∷◌, Bool, true, false, Some, cond, filter}
+use Rattle.std.specs.Prelude.{◌==◌, ℕ, List, [], ◌∷◌, Bool, true, false, cond, filter}
 use Rattle.std.specs.List.{AllByRecursion, AllZip}
 use Rattle.merge_units.specs.declared.version.Body.TheVariants.{Live}
 use Rattle.merge_units.specs.declared.version.Version.{Version}
