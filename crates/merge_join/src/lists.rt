@@ -1,5 +1,5 @@
 //! The groups of an index by their keys.
-ghost use Rattle.std.specs.Prelude.{◌≡◌, [], IsTrue, OnOk, OnErr};
+ghost use Rattle.std.specs.Prelude.{◌≡◌, ◌≤◌, ◌*◌, [], length, IsTrue, OnOk, OnErr};
 ghost use Rattle.merge_table.specs.Contents.{has_room};
 ghost use Rattle.merge_join.specs.Keys.{key_cmp};
 ghost use Rattle.merge_join.specs.Index.{groups_at, ArePut};
@@ -55,7 +55,8 @@ pub fn place(lists: &mut Lists, key: &JoinKey, groups: Groups)
 
 /// Lets go of spare slots once they are the most.
 pub fn sweep(lists: &mut Lists)
-    ensures { lists.new.rows ≡ lists.old.rows }
+    ensures rows { lists.new.rows ≡ lists.old.rows }
+    ensures spare { length lists.new.slots ≤ 2 * length lists.new.rows }
 {
     if lists.spare() > lists.len() {
         lists.sweep();

@@ -1,21 +1,29 @@
 -- A membership without rows.
-use Rattle.std.proofs.Common.{◌≡◌, ℕ, true, false, List, [], None, Some, sym, ◌∙◌}
+use Rattle.std.proofs.Common.{◌≡◌, ◌<◌, ◌≤◌, arith, length, ℕ, true, false, List, [], None, Some, sym, ◌∙◌}
 use Rattle.merge_schema.specs.declared.publication.Publication.{Publication}
 use Rattle.merge_schema.specs.EvaluationOrder.{IsEvaluationOrder}
+use Rattle.merge_schema.specs.Valid.{IsValid}
+use Rattle.merge_schema.proofs.ValidParts.{filters_fit, sites_are_distinct}
 use Rattle.merge_part.specs.declared.index.Indexes.{Indexes}
 use Rattle.merge_part.specs.declared.link.Link.{Link}
 use Rattle.merge_part.specs.Draft.{no_sites}
-use Rattle.merge_part.specs.Rules.{IsUsable, AreRules, IsKept, links_of}
+use Rattle.merge_part.specs.Rules.{AreRules, IsKept, links_of}
 use Rattle.merge_part.specs.Sites.{has_site}
 use Rattle.merge_part.proofs.Bits.{no_site}
 use Rattle.merge_part.proofs.Orders.{links_within, none_itself, all_among, parents_first}
 
-pub begun_rules : (publication : Publication) (links : List Link) (order : List ℕ) → IsUsable publication → IsEvaluationOrder publication order → links ≡ links_of publication
+pub few_articles : (resolvers : ℕ) (publication : Publication) → IsValid resolvers publication → length publication.articles ≤ 256
+few_articles resolvers publication valid = omega (arith, valid.some_articles.1)
+
+few_subscriptions : (n : ℕ) → n ≤ 63 → n < 64
+few_subscriptions n few = omega (arith, few)
+
+pub begun_rules : (resolvers : ℕ) (publication : Publication) (links : List Link) (order : List ℕ) → IsValid resolvers publication → IsEvaluationOrder publication order → links ≡ links_of publication
     → AreRules publication (record { links = links; order = order })
-begun_rules publication links order usable is links_are = record {
-  few = usable.few_subscriptions;
-  filters = usable.filters;
-  sites = usable.sites;
+begun_rules resolvers publication links order valid is links_are = record {
+  few = few_subscriptions (length publication.subscriptions) valid.few_subscriptions;
+  filters = filters_fit resolvers publication valid;
+  sites = sites_are_distinct resolvers publication valid;
   evaluation = (order, is);
   links_are = links_are;
   order = parents_first publication order is links links_are;

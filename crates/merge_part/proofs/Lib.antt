@@ -20,3 +20,4 @@ pub mod Orders
 pub mod Begun
 pub mod Forgotten
 pub mod Once
+pub mod Trials

@@ -25,7 +25,8 @@ use Rattle.merge_part.specs.Draft.{found, marks_of, marks_in}
 use Rattle.merge_part.specs.Live.{live_of, live_rows}
 use Rattle.merge_part.specs.Moves.{all_moves, was_in}
 use Rattle.merge_part.specs.Rule.{Meets}
-use Rattle.merge_part.specs.Rules.{AreRules, AreFiltered, SitesAreDistinct}
+use Rattle.merge_schema.specs.ValidityLaws.{SitesAreDistinct}
+use Rattle.merge_part.specs.Rules.{AreRules, AreFiltered}
 use Rattle.merge_part.specs.Sites.{has_site}
 use Rattle.merge_part.specs.Subscribers.{is_site, IsPlaceOf}
 use Rattle.merge_part.proofs.Drafts.{key_total}

@@ -1,12 +1,13 @@
 -- Which subscribers' row filters a row passes.
-use Rattle.std.specs.Prelude.{◌≤◌, ℕ, Bool, false, ◌&&◌, nat_lt, List, length, Option, Some, None}
+use Rattle.std.specs.Prelude.{ℕ, Bool, false, ◌&&◌, nat_lt, List, length, Option, Some, None}
 use Rattle.std.specs.List.{slice_get}
 use Rattle.merge_types.specs.declared.values.Value.{Value}
 use Rattle.merge_filter.specs.Syntax.{Syntax}
-use Rattle.merge_filter.specs.Eval.{truth, width}
+use Rattle.merge_filter.specs.Eval.{truth}
 use Rattle.merge_schema.specs.declared.publication.Article.{Article}
 use Rattle.merge_schema.specs.declared.publication.Subscription.{Subscription}
 use Rattle.merge_schema.specs.Partition.{is_true, is_empty}
+use Rattle.merge_schema.specs.Valid.{FilterFits}
 
 abbrev pub true_for : Syntax → List Value → Option Subscription → Bool
 true_for filter values None = false
@@ -25,9 +26,5 @@ abbrev pub is_filtered : Article → List Subscription → List Value → ℕ �
 is_filtered article subscriptions values place = filter_at article.filter (is_empty article.joins) subscriptions values place
 
 -- the values have the columns that the filter asks for
-abbrev pub filter_fits : Option Syntax → ℕ → Type 0
-filter_fits None count = Unit {0}
-filter_fits (Some filter) count = width filter ≤ count
-
 abbrev pub FitsFilter : Article → List Value → Type 0
-FitsFilter article values = filter_fits article.filter (length values)
+FitsFilter article values = FilterFits article.filter (length values)

@@ -13,4 +13,3 @@ pub mod Rules
 pub mod Settling
 pub mod View
 pub mod Subscribers
-pub mod Notes

@@ -1,11 +1,10 @@
 -- What a membership keeps.
-use Rattle.std.specs.Prelude.{◌≡◌, ◌<◌, ◌≤◌, ℕ, true, List, All, [], ◌∷◌, ◌++◌, map, length, suc, Option, Some}
+use Rattle.std.specs.Prelude.{◌≡◌, ◌<◌, ℕ, true, List, All, [], ◌∷◌, ◌++◌, map, length, suc, Option, Some}
 use Rattle.merge_schema.specs.declared.publication.Article.{Article}
 use Rattle.merge_schema.specs.declared.publication.JoinFilter.{JoinFilter}
 use Rattle.merge_schema.specs.declared.publication.Publication.{Publication}
-use Rattle.merge_schema.specs.declared.publication.Subscription.{Subscription}
 use Rattle.merge_schema.specs.EvaluationOrder.{IsEvaluationOrder}
-use Rattle.std.specs.List.{slice_get}
+use Rattle.merge_schema.specs.ValidityLaws.{FiltersFit, SitesAreDistinct}
 use Rattle.merge_part.specs.declared.key.RowKey.{RowKey}
 use Rattle.merge_part.specs.declared.sites.Sites.{Sites}
 use Rattle.merge_part.specs.declared.content.Content.{Content}
@@ -22,7 +21,7 @@ use Rattle.merge_part.specs.Sites.{has_site}
 use Rattle.merge_part.specs.Rule.{Meets}
 use Rattle.merge_part.specs.Index.{AreIndexed}
 use Rattle.merge_part.specs.Settling.{AllMeet, pends, ParentsComeFirst, NoneFollowsItself, LinksAreWithin, is_among}
-use Rattle.merge_part.specs.Taking.{filtered_in, FiltersFit}
+use Rattle.merge_part.specs.Taking.{filtered_in}
 
 abbrev pub link_of : ℕ → JoinFilter → Link
 link_of child join = record { child = child; column = join.column; parent = join.parent; parent_column = join.parent_column }
@@ -35,11 +34,6 @@ links_from child (article ∷ articles) = map (link_of child) article.joins ++ l
 abbrev pub links_of : Publication → List Link
 links_of publication = links_from 0 publication.articles
 
--- no two subscribers are the same site
-abbrev pub SitesAreDistinct : Publication → Type 0
-SitesAreDistinct publication = (one other : ℕ) (first second : Subscription) → slice_get publication.subscriptions one ≡ Some first → slice_get publication.subscriptions other ≡ Some second
-    → first.site ≡ second.site → one ≡ other
-
 -- the joins of a publication, and its articles in an order in which parents come first
 pub record AreRules (publication : Publication) (rules : Rules) : Type 0 where
   pub few : length publication.subscriptions < 64
@@ -51,13 +45,6 @@ pub record AreRules (publication : Publication) (rules : Rules) : Type 0 where
   pub apart : NoneFollowsItself rules.links
   pub within : LinksAreWithin rules.links rules.order
   pub all : (article : ℕ) → article < length publication.articles → is_among rules.order article ≡ true
-
--- what a membership asks of its publication
-pub record IsUsable (publication : Publication) : Type 0 where
-  pub few_articles : length publication.articles ≤ 256
-  pub few_subscriptions : length publication.subscriptions < 64
-  pub filters : FiltersFit publication
-  pub sites : SitesAreDistinct publication
 
 -- each row knows the subscribers whose row filter it passes
 abbrev pub AreFiltered : Publication → (RowKey → Option Content) → Type 0

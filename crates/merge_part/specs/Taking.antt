@@ -1,5 +1,5 @@
 -- How changes of rows are taken up.
-use Rattle.std.specs.Prelude.{◌≡◌, ◌+◌, ℕ, Bool, false, List, [], ◌∷◌, ◌++◌, All, AllPairs, length, Option, Some, None}
+use Rattle.std.specs.Prelude.{◌≡◌, ◌+◌, ℕ, Bool, false, List, [], ◌∷◌, ◌++◌, AllPairs, length, Option, Some, None}
 use Rattle.std.specs.List.{slice_get}
 use Rattle.merge_types.specs.declared.values.Value.{Value}
 use Rattle.merge_table.specs.declared.edit.Edit.{Edit}
@@ -10,7 +10,7 @@ use Rattle.merge_part.specs.declared.key.RowKey.{RowKey}
 use Rattle.merge_part.specs.declared.content.Content.{Content}
 use Rattle.merge_part.specs.declared.change.RowChange.{RowChange}
 use Rattle.merge_part.specs.Draft.{edit_to}
-use Rattle.merge_part.specs.Filtering.{is_filtered, filter_fits}
+use Rattle.merge_part.specs.Filtering.{is_filtered}
 use Rattle.merge_part.specs.Sites.{has_site}
 
 -- whether the row filter alone has a row in the partition of the subscriber at the place
@@ -47,10 +47,6 @@ fits_columns (Some article) (Some values) = length values ≡ length article.col
 
 abbrev pub FitsArticle : Publication → RowChange → Type 0
 FitsArticle publication change = fits_columns (slice_get publication.articles change.article) change.new
-
--- each filter asks for columns that there are
-abbrev pub FiltersFit : Publication → Type 0
-FiltersFit publication = All (λ article. filter_fits article.filter (length article.columns)) publication.articles
 
 abbrev pub count_if_some : {X : Type 0} → Option X → ℕ
 count_if_some None = 0

@@ -9,9 +9,6 @@ use merge_types::{Exact, Listing, RowId, SiteId, Values};
 pub struct RowChange {
     pub article: u8,
     pub row: RowId,
-    /// The values that the row had, and none where it was not live. A membership holds them too,
-    /// and so does not read them here.
-    pub old: Option<Values>,
     /// The values that the row has afterwards, and none where it is not live then.
     pub new: Option<Values>,
 }

@@ -1,5 +1,5 @@
 //! Who has which row.
-ghost use Rattle.std.specs.Prelude.{◌≡◌, ◌≤◌, ◌+◌, ◌*◌, [], All, length, IfOk, OnOk, OnErr};
+ghost use Rattle.std.specs.Prelude.{◌≡◌, ◌≤◌, ◌+◌, ◌*◌, ℕ, [], All, length, IfOk, OnOk, OnErr};
 ghost use Rattle.merge_schema.specs.Partition.{is_in_at};
 ghost use Rattle.merge_part.specs.Live.{live_rows, live_after_all};
 ghost use Rattle.merge_part.specs.Moves.{AreMoves};
@@ -13,8 +13,8 @@ ghost use Rattle.merge_part.specs.Draft.{rows_in, marks_of, marks_in, mark_edit,
 ghost use Rattle.merge_part.specs.Index.{AreIndexed};
 ghost use Rattle.merge_part.specs.Rule.{Meets};
 ghost use Rattle.merge_part.specs.Settling.{AllMeet, pends, ParentsComeFirst, NoneFollowsItself};
-ghost use Rattle.merge_schema.specs.EvaluationOrder.{IsEvaluationOrder};
-ghost use Rattle.merge_part.specs.Rules.{IsUsable};
+ghost use Rattle.merge_schema.specs.Valid.{IsValid};
+ghost use Rattle.merge_schema.specs.ValidityLaws.{FiltersFit};
 ghost use Rattle.merge_part.specs.View.{live_in, live_after_plan, IsPrepared};
 
 use crate::change::{Moves, RowChange};
@@ -80,19 +80,14 @@ impl Model for MembershipPlan {
 }
 
 impl Membership {
-    /// No rows of the publication. Its evaluation order names each article once, with parents
-    /// first.
-    pub fn new(
-        alloc: Global,
-        publication: &Publication,
-        order: Listing<u8>,
-    ) -> Result<Membership, NoMemory>
-        requires usable { IsUsable publication.now }
-        requires order { IsEvaluationOrder publication.now order }
+    /// No rows of a publication that is valid, however many resolvers are handed in.
+    pub fn new(alloc: Global, publication: &Publication) -> Result<Membership, NoMemory>
+        requires { (resolvers : ℕ) × IsValid resolvers publication.now }
         ensures publication { IfOk result (λ membership. membership.publication ≡ publication.now) }
         ensures live { IfOk result (λ membership. live_in membership ≡ []) }
     {
         let links = links_of(alloc, publication)?;
+        let order = publication.evaluation_order(alloc)?;
         Ok(Membership {
             alloc,
             publication: publication.copy()?,
@@ -106,6 +101,14 @@ impl Membership {
                 marks: Table::new(alloc),
             },
         })
+    }
+
+    /// The publication. Its filters fit its articles.
+    pub fn publication(&self) -> &Publication
+        ensures publication { result.now ≡ self.now.publication }
+        ensures filters { FiltersFit result.now }
+    {
+        &self.publication
     }
 
     /// Takes the memory for the changes, and gives the moves that they make and the plan. The rows

@@ -5,7 +5,8 @@ ghost use Rattle.merge_part.specs.declared.key.RowKey.{RowKey as OneKey};
 ghost use Rattle.merge_part.specs.Draft.{rows_in};
 ghost use Rattle.merge_part.specs.Index.{AreIndexed, KeepsEntries, IsContentIndexed};
 ghost use Rattle.merge_part.specs.Settling.{AllMeet, pends, is_among, LinksAreWithin};
-ghost use Rattle.merge_part.specs.Taking.{HoldsNew, TakesUp, FitsArticle, EachRowOnce, FiltersFit, count_if_some, living};
+ghost use Rattle.merge_part.specs.Taking.{HoldsNew, TakesUp, FitsArticle, EachRowOnce, count_if_some, living};
+ghost use Rattle.merge_schema.specs.ValidityLaws.{FiltersFit};
 ghost use Rattle.merge_part.specs.Rules.{AreRules, IsKept, AreTaken};
 
 use crate::change::RowChange;

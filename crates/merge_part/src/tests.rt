@@ -1,125 +1,192 @@
-//! A row enters the partition of a site and leaves it.
-ghost use Rattle.std.specs.Prelude.{◌≡◌, ◌≤◌, IfOk};
-ghost use Rattle.merge_part.specs.Notes.{AreNotes, HasOne, IsOneChange};
-
-use crate::{Membership, Move, MoveKind, Moves, RowChange};
-use merge_schema::{Article, Publication, SubKind, Subscription, Tracking};
-use merge_types::{
-    ColType, Column, HostName, Listing, NoMemory, RowId, SiteId, Steps, Value, Values, Words,
-};
-use std::alloc::Global;
-use std::marker::Brand;
-use std::sync::ledger::{Blank, Ledger};
+//! The membership beside the slow program, over scripts of changes.
+use crate::trial::Cell::{Int, Null, Text};
+use crate::trial::{agreeing, gone, put};
 use std::test::Fail;
 
-const SITE: SiteId = SiteId(1);
+const CUSTOMER: u8 = 0;
 
-const ROW: RowId = RowId(7);
+const ORDERS: u8 = 1;
 
-fn notes(alloc: Global) -> Result<Publication, NoMemory>
-    ensures { IfOk result (λ publication. AreNotes publication) }
-{
-    let mut columns = Listing::empty(alloc);
-    columns.push(Column {
-        name: Words::of(alloc, "number")?,
-        ty: ColType::Int,
-    })?;
-    let mut articles = Listing::empty(alloc);
-    articles.push(Article {
-        name: Words::of(alloc, "note")?,
-        columns,
-        tracking: Tracking::Row,
-        filter: None,
-        joins: Listing::empty(alloc),
-        identity: None,
-        resolver: 0,
-        resolver_column: None,
-    })?;
-    let mut subscriptions = Listing::empty(alloc);
-    subscriptions.push(Subscription {
-        site: SITE,
-        host: HostName(Words::of(alloc, "north")?),
-        kind: SubKind::Client,
-        priority: 0,
-    })?;
-    Ok(Publication {
-        name: Words::of(alloc, "notes")?,
-        retention_days: 14,
-        conflict_retention_days: 14,
-        articles,
-        subscriptions,
-    })
-}
+const LINE: u8 = 2;
 
-fn values(alloc: Global, number: Option<i64>) -> Result<Option<Values>, NoMemory>
-    ensures { IfOk result (λ values. HasOne values) }
-{
-    let Some(number) = number else {
-        return Ok(None);
-    };
-    let mut values = Listing::empty(alloc);
-    values.push(Value::Int(number))?;
-    Ok(Some(values))
-}
+const PRODUCT: u8 = 3;
 
-fn change(alloc: Global, old: Option<i64>, new: Option<i64>) -> Result<Vec<RowChange>, NoMemory>
-    ensures { IfOk result (λ changes. IsOneChange changes.items) }
-{
-    let mut changes = Vec::new(alloc);
-    changes.push(RowChange {
-        article: 0,
-        row: ROW,
-        old: values(alloc, old)?,
-        new: values(alloc, new)?,
-    })?;
-    Ok(changes)
-}
+const NOTE: u8 = 4;
 
-fn is_only(moves: &Moves, kind: MoveKind) -> bool {
-    let one = Move {
-        article: 0,
-        row: ROW,
-        site: SITE,
-        kind,
-    };
-    moves.as_slice() == [one].as_slice()
-}
+// Orders follow customers, and lines follow orders and products. An order of more than 100 is
+// everyone's, and so is each note.
+const SHOP: &str =
+    "name = \"shop\"\narticle = [{ name = \"customer\", filter = \"region = HOST_NAME()\", column = [{ name = \"id\", type = \"int\" }, { name = \"region\", type = \"text\" }] }, { name = \"orders\", filter = \"id > 100\", column = [{ name = \"id\", type = \"int\" }, { name = \"cust\", type = \"int\" }], join = [{ column = \"cust\", parent = \"customer\", parent_column = \"id\" }] }, { name = \"line\", column = [{ name = \"ord\", type = \"int\" }, { name = \"item\", type = \"int\" }], join = [{ column = \"ord\", parent = \"orders\", parent_column = \"id\" }, { column = \"item\", parent = \"product\", parent_column = \"id\" }] }, { name = \"product\", filter = \"NOT maker = HOST_NAME()\", column = [{ name = \"id\", type = \"int\" }, { name = \"maker\", type = \"text\" }] }, { name = \"note\", column = [{ name = \"id\", type = \"int\" }, { name = \"text\", type = \"text\" }] }]\nsubscription = [{ site = 1, host = \"north\" }, { site = 2, host = \"south\" }, { site = 4, host = \"east\" }]\n";
 
-// Whether the row entered, and then left as its change was made in two calls.
-fn comes_and_goes<L: Ledger>(
-    alloc: Global,
-    publication: &Publication,
-    blank: Blank,
-) -> Result<bool, NoMemory>
-    requires notes { AreNotes publication.now }
-    requires name { blank.name ≡ L.name }
-    requires parts { blank.parts ≡ L.parts }
-    requires some { 1 ≤ blank.parts }
-{
-    let mut steps = Steps::<L>::new(blank);
-    let mut order = Listing::empty(alloc);
-    order.push(0u8)?;
-    let mut membership = Membership::new(alloc, publication, order)?;
-    let coming = change(alloc, None, Some(1))?;
-    let entered = membership.update(&coming, &mut steps)?;
-    let was_in = membership.is_in(0, ROW, SITE);
-    let going = change(alloc, Some(1), None)?;
-    let (left, plan) = membership.prepare(&going, &mut steps)?;
-    let stays_in = membership.is_in(0, ROW, SITE);
-    membership.make(plan);
-    let is_in = membership.is_in(0, ROW, SITE);
-    Ok(
-        is_only(&entered, MoveKind::Entered)
-            && was_in
-            && is_only(&left, MoveKind::Left)
-            && stays_in
-            && !is_in,
-    )
-}
-
+// Two customers of one number are both parents of an order, and one after the other they go.
 #[test]
-fn a_row_comes_and_goes(rt: HostRuntime) -> Result<(), Fail> {
-    let publication = notes(rt.alloc())?;
-    assert!(rt; comes_and_goes::<Brand>(rt.alloc(), &publication, Blank::new(1))?);
+fn several_parents(rt: HostRuntime) -> Result<(), Fail> {
+    let steps = agreeing(
+        rt.alloc(),
+        SHOP.as_bytes(),
+        &[
+            [put(ORDERS, 5, Int(10), Int(1)), put(LINE, 7, Int(10), Null)].as_slice(),
+            [
+                put(CUSTOMER, 1, Int(1), Text("north")),
+                put(CUSTOMER, 2, Int(1), Text("north")),
+                put(CUSTOMER, 3, Int(1), Text("south")),
+            ]
+            .as_slice(),
+            [gone(CUSTOMER, 1)].as_slice(),
+            [put(CUSTOMER, 2, Int(1), Text("south"))].as_slice(),
+            [gone(CUSTOMER, 3)].as_slice(),
+            [gone(CUSTOMER, 2)].as_slice(),
+        ],
+    )?;
+    assert_eq!(rt; steps, 6);
+    Ok(())
+}
+
+// A line follows its order and its product, and stays while one of them holds it.
+#[test]
+fn two_joins(rt: HostRuntime) -> Result<(), Fail> {
+    let steps = agreeing(
+        rt.alloc(),
+        SHOP.as_bytes(),
+        &[
+            [
+                put(CUSTOMER, 1, Int(1), Text("north")),
+                put(ORDERS, 5, Int(10), Int(1)),
+                put(LINE, 7, Int(10), Int(3)),
+            ]
+            .as_slice(),
+            [put(PRODUCT, 2, Int(3), Text("south"))].as_slice(),
+            [put(CUSTOMER, 1, Int(1), Text("south"))].as_slice(),
+            [put(PRODUCT, 2, Int(3), Text("north"))].as_slice(),
+            [put(LINE, 7, Int(11), Int(3))].as_slice(),
+            [
+                put(ORDERS, 5, Int(11), Int(1)),
+                put(PRODUCT, 2, Int(4), Text("north")),
+            ]
+            .as_slice(),
+        ],
+    )?;
+    assert_eq!(rt; steps, 6);
+    Ok(())
+}
+
+// A chain of three articles, of which the first moves, is cut and is joined again.
+#[test]
+fn chains(rt: HostRuntime) -> Result<(), Fail> {
+    let steps = agreeing(
+        rt.alloc(),
+        SHOP.as_bytes(),
+        &[
+            [
+                put(LINE, 7, Int(10), Null),
+                put(LINE, 8, Int(10), Null),
+                put(ORDERS, 5, Int(10), Int(1)),
+                put(CUSTOMER, 1, Int(1), Text("east")),
+            ]
+            .as_slice(),
+            [put(CUSTOMER, 1, Int(1), Text("west"))].as_slice(),
+            [
+                put(CUSTOMER, 1, Int(1), Text("north")),
+                put(ORDERS, 5, Int(10), Int(2)),
+            ]
+            .as_slice(),
+            [put(ORDERS, 5, Int(10), Int(1))].as_slice(),
+            [put(ORDERS, 6, Int(101), Null), put(LINE, 8, Int(101), Null)].as_slice(),
+            [put(ORDERS, 6, Int(99), Null)].as_slice(),
+        ],
+    )?;
+    assert_eq!(rt; steps, 6);
+    Ok(())
+}
+
+// A Null passes no filter, and joins with nothing, also not with a Null.
+#[test]
+fn nulls(rt: HostRuntime) -> Result<(), Fail> {
+    let steps = agreeing(
+        rt.alloc(),
+        SHOP.as_bytes(),
+        &[
+            [
+                put(CUSTOMER, 1, Null, Text("north")),
+                put(CUSTOMER, 2, Int(1), Null),
+                put(PRODUCT, 3, Null, Null),
+            ]
+            .as_slice(),
+            [
+                put(ORDERS, 5, Null, Null),
+                put(ORDERS, 6, Int(10), Int(1)),
+                put(LINE, 7, Null, Null),
+            ]
+            .as_slice(),
+            [put(ORDERS, 5, Int(200), Null), put(NOTE, 1, Null, Null)].as_slice(),
+            [put(CUSTOMER, 1, Int(1), Text("north"))].as_slice(),
+            [
+                put(CUSTOMER, 1, Null, Text("north")),
+                put(ORDERS, 6, Int(10), Null),
+            ]
+            .as_slice(),
+        ],
+    )?;
+    assert_eq!(rt; steps, 5);
+    Ok(())
+}
+
+// A customer gets another number while orders come, go and change theirs in the same step.
+#[test]
+fn a_parent_gets_another_value(rt: HostRuntime) -> Result<(), Fail> {
+    let steps = agreeing(
+        rt.alloc(),
+        SHOP.as_bytes(),
+        &[
+            [
+                put(CUSTOMER, 1, Int(1), Text("north")),
+                put(CUSTOMER, 2, Int(2), Text("south")),
+                put(ORDERS, 5, Int(10), Int(1)),
+                put(ORDERS, 6, Int(20), Int(2)),
+                put(LINE, 7, Int(10), Null),
+            ]
+            .as_slice(),
+            [put(CUSTOMER, 1, Int(2), Text("north"))].as_slice(),
+            [
+                put(CUSTOMER, 1, Int(1), Text("north")),
+                put(CUSTOMER, 2, Int(1), Text("south")),
+                put(ORDERS, 6, Int(20), Int(1)),
+            ]
+            .as_slice(),
+            [
+                put(CUSTOMER, 1, Int(3), Text("south")),
+                put(ORDERS, 5, Int(10), Int(3)),
+                put(ORDERS, 4, Int(10), Int(1)),
+            ]
+            .as_slice(),
+        ],
+    )?;
+    assert_eq!(rt; steps, 4);
+    Ok(())
+}
+
+// A parent and its child go in one step, and come back in one step.
+#[test]
+fn a_parent_and_its_child_go(rt: HostRuntime) -> Result<(), Fail> {
+    let steps = agreeing(
+        rt.alloc(),
+        SHOP.as_bytes(),
+        &[
+            [
+                put(CUSTOMER, 1, Int(1), Text("north")),
+                put(ORDERS, 5, Int(10), Int(1)),
+                put(LINE, 7, Int(10), Null),
+            ]
+            .as_slice(),
+            [gone(ORDERS, 5), gone(CUSTOMER, 1)].as_slice(),
+            [
+                put(ORDERS, 5, Int(10), Int(1)),
+                put(CUSTOMER, 1, Int(1), Text("south")),
+            ]
+            .as_slice(),
+            [gone(CUSTOMER, 1), gone(LINE, 7), gone(NOTE, 3)].as_slice(),
+        ],
+    )?;
+    assert_eq!(rt; steps, 4);
     Ok(())
 }

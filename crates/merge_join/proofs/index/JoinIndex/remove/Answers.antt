@@ -10,6 +10,6 @@ use Rattle.merge_join.proofs.index.JoinIndex.remove.Goals as goal
 
 pub returns : goal.returns
 returns c join value =
-    ap (λ (rows : Rows). seen (groups_at rows) join value) c.sweep.ensures
+    ap (λ (rows : Rows). seen (groups_at rows) join value) c.sweep.ensures.rows
     ∙ changed-step c.args.self.now.rows c.self.inside.lists.rows c.taken-groups.new.lists.rows c.place.new.lists.rows c.of-key.result (Remove (record { join = c.args.join; value = c.args.value.now; child = c.args.child })) c.taken-groups.result c.remove.new.self
     (ap (λ (index : Contents JoinKey (List Group)). index.rows) c.self.view_is) c.of-key.ensures c.taken-groups.ensures.groups c.remove.ensures c.taken-groups.ensures.put c.place.ensures.put join value

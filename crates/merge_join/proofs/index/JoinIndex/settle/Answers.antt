@@ -9,7 +9,7 @@ use Rattle.merge_join.proofs.index.JoinIndex.settle.Goals as goal
 
 pub returns : goal.returns
 returns c join value =
-    ap (λ (rows : Rows). seen (groups_at rows) join value) c.sweep.ensures
+    ap (λ (rows : Rows). seen (groups_at rows) join value) c.sweep.ensures.rows
     ∙ c.settle.ensures join value
     ∙ ap (λ (index : Contents JoinKey (List Group)). seen (groups_over c.args.plan.lists.rows index.rows) join value) c.self.view_is
     ∙ c.requires.planned join value
