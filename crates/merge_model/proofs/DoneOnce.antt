@@ -1,4 +1,4 @@
--- No generation takes effect twice.
+-- No generation acts twice.
 use Rattle.std.specs.Prelude.{◌≡◌, ◌≤◌, ◌+◌, ◌-◌, ◌<◌, ◌==◌, ◌&&◌, ℕ, zero, suc, List, [], ◌∷◌, ◌++◌, Bool, true, false, not, Option, Some, None, Result, Ok, Err, refl, if◌then◌else◌, map, filter, count_by, Contains, cond, flat_map}
 use Rattle.std.specs.List.{fold, range_with_len, list_any, list_all}
 use Rattle.std.proofs.Common.{arith, sym, subst, ap, ◌∙◌}

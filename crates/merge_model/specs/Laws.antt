@@ -103,7 +103,7 @@ abbrev pub PublisherStaysSorted : Type 0
 PublisherStaysSorted = (publication : Publication) (says : Saying) (tallies : List ℕ) (events : List Event)
     → AreSorted (after publication (machine publication says) (empty_world publication tallies) events).publisher
 
--- No generation takes effect twice: each of a site's generations comes once among those that have acted, after every list of events.
+-- No generation acts twice: each of a site's generations comes once among those that have acted, after every list of events.
 abbrev pub NoGenerationActsTwice : Type 0
 NoGenerationActsTwice = (publication : Publication) (says : Saying) (tallies : List ℕ) (events : List Event)
     → NoneActsTwice (after publication (model publication says) (empty_model publication tallies) events)

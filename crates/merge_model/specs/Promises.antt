@@ -174,7 +174,7 @@ pub record AllStand (m : Model) : Type 0 where
   pub lost : TableStands m 0 m.world.publisher.conflicts
   pub discarded : (s : SubscriberTables) → subscriber_at m.world s.site ≡ Some s → TableStands m s.site.0 s.conflicts
 
--- No generation takes effect twice: each of a site's generations comes once among those that have acted.
+-- No generation acts twice: each of a site's generations comes once among those that have acted.
 abbrev pub is_generation_of : ℕ → ℕ → ℕ × ℕ → Bool
 is_generation_of site generation entry = (entry.0 == site) && (entry.1 == generation)
 

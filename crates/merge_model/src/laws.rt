@@ -45,8 +45,8 @@ pub fn lists_stay_sorted()
     ensures subscribers { SubscribersStaySorted }
 {}
 
-/// No generation takes effect twice: each comes once among those that have acted, and the
-/// generations of an upload that act are none of these.
+/// No generation acts twice: each comes once among those that have acted, and the generations of an
+/// upload that are noted are none of these.
 pub fn no_generation_acts_twice()
     ensures once { NoGenerationActsTwice }
     ensures new { ActingAreNew }

@@ -21,7 +21,7 @@ united_weight pairs = sum_by (λ (pair : Cell × Cell). max (cell_weight pair.0)
 abbrev pub are_long : List Cell → List Cell → Bool
 are_long ours theirs = nat_lt 7936 (united_weight (zip ours theirs))
 
--- where a cell is new. Where the versions are long together, it conflicts wherever it is new
+-- the side of a cell by where it is new. Where the two versions are long together every cell conflicts, new or not
 unfoldable pub side_by : Bool → Bool → Bool → Side
 side_by true new_here new_there = side.Both
 side_by false true true = side.Both
