@@ -22,3 +22,5 @@ pub mod LostGrant
 pub mod PurgedTombstone
 pub mod BothChangesSum
 pub mod ColumnUpdateStays
+pub mod Happened
+pub mod EverythingHappens

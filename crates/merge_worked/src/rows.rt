@@ -1,4 +1,6 @@
 //! One function for each script. They do nothing: their contracts say what is computed.
+ghost use Rattle.std.specs.Prelude.{◌≡◌, ◌∷◌, [], pos, true};
+ghost use Rattle.merge_model.specs.Promises.{AllAccounted, AllStand, SettledHoldsPartition};
 ghost use Rattle.merge_worked.specs.Worked.{IsPlayed, IsTold};
 ghost use Rattle.merge_worked.specs.ARowGoesOver.{a_row_goes_over as a_row_goes_over_worked};
 ghost use Rattle.merge_worked.specs.FirstUpdateStays.{first_update_stays as first_update_stays_worked};
@@ -23,6 +25,8 @@ ghost use Rattle.merge_worked.specs.LostGrant.{lost_grant as lost_grant_worked};
 ghost use Rattle.merge_worked.specs.PurgedTombstone.{purged_tombstone as purged_tombstone_worked};
 ghost use Rattle.merge_worked.specs.BothChangesSum.{both_changes_sum as both_changes_sum_worked};
 ghost use Rattle.merge_worked.specs.ColumnUpdateStays.{column_update_stays as column_update_stays_worked};
+ghost use Rattle.merge_worked.specs.EverythingHappens.{everything_happened, everything_happens as everything_happens_worked, publication, purge_comes};
+ghost use Rattle.merge_worked.specs.Happened.{all_are_accounted, all_letters_stand, all_rows_stand, all_sessions_settle, all_stay_inside, all_tables_stand, changes_given_up, changes_lost, changes_made, changes_purged, changes_unsent, generations_done, held_at_settled, old_are_past, old_generations, owed_to_settled, ranges_granted, rows_held, rows_put, rows_removed, settled_sites, values_taken, versions_lost};
 
 /// A row is made at the publisher, and a session brings it to a subscriber.
 pub fn a_row_goes_over()
@@ -159,4 +163,38 @@ pub fn both_changes_sum()
 pub fn column_update_stays()
     ensures machine { IsPlayed column_update_stays_worked }
     ensures model { IsTold column_update_stays_worked }
+{}
+
+/// In one script rows conflict in each way, a site is made anew and joins again, rows leave partitions
+/// and come into others, an old message comes late, and tombstones are purged. Afterwards each
+/// promise speaks of something, and holds; so does what is promised of a purge as it comes.
+pub fn everything_happens()
+    ensures machine { IsPlayed everything_happens_worked }
+    ensures model { IsTold everything_happens_worked }
+    ensures made { changes_made everything_happened ≡ 28 }
+    ensures lost { changes_lost everything_happened ≡ 11 }
+    ensures purged { changes_purged everything_happened ≡ 9 }
+    ensures given_up { changes_given_up everything_happened ≡ 1 }
+    ensures versions { versions_lost everything_happened ≡ 8 }
+    ensures generations { generations_done everything_happened ≡ (2, 1) ∷ (1, 1) ∷ (3, 1) ∷ (3, 2) ∷ (2, 2) ∷ (1, 2) ∷ [] }
+    ensures values { values_taken everything_happened ≡ pos 51 ∷ pos 5 ∷ pos 4 ∷ pos 3 ∷ pos 2 ∷ pos 1 ∷ [] }
+    ensures ranges { ranges_granted everything_happened ≡ 7 }
+    ensures accounted { all_are_accounted everything_happened ≡ true }
+    ensures rows_stand { all_rows_stand everything_happened ≡ true }
+    ensures letters_stand { all_letters_stand everything_happened ≡ true }
+    ensures tables_stand { all_tables_stand everything_happened ≡ true }
+    ensures all_accounted { AllAccounted everything_happened }
+    ensures all_stand { AllStand everything_happened }
+    ensures settled { settled_sites publication everything_happened ≡ 1 ∷ 2 ∷ 3 ∷ [] }
+    ensures holding { rows_held publication everything_happened ≡ 5 ∷ 5 ∷ 4 ∷ [] }
+    ensures held { held_at_settled publication everything_happened ≡ owed_to_settled publication everything_happened }
+    ensures all_hold { SettledHoldsPartition publication everything_happened }
+    ensures put { rows_put publication everything_happened ≡ 14 }
+    ensures removed { rows_removed publication everything_happened ≡ 3 }
+    ensures inside { all_stay_inside publication everything_happened ≡ true }
+    ensures unsent { changes_unsent purge_comes ≡ 1 }
+    ensures accounted_before { all_are_accounted purge_comes ≡ true }
+    ensures sessions { all_sessions_settle publication purge_comes ≡ true }
+    ensures old { old_generations publication purge_comes ≡ 1 ∷ 2 ∷ 3 ∷ 4 ∷ [] }
+    ensures past { old_are_past publication purge_comes ≡ true }
 {}
