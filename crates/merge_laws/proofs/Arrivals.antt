@@ -27,11 +27,10 @@ use Rattle.merge_model.specs.History.{History, is_done}
 use Rattle.merge_model.specs.Noting
 use Rattle.merge_laws.specs.Received.{joined_at, MessageFits, LetterFits, SubscriberFits, DoneIsReceived, Received}
 use Rattle.merge_laws.proofs.Finding.{all-weaker}
-use Rattle.merge_laws.proofs.Subscribing.{same_number, number-decided}
+use Rattle.merge_laws.proofs.MessageFacts.{acts-later}
 use Rattle.merge_laws.proofs.Publishing.{done-joins, joined-received, joined-joined, upload-received, upload-joined, number_in, sites_taken}
-
-equal : (a b : ℕ) → (a == b) ≡ true → a ≡ b
-equal a b e = grind (arith, nat_tests, e)
+use Rattle.merge_laws.proofs.Subscribing.{number-decided, same_number}
+use Rattle.merge_laws.proofs.Tests.{numbers-same, numbers-turned}
 
 -- A message says less where later joins have acted.
 message-later : (joined after : ℕ) (site : SiteId) (found : Option SubscriberTables) (message : Message) → joined ≤ after → MessageFits joined site found message → MessageFits after site found message
@@ -78,13 +77,12 @@ closed-above : (m : Join) (p : PublisherTables) (found : Option SubscriberTables
 closed-above m p None all tells = absurd tells
 closed-above m p (Some s) all tells = let f = all s refl in omega (arith, f.taken, tells)
 
-joined-rises : (m : Join) (p : PublisherTables) (site : SiteId) (b : Bool) → same_number site.0 m.site.0 b → join_acts m p ≡ true → joined_at p site ≤ joined_at (join_taken m p) site
-joined-rises m p site true same acts =
+pub joined-rises : (m : Join) (p : PublisherTables) (site : SiteId) (b : Bool) → same_number site.0 m.site.0 b → joined_at p m.site < m.seq → joined_at p site ≤ joined_at (join_taken m p) site
+joined-rises m p site true same later =
     let is : joined_at (join_taken m p) site ≡ m.seq = joined-joined m p site true same in
     let was : joined_at p site ≡ joined_at p m.site = ap (λ (k : ℕ). (unwrap_or (at_number p.sites k) no_state).joined_at) same in
-    let less : joined_at p m.site < m.seq = grind (arith, nat_tests, acts) in
-    omega (arith, is, was, less)
-joined-rises m p site false differs acts = omega (arith, joined-joined m p site false differs)
+    omega (arith, is, was, later)
+joined-rises m p site false differs later = omega (arith, joined-joined m p site false differs)
 
 pub join-fits : (m : Join) (w : World) (h : History) → join_acts m w.publisher ≡ true → tells_all m (at_number w.subscribers m.site.0) → Received w h
     → Received (with_publisher (join_taken m w.publisher) w) (Noting.with_done m.site.0 0 m.generation h)
@@ -92,10 +90,10 @@ join-fits m w h acts tells r =
     let below : received_by_number w.publisher m.site.0 ≤ m.generation = closed-above m w.publisher (at_number w.subscribers m.site.0) (λ s at. r.subscribers m.site.0 s at) tells in
     record {
       subscribers = λ n s at. join-number m w.publisher n s (n == m.site.0) (number-decided n m.site.0)
-          (λ e. found-tells m (at_number w.subscribers m.site.0) s (ap (λ (k : ℕ). at_number w.subscribers k) (sym (equal n m.site.0 e)) ∙ at) tells) (r.subscribers n s at);
+          (λ e. found-tells m (at_number w.subscribers m.site.0) s (ap (λ (k : ℕ). at_number w.subscribers k) (sym (numbers-same n m.site.0 e)) ∙ at) tells) (r.subscribers n s at);
       letters = all-weaker (LetterFits w.subscribers w.publisher) (LetterFits w.subscribers (join_taken m w.publisher))
           (λ letter fits. message-later (joined_at w.publisher letter.site) (joined_at (join_taken m w.publisher) letter.site) letter.site (at_number w.subscribers letter.site.0) letter.message
-          (joined-rises m w.publisher letter.site (letter.site.0 == m.site.0) (number-decided letter.site.0 m.site.0) acts) fits) w.pool r.letters;
+          (joined-rises m w.publisher letter.site (letter.site.0 == m.site.0) (number-decided letter.site.0 m.site.0) (acts-later m w.publisher acts)) fits) w.pool r.letters;
       done = λ n generation from. join-done m w.publisher h n generation (n == m.site.0) (number-decided n m.site.0) from below r.done;
     }
 
@@ -119,16 +117,13 @@ upload-truth : (after before b c : Bool) (n site generation from to r q : ℕ) �
 upload-truth after before true c n site generation from to r q a d e same i begins goes_on = grind (arith, nat_tests, a, d, e, i, begins, goes_on)
 upload-truth after before false c n site generation from to r q a d e same i begins goes_on = grind (arith, nat_tests, a, d, e, i)
 
-flipped : (a b : ℕ) → (b == a) ≡ (a == b)
-flipped a b = grind (arith, nat_tests)
-
 upload-done : (m : Upload) (acts : List Act) (p q : PublisherTables) (h : History) (n generation : ℕ) → upload_sites m acts p q → is_some (at_number p.sites m.site.0) ≡ true → m.from ≤ received_by_number p m.site.0 → received_by_number p m.site.0 < m.to
     → 1 ≤ generation → DoneIsReceived h p → is_done (Noting.with_done m.site.0 m.from m.to h) n generation ≡ nat_le generation (received_by_number q n)
 upload-done m acts p q h n generation e known begins goes_on from done =
     let is = upload-number m acts p q n e known in
     upload-truth (is_done (Noting.with_done m.site.0 m.from m.to h) n generation) (is_done h n generation) (n == m.site.0) (m.site.0 == n) n m.site.0 generation m.from m.to (received_by_number p n) (received_by_number q n)
-    (done-joins h m.site.0 m.from m.to n generation (omega (arith, begins, goes_on))) (done n generation from) is (number-decided n m.site.0) (flipped n m.site.0)
-    (λ e. subst (λ (k : ℕ). m.from ≤ received_by_number p k) (sym (equal n m.site.0 e)) begins) (λ e. subst (λ (k : ℕ). received_by_number p k < m.to) (sym (equal n m.site.0 e)) goes_on)
+    (done-joins h m.site.0 m.from m.to n generation (omega (arith, begins, goes_on))) (done n generation from) is (number-decided n m.site.0) (numbers-turned m.site.0 n)
+    (λ e. subst (λ (k : ℕ). m.from ≤ received_by_number p k) (sym (numbers-same n m.site.0 e)) begins) (λ e. subst (λ (k : ℕ). received_by_number p k < m.to) (sym (numbers-same n m.site.0 e)) goes_on)
 
 upload-subscriber : (m : Upload) (n r q : ℕ) (s : SubscriberTables) (b : Bool) → q ≡ (if b then m.to else r) → (b ≡ true → m.to ≤ sub_last_closed s) → SubscriberFits r n s → SubscriberFits q n s
 upload-subscriber m n r q s true is closed f = record { keyed = f.keyed; idle = f.idle; own = f.own; last = f.last; taken = omega (arith, is, closed refl) }
@@ -146,7 +141,7 @@ pub upload-fits : (m : Upload) (acts : List Act) (w : World) (q : PublisherTable
     → received_by_number w.publisher m.site.0 < m.to → has_closed m (at_number w.subscribers m.site.0) → Received w h → Received (with_publisher q w) (Noting.with_done m.site.0 m.from m.to h)
 upload-fits m acts w q h e known begins goes_on closed r = record {
   subscribers = λ n s at. upload-subscriber m n (received_by_number w.publisher n) (received_by_number q n) s (n == m.site.0) (upload-number m acts w.publisher q n e known)
-      (λ same. found-closed m (at_number w.subscribers m.site.0) s (ap (λ (k : ℕ). at_number w.subscribers k) (sym (equal n m.site.0 same)) ∙ at) closed) (r.subscribers n s at);
+      (λ same. found-closed m (at_number w.subscribers m.site.0) s (ap (λ (k : ℕ). at_number w.subscribers k) (sym (numbers-same n m.site.0 same)) ∙ at) closed) (r.subscribers n s at);
   letters = all-weaker (LetterFits w.subscribers w.publisher) (LetterFits w.subscribers q)
       (λ letter fits. subst (λ (k : ℕ). MessageFits k letter.site (at_number w.subscribers letter.site.0) letter.message)
       (sym (ap (λ (sites : List (ℕ × SiteState)). (unwrap_or (at_number sites letter.site.0) no_state).joined_at) e ∙ upload-joined m acts w.publisher.sites letter.site.0)) fits) w.pool r.letters;
@@ -158,11 +153,11 @@ pub first-none : (refusal : Option Refusal) (rest : List (Option Refusal)) → f
 first-none (Some why) rest e = absurd (grind (arith, e))
 first-none None rest e = (refl, e)
 
-state-known : (publication : Publication) (seq : ℕ) (now : Moment) (found : Option SiteState) → state_refusal publication seq now found ≡ None → is_some found ≡ true
+pub state-known : (publication : Publication) (seq : ℕ) (now : Moment) (found : Option SiteState) → state_refusal publication seq now found ≡ None → is_some found ≡ true
 state-known publication seq now None e = absurd (grind (arith, e))
 state-known publication seq now (Some state) e = refl
 
-not-refused : (b : Bool) (refusal : Refusal) → refused_if b refusal ≡ None → b ≡ false
+pub not-refused : (b : Bool) (refusal : Refusal) → refused_if b refusal ≡ None → b ≡ false
 not-refused true refusal e = absurd (grind (arith, e))
 not-refused false refusal e = refl
 

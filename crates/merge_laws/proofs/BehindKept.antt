@@ -6,8 +6,6 @@ use Rattle.merge_types.specs.declared.changes.Change.{Change}
 use Rattle.merge_types.specs.declared.identifiers.Moment.{Moment}
 use Rattle.merge_types.specs.declared.identifiers.SiteId.{SiteId}
 use Rattle.merge_types.specs.declared.values.Value.{Value}
-use Rattle.merge_gens.specs.declared.filling.Filling.{Filling}
-use Rattle.merge_gens.specs.Filling as fill
 use Rattle.merge_units.specs.declared.version.Version.{Version}
 use Rattle.merge_ident.specs.Holders.{Holder}
 use Rattle.merge_schema.specs.declared.publication.Publication.{Publication}
@@ -50,10 +48,12 @@ use Rattle.merge_laws.specs.Received.{JoinFits, MessageFits, Received, joined_at
 use Rattle.merge_laws.proofs.Arrivals.{first-none, upload-known}
 use Rattle.merge_laws.proofs.Deliveries.{news-above}
 use Rattle.merge_laws.proofs.Finding.{all-at, all-more, all-weaker, at_put_other, at_put_same}
+use Rattle.merge_laws.proofs.MessageFacts.{acts-later, join-up, letter-fits}
 use Rattle.merge_laws.proofs.Models.{begins, begins-with, model-fine}
 use Rattle.merge_laws.proofs.Publishing.{SameNumbers, asked-same, joined-joined, joined-received, same-sites, upload-joined, upload-received}
 use Rattle.merge_laws.proofs.Steps.{joined-flag}
-use Rattle.merge_laws.proofs.Subscribing.{number-decided, same_number}
+use Rattle.merge_laws.proofs.Subscribing.{filling-stays, number-decided, same_number}
+use Rattle.merge_laws.proofs.Tests.{number-itself}
 use Rattle.merge_laws.proofs.UnsentKept.{reply-site, version-site}
 use Rattle.merge_laws.proofs.Walking.{StepsKeep, acts_in, comes, here, step-keeps, told_by, uploaded_world}
 use Rattle.merge_laws.proofs.Worlds.{received-is}
@@ -70,13 +70,10 @@ joined-goes received joined s t joins below seq f answered = record {
   made = let m = f.made in omega (arith, m, seq);
 }
 
-closed-stays : (filling : Filling) → filling.filled ≡ 0 → (fill.closed filling).last_closed ≡ filling.last_closed
-closed-stays filling empty = grind (arith, nat_tests, empty)
-
 closing-behind : (received joined : ℕ) (now : Moment) (s : SubscriberTables) → (s.is_joined ≡ false → s.gens.filling.filled ≡ 0) → StaysBehind received joined s → StaysBehind received joined (sub_closed (sub_at_moment now s))
 closing-behind received joined now s idle f = record {
   behind = f.behind;
-  waits = λ none. f.waits none ∙ sym (closed-stays s.gens.filling (idle none));
+  waits = λ none. f.waits none ∙ sym (filling-stays s.gens.filling (idle none));
   only_joins = f.only_joins;
   answered = f.answered;
   made = f.made;
@@ -124,7 +121,7 @@ no-join publication (reply.Downloaded m) s is e = grind (arith, e)
 no-join publication (reply.Refused number values) s is e = absurd (grind (arith, is))
 
 -- so a site that takes another reply has joined
-has-joined : (publication : Publication) (received joined : ℕ) (sent : Outstanding) (m : Reply) (s : SubscriberTables) (seq : ℕ) (b : Bool) → s.is_joined ≡ b
+pub has-joined : (publication : Publication) (received joined : ℕ) (sent : Outstanding) (m : Reply) (s : SubscriberTables) (seq : ℕ) (b : Bool) → s.is_joined ≡ b
     → answers_joins m ≡ false → s.outstanding ≡ Some (seq, sent) → reply_fault publication sent m s ≡ None → StaysBehind received joined s → s.is_joined ≡ true
 has-joined publication received joined sent m s seq true is other out none f = is
 has-joined publication received joined sent m s seq false is other out none f =
@@ -236,17 +233,8 @@ abbrev OfWorlds : World → History → Type 0
 OfWorlds w h = Behind w
 
 module _ (publication : Publication) (says : Saying) where
-  fits-of : (w : World) (h : History) (number : ℕ) (letter : Letter) → Received w h → letter_at w number ≡ Some letter → MessageFits (joined_at w.publisher letter.site) letter.site (at_number w.subscribers letter.site.0) letter.message
-  fits-of w h zero letter r at = absurd (grind (arith, at))
-  fits-of w h (suc k) letter r at = all-at (λ (x : Letter). MessageFits (joined_at w.publisher x.site) x.site (at_number w.subscribers x.site.0) x.message) w.pool k letter at r.letters
-
   here-of : (w : World) (s : SubscriberTables) → Behind w → subscriber_at w s.site ≡ Some s → StaysBehind (received_by_number w.publisher s.site.0) (joined_at w.publisher s.site) s
   here-of w s i at = i.subscribers s.site.0 s at
-
-  -- a join
-  join-up : (w : World) (h : History) (m : Join) (found : Option SubscriberTables) → Received w h → at_number w.subscribers m.site.0 ≡ found → JoinFits (joined_at w.publisher m.site) m.site m found → joined_at w.publisher m.site < m.seq → received_by_number w.publisher m.site.0 ≤ m.generation
-  join-up w h m None r is fits later = absurd fits
-  join-up w h m (Some s) r is fits later = let taken = (r.subscribers m.site.0 s is).taken in let tells = (fits.2 later).1 in omega (arith, taken, tells)
 
   join-rises : (w : World) (m : Join) (n : ℕ) (b : Bool) → same_number n m.site.0 b → received_by_number w.publisher m.site.0 ≤ m.generation → received_by_number w.publisher n ≤ received_by_number (join_taken m (here w)) n
   join-rises w m n true same up = let is = joined-received m (here w) n true same in let below = subst (λ (k : ℕ). received_by_number w.publisher k ≤ m.generation) (sym same) up in omega (arith, is, below)
@@ -266,12 +254,9 @@ module _ (publication : Publication) (says : Saying) where
       let joined : joined_at (join_taken m (here w)) (record { 0 = n }) ≡ joined_at w.publisher (record { 0 = n }) = joined-joined m (here w) (record { 0 = n }) false differs in
       rises-behind (received_by_number w.publisher n) (joined_at w.publisher (record { 0 = n })) (received_by_number (join_taken m (here w)) n) (joined_at (join_taken m (here w)) (record { 0 = n })) s (omega (arith, received)) (sym joined) (i.subscribers n s at)
 
-  acts-later : (m : Join) (p : PublisherTables) → join_acts m p ≡ true → joined_at p m.site < m.seq
-  acts-later m p acts = grind (arith, nat_tests, acts)
-
   join-kept : (w : World) (h : History) (number : ℕ) (m : Join) → Received w h → Behind w → comes w number m.site (Asks (request.Join m)) → join_acts m w.publisher ≡ true → Behind (with_publisher (join_taken m (here w)) w)
   join-kept w h number m r i at acts =
-      let fits = fits-of w h number (record { site = m.site; message = Asks (request.Join m) }) r at in
+      let fits = letter-fits w h number (record { site = m.site; message = Asks (request.Join m) }) r at in
       let later : joined_at w.publisher m.site < m.seq = acts-later m w.publisher acts in
       let up : received_by_number w.publisher m.site.0 ≤ m.generation = join-up w h m (at_number w.subscribers m.site.0) r refl fits later in
       publisher-on w (join_taken m (here w)) (λ n. join-rises w m n (n == m.site.0) (number-decided n m.site.0) up)
@@ -289,12 +274,9 @@ module _ (publication : Publication) (says : Saying) where
   upload-rises w m acts judge n goes = if-up ((n == m.site.0) && is_some (at_number w.publisher.sites n)) m.to (received_by_number w.publisher n) (received_by_number (taken_in publication judge m acts (here w)) n) (upload-received m acts w.publisher.sites n)
       (λ e. subst (λ (k : ℕ). received_by_number w.publisher k ≤ m.to) (same-of n m.site.0 (is_some (at_number w.publisher.sites n)) e) (omega (arith, goes)))
 
-  test-itself : (n : ℕ) → (n == n) ≡ true
-  test-itself n = grind (arith, nat_tests)
-
-  upload-sets : (w : World) (m : Upload) (acts : List Act) (judge : PublisherJudge) → is_some (at_number w.publisher.sites m.site.0) ≡ true → received_by_number (taken_in publication judge m acts (here w)) m.site.0 ≡ m.to
+  pub upload-sets : (w : World) (m : Upload) (acts : List Act) (judge : PublisherJudge) → is_some (at_number w.publisher.sites m.site.0) ≡ true → received_by_number (taken_in publication judge m acts (here w)) m.site.0 ≡ m.to
   upload-sets w m acts judge known = upload-received m acts w.publisher.sites m.site.0
-      ∙ ap (λ (b : Bool). if b then m.to else received_by_number w.publisher m.site.0) (let all : ((m.site.0 == m.site.0) && is_some (at_number w.publisher.sites m.site.0)) ≡ true = grind (arith, test-itself m.site.0, known) in all)
+      ∙ ap (λ (b : Bool). if b then m.to else received_by_number w.publisher m.site.0) (let all : ((m.site.0 == m.site.0) && is_some (at_number w.publisher.sites m.site.0)) ≡ true = grind (arith, number-itself m.site.0, known) in all)
 
   upload-kept : (w : World) (m : Upload) (acts : List Act) (judge : PublisherJudge) → Behind w → received_by_number w.publisher m.site.0 < m.to → Behind (with_publisher (taken_in publication judge m acts (here w)) w)
   upload-kept w m acts judge i goes =
@@ -370,7 +352,7 @@ module _ (publication : Publication) (says : Saying) where
         letter-put (with_publisher q w) site (Replies (reply.Downloaded (reply_to publication (by_past h (pasts_with h number)) m q))) (omega (arith, told, here_is, is))
         (publisher-same w q (record { received = λ n. (asked-same m (here w)).received n; number = λ n. (asked-same m (here w)).number n; joined = λ x. (asked-same m (here w)).joined x }) i));
     replies = λ w h s number m sent r i at there out none. (let judge : SubscriberJudge = by_made h s.site in
-        let fits = fits-of w h number (record { site = s.site; message = Replies m }) r there in
+        let fits = letter-fits w h number (record { site = s.site; message = Replies m }) r there in
         let tells = letter-of w number (record { site = s.site; message = Replies m }) i there in
         subscriber-on w s (taken judge w.moment m s) (reply-site judge w.moment m s)
         (reply-behind publication (received_by_number w.publisher s.site.0) (joined_at w.publisher s.site) judge w.moment sent s.site m s none out

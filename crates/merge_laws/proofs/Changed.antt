@@ -4,15 +4,13 @@ use Rattle.std.specs.BTreeMap.{is_at}
 use Rattle.std.specs.List.{cons_option, fold}
 use Rattle.std.specs.List.Sorted.{IsStrictlySortedBy}
 use Rattle.std.specs.Map.{keys_of}
-use Rattle.std.specs.Ordering.{is_eq}
-use Rattle.std.specs.declared.cmp.Ordering.{Ordering}
-use Rattle.std.specs.declared.cmp.Ordering.TheVariants.{Less, Equal, Greater}
+use Rattle.std.specs.declared.cmp.Ordering.TheVariants.{Less}
 use Rattle.std.proofs.Common.{arith, subst, sym, ap, ◌∙◌}
 use Rattle.std.proofs.lemmas.Bool.Decides.{nat_tests}
+use Rattle.std.proofs.lemmas.Map.Keys.{sorted_tail}
 use Rattle.merge_gens.proofs.Sets.{sorted_put}
 use Rattle.merge_table.proofs.LookUps.{rows_from_look_ups}
-use Rattle.merge_table.proofs.Room.{AreAbove, rest_above}
-use Rattle.merge_table.proofs.Slots.{lookup_above}
+use Rattle.merge_table.proofs.Room.{AreAbove}
 use Rattle.merge_model.specs.ByHistory.{is_between_made, with_change_of}
 use Rattle.merge_model.specs.ByNumbers.{changed_row_between, last_between}
 use Rattle.merge_model.specs.History.{MadeChange}
@@ -21,22 +19,14 @@ use Rattle.merge_model.specs.Tables.{Key, SubscriberRow}
 use Rattle.merge_model.proofs.Sorted.{key_total}
 use Rattle.merge_laws.specs.Numbered.{InOrder}
 use Rattle.merge_laws.specs.Unsent.{RowsTell, gens_in, last_made}
-use Rattle.merge_laws.proofs.KeyLookUps.{keys-same, keys-tied, row-put}
+use Rattle.merge_laws.proofs.KeyLookUps.{keys-same, keys-tied, none-behind, row-put}
 
 -- By rows: what is found of a row is its last generation in the interval.
 
 abbrev changed_rows : ℕ → ℕ → List (Key × SubscriberRow) → List (Key × ℕ)
 changed_rows from to rows = filter_map (changed_row_between from to) rows
 
-is-equal : (order : Ordering) → is_eq order ≡ true → order ≡ Equal
-is-equal Less e = absurd (grind (arith, e))
-is-equal Equal e = refl
-is-equal Greater e = absurd (grind (arith, e))
-
-above-rest : (q : Key) (row : Key × SubscriberRow) (rows : List (Key × SubscriberRow)) → IsStrictlySortedBy key_cmp (keys_of (row ∷ rows)) → is_at (key_cmp q) row.0 ≡ true → row_at rows q ≡ None
-above-rest q row rows sorted here = lookup_above key_cmp q rows (rest_above key_cmp key_total q row.0 (keys_of rows) sorted (is-equal (key_cmp q row.0) here))
-
-abbrev gens_of : Option SubscriberRow → List ℕ
+abbrev pub gens_of : Option SubscriberRow → List ℕ
 gens_of found = unwrap_or (option_map (λ (row : SubscriberRow). row.generations) found) []
 
 abbrev with_found : Key → Option ℕ → List (Key × ℕ) → List (Key × ℕ)
@@ -57,14 +47,10 @@ cons-found key (Some generation) rest = refl
 changed-cons : (from to : ℕ) (row : Key × SubscriberRow) (rows : List (Key × SubscriberRow)) → changed_rows from to (row ∷ rows) ≡ with_found row.0 (last_between from to row.1.generations) (changed_rows from to rows)
 changed-cons from to row rows = cons-found row.0 (last_between from to row.1.generations) (changed_rows from to rows)
 
-tail-sorted : (row : Key × SubscriberRow) (rows : List (Key × SubscriberRow)) → IsStrictlySortedBy key_cmp (keys_of (row ∷ rows)) → IsStrictlySortedBy key_cmp (keys_of rows)
-unfolding IsStrictlySortedBy
-tail-sorted row rows sorted = sorted.1
-
 pub rows-changed : (from to : ℕ) (q : Key) (rows : List (Key × SubscriberRow)) → IsStrictlySortedBy key_cmp (keys_of rows) → row_at (changed_rows from to rows) q ≡ last_between from to (gens_in rows q)
 rows-changed from to q [] sorted = refl
 rows-changed from to q (row ∷ rows) sorted = ap (λ (kept : List (Key × ℕ)). row_at kept q) (changed-cons from to row rows)
-    ∙ rows-step from to q row rows (changed_rows from to rows) (last_between from to row.1.generations) (is_at (key_cmp q) row.0) refl refl (λ here. above-rest q row rows sorted here) (rows-changed from to q rows (tail-sorted row rows sorted))
+    ∙ rows-step from to q row rows (changed_rows from to rows) (last_between from to row.1.generations) (is_at (key_cmp q) row.0) refl refl (λ here. none-behind q row rows sorted here) (rows-changed from to q rows (sorted_tail key_cmp row.0 (keys_of rows) sorted))
 
 -- they stay in order
 above-found : (k key : Key) (last : Option ℕ) (kept : List (Key × ℕ)) → key_cmp k key ≡ Less → AreAbove key_cmp k (keys_of kept) → AreAbove key_cmp k (keys_of (with_found key last kept))
@@ -135,10 +121,10 @@ best-found from to number generation q (c ∷ made) o =
     found-step (is_between_made from to c) (same_key q c.key) q c (filter (is_between_made from to) made) (find (λ (change : MadeChange). is_between_made from to change && same_key q change.key) made) refl
     (best-found from to (number - 1) c.generation q made o.1.1.1.1) (best-top from to (number - 1) c.generation c.generation q made (omega arith) o.1.1.1.1)
 
-abbrev changed_made : ℕ → ℕ → List MadeChange → List (Key × ℕ)
+abbrev pub changed_made : ℕ → ℕ → List MadeChange → List (Key × ℕ)
 changed_made from to made = fold with_change_of [] (filter (is_between_made from to) made)
 
-made-changed : (from to number generation : ℕ) (q : Key) (made : List MadeChange) → InOrder number generation made → row_at (changed_made from to made) q ≡ last_made from to q made
+pub made-changed : (from to number generation : ℕ) (q : Key) (made : List MadeChange) → InOrder number generation made → row_at (changed_made from to made) q ≡ last_made from to q made
 made-changed from to number generation q made o = fold-best q (filter (is_between_made from to) made) [] ∙ best-found from to number generation q made o
 
 fold-ascends : (changes : List MadeChange) (rows : List (Key × ℕ)) → IsStrictlySortedBy key_cmp (keys_of rows) → IsStrictlySortedBy key_cmp (keys_of (fold with_change_of rows changes))

@@ -17,6 +17,7 @@ use Rattle.merge_batch.specs.declared.reply.Uploaded.{Uploaded}
 use Rattle.merge_batch.specs.declared.reply.Ranged.{Ranged}
 use Rattle.merge_batch.specs.declared.reply.Downloaded.{Downloaded}
 use Rattle.merge_schema.specs.declared.publication.Publication.{Publication}
+use Rattle.merge_resolve.specs.Asked.{tallies_after}
 use Rattle.merge_model.specs.Tables.{Key, PublisherTables, SubscriberTables}
 use Rattle.merge_model.specs.Keys.{at_number, put_number}
 use Rattle.merge_model.specs.Refusals.{unless}
@@ -35,15 +36,15 @@ use Rattle.merge_model.specs.Steps.{Outcome, post, answered, after_upload, kept_
 use Rattle.merge_model.specs.History.{History, Past, Line}
 use Rattle.merge_model.specs.Noting
 use Rattle.merge_model.specs.Model.{noted_if, noted_request, did_something}
+use Rattle.merge_model.specs.Steps.{deliver_upload, asked_of}
 use Rattle.merge_model.proofs.Publishers.{ranges-ok, download-ok}
 use Rattle.merge_model.proofs.DoneOnce.{lines-done, acts-done}
 use Rattle.merge_laws.specs.Received.{joined_at, JoinFits, UploadFits, MessageFits, LetterFits, Received}
+use Rattle.merge_laws.proofs.Arrivals.{has_closed, join-fits, tells_all, upload-fits, upload-known}
+use Rattle.merge_laws.proofs.MessageFacts.{acts-later, join-site, upload-site}
+use Rattle.merge_laws.proofs.Publishing.{SameNumbers}
 use Rattle.merge_laws.proofs.Publishing.{same-sites, asked-same, joined-joined}
 use Rattle.merge_laws.proofs.Worlds.{history-same, posted-fits, publisher-same, received-is, no-gap}
-use Rattle.merge_laws.proofs.Arrivals.{join-fits, tells_all, upload-fits, has_closed, upload-known}
-use Rattle.merge_model.specs.Steps.{deliver_upload, asked_of}
-use Rattle.merge_resolve.specs.Asked.{tallies_after}
-use Rattle.merge_laws.proofs.Publishing.{SameNumbers}
 
 -- a step keeps it, with what it notes where it did something
 abbrev pub Keeps : World × Outcome → History → History → Type 0
@@ -65,16 +66,9 @@ module _ (w : World) (h : History) (r : Received w h) where
 
   -- Joins.
 
-  join-site : (m : Join) (joined : ℕ) (site : SiteId) (found : Option SubscriberTables) → JoinFits joined site m found → m.site ≡ site
-  join-site m joined site None fits = absurd fits
-  join-site m joined site (Some s) fits = fits.0
-
   join-tells : (m : Join) (joined : ℕ) (site : SiteId) (found : Option SubscriberTables) → JoinFits joined site m found → joined < m.seq → tells_all m found
   join-tells m joined site None fits later = fits
   join-tells m joined site (Some s) fits later = (fits.2 later).1
-
-  acts-later : (m : Join) (p : PublisherTables) → join_acts m p ≡ true → joined_at p m.site < m.seq
-  acts-later m p acts = grind (arith, nat_tests, acts)
 
   acts-not : (m : Join) (p : PublisherTables) → join_acts m p ≡ false → m.seq ≤ joined_at p m.site
   acts-not m p none = grind (arith, nat_tests, none)
@@ -114,10 +108,6 @@ module _ (w : World) (h : History) (r : Received w h) where
       (join-answered judge m (join_refusal publication m w.publisher) (subst (λ (x : SiteId). JoinFits (joined_at w.publisher x) x m (at_number w.subscribers x.0)) (sym same) fits))
 
   -- Uploads.
-
-  upload-site : (m : Upload) (site : SiteId) (found : Option SubscriberTables) → UploadFits site m found → m.site ≡ site
-  upload-site m site None fits = absurd fits
-  upload-site m site (Some s) fits = fits.0
 
   upload-closed : (m : Upload) (site : SiteId) (found : Option SubscriberTables) → UploadFits site m found → has_closed m found
   upload-closed m site None fits = fits

@@ -23,44 +23,27 @@ use Rattle.merge_model.specs.Promises.{RepliesStayInside, stays_inside}
 use Rattle.merge_model.specs.Publications.{subscription_at}
 use Rattle.merge_model.specs.PublisherDownload.{TouchedRow, inside_keys, item_of, touched_row}
 use Rattle.merge_model.specs.Tables.{Key, PublisherRow, PublisherTables}
-use Rattle.merge_laws.proofs.LastLineKeys.{key-is}
+use Rattle.merge_laws.proofs.KeyLookUps.{key-test}
+use Rattle.merge_laws.proofs.Lists.{any-filtered}
+use Rattle.merge_laws.proofs.Tests.{either}
 
 -- A row of a partition is one of the live rows.
 
-any-head : (t a b : Bool) → (a ≡ true → b ≡ true) → (t || a) ≡ true → (t || b) ≡ true
-any-head true a b each is = refl
-any-head false a b each is = each is
-
-any-behind : (t b : Bool) → b ≡ true → (t || b) ≡ true
-any-behind true b is = refl
-any-behind false b is = is
-
-any-kept : {X : Type 0} (test keep : X → Bool) (xs : List X) → list_any test (filter keep xs) ≡ true → list_any test xs ≡ true
-any-kept test keep [] is = is
-any-kept {X = X} test keep (x ∷ xs) is = elim (keep x) as (λ (b : Bool). (let kept : List X = cond b (x ∷ filter keep xs) (filter keep xs) in list_any test kept) ≡ true → list_any test (x ∷ xs) ≡ true) [
-  | true ↦ (λ e. any-head (test x) (list_any test (filter keep xs)) (list_any test xs) (any-kept test keep xs) e)
-  | false ↦ (λ e. any-behind (test x) (list_any test xs) (any-kept test keep xs e))
-] is
-
-either-way : (a b c : Bool) → (a ≡ true → c ≡ true) → (b ≡ true → c ≡ true) → (a || b) ≡ true → c ≡ true
-either-way true b c first second is = first refl
-either-way false b c first second is = second is
-
 any-flat : {X Y : Type 0} (test : Y → Bool) (f : X → List Y) (c : Bool) → ((x : X) → list_any test (f x) ≡ true → c ≡ true) → (xs : List X) → list_any test (flat_map f xs) ≡ true → c ≡ true
 any-flat test f c each [] is = absurd (grind (arith, is))
-any-flat test f c each (x ∷ xs) is = either-way (list_any test (f x)) (list_any test (flat_map f xs)) c (each x) (any-flat test f c each xs) (sym (list_any-append test (f x) (flat_map f xs)) ∙ is)
+any-flat test f c each (x ∷ xs) is = either (c ≡ true) (list_any test (f x)) (list_any test (flat_map f xs)) (sym (list_any-append test (f x) (flat_map f xs)) ∙ is) (each x) (any-flat test f c each xs)
 
 module _ (publication : Publication) (host : HostName) (live : List LiveRow) (test : LiveRow → Bool) where
   within-live : (n place : ℕ) → list_any test (rows_within n publication host live place) ≡ true → list_any test live ≡ true
   within-live zero place is = absurd (grind (arith, is))
   within-live (suc n) place is =
-      any-kept test (λ (row : LiveRow). row.article == place) live
-      (any-kept test (belongs publication host (flat_map (λ (join : JoinFilter). rows_within n publication host live join.parent) (joins_at publication place))) (rows_of place live) is)
+      any-filtered test (λ (row : LiveRow). row.article == place) live
+      (any-filtered test (belongs publication host (flat_map (λ (join : JoinFilter). rows_within n publication host live join.parent) (joins_at publication place))) (rows_of place live) is)
 
-  inside-live : list_any test (partition_of publication host live) ≡ true → list_any test live ≡ true
+  pub inside-live : list_any test (partition_of publication host live) ≡ true → list_any test live ≡ true
   inside-live is = any-flat test (rows_inside publication host live) (list_any test live) (λ place e. within-live _ place e) (range_with_len 0 _) is
 
-any-map : {X Y : Type 0} (test : Y → Bool) (f : X → Y) (xs : List X) → list_any test (map f xs) ≡ list_any (λ (x : X). test (f x)) xs
+pub any-map : {X Y : Type 0} (test : Y → Bool) (f : X → Y) (xs : List X) → list_any test (map f xs) ≡ list_any (λ (x : X). test (f x)) xs
 any-map test f [] = refl
 any-map test f (x ∷ xs) = ap (λ (b : Bool). test (f x) || b) (any-map test f xs)
 
@@ -78,10 +61,10 @@ live-head : (key at : Key) (row : PublisherRow) (body : Body) (live : List LiveR
     → list_any (λ (x : LiveRow). same_key key (key_of_live x)) (cons_option (live_row at body) live) ≡ true → is_some (cond (is_at (key_cmp key) at) (Some row) rest) ≡ true
 live-head key at row (Dead top) live rest each is = found-behind (is_at (key_cmp key) at) row rest (each is)
 live-head key at row (Live cells) live rest each is =
-    either-way (same_key key at) (list_any (λ (x : LiveRow). same_key key (key_of_live x)) live) (is_some (let found : Option PublisherRow = cond (is_at (key_cmp key) at) (Some row) rest in found))
-    (λ here. found-first (is_at (key_cmp key) at) row rest (key-is key at ∙ here)) (λ there. found-behind (is_at (key_cmp key) at) row rest (each there)) is
+    either (is_some (let found : Option PublisherRow = cond (is_at (key_cmp key) at) (Some row) rest in found) ≡ true) (same_key key at) (list_any (λ (x : LiveRow). same_key key (key_of_live x)) live) is
+    (λ here. found-first (is_at (key_cmp key) at) row rest (key-test key at ∙ here)) (λ there. found-behind (is_at (key_cmp key) at) row rest (each there))
 
-live-held : (key : Key) (rows : List (Key × PublisherRow)) → list_any (λ (x : LiveRow). same_key key (key_of_live x)) (live_rows rows) ≡ true → is_some (row_at rows key) ≡ true
+pub live-held : (key : Key) (rows : List (Key × PublisherRow)) → list_any (λ (x : LiveRow). same_key key (key_of_live x)) (live_rows rows) ≡ true → is_some (row_at rows key) ≡ true
 live-held key [] is = absurd (grind (arith, is))
 live-held key (row ∷ rows) is = live-head key row.0 row.1 row.1.version.body (live_rows rows) (row_at rows key) (live-held key rows) is
 

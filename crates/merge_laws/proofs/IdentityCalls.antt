@@ -2,7 +2,7 @@
 use Rattle.std.specs.Prelude.{◌≡◌, ◌≤◌, ◌+◌, ◌++◌, ℕ, ℤ, List, [], ◌∷◌, Bool, Result, Ok, Err, refl, count_by, cond}
 use Rattle.std.specs.Ordering.{int_eq}
 use Rattle.std.proofs.Common.{arith, subst, sym, ap, ◌∙◌}
-use Rattle.std.proofs.lemmas.List.Sums.{sum_by-cons, sum_by-append}
+use Rattle.std.proofs.lemmas.List.Sums.{sum_by-cons}
 use Rattle.merge_ident.specs.declared.grants.Grant.{Grant}
 use Rattle.merge_ident.specs.declared.grants.Range.{Range}
 use Rattle.merge_ident.specs.declared.ranges.RangeEvent.{RangeEvent}
@@ -18,9 +18,6 @@ use Rattle.merge_laws.specs.Identities.{takes_at, gives_heard, Held}
 -- counts
 pub counts-cons : {X : Type 0} (test : X → Bool) (x : X) (xs : List X) → count_by test (x ∷ xs) ≡ cond (test x) 1 0 + count_by test xs
 counts-cons {X = X} test x xs = sum_by-cons (λ (y : X). cond (test y) 1 0) x xs
-
-counts-append : {X : Type 0} (test : X → Bool) (xs ys : List X) → count_by test (xs ++ ys) ≡ count_by test xs + count_by test ys
-counts-append {X = X} test xs ys = sum_by-append (λ (y : X). cond (test y) 1 0) xs ys
 
 -- one call more, behind the others
 

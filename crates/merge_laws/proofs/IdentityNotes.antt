@@ -9,12 +9,7 @@ use Rattle.merge_types.specs.declared.identifiers.SiteId.{SiteId}
 use Rattle.merge_units.specs.declared.case.Case.{Case}
 use Rattle.merge_units.specs.declared.result.Decision.{Decision}
 use Rattle.merge_units.specs.declared.result.Decision.TheVariants.{Custom, KeepPublisher, TakeSubscriber}
-use Rattle.merge_units.specs.declared.version.Version.{Version}
-use Rattle.merge_batch.specs.declared.reply.Act.{Act as Order}
-use Rattle.merge_batch.specs.declared.reply.Act.TheVariants as order
-use Rattle.merge_batch.specs.declared.reply.DownloadItem.{DownloadItem}
 use Rattle.merge_batch.specs.declared.reply.Reply.{Reply}
-use Rattle.merge_batch.specs.declared.reply.Reply.TheVariants as reply
 use Rattle.merge_batch.specs.declared.request.Join.{Join}
 use Rattle.merge_batch.specs.declared.request.Upload.{Upload}
 use Rattle.merge_schema.specs.declared.publication.Publication.{Publication}
@@ -22,21 +17,18 @@ use Rattle.merge_model.specs.Acts.{Act, Fate, Met, New, Unknown}
 use Rattle.merge_model.specs.Cases.{is_conflict}
 use Rattle.merge_model.specs.Entries.{Entries}
 use Rattle.merge_model.specs.History.{History, Line, MadeChange, Past, past_at, past_in}
-use Rattle.merge_model.specs.Judge.{PublisherJudge, SubscriberJudge}
+use Rattle.merge_model.specs.Judge.{PublisherJudge}
 use Rattle.merge_model.specs.Keys.{put_number}
-use Rattle.merge_model.specs.Model.{with_letter, with_posted}
 use Rattle.merge_model.specs.Noting
 use Rattle.merge_model.specs.Pasts.{past_by}
 use Rattle.merge_model.specs.Publications.{by_site}
 use Rattle.merge_model.specs.Publisher.{last_closed}
 use Rattle.merge_model.specs.PublisherJoin.{join_acts}
-use Rattle.merge_model.specs.Reinit.{discarded}
-use Rattle.merge_model.specs.Steps.{Outcome, Posted}
 use Rattle.merge_model.specs.Tables.{Key, PublisherTables, SubscriberTables}
-use Rattle.merge_model.specs.Taking.{key_of_download}
-use Rattle.merge_model.specs.World.{Judges, Letter, World, letter_at}
+use Rattle.merge_model.specs.World.{Judges}
 use Rattle.merge_laws.specs.Identities.{takes_at}
 use Rattle.merge_laws.proofs.IdentityCalls.{counts-cons}
+use Rattle.merge_laws.proofs.NotesLeave.{anew-leave, fold-leave, loser-leaves, taker-leave}
 
 -- the same values were taken, by each site of each article
 abbrev pub SameTaken : List MadeChange → List MadeChange → Type 0
@@ -78,15 +70,9 @@ if-taken true x y before first second = first
 if-taken false x y before first second = second
 
 pub lines-made : (lines : List Line) (h : History) → (Noting.with_lines lines h).made ≡ h.made
-lines-made [] h = refl
-lines-made (line ∷ lines) h = lines-made lines (Noting.with_line h line)
+lines-made lines h = fold-leave (λ (x : History). x.made) Noting.with_line (λ x line. refl) lines h
 
 -- uploads
-
-loser-made : (decision : Decision) (key : Key) (ours theirs : Past) (h : History) → (Noting.with_loser decision key ours theirs h).made ≡ h.made
-loser-made KeepPublisher key ours theirs h = refl
-loser-made TakeSubscriber key ours theirs h = refl
-loser-made (Custom values) key ours theirs h = refl
 
 decided-taken : (decision : Decision) (dot : Dot) (generation : ℕ) (key : Key) (case : Case) (past : Past) (h : History) → SameTaken (Noting.with_decided decision dot generation key case past h).made h.made
 decided-taken KeepPublisher dot generation key case past h = λ site article value. refl
@@ -102,7 +88,7 @@ fate-taken (Met held case decision dot) generation key incoming h =
     let after : History = Noting.with_decided decision dot generation key case met h in
     let decided : SameTaken after.made h.made = decided-taken decision dot generation key case met h in
     if-taken (is_conflict case) (Noting.with_loser decision key ours incoming after) after h.made
-    (λ site article value. same-made (Noting.with_loser decision key ours incoming after).made after.made (loser-made decision key ours incoming after) site article value ∙ decided site article value) decided
+    (λ site article value. same-made (Noting.with_loser decision key ours incoming after).made after.made (loser-leaves (λ (x : History). x.made) (λ x lost. refl) decision key ours incoming after) site article value ∙ decided site article value) decided
 
 acts-taken : (incoming : List (Key × Past)) (entries : Entries) (acts : List Act) (h : History) → SameTaken (fold (Noting.with_act incoming entries) h acts).made h.made
 acts-taken incoming entries [] h = λ site article value. refl
@@ -128,57 +114,18 @@ join-taken judge m p h =
 
 -- replies
 
-order-made : (site : ℕ) (incoming : List (Key × Past)) (key : Key) (o : Order) (h : History) → (Noting.with_order_past site incoming key o h).made ≡ h.made
-order-made site incoming key (order.Put lineage live) h = refl
-order-made site incoming key order.RemoveDeleted h = refl
-order-made site incoming key order.RemoveLeft h = refl
-
-if-made : (b : Bool) (x y h : History) → x.made ≡ h.made → y.made ≡ h.made → (if b then x else y).made ≡ h.made
-if-made true x y h first second = first
-if-made false x y h first second = second
-
-items-made : (judge : SubscriberJudge) (received site : ℕ) (incoming : List (Key × Past)) (items : List DownloadItem) (h : History) → (fold (Noting.with_item_past judge received site incoming) h items).made ≡ h.made
-items-made judge received site incoming [] h = refl
-items-made judge received site incoming (item ∷ items) h = items-made judge received site incoming items (Noting.with_item_past judge received site incoming h item)
-    ∙ if-made (judge.is_unsent received (key_of_download item)) h (Noting.with_order_past site incoming (key_of_download item) item.act h) h refl (order-made site incoming (key_of_download item) item.act h)
-
-reply-made : (judge : SubscriberJudge) (site : SiteId) (incoming : List (Key × Past)) (m : Reply) (h : History) → (Noting.noted_reply judge site incoming m h).made ≡ h.made
-reply-made judge site incoming (reply.Downloaded m) h = items-made judge m.received site.0 incoming m.items h
-reply-made judge site incoming (reply.Joined m) h = refl
-reply-made judge site incoming (reply.Uploaded m) h = refl
-reply-made judge site incoming (reply.Ranged m) h = refl
-reply-made judge site incoming (reply.Refused number values) h = refl
-
 pub taker-made : (judges : Judges) (site : SiteId) (incoming : List (Key × Past)) (m : Reply) (found : Option SubscriberTables) (h : History)
     → (let k : History = elim found [ None ↦ h | Some s ↦ Noting.noted_reply (judges.subscriber site s) site incoming m h ] in k.made ≡ h.made)
-taker-made judges site incoming m None h = refl
-taker-made judges site incoming m (Some s) h = reply-made (judges.subscriber site s) site incoming m h
+taker-made judges site incoming m found h = taker-leave (λ (x : History). x.made) (λ x pasts. refl) judges site incoming m found h
 
 -- making anew, forgetting, and messages
 
-discarded-made : (site : SiteId) (rows : List (Key × Version)) (h : History) → (fold (Noting.with_discarded site) h rows).made ≡ h.made
-discarded-made site [] h = refl
-discarded-made site (row ∷ rows) h = discarded-made site rows (Noting.with_discarded site h row)
-
 pub anew-made : (judges : Judges) (site : SiteId) (found : Option SubscriberTables) (h : History)
     → (let k : History = elim found [ None ↦ h | Some s ↦ Noting.noted_anew (judges.subscriber site s) s h ] in k.made ≡ h.made)
-anew-made judges site None h = refl
-anew-made judges site (Some s) h = discarded-made s.site (discarded (judges.subscriber site s) s) h
-
-purged-made : (keys : List Key) (h : History) → (fold Noting.with_purged h keys).made ≡ h.made
-purged-made [] h = refl
-purged-made (key ∷ keys) h = purged-made keys (Noting.with_purged h key)
+anew-made judges site found h = anew-leave (λ (x : History). x.made) (λ x pasts. refl) (λ x lost. refl) judges site found h
 
 pub purge-made : (publication : Publication) (judge : PublisherJudge) (p : PublisherTables) (h : History) → (Noting.noted_purge publication judge p h).made ≡ h.made
 purge-made publication judge p h =
     let rows : List Key = Noting.old_tombstones publication p in
     let lines : List Line = map (Noting.gone_line (last_closed p + 1)) (flat_map (Noting.old_left publication judge p) (map Noting.site_of_subscription (by_site publication))) in
-    lines-made lines (fold Noting.with_purged h rows) ∙ purged-made rows h
-
-letter-made : (found : Option Letter) (h : History) → (let k : History = elim found [ None ↦ h | Some letter ↦ with_letter letter h ] in k.made ≡ h.made)
-letter-made None h = refl
-letter-made (Some letter) h = refl
-
-pub posted-made : (w : World) (outcome : Outcome) (h : History) → (with_posted w outcome h).made ≡ h.made
-posted-made w (Posted number) h = letter-made (letter_at w number) h
-posted-made w outcome h = grind (arith)
+    lines-made lines (fold Noting.with_purged h rows) ∙ fold-leave (λ (x : History). x.made) Noting.with_purged (λ x key. refl) rows h

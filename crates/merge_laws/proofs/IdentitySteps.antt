@@ -1,51 +1,12 @@
 -- Every step keeps what holds of identity values, and so does every list of events.
-use Rattle.std.specs.Prelude.{◌≤◌, ◌++◌, ◌∷◌, zero, suc, IfOk, All, cond, option_map, unwrap_or, ◌≡◌, ◌==◌, ◌+◌, ℕ, List, [], Bool, true, false, Option, Some, None, Result, Ok, Err, refl, if◌then◌else◌, map, max}
-use Rattle.std.proofs.Common.{arith, subst, sym, ap, ◌∙◌}
-use Rattle.merge_types.specs.declared.identifiers.SiteId.{SiteId}
-use Rattle.merge_types.specs.declared.identifiers.RowId.{RowId}
-use Rattle.merge_types.specs.declared.changes.Change.{Change}
-use Rattle.merge_units.specs.declared.result.Decision.{Decision}
-use Rattle.merge_batch.specs.declared.refusal.Refusal.{Refusal}
-use Rattle.merge_batch.specs.declared.refusal.Refusal.TheVariants.{UnknownSite}
-use Rattle.merge_batch.specs.declared.request.Join.{Join}
-use Rattle.merge_batch.specs.declared.request.Upload.{Upload}
-use Rattle.merge_batch.specs.declared.request.Download.{Download}
-use Rattle.merge_batch.specs.declared.request.RangeAsk.{RangeAsk}
-use Rattle.merge_batch.specs.declared.request.Request.{Request}
-use Rattle.merge_batch.specs.declared.request.Request.TheVariants as request
-use Rattle.merge_batch.specs.declared.reply.Reply.{Reply}
-use Rattle.merge_batch.specs.declared.reply.Reply.TheVariants as reply
-use Rattle.merge_batch.specs.declared.reply.Joined.{Joined}
-use Rattle.merge_batch.specs.declared.reply.Uploaded.{Uploaded}
-use Rattle.merge_batch.specs.declared.reply.Ranged.{Ranged}
-use Rattle.merge_batch.specs.declared.reply.Downloaded.{Downloaded}
-use Rattle.merge_schema.specs.declared.publication.Publication.{Publication}
-use Rattle.merge_model.specs.declared.event.Event.{Event}
-use Rattle.merge_model.specs.Tables.{Key, PublisherTables, SubscriberTables}
-use Rattle.merge_model.specs.Keys.{put_number}
-use Rattle.merge_model.specs.Acts.{Act, acts_of}
-use Rattle.merge_model.specs.Judge.{PublisherJudge}
-use Rattle.merge_model.specs.Publications.{by_site}
-use Rattle.merge_model.specs.Refusals.{unless, counter_end}
-use Rattle.merge_model.specs.Publisher.{at_moment, closed, counters, last_closed}
-use Rattle.merge_model.specs.PublisherLocal.{Drawn, drawn, local_refusal, made_locally, next_dot}
-use Rattle.merge_model.specs.PublisherJoin.{join_acts, join_refusal, join_taken, joined}
-use Rattle.merge_model.specs.PublisherUpload.{brings_news, taken_in, upload_refusal, uploaded}
-use Rattle.merge_model.specs.PublisherRanges.{ranged, ranges_refusal, plans, with_grants}
-use Rattle.merge_model.specs.PublisherDownload.{asked, download_refusal, reply_to}
-use Rattle.merge_model.specs.Taking.{Taken, take_reply}
-use Rattle.merge_model.specs.World.{Asks, Judges, Letter, Message, Replies, Saying, World, letter_at, subscriber_at, with_publisher, with_subscriber}
-use Rattle.merge_model.specs.Steps.{Action, CloseAt, Closes, Deliver, Discards, Forget, Made, Make, MakeAnew, NoLetter, Outcome, Pass, Refuses, Send, SendDownload, SendJoin, SendRanges, SendUpload, Sending, Took, after_upload, answered, at_subscriber, close_at, close_publisher, close_subscriber, deliver_letter, deliver_reply, deliver_request, kept_decisions, make_anew, make_at, make_at_publisher, make_at_subscriber, post, posted, send_from, step_by, unless_refused, upload_questions}
-use Rattle.merge_model.specs.History.{History, Line, Past, pasts_with}
-use Rattle.merge_model.specs.ByHistory.{by_history, by_past}
-use Rattle.merge_model.specs.Noting
-use Rattle.merge_model.specs.Model.{Model, did_something, empty_model, model, model_step, noted, noted_if, noted_letter, noted_make, noted_request}
-use Rattle.merge_model.specs.Events.{after}
-use Rattle.merge_model.proofs.Events.{events-keep}
-use Rattle.std.specs.List.{AllByRecursion}
+use Rattle.std.specs.Prelude.{◌≤◌, ◌++◌, ◌∷◌, zero, suc, IfOk, All, cond, option_map, unwrap_or, ◌≡◌, ◌+◌, ℕ, List, [], Bool, true, false, Option, Some, None, Result, Ok, refl, map, length, slice_get}
 use Rattle.std.specs.BTreeMap.{is_at}
 use Rattle.std.specs.Ordering.{nat_cmp}
+use Rattle.std.proofs.Common.{arith, subst, sym, ap, ◌∙◌}
 use Rattle.std.proofs.lemmas.Bool.Decides.{nat_tests}
+use Rattle.std.proofs.lemmas.Option.{slice_get_past}
+use Rattle.merge_types.specs.declared.identifiers.SiteId.{SiteId}
+use Rattle.merge_types.specs.declared.changes.Change.{Change}
 use Rattle.merge_types.specs.declared.values.Value.{Value}
 use Rattle.merge_units.specs.declared.version.Version.{Version}
 use Rattle.merge_ident.specs.declared.grants.Ask.{Ask}
@@ -55,33 +16,54 @@ use Rattle.merge_ident.specs.Answers.{grants_with, grants_with_all, plan_of, pla
 use Rattle.merge_ident.specs.Books.{IsBook, IsRule}
 use Rattle.merge_ident.specs.Holders.{Holder, new_holder}
 use Rattle.merge_ident.proofs.Plans.{book-with_plan}
+use Rattle.merge_schema.specs.declared.publication.Publication.{Publication}
+use Rattle.merge_schema.specs.declared.publication.Identity.{Identity}
+use Rattle.merge_schema.specs.declared.publication.Subscription.{Subscription}
+use Rattle.merge_batch.specs.declared.refusal.Refusal.{Refusal}
+use Rattle.merge_batch.specs.declared.request.Upload.{Upload}
+use Rattle.merge_batch.specs.declared.request.RangeAsk.{RangeAsk}
+use Rattle.merge_batch.specs.declared.request.Request.TheVariants as request
+use Rattle.merge_batch.specs.declared.reply.Reply.{Reply}
+use Rattle.merge_batch.specs.declared.reply.Reply.TheVariants as reply
 use Rattle.merge_batch.specs.Uploads.{whole_number}
 use Rattle.merge_batch.specs.declared.request.Outstanding.{Outstanding}
 use Rattle.merge_batch.specs.declared.request.Outstanding.TheVariants as ask
-use Rattle.merge_batch.specs.declared.request.Want.{Want}
-use Rattle.merge_schema.specs.declared.publication.Identity.{Identity}
-use Rattle.merge_schema.specs.declared.publication.Subscription.{Subscription}
+use Rattle.merge_batch.proofs.Values.{slice_get-append_past}
+use Rattle.merge_model.specs.declared.event.Event.{Event}
+use Rattle.merge_model.specs.Tables.{Key, PublisherTables, SubscriberTables}
+use Rattle.merge_model.specs.Keys.{put_number, at_number}
+use Rattle.merge_model.specs.Acts.{Act}
+use Rattle.merge_model.specs.Judge.{PublisherJudge, SubscriberJudge}
+use Rattle.merge_model.specs.Publications.{by_site, identities, rules_of}
+use Rattle.merge_model.specs.Publisher.{last_closed, new_holders}
+use Rattle.merge_model.specs.PublisherLocal.{Drawn, drawn, made_locally, next_dot}
+use Rattle.merge_model.specs.PublisherRanges.{ranged, plans, with_grants, ask_by}
+use Rattle.merge_model.specs.PublisherDownload.{asked, reply_to}
+use Rattle.merge_model.specs.World.{Asks, Letter, Message, Replies, Saying, World, subscriber_at, with_publisher, with_subscriber, empty_world, empty_subscribers}
+use Rattle.merge_model.specs.Steps.{Action, post}
+use Rattle.merge_model.specs.History.{History, Line, pasts_with, MadeChange, past_at}
+use Rattle.merge_model.specs.ByHistory.{by_history, by_past, by_made}
+use Rattle.merge_model.specs.Noting
+use Rattle.merge_model.specs.Model.{Model, empty_model, model, model_step}
+use Rattle.merge_model.specs.Events.{after}
 use Rattle.merge_model.specs.Changes.{key_of, version_after}
 use Rattle.merge_model.specs.Faults.{reply_fault}
-use Rattle.merge_model.specs.History.{MadeChange, past_at}
-use Rattle.merge_model.specs.Judge.{SubscriberJudge}
-use Rattle.merge_model.specs.Keys.{at_number}
 use Rattle.merge_model.specs.Pasts.{past_after}
-use Rattle.merge_model.specs.Publications.{identities, rules_of}
-use Rattle.merge_model.specs.Publisher.{new_holders}
-use Rattle.merge_model.specs.PublisherRanges.{ask_by}
 use Rattle.merge_model.specs.Reinit.{reinitialised}
-use Rattle.merge_model.specs.Sending.{join_made, join_of, ranges_made, sending_refusal, unsent_rows, upload_made, upload_sent, want_of, with_message}
-use Rattle.merge_model.specs.Subscriber.{empty_subscriber, sub_at_moment, sub_closed, sub_counters, sub_drawn, sub_last_closed, sub_local_refusal, sub_made_locally, sub_next_dot, sub_version_at, with_version, with_version_if}
-use Rattle.merge_model.specs.Taking.{Acted, Missed, met_by, seq_of, taken}
-use Rattle.merge_model.specs.World.{empty_world, empty_subscribers}
-use Rattle.merge_laws.specs.Identities.{Held, holder_in, held_at, holders_at, Identities, IsTold, LetterTells, MessageTells}
+use Rattle.merge_model.specs.Sending.{join_of, upload_sent, want_of, with_message}
+use Rattle.merge_model.specs.Subscriber.{empty_subscriber, sub_at_moment, sub_closed, sub_drawn, sub_last_closed, sub_made_locally, sub_next_dot, sub_version_at, with_version, with_version_if}
+use Rattle.merge_model.specs.Taking.{taken}
+use Rattle.merge_model.proofs.Events.{events-keep}
+use Rattle.merge_laws.specs.Identities.{Held, holder_in, held_at, holders_at, Identities, LetterTells, MessageTells}
 use Rattle.merge_laws.specs.Received.{Received}
-use Rattle.merge_laws.proofs.Finding.{all-at, all-more}
+use Rattle.merge_laws.proofs.Finding.{all-more}
 use Rattle.merge_laws.proofs.IdentityCalls.{held-with, nothing-held}
 use Rattle.merge_laws.proofs.IdentityDraws.{draw-keeps, letters-grow}
 use Rattle.merge_laws.proofs.IdentityGrants.{Grows, all-grow, plans-told}
-use Rattle.merge_laws.proofs.IdentityNotes.{SameTaken, anew-made, join-taken, lines-made, posted-made, purge-made, same-made, taker-made, upload-taken}
+use Rattle.merge_laws.proofs.IdentityNotes.{SameTaken, anew-made, lines-made, purge-made, same-made, taker-made, upload-taken}
+use Rattle.merge_laws.proofs.Shapes.{Shapes, is_ranged, step-shaped}
+use Rattle.merge_laws.proofs.Walking.{StepsKeep, acts_in, here, join_noted, own_noted, step-keeps, told_by}
+use Rattle.merge_laws.proofs.WatermarkModels.{pool-at}
 use Rattle.merge_laws.proofs.IdentityTakes.{all-received, draw-took, holding, own-held, ranged-fits, same-held}
 use Rattle.merge_laws.proofs.Models.{model-fine, received-always}
 
@@ -148,331 +130,173 @@ module _ (publication : Publication) (grants : List Grant) (own : List (ℕ × H
         letters = letters-grow grants more pool grow i.letters;
       }
 
-module _ (publication : Publication) (says : Saying) (w : World) (h : History) (r : Received w h) (i : Apart publication w h.made) where
-  abbrev judges : Judges
-  judges = by_history h
+above-zero : (n : ℕ) → (n ≡ 0 → ⊥) → 1 ≤ n
+above-zero zero named = absurd (named refl)
+above-zero (suc n) named = omega arith
 
-  -- a step keeps it, with what it notes where it did something
-  abbrev Keeps : World × Outcome → History → Type 0
-  Keeps done after = Apart publication done.0 (noted_if (did_something done.1) after h).made
+-- A subscriber goes on.
 
-  noted-same : (b : Bool) (v : World) (after : History) → SameTaken after.made h.made → Apart publication v h.made → Apart publication v (noted_if b after h).made
-  noted-same true v after same k = taken-same publication v.publisher.grants v.publisher.held v.subscribers v.pool h.made after.made same k
-  noted-same false v after same k = k
+module _ (publication : Publication) (w : World) (made : List MadeChange) (i : Apart publication w made) (s : SubscriberTables) (at : subscriber_at w s.site ≡ Some s) where
+  put-stays : (t : SubscriberTables) → t.site ≡ s.site → Identities publication w.publisher.grants w.publisher.held (put_number w.subscribers s.site.0 t) w.pool made → Apart publication (with_subscriber t w) made
+  put-stays t same k = subst (λ (x : SiteId). Identities publication w.publisher.grants w.publisher.held (put_number w.subscribers x.0 t) w.pool made) (sym same) k
 
-  if-keeps : (b : Bool) (x y : World × Outcome) (k l : History) → (b ≡ true → Keeps x k) → (b ≡ false → Keeps y l) → Keeps (if b then x else y) (if b then k else l)
-  if-keeps true x y k l first second = first refl
-  if-keeps false x y k l first second = second refl
+  same-stays : (t : SubscriberTables) → t.site ≡ s.site → t.held ≡ s.held → Apart publication (with_subscriber t w) made
+  same-stays t same held = put-stays t same (same-held publication w.publisher.grants w.publisher.held w.subscribers w.pool made i s at t held)
 
-  abbrev here : PublisherTables
-  here = at_moment w.moment w.publisher
+  -- with a message of it
+  sends : (t : SubscriberTables) (message : Message) → t.site ≡ s.site → t.held ≡ s.held → MessageTells w.publisher.grants s.site message → Apart publication (post s.site message (with_subscriber t w)).0 made
+  sends t message same held tells =
+      letter-more publication w.publisher.grants w.publisher.held (with_subscriber t w).subscribers w.pool made (record { site = s.site; message = message }) (same-stays t same held) tells
 
-  -- Local changes at the publisher.
+  reply-acts : (judge : SubscriberJudge) (sent : Outstanding) (m : Reply) → MessageTells w.publisher.grants s.site (Replies m) → reply_fault publication sent m s ≡ None → Apart publication (with_subscriber (taken judge w.moment m s) w) made
+  reply-acts judge sent (reply.Joined m) tells none = same-stays (taken judge w.moment (reply.Joined m) s) refl refl
+  reply-acts judge sent (reply.Uploaded m) tells none = same-stays (taken judge w.moment (reply.Uploaded m) s) refl refl
+  reply-acts judge sent (reply.Downloaded m) tells none = same-stays (taken judge w.moment (reply.Downloaded m) s) refl refl
+  reply-acts judge sent (reply.Refused number values) tells none = same-stays (taken judge w.moment (reply.Refused number values) s) refl refl
+  reply-acts judge sent (reply.Ranged m) tells none =
+      let t : SubscriberTables = taken judge w.moment (reply.Ranged m) s in
+      let fits = ranged-fits publication sent m s none in
+      put-stays t refl (holding publication w.publisher.grants w.publisher.held w.subscribers w.pool made i s at t
+      (λ low. all-received w.publisher.grants made s.site.0 low m.grants s.held fits.0 fits.1 tells (own-held publication w.publisher.grants w.publisher.held w.subscribers w.pool made i s at low)))
 
-  drawn-keeps : (judge : PublisherJudge) (change : Change) (draw : Result Drawn Refusal)
-      → IfOk draw (λ d. (c : MadeChange) → c.dot.site.0 ≡ 0 → c.key.article ≡ (key_of (next_dot w.publisher) change).article → c.identity ≡ whole_number (Some d.value) → Identities publication d.grants d.held w.subscribers w.pool (c ∷ h.made))
-      → (let done : Result (PublisherTables × RowId) Refusal = elim draw [ Err why ↦ Err why | Ok d ↦ Ok (made_locally publication judge change d here) ] in
-      let k : History = elim draw [
-        | Err why ↦ h
-        | Ok d ↦ Noting.with_lines (Noting.lines_of_entries (last_closed here + 1) (Noting.drawn_entries publication judge change here d)) (Noting.with_change publication (next_dot here) (last_closed here + 1) change d.value h)
-      ] in Keeps (unless_refused w done (λ (a : PublisherTables × RowId). (with_publisher a.0 w, Made a.1))) k)
-  drawn-keeps judge change (Err why) fact = i
-  drawn-keeps judge change (Ok d) fact =
-      let k : History = Noting.with_change publication (next_dot here) (last_closed here + 1) change d.value h in
-      let more : List Line = Noting.lines_of_entries (last_closed here + 1) (Noting.drawn_entries publication judge change here d) in
-      let key : Key = key_of (next_dot here) change in
-      let c : MadeChange = Noting.made_change publication (next_dot here) (last_closed here + 1) change d.value key (past_after publication (next_dot here) change (past_at h 0 key)) in
+  version-placed : (key : Key) (version : Option Version) (u : SubscriberTables) → u.site ≡ s.site → (after : List MadeChange) → ((t : SubscriberTables) → t.held ≡ u.held → Identities publication w.publisher.grants w.publisher.held (put_number w.subscribers s.site.0 t) w.pool after)
+      → Apart publication (with_subscriber (with_version_if key version u) w) after
+  version-placed key None u same after each =
+      subst (λ (x : SiteId). Identities publication w.publisher.grants w.publisher.held (put_number w.subscribers x.0 u) w.pool after) (sym same) (each u refl)
+  version-placed key (Some version) u same after each =
+      subst (λ (x : SiteId). Identities publication w.publisher.grants w.publisher.held (put_number w.subscribers x.0 (with_version key version u)) w.pool after) (sym same) (each (with_version key version u) refl)
+
+-- Changes that are made, and answers.
+
+module _ (publication : Publication) (w : World) (h : History) (i : Apart publication w h.made) where
+  own-change : (judge : PublisherJudge) (change : Change) (d : Drawn) → drawn publication w.publisher change ≡ Ok d → Apart publication (with_publisher (made_locally publication judge change d (here w)).0 w) (own_noted publication judge change d (here w) h).made
+  own-change judge change d is =
+      let k : History = Noting.with_change publication (next_dot (here w)) (last_closed (here w) + 1) change d.value h in
+      let more : List Line = Noting.lines_of_entries (last_closed (here w) + 1) (Noting.drawn_entries publication judge change (here w) d) in
+      let key : Key = key_of (next_dot (here w)) change in
+      let c : MadeChange = Noting.made_change publication (next_dot (here w)) (last_closed (here w) + 1) change d.value key (past_after publication (next_dot (here w)) change (past_at h 0 key)) in
+      let fact = subst (λ (draw : Result Drawn Refusal). IfOk draw (λ x. (y : MadeChange) → y.dot.site.0 ≡ 0 → y.key.article ≡ (key_of (next_dot w.publisher) change).article → y.identity ≡ whole_number (Some x.value) → Identities publication x.grants x.held w.subscribers w.pool (y ∷ h.made)))
+      is (draw-keeps publication w.publisher w.subscribers w.pool h.made i change) in
       subst (λ (made : List MadeChange). Identities publication d.grants d.held w.subscribers w.pool made) (sym (lines-made more k)) (fact c refl refl refl)
 
-  local-keeps : (judge : PublisherJudge) (change : Change) (refusal : Option Refusal)
-      → (let done : Result (PublisherTables × RowId) Refusal = elim refusal [
-        | Some why ↦ Err why
-        | None ↦ elim (drawn publication w.publisher change) [ Err why ↦ Err why | Ok d ↦ Ok (made_locally publication judge change d here) ]
-      ] in Keeps (unless_refused w done (λ (a : PublisherTables × RowId). (with_publisher a.0 w, Made a.1))) (Noting.noted_at_publisher publication judge change here h))
-  local-keeps judge change (Some why) = i
-  local-keeps judge change None = drawn-keeps judge change (drawn publication w.publisher change) (draw-keeps publication w.publisher w.subscribers w.pool h.made i change)
+  sub-change : (s : SubscriberTables) (change : Change) (d : Value × List (ℕ × Holder)) → subscriber_at w s.site ≡ Some s → 1 ≤ s.site.0 → sub_drawn s change ≡ Ok d
+      → Apart publication (with_subscriber (sub_made_locally publication change d (sub_at_moment w.moment s)).0 w) (Noting.with_change publication (sub_next_dot s) (sub_last_closed s + 1) change d.0 h).made
+  sub-change s change d at low is =
+      let t : SubscriberTables = sub_at_moment w.moment s in
+      let key : Key = key_of (sub_next_dot s) change in
+      let c : MadeChange = Noting.made_change publication (sub_next_dot s) (sub_last_closed s + 1) change d.0 key (past_after publication (sub_next_dot s) change (past_at h s.site.0 key)) in
+      let u : SubscriberTables = record t { changes = t.changes + 1; held = d.1 } in
+      let fact = subst (λ (draw : Result (Value × List (ℕ × Holder)) Refusal). IfOk draw (λ x. (v : SubscriberTables) (y : MadeChange) → v.held ≡ x.1 → y.dot.site.0 ≡ s.site.0 → y.key.article ≡ (key_of (sub_next_dot s) change).article → y.identity ≡ whole_number (Some x.0)
+      → Identities publication w.publisher.grants w.publisher.held (put_number w.subscribers s.site.0 v) w.pool (y ∷ h.made)))
+      is (draw-took publication w.publisher.grants w.publisher.held w.subscribers w.pool h.made i s at change low) in
+      version-placed publication w h.made i s at key (version_after publication (sub_next_dot s) d.0 change (sub_version_at s key)) u refl (c ∷ h.made) (λ v same. fact v c same refl refl refl)
 
-  -- Requests that come to the publisher.
+  -- the publisher answers with the same ranges, where the same values were taken
+  answers : (site : SiteId) (m : Reply) (after : List MadeChange) → SameTaken after h.made → MessageTells w.publisher.grants site (Replies m) → Identities publication w.publisher.grants w.publisher.held w.subscribers (w.pool ++ record { site = site; message = Replies m } ∷ []) after
+  answers site m after same tells = letter-more publication w.publisher.grants w.publisher.held w.subscribers w.pool after (record { site = site; message = Replies m }) (taken-same publication w.publisher.grants w.publisher.held w.subscribers w.pool h.made after same i) tells
 
-  -- a letter more, and tables with the same ranges
-  answered-keeps : {A : Type 0} (site : SiteId) (message : A → Reply) (refusal : Option Refusal) (q : PublisherTables) (a : A) (k : History) → Identities publication q.grants q.held w.subscribers w.pool k.made → MessageTells q.grants site (Replies (message a))
-      → (let done : Result (PublisherTables × A) Refusal = unless refusal (q, a) in Keeps (answered site message w done) k)
-  answered-keeps site message (Some why) q a k good tells = i
-  answered-keeps site message None q a k good tells = letter-more publication q.grants q.held w.subscribers w.pool k.made (record { site = site; message = Replies (message a) }) good tells
+  -- and an ask for ranges, which is of the site that sent it
+  answers-ranges : (site : SiteId) (m : RangeAsk) → m.site ≡ site → Apart publication (post site (Replies (reply.Ranged (ranged m (plans publication m w.publisher)))) (with_publisher (with_grants (plans publication m w.publisher) (here w)) w)).0 h.made
+  answers-ranges site m same =
+      let q : PublisherTables = with_grants (plans publication m w.publisher) (here w) in
+      let message : Message = Replies (reply.Ranged (ranged m (plans publication m w.publisher))) in
+      subst (λ (x : SiteId). Identities publication q.grants q.held w.subscribers (w.pool ++ record { site = x; message = message } ∷ []) h.made) same
+      (letter-more publication q.grants q.held w.subscribers w.pool h.made (record { site = m.site; message = message })
+      (more-granted publication w.publisher.grants w.publisher.held w.subscribers w.pool h.made (map (ask_by m.site) m.wants) i) (plans-told (rules_of publication) w.publisher.grants m.site m.wants))
 
-  joined-keeps : (m : Join) (b : Bool) (k : History) → SameTaken k.made h.made → (let q : PublisherTables = if b then join_taken m here else here in Identities publication q.grants q.held w.subscribers w.pool k.made)
-  joined-keeps m true k same = taken-same publication w.publisher.grants w.publisher.held w.subscribers w.pool h.made k.made same i
-  joined-keeps m false k same = taken-same publication w.publisher.grants w.publisher.held w.subscribers w.pool h.made k.made same i
+-- Every step. The ways that it can go do not tell which site an ask for ranges came from. So they tell of the steps that post no
+-- answer to such an ask, and the shapes of a step tell of those that do.
 
-  uploaded-keeps : (judge : PublisherJudge) (incoming : List (Key × Past)) (m : Upload) (acts : List Act) (b : Bool)
-      → (let q : PublisherTables = if b then taken_in publication judge m acts here else here in
-      let k : History = if b then Noting.with_acts_noted publication judge m acts incoming here h else h in Identities publication q.grants q.held w.subscribers w.pool k.made)
-  uploaded-keeps judge incoming m acts true =
-      taken-same publication w.publisher.grants w.publisher.held w.subscribers w.pool h.made (Noting.with_acts_noted publication judge m acts incoming here h).made (upload-taken publication judge m acts incoming here h true) i
-  uploaded-keeps judge incoming m acts false = i
+-- whether ranges are told in the letter after these
+abbrev tells_ranges : List Letter → World → Bool
+tells_ranges pool w = elim (slice_get w.pool (length pool)) [
+  | None ↦ false
+  | Some letter ↦ elim letter.message [
+    | Asks m ↦ false
+    | Replies m ↦ is_ranged m
+  ]
+]
 
-  upload-keeps : (judge : PublisherJudge) (incoming : List (Key × Past)) (m : Upload) (decisions : List Decision) (refusal : Option Refusal) (a : Uploaded)
-      → Keeps (after_upload publication says judge m w (unless refusal (uploaded publication judge m decisions here, a))) (Noting.noted_upload publication judge m decisions incoming here h)
-  upload-keeps judge incoming m decisions (Some why) a = i
-  upload-keeps judge incoming m decisions None a =
-      let q : PublisherTables = uploaded publication judge m decisions here in
-      let k : History = Noting.noted_upload publication judge m decisions incoming here h in
-      letter-more publication q.grants q.held w.subscribers w.pool k.made (record { site = m.site; message = Replies (reply.Uploaded a) })
-      (uploaded-keeps judge incoming m (acts_of judge m decisions here) (brings_news judge m)) tt
+posted-tells : (pool : List Letter) (w : World) (site : SiteId) (message : Message) → w.pool ≡ pool → tells_ranges pool (post site message w).0 ≡ (let b : Bool = elim message [ Asks m ↦ false | Replies m ↦ is_ranged m ] in b)
+posted-tells pool w site message same =
+    let letter : Letter = record { site = site; message = message } in
+    ap (λ (xs : List Letter). tells_ranges xs (post site message w).0) (sym same)
+    ∙ ap (λ (found : Option Letter). (let b : Bool = elim found [ None ↦ false | Some x ↦ elim x.message [ Asks m ↦ false | Replies m ↦ is_ranged m ] ] in b)) (slice_get-append_past w.pool (letter ∷ []) (length w.pool) 0 (omega arith))
 
-  granted-keeps : (site : SiteId) (wants : List Want) → (let grants : List Grant = grants_with_all w.publisher.grants (plans_of (rules_of publication) w.publisher.grants (map (ask_by site) wants)) in Identities publication grants w.publisher.held w.subscribers w.pool h.made)
-  granted-keeps site wants = more-granted publication w.publisher.grants w.publisher.held w.subscribers w.pool h.made (map (ask_by site) wants) i
+none-tells : (w : World) → tells_ranges w.pool w ≡ false
+none-tells w = ap (λ (found : Option Letter). (let b : Bool = elim found [ None ↦ false | Some x ↦ elim x.message [ Asks m ↦ false | Replies m ↦ is_ranged m ] ] in b)) (slice_get_past w.pool (length w.pool) (omega arith))
 
-  ranges-keeps : (judge : PublisherJudge) (m : RangeAsk) (site : SiteId) (refusal : Option Refusal) → m.site ≡ site
-      → (let done : Result (PublisherTables × Ranged) Refusal = unless refusal (with_grants (plans publication m w.publisher) here, ranged m (plans publication m w.publisher)) in Keeps (answered site (λ (made : Ranged). reply.Ranged made) w done) h)
-  ranges-keeps judge m site refusal same =
-      subst (λ (x : SiteId). (let done : Result (PublisherTables × Ranged) Refusal = unless refusal (with_grants (plans publication m w.publisher) here, ranged m (plans publication m w.publisher)) in Keeps (answered x (λ (made : Ranged). reply.Ranged made) w done) h)) same
-      (answered-keeps m.site (λ (made : Ranged). reply.Ranged made) refusal (with_grants (plans publication m w.publisher) here) (ranged m (plans publication m w.publisher)) h (granted-keeps m.site m.wants) (plans-told (rules_of publication) w.publisher.grants m.site m.wants))
+not-both : {A : Type 0} (b : Bool) → b ≡ false → b ≡ true → A
+not-both b none some = absurd (grind (arith, none, some))
 
-  request-keeps : (incoming : List (Key × Past)) (site : SiteId) (m : Request) → MessageTells w.publisher.grants site (Asks m) → Keeps (deliver_request publication says (by_past h incoming) site m w) (noted_request publication says (by_past h incoming) incoming w m h)
-  request-keeps incoming site (request.Join m) tells =
-      let k : History = Noting.noted_join (by_past h incoming) m w.publisher h in
-      answered-keeps site (λ (made : Joined). reply.Joined made) (join_refusal publication m w.publisher) (joined m here) (record { seq = m.seq }) k
-      (joined-keeps m (join_acts m w.publisher) k (join-taken (by_past h incoming) m w.publisher h)) tt
-  request-keeps incoming site (request.Upload m) tells =
-      let judge : PublisherJudge = by_past h incoming in
-      upload-keeps judge incoming m (kept_decisions says w.tallies (upload_questions publication judge w.moment m w.publisher)) (upload_refusal publication judge w.moment m w.publisher) (record { seq = m.seq; received = max m.to (judge.received m.site.0) })
-  request-keeps incoming site (request.Ranges m) tells = ranges-keeps (by_past h incoming) m site (ranges_refusal publication (by_past h incoming) w.moment m w.publisher) tells
-  request-keeps incoming site (request.Download m) tells =
-      answered-keeps site (λ (made : Downloaded). reply.Downloaded made) (download_refusal publication w.moment m w.publisher) (asked m here) (reply_to publication (by_past h incoming) m (asked m here)) h i tt
+module _ (publication : Publication) (says : Saying) where
+  -- what is known before the step
+  abbrev Base : List Letter → World → History → Type 0
+  Base pool w h = Received w h × (Apart publication w h.made × (w.pool ≡ pool))
 
-  -- Subscribers. A step of one that there is keeps it, where it goes on so.
+  abbrev Unanswered : List Letter → World → History → Type 0
+  Unanswered pool w h = tells_ranges pool w ≡ false → Apart publication w h.made
 
-  abbrev Stays : World → Type 0
-  Stays v = Apart publication v h.made
+  identities-keep : (pool : List Letter) → StepsKeep publication says (Base pool) (Unanswered pool)
+  identities-keep pool = record {
+    moment = λ w h now b p none. b.1.0;
+    own_change = λ w h change d b p fine is none. own-change publication w h b.1.0 (by_past h (pasts_with h 0)) change d is;
+    own_closing = λ w h b p none. b.1.0;
+    forgetting = λ w h b p none. (let judge : PublisherJudge = by_past h (pasts_with h 0) in let k : History = Noting.noted_purge publication judge (here w) h in
+        taken-same publication w.publisher.grants w.publisher.held w.subscribers w.pool h.made k.made (same-made k.made h.made (purge-made publication judge (here w) h)) b.1.0);
+    same = λ w h s b p at none. same-stays publication w h.made b.1.0 s at s refl refl;
+    sub_change = λ w h s change d b p at named fine is none. sub-change publication w h b.1.0 s change d at (above-zero s.site.0 named) is;
+    sub_closing = λ w h s b p at none. same-stays publication w h.made b.1.0 s at (sub_closed (sub_at_moment w.moment s)) refl refl;
+    anew = λ w h s b p at none. (let judge : SubscriberJudge = by_made h s.site in let t : SubscriberTables = (reinitialised judge (sub_at_moment w.moment s)).0 in
+        subst (λ (made : List MadeChange). Apart publication (with_subscriber t w) made) (sym (anew-made (by_history h) s.site (Some s) h)) (same-stays publication w h.made b.1.0 s at t refl refl));
+    sends_join = λ w h s b p at joining none. sends publication w h.made b.1.0 s at (with_message ask.Join s) (Asks (request.Join (join_of s))) refl refl tt;
+    sends_upload = λ w h s b p at fine none. (let made : SubscriberTables × Upload = upload_sent (by_made h s.site) (sub_closed (sub_at_moment w.moment s)) in sends publication w h.made b.1.0 s at made.0 (Asks (request.Upload made.1)) refl refl tt);
+    sends_ranges = λ w h s b p at fine none. sends publication w h.made b.1.0 s at (with_message ask.Ranges s) (Asks (request.Ranges (record { site = s.site; seq = s.seq + 1; wants = map want_of s.held }))) refl refl refl;
+    sends_ask = λ w h s b p at fine none. sends publication w h.made b.1.0 s at (with_message (ask.Download s.watermark) s) (Asks (request.Download (record { site = s.site; seq = s.seq + 1; from = s.watermark }))) refl refl tt;
+    joins = λ w h number m b p at fine acts none. (let judge : PublisherJudge = by_past h (pasts_with h number) in
+        let joined : History = record (Noting.with_done m.site.0 0 m.generation h) { bases = put_number h.bases m.site.0 (last_closed w.publisher) } in
+        let lines : List Line = map (Noting.gone_line (last_closed w.publisher + 1)) (map (Noting.gone_for m.site) (Noting.left_rows judge m.site)) in
+        answers publication w h b.1.0 m.site (reply.Joined (record { seq = m.seq })) (join_noted judge m w.publisher h).made (same-made (join_noted judge m w.publisher h).made h.made (lines-made lines joined)) tt);
+    joins_again = λ w h number m b p at acts none. answers publication w h b.1.0 m.site (reply.Joined (record { seq = m.seq })) h.made (λ site article value. refl) tt;
+    uploads = λ w h number m b p at fine news none. (let judge : PublisherJudge = by_past h (pasts_with h number) in let acts : List Act = acts_in publication says judge m w in
+        answers publication w h b.1.0 m.site (reply.Uploaded (told_by judge m)) (Noting.with_acts_noted publication judge m acts (pasts_with h number) (here w) h).made (upload-taken publication judge m acts (pasts_with h number) (here w) h true) tt);
+    uploads_again = λ w h number m b p at old none. answers publication w h b.1.0 m.site (reply.Uploaded (told_by (by_past h (pasts_with h number)) m)) h.made (λ site article value. refl) tt;
+    answers_ranges = λ w h site m b p none. (let v : World = with_publisher (with_grants (plans publication m w.publisher) (here w)) w in
+        let message : Message = Replies (reply.Ranged (ranged m (plans publication m w.publisher))) in not-both (tells_ranges pool (post site message v).0) none (posted-tells pool v site message b.1.1));
+    answers_ask = λ w h number site m b p at fine none. answers publication w h b.1.0 site (reply.Downloaded (reply_to publication (by_past h (pasts_with h number)) m (asked m (here w)))) h.made (λ x article value. refl) tt;
+    replies = λ w h s number m sent b p at there out fits none. (let judge : SubscriberJudge = by_made h s.site in let t : SubscriberTables = taken judge w.moment m s in
+        subst (λ (made : List MadeChange). Apart publication (with_subscriber t w) made) (sym (taker-made (by_history h) s.site (pasts_with h number) m (Some s) h))
+        (reply-acts publication w h.made b.1.0 s at judge sent m (pool-at (LetterTells w.publisher.grants) w number (record { site = s.site; message = Replies m }) there b.1.0.letters) fits));
+  }
 
-  found-stays : (site : SiteId) (found : Option SubscriberTables) (act : SubscriberTables → World × Outcome) → subscriber_at w site ≡ found → ((s : SubscriberTables) → subscriber_at w site ≡ Some s → Stays (act s).0)
-      → (let done : World × Outcome = elim found [ None ↦ (w, Refuses (UnknownSite site)) | Some s ↦ act s ] in Stays done.0)
-  found-stays site None act is each = i
-  found-stays site (Some s) act is each = each s is
+  ranges-keep : (w : World) (h : History) → Apart publication w h.made → Shapes publication w h (λ (v : World) (k : History). tells_ranges w.pool v ≡ true → Apart publication v k.made)
+  ranges-keep w h i = record {
+    nothing = λ k is. not-both (tells_ranges w.pool w) (none-tells w) is;
+    passes = λ seconds k is. not-both (tells_ranges w.pool w) (none-tells w) is;
+    publisher = λ q k is. not-both (tells_ranges w.pool w) (none-tells w) is;
+    subscriber = λ t k is. not-both (tells_ranges w.pool w) (none-tells w) is;
+    asks = λ t site m k is. not-both (tells_ranges w.pool (post site (Asks m) (with_subscriber t w)).0) (posted-tells w.pool (with_subscriber t w) site (Asks m) refl) is;
+    answers = λ q tallies site m k other is. (let v : World = record w { publisher = q; tallies = tallies } in not-both (tells_ranges w.pool (post site (Replies m) v).0) (posted-tells w.pool v site (Replies m) refl ∙ other) is);
+    ranges = λ number site m at is. answers-ranges publication w h i site m (pool-at (LetterTells w.publisher.grants) w number (record { site = site; message = Asks (request.Ranges m) }) at i.letters);
+  }
 
-  module _ (site : SiteId) (s : SubscriberTables) (at : subscriber_at w site ≡ Some s) where
-    keyed : s.site.0 ≡ site.0
-    keyed = (r.subscribers site.0 s at).keyed
+  decided : {A : Type 0} (b : Bool) → (b ≡ true → A) → (b ≡ false → A) → A
+  decided true one other = one refl
+  decided false one other = other refl
 
-    own-at : at_number w.subscribers s.site.0 ≡ Some s
-    own-at = ap (λ (n : ℕ). at_number w.subscribers n) keyed ∙ at
-
-    put-stays : (t : SubscriberTables) → t.site ≡ s.site → Identities publication w.publisher.grants w.publisher.held (put_number w.subscribers s.site.0 t) w.pool h.made → Stays (with_subscriber t w)
-    put-stays t same k = subst (λ (x : SiteId). Identities publication w.publisher.grants w.publisher.held (put_number w.subscribers x.0 t) w.pool h.made) (sym same) k
-
-    same-stays : (t : SubscriberTables) → t.site ≡ s.site → t.held ≡ s.held → Stays (with_subscriber t w)
-    same-stays t same held = put-stays t same (same-held publication w.publisher.grants w.publisher.held w.subscribers w.pool h.made i s own-at t held)
-
-    letter-stays : (t : SubscriberTables) (message : Message) → t.site ≡ s.site → t.held ≡ s.held → MessageTells w.publisher.grants s.site message → Stays (post s.site message (with_subscriber t w)).0
-    letter-stays t message same held tells =
-        letter-more publication w.publisher.grants w.publisher.held (with_subscriber t w).subscribers w.pool h.made (record { site = s.site; message = message }) (same-stays t same held) tells
-
-    closed-stays : (refusal : Option Refusal) → (let t : SubscriberTables = sub_closed (sub_at_moment w.moment s) in
-        let done : Result (SubscriberTables × ℕ) Refusal = unless refusal (t, sub_last_closed t) in Stays (unless_refused w done (λ (a : SubscriberTables × ℕ). (with_subscriber a.0 w, Closes a.1))).0)
-    closed-stays (Some why) = i
-    closed-stays None = same-stays (sub_closed (sub_at_moment w.moment s)) refl refl
-
-    anew-stays : (judge : SubscriberJudge) (refusal : Option Refusal) → (let made : SubscriberTables × ℕ = reinitialised judge (sub_at_moment w.moment s) in
-        let done : Result (SubscriberTables × ℕ) Refusal = unless refusal made in Stays (unless_refused w done (λ (a : SubscriberTables × ℕ). (with_subscriber a.0 w, Discards a.1))).0)
-    anew-stays judge (Some why) = i
-    anew-stays judge None = same-stays (reinitialised judge (sub_at_moment w.moment s)).0 refl refl
-
-    -- messages that it makes
-
-    join-stays : (b : Bool) → (let made : Option (SubscriberTables × Join) = if b then None else Some (with_message ask.Join s, join_of s) in Stays (posted s.site (λ (m : Join). request.Join m) w made).0)
-    join-stays true = i
-    join-stays false = letter-stays (with_message ask.Join s) (Asks (request.Join (join_of s))) refl refl tt
-
-    refusal-stays : {A : Type 0} (refusal : Option Refusal) (made : Option (SubscriberTables × A)) (message : A → Request) → Stays (posted s.site message w made).0 → Stays (unless_refused w (unless refusal made) (posted s.site message w)).0
-    refusal-stays (Some why) made message ok = i
-    refusal-stays None made message ok = ok
-
-    upload-stays : (judge : SubscriberJudge) (rows : List (Key × ℕ)) → (let made : Option (SubscriberTables × Upload) = elim rows [ [] ↦ None | row ∷ rest ↦ Some (upload_sent judge (sub_closed (sub_at_moment w.moment s))) ] in Stays (posted s.site (λ (m : Upload). request.Upload m) w made).0)
-    upload-stays judge [] = i
-    upload-stays judge (row ∷ rest) =
-        let sent : SubscriberTables × Upload = upload_sent judge (sub_closed (sub_at_moment w.moment s)) in
-        letter-stays sent.0 (Asks (request.Upload sent.1)) refl refl tt
-
-    asking-stays : (held : List (ℕ × Holder)) → (let made : Option (SubscriberTables × RangeAsk) = elim held [ [] ↦ None | entry ∷ entries ↦ Some (with_message ask.Ranges s, record { site = s.site; seq = s.seq + 1; wants = map want_of s.held }) ] in Stays (posted s.site (λ (m : RangeAsk). request.Ranges m) w made).0)
-    asking-stays [] = i
-    asking-stays (entry ∷ entries) = letter-stays (with_message ask.Ranges s) (Asks (request.Ranges (record { site = s.site; seq = s.seq + 1; wants = map want_of s.held }))) refl refl refl
-
-    download-stays : (refusal : Option Refusal) → (let done : Result (SubscriberTables × Download) Refusal = unless refusal (with_message (ask.Download s.watermark) s, record { site = s.site; seq = s.seq + 1; from = s.watermark }) in
-        Stays (unless_refused w done (λ (made : SubscriberTables × Download). post s.site (Asks (request.Download made.1)) (with_subscriber made.0 w))).0)
-    download-stays (Some why) = i
-    download-stays None = letter-stays (with_message (ask.Download s.watermark) s) (Asks (request.Download (record { site = s.site; seq = s.seq + 1; from = s.watermark }))) refl refl tt
-
-    send-stays : (sending : Sending) → Stays (send_from judges sending w s).0
-    send-stays SendJoin = refusal-stays (counter_end (sub_counters s)) (join_made s) (λ (m : Join). request.Join m) (join-stays s.is_joined)
-    send-stays SendUpload = refusal-stays (sending_refusal s) (upload_made (judges.subscriber s.site s) w.moment s) (λ (m : Upload). request.Upload m) (upload-stays (judges.subscriber s.site s) (unsent_rows (judges.subscriber s.site s) s))
-    send-stays SendRanges = refusal-stays (sending_refusal s) (ranges_made s) (λ (m : RangeAsk). request.Ranges m) (asking-stays s.held)
-    send-stays SendDownload = download-stays (sending_refusal s)
-
-    -- replies that it takes
-
-    reply-acts : (judge : SubscriberJudge) (sent : Outstanding) (m : Reply) → MessageTells w.publisher.grants s.site (Replies m) → reply_fault publication sent m s ≡ None → Stays (with_subscriber (taken judge w.moment m s) w)
-    reply-acts judge sent (reply.Joined m) tells none = same-stays (taken judge w.moment (reply.Joined m) s) refl refl
-    reply-acts judge sent (reply.Uploaded m) tells none = same-stays (taken judge w.moment (reply.Uploaded m) s) refl refl
-    reply-acts judge sent (reply.Downloaded m) tells none = same-stays (taken judge w.moment (reply.Downloaded m) s) refl refl
-    reply-acts judge sent (reply.Refused number values) tells none = same-stays (taken judge w.moment (reply.Refused number values) s) refl refl
-    reply-acts judge sent (reply.Ranged m) tells none =
-        let t : SubscriberTables = taken judge w.moment (reply.Ranged m) s in
-        let fits = ranged-fits publication sent m s none in
-        put-stays t refl (holding publication w.publisher.grants w.publisher.held w.subscribers w.pool h.made i s own-at t
-        (λ low. all-received w.publisher.grants h.made s.site.0 low m.grants s.held fits.0 fits.1 tells (own-held publication w.publisher.grants w.publisher.held w.subscribers w.pool h.made i s own-at low)))
-
-    fault-stays : (t : SubscriberTables) (fault : Option Refusal) → (fault ≡ None → Stays (with_subscriber t w))
-        → (let done : Result (SubscriberTables × Taken) Refusal = unless fault (t, Acted) in Stays (unless_refused w done (λ (a : SubscriberTables × Taken). (with_subscriber a.0 w, Took a.1))).0)
-    fault-stays t (Some why) acts = i
-    fault-stays t None acts = acts refl
-
-    missed-stays : (seq outstanding : ℕ) → (let done : Result (SubscriberTables × Taken) Refusal = Ok (s, Missed seq outstanding) in Stays (unless_refused w done (λ (a : SubscriberTables × Taken). (with_subscriber a.0 w, Took a.1))).0)
-    missed-stays seq outstanding = same-stays s refl refl
-
-    if-stays : (b : Bool) (x y : Result (SubscriberTables × Taken) Refusal) → Stays (unless_refused w x (λ (a : SubscriberTables × Taken). (with_subscriber a.0 w, Took a.1))).0 → Stays (unless_refused w y (λ (a : SubscriberTables × Taken). (with_subscriber a.0 w, Took a.1))).0
-        → Stays (unless_refused w (if b then x else y) (λ (a : SubscriberTables × Taken). (with_subscriber a.0 w, Took a.1))).0
-    if-stays true x y first second = first
-    if-stays false x y first second = second
-
-    met-stays : (judge : SubscriberJudge) (m : Reply) (found : Option (ℕ × Outstanding)) → MessageTells w.publisher.grants s.site (Replies m)
-        → Stays (unless_refused w (met_by publication judge w.moment m s found) (λ (a : SubscriberTables × Taken). (with_subscriber a.0 w, Took a.1))).0
-    met-stays judge m None tells = missed-stays (seq_of m) 0
-    met-stays judge m (Some sent) tells =
-        if-stays (sent.0 == seq_of m) (unless (reply_fault publication sent.1 m s) (taken judge w.moment m s, Acted)) (Ok (s, Missed (seq_of m) sent.0))
-        (fault-stays (taken judge w.moment m s) (reply_fault publication sent.1 m s) (reply-acts judge sent.1 m tells)) (missed-stays (seq_of m) sent.0)
-
-    reply-stays : (judge : SubscriberJudge) (m : Reply) → MessageTells w.publisher.grants s.site (Replies m)
-        → Stays (unless_refused w (take_reply publication judge w.moment m s) (λ (a : SubscriberTables × Taken). (with_subscriber a.0 w, Took a.1))).0
-    reply-stays judge (reply.Joined m) tells = met-stays judge (reply.Joined m) s.outstanding tells
-    reply-stays judge (reply.Uploaded m) tells = met-stays judge (reply.Uploaded m) s.outstanding tells
-    reply-stays judge (reply.Ranged m) tells = met-stays judge (reply.Ranged m) s.outstanding tells
-    reply-stays judge (reply.Downloaded m) tells = met-stays judge (reply.Downloaded m) s.outstanding tells
-    reply-stays judge (reply.Refused number values) tells = same-stays s refl refl
-
-    -- a local change
-
-    version-placed : (key : Key) (version : Option Version) (u : SubscriberTables) → u.site ≡ s.site → (made : List MadeChange) → ((t : SubscriberTables) → t.held ≡ u.held → Identities publication w.publisher.grants w.publisher.held (put_number w.subscribers s.site.0 t) w.pool made)
-        → Apart publication (with_subscriber (with_version_if key version u) w) made
-    version-placed key None u same made each =
-        subst (λ (x : SiteId). Identities publication w.publisher.grants w.publisher.held (put_number w.subscribers x.0 u) w.pool made) (sym same) (each u refl)
-    version-placed key (Some version) u same made each =
-        subst (λ (x : SiteId). Identities publication w.publisher.grants w.publisher.held (put_number w.subscribers x.0 (with_version key version u)) w.pool made) (sym same) (each (with_version key version u) refl)
-
-    own-drawn : (change : Change) (draw : Result (Value × List (ℕ × Holder)) Refusal)
-        → IfOk draw (λ d. (t : SubscriberTables) (c : MadeChange) → t.held ≡ d.1 → c.dot.site.0 ≡ s.site.0 → c.key.article ≡ (key_of (sub_next_dot s) change).article → c.identity ≡ whole_number (Some d.0)
-        → Identities publication w.publisher.grants w.publisher.held (put_number w.subscribers s.site.0 t) w.pool (c ∷ h.made))
-        → (let done : Result (SubscriberTables × RowId) Refusal = elim draw [ Err why ↦ Err why | Ok d ↦ Ok (sub_made_locally publication change d (sub_at_moment w.moment s)) ] in
-        let k : History = elim draw [ Err refusal ↦ h | Ok d ↦ Noting.with_change publication (sub_next_dot s) (sub_last_closed s + 1) change d.0 h ] in
-        Keeps (unless_refused w done (λ (a : SubscriberTables × RowId). (with_subscriber a.0 w, Made a.1))) k)
-    own-drawn change (Err why) fact = i
-    own-drawn change (Ok d) fact =
-        let here : SubscriberTables = sub_at_moment w.moment s in
-        let key : Key = key_of (sub_next_dot s) change in
-        let c : MadeChange = Noting.made_change publication (sub_next_dot s) (sub_last_closed s + 1) change d.0 key (past_after publication (sub_next_dot s) change (past_at h s.site.0 key)) in
-        let u : SubscriberTables = record here { changes = here.changes + 1; held = d.1 } in
-        version-placed key (version_after publication (sub_next_dot s) d.0 change (sub_version_at s key)) u refl (c ∷ h.made) (λ t same. fact t c same refl refl refl)
-
-    own-local : (change : Change) (refusal : Option Refusal) → 1 ≤ s.site.0
-        → (let done : Result (SubscriberTables × RowId) Refusal = elim refusal [
-          | Some why ↦ Err why
-          | None ↦ elim (sub_drawn s change) [ Err why ↦ Err why | Ok d ↦ Ok (sub_made_locally publication change d (sub_at_moment w.moment s)) ]
-        ] in Keeps (unless_refused w done (λ (a : SubscriberTables × RowId). (with_subscriber a.0 w, Made a.1))) (Noting.noted_at_subscriber publication change s h))
-    own-local change (Some why) low = i
-    own-local change None low = own-drawn change (sub_drawn s change) (draw-took publication w.publisher.grants w.publisher.held w.subscribers w.pool h.made i s own-at change low)
-
-  found-makes : (site : SiteId) (change : Change) (found : Option SubscriberTables) → 1 ≤ site.0 → subscriber_at w site ≡ found
-      → (let done : World × Outcome = elim found [ None ↦ (w, Refuses (UnknownSite site)) | Some s ↦ make_at_subscriber publication change w s ] in
-      let k : History = elim found [ None ↦ h | Some s ↦ Noting.noted_at_subscriber publication change s h ] in Keeps done k)
-  found-makes site change None low at = i
-  found-makes site change (Some s) low at = own-local site s at change (sub_local_refusal publication change s) (omega (arith, low, keyed site s at))
-
-  positive : (n : ℕ) → (n == 0) ≡ false → 1 ≤ n
-  positive n differs = grind (arith, nat_tests, differs)
-
-  make-keeps : (site : SiteId) (change : Change) → Keeps (make_at publication judges site change w) (noted_make publication judges site change w h)
-  make-keeps site change =
-      if-keeps (site.0 == 0) (make_at_publisher publication judges change w) (at_subscriber site w (make_at_subscriber publication change w))
-      (Noting.noted_at_publisher publication (judges.publisher 0) change here h) (elim (subscriber_at w site) [ None ↦ h | Some s ↦ Noting.noted_at_subscriber publication change s h ])
-      (λ is. local-keeps (judges.publisher 0) change (local_refusal publication change w.publisher))
-      (λ is. found-makes site change (subscriber_at w site) (positive site.0 is) refl)
-
-  -- Closings.
-
-  own-closed : (refusal : Option Refusal) → (let done : Result (PublisherTables × ℕ) Refusal = unless refusal (closed here, last_closed (closed here)) in Stays (unless_refused w done (λ (a : PublisherTables × ℕ). (with_publisher a.0 w, Closes a.1))).0)
-  own-closed (Some why) = i
-  own-closed None = i
-
-  either-stays : (b : Bool) (x y : World × Outcome) → Stays x.0 → Stays y.0 → Stays (if b then x else y).0
-  either-stays true x y first second = first
-  either-stays false x y first second = second
-
-  close-stays : (site : SiteId) → Stays (close_at site w).0
-  close-stays site = either-stays (site.0 == 0) (close_publisher w) (at_subscriber site w (close_subscriber w)) (own-closed (counter_end (counters w.publisher)))
-      (found-stays site (subscriber_at w site) (close_subscriber w) refl (λ s at. closed-stays site s at (counter_end (sub_counters s))))
-
-  -- Every message, and every step.
-
-  tells-own : (site : SiteId) (s : SubscriberTables) (m : Reply) → s.site.0 ≡ site.0 → MessageTells w.publisher.grants site (Replies m) → MessageTells w.publisher.grants s.site (Replies m)
-  tells-own site s (reply.Joined m) same tells = tt
-  tells-own site s (reply.Uploaded m) same tells = tt
-  tells-own site s (reply.Downloaded m) same tells = tt
-  tells-own site s (reply.Refused number values) same tells = tt
-  tells-own site s (reply.Ranged m) same tells = subst (λ (n : ℕ). AllByRecursion (IsTold w.publisher.grants n) m.grants) (sym same) tells
-
-  message-keeps : (number : ℕ) (site : SiteId) (message : Message) → MessageTells w.publisher.grants site message
-      → (let letter : Letter = record { site = site; message = message } in Keeps (deliver_letter publication says judges number w letter) (noted_letter publication says judges number w letter h))
-  message-keeps number site (Asks m) tells = request-keeps (pasts_with h number) site m tells
-  message-keeps number site (Replies m) tells =
-      let done : World × Outcome = at_subscriber site w (deliver_reply publication judges m w) in
-      let k : History = noted_letter publication says judges number w (record { site = site; message = Replies m }) h in
-      noted-same (did_something done.1) done.0 k (same-made k.made h.made (taker-made judges site (pasts_with h number) m (subscriber_at w site) h))
-      (found-stays site (subscriber_at w site) (deliver_reply publication judges m w) refl (λ s at. reply-stays site s at (judges.subscriber s.site s) m (tells-own site s m (keyed site s at) tells)))
-
-  letter-known : (number : ℕ) (letter : Letter) → letter_at w number ≡ Some letter → LetterTells w.publisher.grants letter
-  letter-known zero letter at = absurd (grind (arith, at))
-  letter-known (suc k) letter at = all-at (LetterTells w.publisher.grants) w.pool k letter at i.letters
-
-  letter-keeps : (number : ℕ) (found : Option Letter) → letter_at w number ≡ found
-      → (let done : World × Outcome = elim found [ None ↦ (w, NoLetter) | Some letter ↦ deliver_letter publication says judges number w letter ] in
-      let k : History = elim found [ None ↦ h | Some letter ↦ noted_letter publication says judges number w letter h ] in Keeps done k)
-  letter-keeps number None at = i
-  letter-keeps number (Some letter) at = message-keeps number letter.site letter.message (letter-known number letter at)
-
-  unnoted : (done : World × Outcome) → Stays done.0 → Keeps done h
-  unnoted done k = noted-same (did_something done.1) done.0 h (λ site article value. refl) k
-
-  action-keeps : (action : Action) → Keeps (step_by publication says judges w action) (noted publication says judges w action h)
-  action-keeps (Pass seconds) = i
-  action-keeps (Make site change) = make-keeps site change
-  action-keeps (CloseAt site) = unnoted (close_at site w) (close-stays site)
-  action-keeps (Send site sending) = unnoted (at_subscriber site w (send_from judges sending w)) (found-stays site (subscriber_at w site) (send_from judges sending w) refl (λ s at. send-stays site s at sending))
-  action-keeps (Deliver number) = letter-keeps number (letter_at w number) refl
-  action-keeps (MakeAnew site) =
-      let done : World × Outcome = at_subscriber site w (make_anew judges w) in
-      let k : History = noted publication says judges w (MakeAnew site) h in
-      noted-same (did_something done.1) done.0 k (same-made k.made h.made (anew-made judges site (subscriber_at w site) h))
-      (found-stays site (subscriber_at w site) (make_anew judges w) refl (λ s at. anew-stays site s at (judges.subscriber s.site s) (counter_end (sub_counters s))))
-  action-keeps Forget =
-      let k : History = Noting.noted_purge publication (judges.publisher 0) here h in
-      taken-same publication w.publisher.grants w.publisher.held w.subscribers w.pool h.made k.made (same-made k.made h.made (purge-made publication (judges.publisher 0) here h)) i
+  identities-step : (m : Model) (action : Action) → Received m.world m.history → Apart publication m.world m.history.made → (let n : Model = (model_step publication says m action).0 in Apart publication n.world n.history.made)
+  identities-step m action r i =
+      let n : Model = (model_step publication says m action).0 in
+      let pool : List Letter = m.world.pool in
+      decided (tells_ranges pool n.world)
+      (step-shaped publication says m.world m.history (λ (v : World) (k : History). tells_ranges pool v ≡ true → Apart publication v k.made) (ranges-keep m.world m.history i) action)
+      (step-keeps publication says (Base pool) (Unanswered pool) (λ w h b. b.0) (identities-keep pool) m action (r, (i, refl)) (λ none. i))
 
 -- Every list of events.
-
-abbrev pub Kept : Publication → Model → Type 0
-Kept publication m = Received m.world m.history × Apart publication m.world m.history.made
-
-step-keeps : (publication : Publication) (says : Saying) (m : Model) (action : Action) → Kept publication m → Kept publication (model_step publication says m action).0
-step-keeps publication says m action k =
-    let judges : Judges = by_history m.history in
-    let done : World × Outcome = step_by publication says judges m.world action in
-    let after : History = noted_if (did_something done.1) (noted publication says judges m.world action m.history) m.history in (
-      model-fine publication says m action k.0,
-      subst (λ (made : List MadeChange). Apart publication done.0 made) (sym (posted-made done.0 done.1 after)) (action-keeps publication says m.world m.history k.0 k.1 action),
-    )
 
 pub identities-always : (publication : Publication) → All IsRule (rules_of publication) → (says : Saying) (tallies : List ℕ) (events : List Event)
     → (let m : Model = after publication (model publication says) (empty_model publication tallies) events in Apart publication m.world m.history.made)
 identities-always publication fit says tallies events =
-    (events-keep publication (model publication says) (Kept publication) (λ m action k. step-keeps publication says m action k) events (empty_model publication tallies)
+    (events-keep publication (model publication says) (λ (m : Model). Received m.world m.history × Apart publication m.world m.history.made)
+    (λ m action both. (model-fine publication says m action both.0, identities-step publication says m action both.0 both.1)) events (empty_model publication tallies)
     (received-always publication says tallies [], begins publication fit tallies)).1

@@ -1,38 +1,33 @@
 -- What replies, making anew, purges and letters note keeps what is known.
-use Rattle.std.specs.Prelude.{◌+◌, ℕ, List, [], ◌∷◌, Bool, true, false, Option, Some, None, map, flat_map, if◌then◌else◌}
+use Rattle.std.specs.Prelude.{◌+◌, ℕ, List, [], ◌∷◌, Bool, true, false, map, flat_map, if◌then◌else◌}
 use Rattle.std.specs.List.{fold}
 use Rattle.merge_types.specs.declared.identifiers.SiteId.{SiteId}
 use Rattle.merge_units.specs.declared.version.Version.{Version}
+use Rattle.merge_schema.specs.declared.publication.Publication.{Publication}
 use Rattle.merge_batch.specs.declared.reply.Act.{Act as Order}
 use Rattle.merge_batch.specs.declared.reply.Act.TheVariants as order
 use Rattle.merge_batch.specs.declared.reply.DownloadItem.{DownloadItem}
 use Rattle.merge_batch.specs.declared.reply.Reply.{Reply}
 use Rattle.merge_batch.specs.declared.reply.Reply.TheVariants as reply
 use Rattle.merge_batch.specs.declared.request.Join.{Join}
-use Rattle.merge_schema.specs.declared.publication.Publication.{Publication}
 use Rattle.merge_model.specs.History.{History, Line, Past, past_at, past_in}
 use Rattle.merge_model.specs.Judge.{PublisherJudge, SubscriberJudge}
 use Rattle.merge_model.specs.Keys.{put_number}
-use Rattle.merge_model.specs.Model.{pasts_in, with_letter, with_posted}
+use Rattle.merge_model.specs.Model.{pasts_in, with_letter}
 use Rattle.merge_model.specs.Publications.{by_site}
 use Rattle.merge_model.specs.Publisher.{last_closed}
-use Rattle.merge_model.specs.PublisherJoin.{join_acts}
 use Rattle.merge_model.specs.Reinit.{discarded}
-use Rattle.merge_model.specs.Steps.{Closes, Discards, Forgot, Made, NoLetter, NoPost, Outcome, Passed, Posted, Refuses, Took}
 use Rattle.merge_model.specs.Tables.{Key, PublisherTables, SubscriberTables}
 use Rattle.merge_model.specs.Taking.{key_of_download}
-use Rattle.merge_model.specs.World.{Judges, Letter, World, letter_at}
+use Rattle.merge_model.specs.World.{Letter}
 use Rattle.merge_model.specs.Noting
 use Rattle.merge_laws.specs.Knowledge.{AllKnow, Known}
 use Rattle.merge_laws.proofs.Finding.{all-more}
-use Rattle.merge_laws.proofs.KnownRows.{held-knows, message-knows, past-knows, put-sites}
 use Rattle.merge_laws.proofs.KnownNotes.{Reached, dropped-known, lines-known, lost-known, others-known, past-known}
+use Rattle.merge_laws.proofs.KnownRows.{held-knows, message-knows, past-knows, put-sites}
+use Rattle.merge_laws.proofs.Walking.{join_noted}
 
 module _ (count : ℕ → ℕ) where
-  if-known : (b : Bool) (x y : History) → Known count x → Known count y → Known count (if b then x else y)
-  if-known true x y one other = one
-  if-known false x y one other = other
-
   -- Replies.
 
   if-reached : (incoming : List (Key × Past)) (b : Bool) (x y : History) → Reached count incoming x → Reached count incoming y → Reached count incoming (if b then x else y)
@@ -49,17 +44,12 @@ module _ (count : ℕ → ℕ) where
   items-reached judge received site incoming (item ∷ items) h r = items-reached judge received site incoming items (Noting.with_item_past judge received site incoming h item)
       (if-reached incoming (judge.is_unsent received (key_of_download item)) h (Noting.with_order_past site incoming (key_of_download item) item.act h) r (order-reached site incoming (key_of_download item) item.act h r))
 
-  reply-known : (judge : SubscriberJudge) (site : SiteId) (incoming : List (Key × Past)) (m : Reply) (h : History) → Reached count incoming h → Known count (Noting.noted_reply judge site incoming m h)
+  pub reply-known : (judge : SubscriberJudge) (site : SiteId) (incoming : List (Key × Past)) (m : Reply) (h : History) → Reached count incoming h → Known count (Noting.noted_reply judge site incoming m h)
   reply-known judge site incoming (reply.Downloaded m) h r = (items-reached judge m.received site.0 incoming m.items h r).0
   reply-known judge site incoming (reply.Joined m) h r = r.0
   reply-known judge site incoming (reply.Uploaded m) h r = r.0
   reply-known judge site incoming (reply.Ranged m) h r = r.0
   reply-known judge site incoming (reply.Refused number values) h r = r.0
-
-  pub taken-known : (judges : Judges) (site : SiteId) (incoming : List (Key × Past)) (m : Reply) (found : Option SubscriberTables) (h : History) → Reached count incoming h
-      → (let k : History = elim found [ None ↦ h | Some s ↦ Noting.noted_reply (judges.subscriber site s) site incoming m h ] in Known count k)
-  taken-known judges site incoming m None h r = r.0
-  taken-known judges site incoming m (Some s) h r = reply-known (judges.subscriber site s) site incoming m h r
 
   -- Making anew.
 
@@ -73,12 +63,8 @@ module _ (count : ℕ → ℕ) where
     knowledge = record { held = put-sites h.made site [] h.pasts tt k.knowledge.held; sent = k.knowledge.sent; lost = k.knowledge.lost; making = k.knowledge.making };
   }
 
-  pub anew-known : (judges : Judges) (site : SiteId) (found : Option SubscriberTables) (h : History) → Known count h
-      → (let k : History = elim found [ None ↦ h | Some s ↦ Noting.noted_anew (judges.subscriber site s) s h ] in Known count k)
-  anew-known judges site None h k = k
-  anew-known judges site (Some s) h k =
-      let rows : List (Key × Version) = discarded (judges.subscriber site s) s in
-      emptied-known s.site.0 (fold (Noting.with_discarded s.site) h rows) (discarded-known s.site rows h k)
+  pub anew-known : (judge : SubscriberJudge) (s : SubscriberTables) (h : History) → Known count h → Known count (Noting.noted_anew judge s h)
+  anew-known judge s h k = emptied-known s.site.0 (fold (Noting.with_discarded s.site) h (discarded judge s)) (discarded-known s.site (discarded judge s) h k)
 
   -- Purges and joins.
 
@@ -93,18 +79,16 @@ module _ (count : ℕ → ℕ) where
       let lines : List Line = map (Noting.gone_line (last_closed p + 1)) (flat_map (Noting.old_left publication judge p) (map Noting.site_of_subscription (by_site publication))) in
       lines-known count lines (fold Noting.with_purged h rows) (purged-known rows h k)
 
-  pub join-known : (judge : PublisherJudge) (m : Join) (p : PublisherTables) (h : History) → Known count h → Known count (Noting.noted_join judge m p h)
+  pub join-known : (judge : PublisherJudge) (m : Join) (p : PublisherTables) (h : History) → Known count h → Known count (join_noted judge m p h)
   join-known judge m p h k =
       let done : History = Noting.with_done m.site.0 0 m.generation h in
       let based : History = record done { bases = put_number h.bases m.site.0 (last_closed p) } in
-      let lines : List Line = map (Noting.gone_line (last_closed p + 1)) (map (Noting.gone_for m.site) (Noting.left_rows judge m.site)) in
-      if-known (join_acts m p) (Noting.with_lines lines based) h (lines-known count lines based (others-known count h done.done h.accepted h.purged based.bases k)) k
+      lines-known count (map (Noting.gone_line (last_closed p + 1)) (map (Noting.gone_for m.site) (Noting.left_rows judge m.site))) based (others-known count h done.done h.accepted h.purged based.bases k)
 
   -- Letters.
 
-  letter-known : (found : Option Letter) (h : History) → Known count h → (let k : History = elim found [ None ↦ h | Some letter ↦ with_letter letter h ] in Known count k)
-  letter-known None h k = k
-  letter-known (Some letter) h k = record {
+  pub letter-known : (letter : Letter) (h : History) → Known count h → Known count (with_letter letter h)
+  letter-known letter h k = record {
     numbered = k.numbered;
     knowledge = record {
       held = k.knowledge.held;
@@ -113,15 +97,3 @@ module _ (count : ℕ → ℕ) where
       making = k.knowledge.making;
     };
   }
-
-  pub posted-known : (w : World) (outcome : Outcome) (h : History) → Known count h → Known count (with_posted w outcome h)
-  posted-known w (Posted number) h k = letter-known (letter_at w number) h k
-  posted-known w Passed h k = k
-  posted-known w (Made row) h k = k
-  posted-known w (Closes generation) h k = k
-  posted-known w NoPost h k = k
-  posted-known w (Took taken) h k = k
-  posted-known w NoLetter h k = k
-  posted-known w (Discards rows) h k = k
-  posted-known w (Forgot forgotten) h k = k
-  posted-known w (Refuses refusal) h k = k

@@ -27,6 +27,7 @@ use Rattle.merge_laws.specs.Knowledge.{AllKnow, Knowledge, Known, Knows, RowKnow
 use Rattle.merge_laws.proofs.Finding.{all-more, all-weaker}
 use Rattle.merge_laws.proofs.Knowing.{IsFresh, fresh-above, knows-both, knows-later, knows-new, knows-nothing}
 use Rattle.merge_laws.proofs.KnownRows.{drop-know, held-knows, past-knows, put-know, put-sites, site-know}
+use Rattle.merge_laws.proofs.Tests.{numbers-same, if-both}
 
 -- A site's count with so many more.
 abbrev pub raised : (ℕ → ℕ) → ℕ → ℕ → ℕ → ℕ
@@ -108,9 +109,6 @@ numbered-step c rest n site false false is other next down = down
 numbered-step c rest n site true false is other next down = absurd (grind (arith, nat_tests, is, other))
 numbered-step c rest n site false true is other next down = absurd (grind (arith, nat_tests, is, other))
 
-same_site : (a b : ℕ) → (a == b) ≡ true → a ≡ b
-same_site a b is = grind (arith, nat_tests, is)
-
 module _ (count : ℕ → ℕ) (h : History) (c : MadeChange) (next : c.dot.number ≡ count c.dot.site.0 + 1) (k : Known count h) where
   pub next-fresh : IsFresh h.made c.dot
   next-fresh = fresh-above count h c.dot k.numbered (omega (arith, next))
@@ -136,7 +134,7 @@ module _ (count : ℕ → ℕ) (h : History) (c : MadeChange) (next : c.dot.numb
       let knows : Knows (c ∷ h.made) c.key c.past.known = subst (λ (dots : List Dot). Knows (c ∷ h.made) c.key dots) (sym is) (knows-new h.made c known is next-fresh before) in
       past-known (raised count c.dot.site.0 1) (record h { made = c ∷ h.made }) c.dot.site.0 c.key c.past knows (record {
         numbered = λ site. numbered-step c (made_at h site) (count site) site (c.dot.site.0 == site) (site == c.dot.site.0) refl refl
-            (λ own. next ∙ ap (λ (n : ℕ). count n + 1) (same_site c.dot.site.0 site own)) (k.numbered site);
+            (λ own. next ∙ ap (λ (n : ℕ). count n + 1) (numbers-same c.dot.site.0 site own)) (k.numbered site);
         knowledge = made-knowledge knows;
       })
 
@@ -162,10 +160,6 @@ change-known count publication dot generation (Delete article row) value h next 
 abbrev pub Reached : (ℕ → ℕ) → List (Key × Past) → History → Type 0
 Reached count incoming h = Known count h × AllKnow h.made incoming
 
-if-reached : (count : ℕ → ℕ) (incoming : List (Key × Past)) (b : Bool) (x y : History) → Reached count incoming x → Reached count incoming y → Reached count incoming (if b then x else y)
-if-reached count incoming true x y one other = one
-if-reached count incoming false x y one other = other
-
 module _ (count : ℕ → ℕ) (incoming : List (Key × Past)) (generation : ℕ) (key : Key) (theirs : Past) (h : History) (r : Reached count incoming h) (knows : Knows h.made key theirs.known) where
   own : Knows h.made key (past_at h 0 key).known
   own = held-knows h 0 key r.0.knowledge
@@ -178,12 +172,12 @@ module _ (count : ℕ → ℕ) (incoming : List (Key × Past)) (generation : ℕ
       let after : History = Noting.with_past 0 key (past_by case KeepPublisher dot (past_at h 0 key) theirs) h in
       let same : Known count after = past-known count h 0 key (past_by case KeepPublisher dot (past_at h 0 key) theirs) both r.0 in
       let now : Known (raised count 0 0) after = counted count (raised count 0 0) after (λ n. raised-none count n) same in
-      if-reached (raised count 0 0) incoming (is_conflict case) (Noting.with_lost 0 key theirs after) after (lost-known (raised count 0 0) after 0 key theirs knows now, r.1) (now, r.1)
+      if-both (Reached (raised count 0 0) incoming) (is_conflict case) (Noting.with_lost 0 key theirs after) after (lost-known (raised count 0 0) after 0 key theirs knows now, r.1) (now, r.1)
   met-reached case TakeSubscriber dot zero next =
       let after : History = Noting.with_past 0 key (past_by case TakeSubscriber dot (past_at h 0 key) theirs) h in
       let same : Known count after = past-known count h 0 key (past_by case TakeSubscriber dot (past_at h 0 key) theirs) both r.0 in
       let now : Known (raised count 0 0) after = counted count (raised count 0 0) after (λ n. raised-none count n) same in
-      if-reached (raised count 0 0) incoming (is_conflict case) (Noting.with_lost 0 key (past_at h 0 key) after) after (lost-known (raised count 0 0) after 0 key (past_at h 0 key) own now, r.1) (now, r.1)
+      if-both (Reached (raised count 0 0) incoming) (is_conflict case) (Noting.with_lost 0 key (past_at h 0 key) after) after (lost-known (raised count 0 0) after 0 key (past_at h 0 key) own now, r.1) (now, r.1)
   met-reached case (Custom values) dot zero next =
       let c : MadeChange = Noting.decided_change dot generation key case (past_by case (Custom values) dot (past_at h 0 key) theirs) in
       let after : History = Noting.with_made c h in
@@ -192,7 +186,7 @@ module _ (count : ℕ → ℕ) (incoming : List (Key × Past)) (generation : ℕ
       let now : Known (raised count 0 1) after = subst (λ (n : ℕ). Known (raised count n 1) after) zero (made-known count h c follows r.0 ((past_at h 0 key).known ++ theirs.known) refl both) in
       let came : AllKnow (c ∷ h.made) incoming = rows-later count h c follows r.0 incoming r.1 in
       let lost : Known (raised count 0 1) (Noting.with_lost 0 key (past_at h 0 key) after) = lost-known (raised count 0 1) after 0 key (past_at h 0 key) (knows-later h.made c key (past_at h 0 key).known fresh own) now in
-      if-reached (raised count 0 1) incoming (is_conflict case) (Noting.with_lost 0 key theirs (Noting.with_lost 0 key (past_at h 0 key) after)) after
+      if-both (Reached (raised count 0 1) incoming) (is_conflict case) (Noting.with_lost 0 key theirs (Noting.with_lost 0 key (past_at h 0 key) after)) after
       (lost-known (raised count 0 1) (Noting.with_lost 0 key (past_at h 0 key) after) 0 key theirs (knows-later h.made c key theirs.known fresh knows) lost, came) (now, came)
 
 accepted-reached : (count : ℕ → ℕ) (incoming : List (Key × Past)) (past : Past) (h : History) → Reached count incoming h → Reached count incoming (Noting.with_accepted past h)

@@ -22,8 +22,8 @@ use Rattle.merge_model.specs.Taking.{key_of_download}
 use Rattle.merge_model.specs.World.{Asks, Message, Replies}
 use Rattle.merge_laws.specs.Knowledge.{AllKnow, Knowledge, Knows, RowKnows}
 use Rattle.merge_laws.proofs.Finding.{all-at}
+use Rattle.merge_laws.proofs.KeyLookUps.{keys-exact}
 use Rattle.merge_laws.proofs.Knowing.{knows-nothing}
-use Rattle.merge_laws.proofs.LastLineKeys.{keys-exact}
 
 -- What holds of all entries holds of them with one more, put in its place.
 
@@ -33,7 +33,7 @@ put-test P Less k v e rest more same new here all others = (new, (here, all))
 put-test P Equal k v e rest more same new here all others = (same refl, all)
 put-test P Greater k v e rest more same new here all others = (here, others)
 
-all-put : {K X : Type 0} (P : K × X → Type 0) (cmp : K → K → Ordering) (k : K) (v : X) → ((q : K) → cmp k q ≡ Equal → P (q, v)) → P (k, v) → (es : List (K × X)) → AllByRecursion P es → AllByRecursion P (insert_entry cmp es k v)
+pub all-put : {K X : Type 0} (P : K × X → Type 0) (cmp : K → K → Ordering) (k : K) (v : X) → ((q : K) → cmp k q ≡ Equal → P (q, v)) → P (k, v) → (es : List (K × X)) → AllByRecursion P es → AllByRecursion P (insert_entry cmp es k v)
 all-put P cmp k v same new [] all = (new, tt)
 all-put P cmp k v same new (e ∷ es) all = put-test P (cmp k e.0) k v e es (insert_entry cmp es k v) (same e.0) new all.0 all.1 (all-put P cmp k v same new es all.1)
 

@@ -18,7 +18,8 @@ use Rattle.merge_model.specs.ByHistory.{is_line_for, is_change_of}
 use Rattle.merge_model.specs.Noting.{with_line, with_lines, changed_line, moved_line, gone_line}
 use Rattle.merge_model.proofs.Sorted.{key_total, row_site_total}
 use Rattle.merge_laws.specs.LastLines.{move_told, move_in, change_in, MappingsFit, RowsFit, subscribes, MovedForSubscribers}
-use Rattle.merge_laws.proofs.LastLineKeys.{key-is, is_place, place-is, has_place, drop-head, at-dropped}
+use Rattle.merge_laws.proofs.KeyLookUps.{key-test}
+use Rattle.merge_laws.proofs.LastLineKeys.{is_place, place-is, has_place, drop-head, at-dropped}
 
 abbrev pub added : List Line → Line → List Line
 added lines line = line ∷ lines
@@ -69,7 +70,7 @@ change-fits : (key : Key) (version : Version) (generation : ℕ) (rows : List (K
 change-fits key version generation rows lines fits k =
     let row : PublisherRow = record { version = version; changed = generation } in
     let put : row_at (put_row rows key row) k ≡ cond (same_key k key) (Some row) (row_at rows k) =
-    lookup-insert_entry key_cmp key_total key k row rows ∙ ap (λ (b : Bool). (let found : Option PublisherRow = cond b (Some row) (row_at rows k) in found)) (key-is k key) in
+    lookup-insert_entry key_cmp key_total key k row rows ∙ ap (λ (b : Bool). (let found : Option PublisherRow = cond b (Some row) (row_at rows k) in found)) (key-test k key) in
     subst (λ (found : Option PublisherRow). is_some found ≡ true → option_map (λ (r : PublisherRow). r.changed) found ≡ change_in (changed_line (key, generation) ∷ lines) k) (sym put)
     (change-head (same_key k key) row (changed_line (key, generation)) (row_at rows k) (find (is_change_of k) lines) refl (fits k))
 

@@ -5,8 +5,7 @@ use Rattle.std.specs.Option.{option_map_or}
 use Rattle.std.specs.List.Sorted.{IsStrictlySortedBy}
 use Rattle.std.specs.Map.{keys_of}
 use Rattle.std.specs.BTreeMap.{is_at}
-use Rattle.std.proofs.Common.{arith, subst, sym, ap, ◌∙◌}
-use Rattle.std.proofs.lemmas.Bool.Decides.{nat_tests}
+use Rattle.std.proofs.Common.{subst, sym, ap, ◌∙◌}
 use Rattle.std.proofs.lemmas.List.Folds.{list_any-append}
 use Rattle.std.proofs.lemmas.Map.Made.{is_some-lookup}
 use Rattle.std.proofs.Math.Bool.{and-false, and-true, and_comm, and-or_distrib_right, or-false}
@@ -22,8 +21,11 @@ use Rattle.merge_model.specs.ByHistory.{is_line_for, line_site, says_left, touch
 use Rattle.merge_model.specs.Noting.{gone_line, gone_for}
 use Rattle.merge_model.proofs.Sorted.{key_total, row_site_total}
 use Rattle.merge_laws.specs.LastLines.{move_told, move_in, MappingsFit, RowsFit, MovedForSubscribers}
-use Rattle.merge_laws.proofs.LastLineKeys.{key-is, key-same, keys-exact, places-exact, is_place, has_place, kept, kept-found, lookup-filter}
+use Rattle.merge_laws.proofs.KeyLookUps.{key-test, keys-exact, keys-same}
 use Rattle.merge_laws.proofs.LastLineAdded.{added, gone-last}
+use Rattle.merge_laws.proofs.LastLineKeys.{places-exact, is_place, has_place, kept, kept-found, lookup-filter}
+use Rattle.merge_laws.proofs.Lists.{any-same}
+use Rattle.merge_laws.proofs.Tests.{numbers-same, numbers-turned}
 
 -- What some member passes.
 
@@ -35,10 +37,6 @@ any-filter : {X : Type 0} (keep test : X → Bool) (xs : List X) → list_any te
 any-filter keep test [] = refl
 any-filter keep test (x ∷ xs) = filter-head (keep x) test x (filter keep xs) (list_any (λ (y : _). keep y && test y) xs) (any-filter keep test xs)
 
-any-same : {X : Type 0} (test other : X → Bool) → ((x : X) → test x ≡ other x) → (xs : List X) → list_any test xs ≡ list_any other xs
-any-same test other same [] = refl
-any-same test other same (x ∷ xs) = ap (λ (b : Bool). b || list_any test xs) (same x) ∙ ap (λ (b : Bool). other x || b) (any-same test other same xs)
-
 -- a test that passes a key alone, if any
 any-key : (test : Key → Bool) (key : Key) (b : Bool) → ((k : Key) → test k ≡ (same_key key k && b)) → (keys : List Key) → list_any test keys ≡ (has_key keys key && b)
 any-key test key b is [] = refl
@@ -46,7 +44,7 @@ any-key test key b is (k ∷ keys) =
     ap (λ (c : Bool). c || list_any test keys) (is k) ∙ ap (λ (c : Bool). (same_key key k && b) || c) (any-key test key b is keys) ∙ sym (and-or_distrib_right (same_key key k) (has_key keys key) b)
 
 key-head : (keep : Key → Bool) (key k : Key) (c s : Bool) → same_key key k ≡ s → (keep k && (s && c)) ≡ (s && (keep key && c))
-key-head keep key k c true is = ap (λ (q : Key). keep q && c) (sym (key-same key k is))
+key-head keep key k c true is = ap (λ (q : Key). keep q && c) (sym (keys-same key k is))
 key-head keep key k c false is = and-false (keep k)
 
 -- a key among those that a test keeps
@@ -69,23 +67,23 @@ put-head true true h = refl
 put-head true false h = refl
 put-head false o h = refl
 
-some-head : {A : Type 0} (b : Bool) (v : A) (found : Option A) → is_some (let now : Option A = cond b (Some v) found in now) ≡ (b || is_some found)
+pub some-head : {A : Type 0} (b : Bool) (v : A) (found : Option A) → is_some (let now : Option A = cond b (Some v) found in now) ≡ (b || is_some found)
 some-head true v found = refl
 some-head false v found = refl
 
-put-keys : (keys : List Key) (others : List (Key × Unit {0})) (key : Key)
+pub put-keys : (keys : List Key) (others : List (Key × Unit {0})) (key : Key)
     → is_some (row_at (fold (λ (os : List (Key × Unit {0})) (k : Key). put_row os k tt) others keys) key) ≡ (is_some (row_at others key) || has_key keys key)
 put-keys [] others key = sym (or-false (is_some (row_at others key)))
 put-keys (k ∷ keys) others key =
     let here : is_some (row_at (put_row others k tt) key) ≡ (same_key key k || is_some (row_at others key)) =
-    ap (λ (o : Option (Unit {0})). is_some o) (lookup-insert_entry key_cmp key_total k key tt others) ∙ some-head (is_at (key_cmp key) k) tt (row_at others key) ∙ ap (λ (b : Bool). b || is_some (row_at others key)) (key-is key k) in
+    ap (λ (o : Option (Unit {0})). is_some o) (lookup-insert_entry key_cmp key_total k key tt others) ∙ some-head (is_at (key_cmp key) k) tt (row_at others key) ∙ ap (λ (b : Bool). b || is_some (row_at others key)) (key-test key k) in
     put-keys keys (put_row others k tt) key ∙ ap (λ (b : Bool). b || has_key keys key) here ∙ put-head (same_key key k) (is_some (row_at others key)) (has_key keys key)
 
-row-key : (entries : List (Key × Unit {0})) (key : Key) → has_key (map (λ (e : Key × Unit {0}). e.0) entries) key ≡ is_some (row_at entries key)
-row-key entries key = any-same (same_key key) (is_at (key_cmp key)) (λ k. sym (key-is key k)) (map (λ (e : Key × Unit {0}). e.0) entries) ∙ sym (is_some-lookup (is_at (key_cmp key)) entries)
+pub row-key : (entries : List (Key × Unit {0})) (key : Key) → has_key (map (λ (e : Key × Unit {0}). e.0) entries) key ≡ is_some (row_at entries key)
+row-key entries key = any-same (same_key key) (is_at (key_cmp key)) (λ k. sym (key-test key k)) (map (λ (e : Key × Unit {0}). e.0) entries) ∙ sym (is_some-lookup (is_at (key_cmp key)) entries)
 
 -- each once, however many lines it has
-keys-once : (keys : List Key) (key : Key) → has_key (entry.keys_of [] keys) key ≡ has_key keys key
+pub keys-once : (keys : List Key) (key : Key) → has_key (entry.keys_of [] keys) key ≡ has_key keys key
 keys-once keys key = row-key (fold (λ (os : List (Key × Unit {0})) (k : Key). put_row os k tt) [] keys) key ∙ put-keys keys [] key
 
 some-any : (test : Line → Bool) (lines : List Line) → is_some (find test lines) ≡ list_any test lines
@@ -104,7 +102,7 @@ line-for key of site (GoneFor other) generation = and_comm (other == site) (same
 abbrev pub moved_in : List Line → ℕ → List Key
 moved_in lines site = map (λ (line : Line). line.key) (filter (is_for site) lines)
 
-told-of : (lines : List Line) (key : Key) (site : ℕ) → has_key (entry.keys_of [] (moved_in lines site)) key ≡ is_some (find (is_line_for key site) lines)
+pub told-of : (lines : List Line) (key : Key) (site : ℕ) → has_key (entry.keys_of [] (moved_in lines site)) key ≡ is_some (find (is_line_for key site) lines)
 told-of lines key site =
     keys-once (moved_in lines site) key ∙ any_map (λ (line : Line). line.key) (same_key key) (filter (is_for site) lines)
     ∙ any-filter (is_for site) (λ (line : Line). same_key key line.key) lines
@@ -178,22 +176,16 @@ join-truth : (has l c k d : Bool) → c ≡ d → (c ≡ true → has ≡ true) 
 join-truth has l c k true e h s = rw (e, h e, s e) (and-true k)
 join-truth has l c k false e h s = rw e (ap (λ (b : Bool). has && b) (and-false l) ∙ and-false has)
 
-same-site : (a b : ℕ) → (a == b) ≡ true → b ≡ a
-same-site a b e = grind (arith, nat_tests, e)
-
-turned : (a b : ℕ) → (a == b) ≡ (b == a)
-turned a b = grind (arith, nat_tests)
-
 -- what is told of the place is told of the site
 told-at : (lines : List Line) (key : Key) (move : Mapping) (site : SiteId) (n : ℕ) → move_in lines key n ≡ Some move → (site.0 == n) ≡ true → Told move (find (is_line_for key site.0) lines)
-told-at lines key move site n is e = told move (find (is_line_for key site.0) lines) (ap (λ (k : ℕ). move_in lines key k) (sym (same-site site.0 n e)) ∙ is)
+told-at lines key move site n is e = told move (find (is_line_for key site.0) lines) (ap (λ (k : ℕ). move_in lines key k) (numbers-same site.0 n e) ∙ is)
 
 pub left-gone : (lines : List Line) (site : SiteId) (key : Key) (n : ℕ) (move : Mapping) → move_in lines key n ≡ Some move
     → has_place (map (gone_for site) (filter (left_in lines site.0) (entry.keys_of [] (moved_in lines site.0)))) key n ≡ ((n == site.0) && is_left move.kind)
 left-gone lines site key n move is =
     let keys : List Key = entry.keys_of [] (moved_in lines site.0) in
     site-places (left_in lines site.0) site key n keys
-    ∙ join-truth (has_key keys key) (left_in lines site.0 key) (site.0 == n) (is_left move.kind) (n == site.0) (turned site.0 n)
+    ∙ join-truth (has_key keys key) (left_in lines site.0 key) (site.0 == n) (is_left move.kind) (n == site.0) (numbers-turned site.0 n)
     (λ e. told-of lines key site.0 ∙ (told-at lines key move site n is e).some) (λ e. (told-at lines key move site n is e).left)
 
 -- Of every site: the rows that left its partition in an old generation.

@@ -1,4 +1,4 @@
--- Rows and places that are found by their keys, and what a filter leaves of them.
+-- Places that are found by their keys, and what a filter leaves of rows and places.
 use Rattle.std.specs.Prelude.{◌≡◌, ◌==◌, ◌&&◌, ◌||◌, ℕ, List, [], ◌∷◌, Bool, true, false, Option, Some, None, refl, cond, filter, is_some}
 use Rattle.std.specs.List.{fold, list_any}
 use Rattle.std.specs.List.Sorted.{IsStrictlySortedBy}
@@ -14,13 +14,11 @@ use Rattle.merge_table.proofs.Slots.{lookup_above}
 use Rattle.merge_table.proofs.LookUps.{lookup-remove_entry}
 use Rattle.merge_gens.proofs.Sets.{sorted_take}
 use Rattle.merge_model.specs.Tables.{Key, RowSite, Mapping}
-use Rattle.merge_model.specs.Keys.{key_cmp, row_site_cmp, same_key, at_row_site, drop_row_site}
+use Rattle.merge_model.specs.Keys.{row_site_cmp, same_key, at_row_site, drop_row_site}
 use Rattle.merge_model.proofs.Sorted.{row_site_total}
+use Rattle.merge_laws.proofs.KeyLookUps.{keys-same}
 
 -- The comparisons as tests.
-
-pub key-is : (a b : Key) → is_at (key_cmp a) b ≡ same_key a b
-key-is a b = grind (arith, nat_tests)
 
 abbrev pub is_place : Key → ℕ → RowSite → Bool
 is_place key site place = same_key key place.key && (place.site == site)
@@ -28,27 +26,15 @@ is_place key site place = same_key key place.key && (place.site == site)
 pub place-is : (key : Key) (site : ℕ) (place : RowSite) → is_at (row_site_cmp (record { key = key; site = site })) place ≡ is_place key site place
 place-is key site place = grind (arith, nat_tests)
 
--- equal keys and places are the same
-abbrev key_from : ℕ → ℕ → Key
-key_from article row = record { article = article; row = record { 0 = row } }
-
+-- equal places are the same
 abbrev place_from : Key → ℕ → RowSite
 place_from key site = record { key = key; site = site }
-
-pub key-same : (a b : Key) → same_key a b ≡ true → a ≡ b
-key-same a b is =
-    let article : a.article ≡ b.article = grind (arith, nat_tests, is) in
-    let row : a.row.0 ≡ b.row.0 = grind (arith, nat_tests, is) in
-    ap (λ (n : ℕ). key_from n a.row.0) article ∙ ap (λ (n : ℕ). key_from b.article n) row
 
 pub place-same : (key : Key) (site : ℕ) (place : RowSite) → is_place key site place ≡ true → place_from key site ≡ place
 place-same key site place is =
     let keys : same_key key place.key ≡ true = grind (arith, is) in
     let sites : site ≡ place.site = grind (arith, nat_tests, is) in
-    ap (λ (k : Key). place_from k site) (key-same key place.key keys) ∙ ap (λ (n : ℕ). place_from place.key n) sites
-
-pub keys-exact : (a b : Key) → is_at (key_cmp a) b ≡ true → a ≡ b
-keys-exact a b is = key-same a b (sym (key-is a b) ∙ is)
+    ap (λ (k : Key). place_from k site) (keys-same key place.key keys) ∙ ap (λ (n : ℕ). place_from place.key n) sites
 
 pub places-exact : (a b : RowSite) → is_at (row_site_cmp a) b ≡ true → a ≡ b
 places-exact a b is = place-same a.key a.site b (sym (place-is a.key a.site b) ∙ is)

@@ -1,7 +1,7 @@
--- What is said of every lineage of a list stays so as lists go on.
-use Rattle.std.specs.Prelude.{◌≡◌, ◌≤◌, ◌==◌, ◌++◌, ℕ, List, [], ◌∷◌, Bool, true, false, Option, Some, None, refl, cond, filter, filter_map, map, option_map, unwrap_or}
+-- What is said of every value of a list of pairs, and of every lineage of changes that were made.
+use Rattle.std.specs.Prelude.{◌≡◌, ◌≤◌, ◌==◌, ℕ, List, [], ◌∷◌, Bool, true, false, Option, Some, None, refl, cond, unwrap_or}
 use Rattle.std.specs.BTreeMap.{insert_entry}
-use Rattle.std.specs.List.{AllByRecursion, cons_option}
+use Rattle.std.specs.List.{AllByRecursion}
 use Rattle.std.specs.Map.{lookup, remove_entry}
 use Rattle.std.specs.Ordering.{match_ordering}
 use Rattle.std.specs.declared.cmp.Ordering.{Ordering}
@@ -14,24 +14,13 @@ use Rattle.merge_lineage.proofs.Joined.{ascending-joined, joins-joined}
 use Rattle.merge_lineage.proofs.Numbers.{number-with_dot}
 use Rattle.merge_lineage.proofs.Rising.{ascending_with_dot}
 use Rattle.merge_laws.specs.Lineages.{IsOfMade}
+use Rattle.merge_laws.proofs.Lists.{OfSome}
 
 -- Of what may be found.
-
-abbrev pub OfSome : {Y : Type 0} → (Y → Type 0) → Option Y → Type 0
-OfSome Q None = Unit {0}
-OfSome Q (Some y) = Q y
-
-pub some-map : {X Y : Type 0} (P : X → Type 0) (Q : Y → Type 0) (f : X → Y) → ((x : X) → P x → Q (f x)) → (found : Option X) → OfSome P found → OfSome Q (option_map f found)
-some-map P Q f each None all = tt
-some-map P Q f each (Some x) all = each x all
 
 found-step : {V : Type 0} (P : V → Type 0) (b : Bool) (v : V) (rest : Option V) → P v → OfSome P rest → OfSome P (cond b (Some v) rest)
 found-step P true v rest first more = first
 found-step P false v rest first more = more
-
-pub all-unit : {X : Type 0} (xs : List X) → AllByRecursion (λ (x : X). Unit {0}) xs
-all-unit [] = tt
-all-unit (x ∷ xs) = (tt, all-unit xs)
 
 -- Lists of pairs, by a fact of the second part.
 
@@ -59,33 +48,6 @@ module _ {K V : Type 0} (P : V → Type 0) where
   pub values-dropped : (test : K → Bool) (rows : List (K × V)) → AllValues rows → AllValues (remove_entry test rows)
   values-dropped test [] all = tt
   values-dropped test (row ∷ rows) all = drop-step (test row.0) row rows (remove_entry test rows) all.0 all.1 (values-dropped test rows all.1)
-
-module _ {X : Type 0} (P : X → Type 0) where
-  pub all-append : (xs ys : List X) → AllByRecursion P xs → AllByRecursion P ys → AllByRecursion P (xs ++ ys)
-  all-append [] ys all more = more
-  all-append (x ∷ xs) ys all more = (all.0, all-append xs ys all.1 more)
-
-  kept-step : (b : Bool) (x : X) (kept : List X) → P x → AllByRecursion P kept → AllByRecursion P (cond b (x ∷ kept) kept)
-  kept-step true x kept first rest = (first, rest)
-  kept-step false x kept first rest = rest
-
-  pub all-filter : (test : X → Bool) (xs : List X) → AllByRecursion P xs → AllByRecursion P (filter test xs)
-  all-filter test [] all = tt
-  all-filter test (x ∷ xs) all = kept-step (test x) x (filter test xs) all.0 (all-filter test xs all.1)
-
--- what is made of each item, or of some
-module _ {X Y : Type 0} (P : X → Type 0) (Q : Y → Type 0) where
-  pub all-map : (f : X → Y) → ((x : X) → P x → Q (f x)) → (xs : List X) → AllByRecursion P xs → AllByRecursion Q (map f xs)
-  all-map f each [] all = tt
-  all-map f each (x ∷ xs) all = (each x all.0, all-map f each xs all.1)
-
-  some-step : (found : Option Y) (rest : List Y) → OfSome Q found → AllByRecursion Q rest → AllByRecursion Q (cons_option found rest)
-  some-step None rest first all = all
-  some-step (Some y) rest first all = (first, all)
-
-  pub all-filter_map : (f : X → Option Y) → ((x : X) → P x → OfSome Q (f x)) → (xs : List X) → AllByRecursion P xs → AllByRecursion Q (filter_map f xs)
-  all-filter_map f each [] all = tt
-  all-filter_map f each (x ∷ xs) all = some-step (f x) (filter_map f xs) (each x all.0) (all-filter_map f each xs all.1)
 
 -- Lineages of changes that were made.
 

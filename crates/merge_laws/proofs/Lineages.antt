@@ -40,7 +40,8 @@ use Rattle.merge_model.specs.Subscriber.{sub_version_at, with_version_if}
 use Rattle.merge_model.specs.Tables.{Key, PublisherRow, PublisherTables, SubscriberRow, SubscriberTables}
 use Rattle.merge_model.specs.Taking.{key_of_download, row_above, with_item, with_order}
 use Rattle.merge_laws.specs.Lineages.{OfLost, OfOrder}
-use Rattle.merge_laws.proofs.LineageLists.{OfSome, all-append, all-filter_map, all-map, all-unit, some-map, values-dropped, values-found, values-put}
+use Rattle.merge_laws.proofs.LineageLists.{values-dropped, values-found, values-put}
+use Rattle.merge_laws.proofs.Lists.{OfSome, some-map, all-unit, all-map, all-filter_map, all-append}
 
 -- Of a fact of lineages, in general.
 

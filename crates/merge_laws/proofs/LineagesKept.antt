@@ -52,16 +52,13 @@ use Rattle.merge_model.proofs.Events.{events-keep}
 use Rattle.merge_laws.specs.Lineages.{IsOfMade, LineagesAreMade, OfLineages, OfLost, OfMessage, OfOrder, OfPublisher, OfSubscriber, changes_of}
 use Rattle.merge_laws.specs.Received.{Received}
 use Rattle.merge_laws.proofs.Finding.{all-at, all-more, all-weaker, at_put_other, at_put_same}
-use Rattle.merge_laws.proofs.LineageLists.{all-append, all-filter, made-dot, made-joined, made-none}
+use Rattle.merge_laws.proofs.LineageLists.{made-dot, made-joined, made-none}
 use Rattle.merge_laws.proofs.Lineages.{ActFits, acts-fit, after-fits, all-lost, anew-lost, held-found, own-above, own-found, own-items, own-put, put-items, rows-changed, sent-items, versions-fit, versions-local}
+use Rattle.merge_laws.proofs.Lists.{all-append, all-filter}
 use Rattle.merge_laws.proofs.Models.{begins, begins-with, model-fine}
+use Rattle.merge_laws.proofs.Subscribing.{number-decided, same_number, version-conflicts}
 use Rattle.merge_laws.proofs.UnsentKept.{version-site}
-use Rattle.merge_laws.proofs.Subscribing.{number-decided, same_number}
 use Rattle.merge_laws.proofs.Walking.{Sends, StepsKeep, acts_in, comes, here, step-keeps, told_by, uploaded_world}
-
-version-lost : (key : Key) (found : Option Version) (u : SubscriberTables) → (with_version_if key found u).conflicts ≡ u.conflicts
-version-lost key None u = refl
-version-lost key (Some version) u = refl
 
 version-changes : (key : Key) (found : Option Version) (u : SubscriberTables) → (with_version_if key found u).changes ≡ u.changes
 version-changes key None u = refl
@@ -139,7 +136,7 @@ module _ (Q : List Dot → Type 0) where
       let found : Option Version = version_after publication (sub_next_dot s) d.0 change (sub_version_at s key) in
       record {
         rows = own-put Q key found u (after-fits Q publication (sub_next_dot s) d.0 change (sub_version_at s key) knows none (own-found Q s key f.rows)) f.rows;
-        lost = subst (λ (es : List ConflictRow). OfLost Q es) (sym (version-lost key found u)) f.lost;
+        lost = subst (λ (es : List ConflictRow). OfLost Q es) (sym (version-conflicts key found u)) f.lost;
       }
 
   reply-taken : (judge : SubscriberJudge) (m : Reply) (s : SubscriberTables) (w : World) → OfMessage Q (Replies m) → OfSubscriber Q s → OfSubscriber Q (taken judge w.moment m s)

@@ -1,5 +1,5 @@
 -- From what every version tells, and from what was known where changes were made: lineages stand for what is known.
-use Rattle.std.specs.Prelude.{◌==◌, ℕ, List, [], ◌∷◌, Bool, true, false, cond, filter}
+use Rattle.std.specs.Prelude.{◌==◌, ℕ, List, [], ◌∷◌}
 use Rattle.std.specs.List.{AllByRecursion, AllZip}
 use Rattle.merge_units.specs.declared.version.Body.TheVariants.{Live}
 use Rattle.merge_units.specs.declared.version.Version.{Version}
@@ -21,15 +21,8 @@ use Rattle.merge_laws.specs.LineagesStand.{AllTold, EveryVersion, LineagesStand,
 use Rattle.merge_laws.specs.Standing.{StandsFor, Told}
 use Rattle.merge_laws.proofs.Finding.{all-weaker}
 use Rattle.merge_laws.proofs.KnownRows.{held-knows, past-knows}
+use Rattle.merge_laws.proofs.Lists.{all-filter}
 use Rattle.merge_laws.proofs.Standing.{telling-stands}
-
-filter-test : {X : Type 0} (P : X → Type 0) (b : Bool) (x : X) (xs : List X) → P x → AllByRecursion P xs → AllByRecursion P (cond b (x ∷ xs) xs)
-filter-test P true x xs here all = (here, all)
-filter-test P false x xs here all = all
-
-all-filter : {X : Type 0} (P : X → Type 0) (keeps : X → Bool) (xs : List X) → AllByRecursion P xs → AllByRecursion P (filter keeps xs)
-all-filter P keeps [] all = tt
-all-filter P keeps (x ∷ xs) all = filter-test P (keeps x) x (filter keeps xs) all.0 (all-filter P keeps xs all.1)
 
 -- A fact of every version, under what its past knows.
 module _ (h : History) (k : Knowledge h) (P Q : Key → Version → Past → Type 0) (each : (key : Key) (version : Version) (past : Past) → Knows h.made key past.known → P key version past → Q key version past) where
@@ -85,4 +78,4 @@ every-each m P Q k each e = record {
 -- The law from the two parts of the invariant.
 pub lineages-stand : (m : Model) → Knowledge m.history → AllTold m → Owns m → LineagesStand m
 lineages-stand m k told owns = every-each m (λ (key : Key) (version : Version) (past : Past). Told version past.known) (λ (key : Key) (version : Version) (past : Past). StandsFor m.history.made (counts_in m) key version.lineage past.known) k
-    (λ key version past knows t. telling-stands m.history.made (counts_in m) key version.lineage past.known knows t.tells owns.making) told
+    (λ key version past knows t. telling-stands m.history.made (counts_in m) key version.lineage past.known knows t.tells owns.known.making) told

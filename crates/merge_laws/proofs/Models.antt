@@ -127,7 +127,7 @@ keyed-fold : (subscriptions : List Subscription) (es : List (ℕ × Subscription
 keyed-fold [] es keyed = keyed
 keyed-fold (new ∷ subscriptions) es keyed = keyed-fold subscriptions (put_number es new.site.0 new) (λ n s at. keyed-at es new s n (n == new.site.0) (number-decided n new.site.0) keyed at)
 
-at-map : (publication : Publication) (es : List (ℕ × Subscription)) (n : ℕ)
+pub at-map : (publication : Publication) (es : List (ℕ × Subscription)) (n : ℕ)
     → at_number (map (λ (s : ℕ × Subscription). (s.0, empty_subscriber publication s.1.site)) es) n ≡ option_map (λ (s : Subscription). empty_subscriber publication s.site) (at_number es n)
 at-map publication [] n = refl
 at-map publication (e ∷ es) n = elim (is_at (nat_cmp n) e.0)

@@ -30,6 +30,7 @@ use Rattle.merge_model.specs.PublisherLocal.{Drawn}
 use Rattle.merge_model.specs.Reinit.{discarded}
 use Rattle.merge_model.specs.Tables.{Key, PublisherRow, PublisherTables, SubscriberTables}
 use Rattle.merge_model.specs.Taking.{key_of_download}
+use Rattle.merge_laws.proofs.Tests.{if-both}
 use Rattle.merge_laws.proofs.Walking.{own_noted}
 
 -- of the changes only the publisher's own come in
@@ -64,10 +65,6 @@ pub acts-own : (judge : PublisherJudge) (m : Upload) (decisions : List Decision)
 acts-own judge m decisions p = from-own judge m.site p (p.changes + 1) decisions (acting_items judge m)
 
 module _ (P : History → Type 0) (keeps : NotesKeep P) where
-  if-keep : (b : Bool) (x y : History) → P x → P y → P (if b then x else y)
-  if-keep true x y one other = one
-  if-keep false x y one other = other
-
   pub lines-keep : (lines : List Line) (h : History) → P h → P (Noting.with_lines lines h)
   lines-keep [] h p = p
   lines-keep (line ∷ lines) h p = lines-keep lines (Noting.with_line h line) (keeps.of_lines h (line ∷ h.lines) p)
@@ -104,7 +101,7 @@ module _ (P : History → Type 0) (keeps : NotesKeep P) where
   fate-keep (Met held case decision dot) generation key incoming h own p =
       let after : History = Noting.with_decided decision dot generation key case (past_by case decision dot (past_at h 0 key) incoming) h in
       let decided : P after = decided-keep decision dot generation key case (past_by case decision dot (past_at h 0 key) incoming) h own p in
-      if-keep (is_conflict case) (Noting.with_loser decision key (past_at h 0 key) incoming after) after (loser-keep decision key (past_at h 0 key) incoming after decided) decided
+      if-both P (is_conflict case) (Noting.with_loser decision key (past_at h 0 key) incoming after) after (loser-keep decision key (past_at h 0 key) incoming after decided) decided
 
   act-keep : (incoming : List (Key × Past)) (entries : Entries) (act : Act) (h : History) → DecidesAsOwn act.fate → P h → P (Noting.with_act incoming entries h act)
   act-keep incoming entries act h own p =
@@ -125,7 +122,7 @@ module _ (P : History → Type 0) (keeps : NotesKeep P) where
   items-keep : (judge : SubscriberJudge) (received site : ℕ) (incoming : List (Key × Past)) (items : List DownloadItem) (h : History) → P h → P (fold (Noting.with_item_past judge received site incoming) h items)
   items-keep judge received site incoming [] h p = p
   items-keep judge received site incoming (item ∷ items) h p = items-keep judge received site incoming items (Noting.with_item_past judge received site incoming h item)
-      (if-keep (judge.is_unsent received (key_of_download item)) h (Noting.with_order_past site incoming (key_of_download item) item.act h) p (order-keep site incoming (key_of_download item) item.act h p))
+      (if-both P (judge.is_unsent received (key_of_download item)) h (Noting.with_order_past site incoming (key_of_download item) item.act h) p (order-keep site incoming (key_of_download item) item.act h p))
 
   pub reply-keep : (judge : SubscriberJudge) (site : SiteId) (incoming : List (Key × Past)) (m : Reply) (h : History) → P h → P (Noting.noted_reply judge site incoming m h)
   reply-keep judge site incoming (reply.Downloaded m) h p = items-keep judge m.received site.0 incoming m.items h p

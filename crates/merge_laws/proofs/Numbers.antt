@@ -27,6 +27,7 @@ use Rattle.merge_laws.proofs.Noted.{NotesKeep}
 use Rattle.merge_laws.proofs.Publishing.{SameNumbers, done-joins, joined-change, joined-received, number_in, sites_taken, upload-change, upload-received}
 use Rattle.merge_laws.proofs.Subscribing.{number-decided, same_number}
 use Rattle.merge_laws.proofs.Telling.{some-same}
+use Rattle.merge_laws.proofs.Tests.{number-itself}
 use Rattle.merge_laws.proofs.Through.{is_there, last-none, none-there, order-there, unmet-is}
 
 -- Histories.
@@ -39,9 +40,6 @@ pub record Alike (h k : History) : Type 0 where
 pub alike-itself : (h : History) → Alike h h
 alike-itself h = record { done = refl; made = λ n named. refl }
 
-same-test : (n : ℕ) → (n == n) ≡ true
-same-test n = grind (arith, nat_tests)
-
 other-test : (a b : ℕ) → (b ≡ a → ⊥) → (a == b) ≡ false
 other-test a b differs = grind (arith, nat_tests, differs)
 
@@ -50,7 +48,7 @@ if_made b c changes = cond b (c ∷ changes) changes
 
 -- a change more
 pub made-same : (h : History) (c : MadeChange) → made_at (record h { made = c ∷ h.made }) c.dot.site.0 ≡ c ∷ made_at h c.dot.site.0
-made-same h c = ap (λ (b : Bool). if_made b c (made_at h c.dot.site.0)) (same-test c.dot.site.0)
+made-same h c = ap (λ (b : Bool). if_made b c (made_at h c.dot.site.0)) (number-itself c.dot.site.0)
 
 pub made-other : (h : History) (c : MadeChange) (n : ℕ) → (n ≡ c.dot.site.0 → ⊥) → made_at (record h { made = c ∷ h.made }) n ≡ made_at h n
 made-other h c n differs = ap (λ (b : Bool). if_made b c (made_at h n)) (other-test c.dot.site.0 n differs)

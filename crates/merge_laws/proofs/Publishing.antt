@@ -23,6 +23,7 @@ use Rattle.merge_model.specs.Noting
 use Rattle.merge_laws.specs.Received.{joined_at}
 use Rattle.merge_laws.proofs.Finding.{at_put_same, at_put_other}
 use Rattle.merge_laws.proofs.Subscribing.{same_number, number-decided}
+use Rattle.merge_laws.proofs.Tests.{numbers-same}
 
 -- Done, with generations that join it
 
@@ -59,9 +60,6 @@ any-range from (suc n) generation = grind (arith, nat_tests, any-range (from + 1
 abbrev pub in_reach : ℕ → ℕ → ℕ → Bool
 in_reach from to generation = nat_lt from generation && nat_le generation to
 
-equal_sites : (a b : ℕ) → (a == b) ≡ true → b ≡ a
-equal_sites a b e = grind (arith, nat_tests, e)
-
 -- the truth of it, by what each part comes to
 joined-truth : (whole d ds s t k r : Bool) (from to generation : ℕ) → whole ≡ (d || t) → t ≡ (s && k) → k ≡ (not ds && r) → r ≡ (nat_le (from + 1) generation && nat_lt generation (from + 1 + (to - from))) → from ≤ to
     → (s ≡ true → d ≡ ds) → whole ≡ (d || (s && in_reach from to generation))
@@ -75,7 +73,7 @@ done-joins h site from to n generation up =
     (list_any (is_entry n generation) (map (tag site) new)) (list_any (is_it generation) new) (list_any (is_it generation) (range_with_len (from + 1) (to - from))) from to generation
     (any-append (is_entry n generation) h.done (map (tag site) new)) (any-tagged site n generation new)
     (any-kept (λ (g : ℕ). not (is_done h site g)) generation (range_with_len (from + 1) (to - from))) (any-range (from + 1) (to - from) generation) up
-    (λ same. ap (λ (k : ℕ). is_done h k generation) (equal_sites site n same))
+    (λ same. ap (λ (k : ℕ). is_done h k generation) (sym (numbers-same site n same)))
 
 -- The numbers of the sites.
 
@@ -97,11 +95,11 @@ same-sites p q e = record {
 }
 
 -- an ask moves the watermark alone
-found-number : (field : SiteState → ℕ) → field no_state ≡ 0 → (found : Option SiteState) → field (unwrap_or found no_state) ≡ number_in field found
+pub found-number : (field : SiteState → ℕ) → field no_state ≡ 0 → (found : Option SiteState) → field (unwrap_or found no_state) ≡ number_in field found
 found-number field none None = none
 found-number field none (Some x) = refl
 
-asked-number : (field : SiteState → ℕ) → field no_state ≡ 0 → (m : Download) (p : PublisherTables) (n : ℕ) (b : Bool) → field (synced m p (state_of p m.site)) ≡ field (state_of p m.site) → same_number n m.site.0 b
+pub asked-number : (field : SiteState → ℕ) → field no_state ≡ 0 → (m : Download) (p : PublisherTables) (n : ℕ) (b : Bool) → field (synced m p (state_of p m.site)) ≡ field (state_of p m.site) → same_number n m.site.0 b
     → number_in field (at_number (asked m p).sites n) ≡ number_in field (at_number p.sites n)
 asked-number field none m p n true kept same =
     let put = at_put_same m.site.0 (synced m p (state_of p m.site)) p.sites in
@@ -127,7 +125,7 @@ asked-same m p = record {
 }
 
 -- a join that acts sets the numbers of its site
-joined-number : (field : SiteState → ℕ) (m : Join) (p : PublisherTables) (n : ℕ) (b : Bool) → same_number n m.site.0 b
+pub joined-number : (field : SiteState → ℕ) (m : Join) (p : PublisherTables) (n : ℕ) (b : Bool) → same_number n m.site.0 b
     → number_in field (at_number (join_taken m p).sites n) ≡ (if b then field (joined_state m p.latest (state_of p m.site)) else number_in field (at_number p.sites n))
 joined-number field m p n true same =
     ap (λ (k : ℕ). number_in field (at_number (join_taken m p).sites k)) same

@@ -1,5 +1,5 @@
--- Of all elements of a list, of what is found in it, and of the generations that close.
-use Rattle.std.specs.Prelude.{◌≡◌, ◌≤◌, ◌<◌, ◌==◌, ◌+◌, ◌-◌, ◌++◌, ℕ, zero, suc, List, [], ◌∷◌, Bool, true, false, Option, Some, None, refl, map, filter, find, cond, option_map, unwrap_or, IfSome, nat_le}
+-- Of the generations that close, of the moment that a book has of a generation, and of states by their sites.
+use Rattle.std.specs.Prelude.{◌≡◌, ◌≤◌, ◌<◌, ◌==◌, ◌+◌, ◌-◌, ℕ, zero, suc, List, [], ◌∷◌, Bool, true, false, Option, Some, None, refl, map, filter, find, cond, option_map, unwrap_or, IfSome, nat_le}
 use Rattle.std.specs.List.{AllByRecursion, range_with_len}
 use Rattle.std.specs.BTreeMap.{is_at}
 use Rattle.std.specs.Ordering.{nat_cmp}
@@ -11,29 +11,9 @@ use Rattle.merge_gens.specs.declared.filling.Filling.{Filling}
 use Rattle.merge_gens.specs.Book.{Book, closing_at, closings_between, moment_of, moved_to, purged}
 use Rattle.merge_model.specs.Keys.{at_number, put_number}
 use Rattle.merge_laws.specs.Purges.{AllClosings, ClosedBefore, ClosedInOrder, SiteInStep}
-use Rattle.merge_laws.proofs.Finding.{all-weaker, at_put_same, at_put_other}
-use Rattle.merge_laws.proofs.Subscribing.{same_number, number-decided}
-
-all-append : {X : Type 0} (P : X → Type 0) (xs ys : List X) → AllByRecursion P xs → AllByRecursion P ys → AllByRecursion P (xs ++ ys)
-all-append P [] ys first second = second
-all-append P (x ∷ xs) ys first second = (first.0, all-append P xs ys first.1 second)
-
-kept-head : {X : Type 0} (P : X → Type 0) (b : Bool) (x : X) (kept : List X) → P x → AllByRecursion P kept → AllByRecursion P (cond b (x ∷ kept) kept)
-kept-head P true x kept first rest = (first, rest)
-kept-head P false x kept first rest = rest
-
-all-filter : {X : Type 0} (P : X → Type 0) (test : X → Bool) (xs : List X) → AllByRecursion P xs → AllByRecursion P (filter test xs)
-all-filter P test [] all = tt
-all-filter P test (x ∷ xs) all = kept-head P (test x) x (filter test xs) all.0 (all-filter P test xs all.1)
-
-pub all-of : {X : Type 0} (P : X → Type 0) → ((x : X) → P x) → (xs : List X) → AllByRecursion P xs
-all-of P each [] = tt
-all-of P each (x ∷ xs) = (each x, all-of P each xs)
-
--- two facts give a third
-pub all-both : {X : Type 0} (P Q R : X → Type 0) → ((x : X) → P x → Q x → R x) → (xs : List X) → AllByRecursion P xs → AllByRecursion Q xs → AllByRecursion R xs
-all-both P Q R both [] first second = tt
-all-both P Q R both (x ∷ xs) first second = (both x first.0 second.0, all-both P Q R both xs first.1 second.1)
+use Rattle.merge_laws.proofs.Finding.{all-weaker, at_put_other, at_put_same}
+use Rattle.merge_laws.proofs.Lists.{all-append, all-both, all-filter, all-of}
+use Rattle.merge_laws.proofs.Subscribing.{number-decided, same_number}
 
 -- Generations that close.
 

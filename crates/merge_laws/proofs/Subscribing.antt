@@ -94,13 +94,13 @@ all-fit subscribers p s t fits all n u found = fits-at subscribers p s t u n (n 
 
 -- The steps, one by one.
 
-filling-closed : (filling : Filling) → (fill.closed filling).filled ≡ 0
+pub filling-closed : (filling : Filling) → (fill.closed filling).filled ≡ 0
 filling-closed filling = grind (arith, nat_tests)
 
-filling-rises : (filling : Filling) → filling.last_closed ≤ (fill.closed filling).last_closed
+pub filling-rises : (filling : Filling) → filling.last_closed ≤ (fill.closed filling).last_closed
 filling-rises filling = grind (arith, nat_tests)
 
-filling-stays : (filling : Filling) → filling.filled ≡ 0 → (fill.closed filling).last_closed ≡ filling.last_closed
+pub filling-stays : (filling : Filling) → filling.filled ≡ 0 → (fill.closed filling).last_closed ≡ filling.last_closed
 filling-stays filling empty = grind (arith, nat_tests, empty)
 
 -- a closing
@@ -181,3 +181,8 @@ anew-goes received joined judge now s f = record {
   };
   waits = λ site m fits later. (let w = fits.2 later in (refl, w.1 ∙ sym (filling-stays s.gens.filling (f.idle w.0))));
 }
+
+-- a version that is put or dropped leaves the conflict table alone
+pub version-conflicts : (key : Key) (found : Option Version) (u : SubscriberTables) → (with_version_if key found u).conflicts ≡ u.conflicts
+version-conflicts key None u = refl
+version-conflicts key (Some version) u = refl

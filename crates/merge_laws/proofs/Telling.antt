@@ -29,6 +29,7 @@ use Rattle.merge_model.specs.Tables.{Key, SubscriberTables}
 use Rattle.merge_model.specs.Taking.{with_received}
 use Rattle.merge_laws.specs.Numbered.{InOrder, Tells, last_of}
 use Rattle.merge_laws.proofs.Arrivals.{first-none}
+use Rattle.merge_laws.proofs.Subscribing.{filling-closed, filling-rises}
 use Rattle.merge_laws.proofs.Through.{kept-above, last-newest, last-older, moved-new, moved-none, moved-old, order-later, order-within}
 
 -- A book that moves on: the generations that close then keep the number.
@@ -55,12 +56,6 @@ module _ (before after : List MadeChange) (n : ℕ) (s : SubscriberTables) (fill
 
 -- A closing.
 
-pub closed-empty : (filling : Filling) → (fill.closed filling).filled ≡ 0
-closed-empty filling = grind (arith, nat_tests)
-
-closed-rises : (filling : Filling) → filling.last_closed ≤ (fill.closed filling).last_closed
-closed-rises filling = grind (arith, nat_tests)
-
 closed-one : (filling : Filling) (generation : ℕ) → filling.last_closed < generation → generation ≤ (fill.closed filling).last_closed → (generation ≡ filling.last_closed + 1) × (filling.filled ≡ 0 → ⊥)
 closed-one filling generation low up = (grind (arith, nat_tests, low, up), λ empty. grind (arith, nat_tests, low, up, empty))
 
@@ -76,11 +71,11 @@ pub closing-tells : (made : List MadeChange) (n : ℕ) (now : Moment) (s : Subsc
 closing-tells made n now s t =
     let filling : Filling = fill.closed s.gens.filling in
     let moment : Moment = record { 0 = s.changes } in
-    let rises : sub_last_closed s ≤ filling.last_closed = closed-rises s.gens.filling in
+    let rises : sub_last_closed s ≤ filling.last_closed = filling-rises s.gens.filling in
     record {
-      named = λ own. (closed-none s.gens.filling (t.named own).0 (t.named own).1, closed-empty s.gens.filling);
+      named = λ own. (closed-none s.gens.filling (t.named own).0 (t.named own).1, filling-closed s.gens.filling);
       order = λ differs. order-later s.changes (sub_last_closed s + 1) (filling.last_closed + 1) made (omega (arith, rises)) (t.order differs);
-      entered = λ filled. absurd (filled (closed-empty s.gens.filling));
+      entered = λ filled. absurd (filled (filling-closed s.gens.filling));
       idle = λ empty. closed-idle made s.changes s.gens.filling (s.gens.filling.filled == 0) refl t.entered t.idle;
       keeps = moved-keeps made made n s filling moment t rises (λ generation within. refl)
           (λ generation low up. (let one = closed-one s.gens.filling generation low up in t.entered one.1 ∙ ap (λ (g : ℕ). last_of g made) (sym one.0)));
@@ -164,7 +159,7 @@ module _ (made : List MadeChange) (c : MadeChange) (s : SubscriberTables) (at : 
       }
 
 -- what is not refused finds its row
-no-refusal : (b : Bool) → refused_if (not b) NoRow ≡ None → b ≡ true
+pub no-refusal : (b : Bool) → refused_if (not b) NoRow ≡ None → b ≡ true
 no-refusal true e = refl
 no-refusal false e = absurd (grind (arith, e))
 
@@ -172,7 +167,7 @@ lives-there : (f : Version → Version) (found : Option Version) → lives found
 lives-there f None e = absurd (grind (arith, e))
 lives-there f (Some version) e = refl
 
-version-there : (publication : Publication) (dot : Dot) (value : Value) (change : Change) (found : Option Version) → no_row change found ≡ None → is_some (version_after publication dot value change found) ≡ true
+pub version-there : (publication : Publication) (dot : Dot) (value : Value) (change : Change) (found : Option Version) → no_row change found ≡ None → is_some (version_after publication dot value change found) ≡ true
 version-there publication dot value (Insert article values) found none = refl
 version-there publication dot value (Update article row values) found none = lives-there (λ (version : Version). changed version dot values (tracking_at publication article)) found (no-refusal (lives found) none)
 version-there publication dot value (Delete article row) found none = lives-there (λ (version : Version). removed version dot) found (no-refusal (lives found) none)

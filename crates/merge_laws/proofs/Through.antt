@@ -1,6 +1,6 @@
 -- The last change up to a generation, as changes come in, and what a book keeps of closed generations.
 use Rattle.std.specs.Prelude.{◌≡◌, ◌≤◌, ◌<◌, ◌==◌, ◌+◌, ◌-◌, ◌++◌, ◌&&◌, ◌||◌, ℕ, zero, suc, List, [], ◌∷◌, Bool, true, false, not, Option, Some, None, refl, if◌then◌else◌, find, filter, map, max, nat_le, nat_lt, cond, option_map}
-use Rattle.std.specs.List.{fold, list_any, range_with_len}
+use Rattle.std.specs.List.{AllByRecursion, fold, list_any, range_with_len}
 use Rattle.std.specs.Option.{option_or}
 use Rattle.std.proofs.Common.{arith, sym, ap, ◌∙◌}
 use Rattle.std.proofs.lemmas.Bool.Decides.{nat_tests}
@@ -15,13 +15,15 @@ use Rattle.merge_model.specs.History.{History, MadeChange, is_done, made_at}
 use Rattle.merge_model.specs.Tables.{PublisherTables}
 use Rattle.merge_laws.specs.Received.{DoneIsReceived}
 use Rattle.merge_laws.specs.Numbered.{InOrder, is_up_to, last_of, last_through}
+use Rattle.merge_laws.proofs.Finding.{all-weaker}
+use Rattle.merge_laws.proofs.Lists.{any-same}
 
 -- The greatest number of the changes that pass a test.
 
 abbrev greatest : (MadeChange → Bool) → ℕ → MadeChange → ℕ
 greatest test most change = if test change then max most change.dot.number else most
 
-from-step : (up : Bool) (most number rest x y : ℕ) → x ≡ max (if up then max most number else most) rest → y ≡ max (if up then max 0 number else 0) rest → x ≡ max most y
+pub from-step : (up : Bool) (most number rest x y : ℕ) → x ≡ max (if up then max most number else most) rest → y ≡ max (if up then max 0 number else 0) rest → x ≡ max most y
 from-step true most number rest x y a b = grind (arith, nat_tests, a, b)
 from-step false most number rest x y a b = grind (arith, nat_tests, a, b)
 
@@ -35,8 +37,31 @@ made-step : (up : Bool) (number rest x : ℕ) → x ≡ max (if up then max 0 nu
 made-step true number rest x e = grind (arith, nat_tests, e)
 made-step false number rest x e = e
 
-last-made : (to : ℕ) (c : MadeChange) (changes : List MadeChange) → last_of to (c ∷ changes) ≡ max (if is_up_to to c then c.dot.number else 0) (last_of to changes)
+pub last-made : (to : ℕ) (c : MadeChange) (changes : List MadeChange) → last_of to (c ∷ changes) ≡ max (if is_up_to to c then c.dot.number else 0) (last_of to changes)
 last-made to c changes = made-step (is_up_to to c) c.dot.number (last_of to changes) (last_of to (c ∷ changes)) (last-from to (greatest (is_up_to to) 0 c) changes)
+
+-- each change up to a generation has a number up to the last one, which is the least such bound
+pub each-within : (to : ℕ) (made : List MadeChange) → AllByRecursion (λ (c : MadeChange). is_up_to to c ≡ true → c.dot.number ≤ last_of to made) made
+each-within to [] = tt
+each-within to (c ∷ made) =
+    let last = last-made to c made in (
+      λ up. grind (arith, nat_tests, last, up),
+      all-weaker (λ (x : MadeChange). is_up_to to x ≡ true → x.dot.number ≤ last_of to made) (λ (x : MadeChange). is_up_to to x ≡ true → x.dot.number ≤ last_of to (c ∷ made))
+          (λ x low up. (let less : x.dot.number ≤ last_of to made = low up in grind (arith, nat_tests, last, less))) made (each-within to made),
+    )
+
+last-bound-step : (up : Bool) (number rest all bound : ℕ) → all ≡ max (if up then number else 0) rest → (up ≡ true → number ≤ bound) → rest ≤ bound → all ≤ bound
+last-bound-step true number rest all bound e first more = let low : number ≤ bound = first refl in grind (arith, nat_tests, e, low, more)
+last-bound-step false number rest all bound e first more = grind (arith, nat_tests, e, more)
+
+pub last-bound : (to bound : ℕ) (made : List MadeChange) → AllByRecursion (λ (c : MadeChange). is_up_to to c ≡ true → c.dot.number ≤ bound) made → last_of to made ≤ bound
+last-bound to bound [] all = omega arith
+last-bound to bound (c ∷ made) all = last-bound-step (is_up_to to c) c.dot.number (last_of to made) (last_of to (c ∷ made)) bound (last-made to c made) all.0 (last-bound to bound made all.1)
+
+pub last-rises : (to later : ℕ) (made : List MadeChange) → to ≤ later → last_of to made ≤ last_of later made
+last-rises to later made up = last-bound to (last_of later made) made
+    (all-weaker (λ (c : MadeChange). is_up_to later c ≡ true → c.dot.number ≤ last_of later made) (λ (c : MadeChange). is_up_to to c ≡ true → c.dot.number ≤ last_of later made)
+    (λ c low here. low (grind (arith, nat_tests, here, up))) made (each-within later made))
 
 pub last-older : (to : ℕ) (c : MadeChange) (changes : List MadeChange) → to < c.generation → last_of to (c ∷ changes) ≡ last_of to changes
 last-older to c changes later = grind (arith, nat_tests, last-made to c changes, later)
@@ -100,13 +125,8 @@ done-up-to : (h : History) (p : PublisherTables) (n generation : ℕ) → DoneIs
 done-up-to h p n zero done first = grind (arith, nat_tests, first)
 done-up-to h p n (suc k) done first = grind (arith, nat_tests, done n (suc k))
 
-any-where : (test other : MadeChange → Bool) (changes : List MadeChange) → ((c : MadeChange) → test c ≡ other c) → list_any test changes ≡ list_any other changes
-any-where test other [] same = refl
-any-where test other (c ∷ changes) same = grind (arith, same c, any-where test other changes same)
-
 pub unmet-is : (h : History) (p : PublisherTables) (n asked : ℕ) → DoneIsReceived h p → is_done h n 0 ≡ false → is_unmet_by_done h n asked ≡ not (list_any (is_there (received_by_number p n) asked) (made_at h n))
-unmet-is h p n asked done first = ap (λ (b : Bool). not b) (any-where (λ (c : MadeChange). (c.dot.number == asked) && is_done h n c.generation) (is_there (received_by_number p n) asked) (made_at h n)
-    (λ c. ap (λ (b : Bool). (c.dot.number == asked) && b) (done-up-to h p n c.generation done first)))
+unmet-is h p n asked done first = ap (λ (b : Bool). not b) (any-same (λ (c : MadeChange). (c.dot.number == asked) && is_done h n c.generation) (is_there (received_by_number p n) asked) (λ c. ap (λ (b : Bool). (c.dot.number == asked) && b) (done-up-to h p n c.generation done first)) (made_at h n))
 
 pub last-is-done : (h : History) (p : PublisherTables) (n : ℕ) → DoneIsReceived h p → is_done h n 0 ≡ false → received_number_by_done h n ≡ last_through h n (received_by_number p n)
 last-is-done h p n done first = last-where (λ (c : MadeChange). is_done h n c.generation) (is_up_to (received_by_number p n)) 0 (made_at h n) (λ c. done-up-to h p n c.generation done first)

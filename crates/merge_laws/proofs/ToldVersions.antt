@@ -2,7 +2,6 @@
 use Rattle.std.specs.Prelude.{◌≡◌, ◌+◌, ◌++◌, ℕ, List, [], ◌∷◌, true, Option, Some, None, take, drop, map}
 use Rattle.std.specs.List.{AllByRecursion, enumerate_from}
 use Rattle.std.proofs.Common.{arith}
-use Rattle.std.proofs.lemmas.Bool.Decides.{nat_tests}
 use Rattle.std.proofs.lemmas.List.Folds.{list_any-append}
 use Rattle.merge_types.specs.declared.changes.Change.{Change}
 use Rattle.merge_types.specs.declared.changes.Change.TheVariants.{Delete, Insert, Update}
@@ -37,6 +36,7 @@ use Rattle.merge_laws.specs.Knowledge.{same_dot}
 use Rattle.merge_laws.specs.Standing.{HeldTold, Tells, Told}
 use Rattle.merge_laws.proofs.Finding.{all-weaker}
 use Rattle.merge_laws.proofs.LineagesTold.{tells-change, tells-merge}
+use Rattle.merge_laws.proofs.Tests.{dot-first}
 
 -- what holds of the tops of cells
 module _ (Q : Dot → Type 0) where
@@ -109,9 +109,6 @@ module _ (Q : Dot → Type 0) where
 
 -- Versions.
 
-own-first : (dot : Dot) (known : List Dot) → has (dot ∷ known) dot ≡ true
-own-first dot known = grind (arith, nat_tests)
-
 more-known : (dot : Dot) (known : List Dot) (tops : List Dot) → AllByRecursion (λ (top : Dot). has known top ≡ true) tops → AllByRecursion (λ (top : Dot). has (dot ∷ known) top ≡ true) tops
 more-known dot known tops all = all-weaker (λ (top : Dot). has known top ≡ true) (λ (top : Dot). has (dot ∷ known) top ≡ true) (λ top is. grind (arith, is)) tops all
 
@@ -122,14 +119,14 @@ told-new : (publication : Publication) (article : ℕ) (dot : Dot) (identity : V
 told-new publication article dot identity settings = record {
   ascending = ascending_with_dot [] (λ i j d before within. absurd (omega arith)) dot;
   tells = tells-change [] [] dot (λ i j d before within. absurd (omega arith)) tells-nothing;
-  tops = new-tops (λ (top : Dot). has (dot ∷ []) top ≡ true) (tracking_at publication article) dot (new_values publication article identity settings) (own-first dot []);
+  tops = new-tops (λ (top : Dot). has (dot ∷ []) top ≡ true) (tracking_at publication article) dot (new_values publication article identity settings) (dot-first dot []);
 }
 
 told-changed : (version : Version) (known : List Dot) (dot : Dot) (settings : List Setting) (tracking : Tracking) → Told version known → Told (changed version dot settings tracking) (dot ∷ known)
 told-changed version known dot settings tracking t = record {
   ascending = ascending_with_dot version.lineage t.ascending dot;
   tells = tells-change version.lineage known dot t.ascending t.tells;
-  tops = changed-tops (λ (top : Dot). has (dot ∷ known) top ≡ true) tracking dot settings (cells_of version.body) (own-first dot known)
+  tops = changed-tops (λ (top : Dot). has (dot ∷ known) top ≡ true) tracking dot settings (cells_of version.body) (dot-first dot known)
       (cells-tops (λ (top : Dot). has (dot ∷ known) top ≡ true) version.body (more-known dot known (tops_of version.body) t.tops));
 }
 
@@ -137,7 +134,7 @@ told-removed : (version : Version) (known : List Dot) (dot : Dot) → Told versi
 told-removed version known dot t = record {
   ascending = ascending_with_dot version.lineage t.ascending dot;
   tells = tells-change version.lineage known dot t.ascending t.tells;
-  tops = (own-first dot known, tt);
+  tops = (dot-first dot known, tt);
 }
 
 -- a local change
@@ -178,6 +175,6 @@ module _ (c : Case) (ours theirs : Version) (dot : Dot) (one other : Past) (t : 
   told-merged (Custom values) = record {
     ascending = ascending_with_dot (joined ours.lineage theirs.lineage) ascends dot;
     tells = tells-change (joined ours.lineage theirs.lineage) both dot ascends tells;
-    tops = body-tops (λ (top : Dot). has (dot ∷ both) top ≡ true) dot (Custom values) c ours.body theirs.body (own-first dot both)
+    tops = body-tops (λ (top : Dot). has (dot ∷ both) top ≡ true) dot (Custom values) c ours.body theirs.body (dot-first dot both)
         (more-known dot both (tops_of ours.body) mine) (more-known dot both (tops_of theirs.body) yours);
   }

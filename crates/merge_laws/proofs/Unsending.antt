@@ -1,5 +1,5 @@
 -- A step of a subscriber keeps what its rows say of its changes.
-use Rattle.std.specs.Prelude.{◌≡◌, ◌≤◌, ◌<◌, ◌&&◌, ◌||◌, ℕ, List, [], ◌∷◌, Bool, true, false, Option, Some, None, refl, if◌then◌else◌, cond, filter, find, map, nat_le, nat_lt, option_map, unwrap_or}
+use Rattle.std.specs.Prelude.{◌≡◌, ◌≤◌, ◌<◌, ◌&&◌, ◌||◌, ℕ, List, [], ◌∷◌, Bool, true, false, Option, Some, None, refl, if◌then◌else◌, cond, filter, find, map, nat_le, nat_lt, option_map}
 use Rattle.std.specs.BTreeMap.{is_at}
 use Rattle.std.specs.List.{fold, list_any}
 use Rattle.std.specs.List.Sorted.{IsStrictlySortedBy}
@@ -21,14 +21,12 @@ use Rattle.merge_model.specs.Taking.{key_of_download, row_above, with_item, with
 use Rattle.merge_model.proofs.Sorted.{key_total}
 use Rattle.merge_laws.specs.Numbered.{InOrder}
 use Rattle.merge_laws.specs.Unsent.{RowsTell, gens_in, is_changed_above, last_made}
+use Rattle.merge_laws.proofs.Changed.{gens_of}
 use Rattle.merge_laws.proofs.Generations.{above-kept, between-kept, none-above, none-between, open-above, open-behind, open-beyond, open-between, order-above}
 use Rattle.merge_laws.proofs.KeyLookUps.{keys-same, row-dropped, row-put}
 use Rattle.merge_laws.proofs.Telling.{decided}
 
 -- The generations that are kept with a row.
-
-abbrev gens_of : Option SubscriberRow → List ℕ
-gens_of found = unwrap_or (option_map (λ (row : SubscriberRow). row.generations) found) []
 
 gens-if : (b : Bool) (row : SubscriberRow) (rest : Option SubscriberRow) → gens_of (if b then Some row else rest) ≡ (if b then row.generations else gens_of rest)
 gens-if true row rest = refl
@@ -108,7 +106,7 @@ order-rows made received rows key (order.Put lineage live) sorted none f = empti
 order-rows made received rows key order.RemoveDeleted sorted none f = emptied-rows made received rows (drop_row rows key) key (λ q. gens-dropped rows key q sorted) none f
 order-rows made received rows key order.RemoveLeft sorted none f = emptied-rows made received rows (drop_row rows key) key (λ q. gens-dropped rows key q sorted) none f
 
-order-sorted : (key : Key) (o : Order) (rows : List (Key × SubscriberRow)) → IsStrictlySortedBy key_cmp (keys_of rows) → IsStrictlySortedBy key_cmp (keys_of (with_order key o rows))
+pub order-sorted : (key : Key) (o : Order) (rows : List (Key × SubscriberRow)) → IsStrictlySortedBy key_cmp (keys_of rows) → IsStrictlySortedBy key_cmp (keys_of (with_order key o rows))
 order-sorted key (order.Put lineage live) rows sorted = sorted_put key_cmp key_total key _ rows sorted
 order-sorted key order.RemoveDeleted rows sorted = sorted_take key_cmp key_total key rows sorted
 order-sorted key order.RemoveLeft rows sorted = sorted_take key_cmp key_total key rows sorted

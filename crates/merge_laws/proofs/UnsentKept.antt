@@ -49,8 +49,8 @@ use Rattle.merge_laws.proofs.Models.{begins, begins-with, model-fine}
 use Rattle.merge_laws.proofs.Noted.{anew-keep, own-keep, purge-keep, reply-keep}
 use Rattle.merge_laws.proofs.Numbers.{Alike, alike-itself, alike-notes, made-other, made-same}
 use Rattle.merge_laws.proofs.Replying.{downloaded-least, uploaded-least}
-use Rattle.merge_laws.proofs.Subscribing.{number-decided, same_number}
-use Rattle.merge_laws.proofs.Telling.{closed-empty, closing-tells, row-there}
+use Rattle.merge_laws.proofs.Subscribing.{number-decided, same_number, filling-closed}
+use Rattle.merge_laws.proofs.Telling.{closing-tells, row-there}
 use Rattle.merge_laws.proofs.Tellings.{joined-alike, numbered-begins, numbered-keeps, uploaded-alike}
 use Rattle.merge_laws.proofs.Unsending.{anew-rows, change-rows, items-told, received-rows, received-sorted}
 use Rattle.merge_laws.proofs.Walking.{StepsKeep, acts_in, here, join_noted, own_noted, step-keeps}
@@ -63,7 +63,7 @@ found-step : (S : SubscriberTables → Type 0) (b : Bool) (t s : SubscriberTable
 found-step S true t s rest first more e = let same : t ≡ s = cc in subst S same first
 found-step S false t s rest first more e = more e
 
-all-found : (S : SubscriberTables → Type 0) (subscribers : List (ℕ × SubscriberTables)) (n : ℕ) (s : SubscriberTables) → AllByRecursion (λ (entry : ℕ × SubscriberTables). S entry.1) subscribers → at_number subscribers n ≡ Some s → S s
+pub all-found : (S : SubscriberTables → Type 0) (subscribers : List (ℕ × SubscriberTables)) (n : ℕ) (s : SubscriberTables) → AllByRecursion (λ (entry : ℕ × SubscriberTables). S entry.1) subscribers → at_number subscribers n ≡ Some s → S s
 all-found S [] n s all e = absurd (grind (arith, e))
 all-found S (entry ∷ rest) n s all e = found-step S (is_at (nat_cmp n) entry.0) entry.1 s (at_number rest n) all.0 (λ found. all-found S rest n s all.1 found) e
 
@@ -153,7 +153,7 @@ module _ (publication : Publication) (says : Saying) where
       let c : SubscriberTables = sub_closed (sub_at_moment w.moment s) in
       let closing = closing-tells (made_at h s.site.0) s.site.0 w.moment s (b.1.0.subscribers s.site.0 s at) in
       same-rows w h k s (reinitialised judge (sub_at_moment w.moment s)).0 u at a.made refl
-      (λ named f. anew-rows c.changes (sub_last_closed c) (made_at h s.site.0) (order-closed c.changes (sub_last_closed c + 1) (sub_last_closed c) (made_at h s.site.0) (closing.order named) (closing.idle (closed-empty s.gens.filling))))
+      (λ named f. anew-rows c.changes (sub_last_closed c) (made_at h s.site.0) (order-closed c.changes (sub_last_closed c + 1) (sub_last_closed c) (made_at h s.site.0) (closing.order named) (closing.idle (filling-closed s.gens.filling))))
 
   reply-kept : (w : World) (h : History) (s : SubscriberTables) (number : ℕ) (m : Reply) (sent : Outstanding) → Base w h → Unsent w h → subscriber_at w s.site ≡ Some s → s.outstanding ≡ Some (seq_of m, sent) → reply_fault publication sent m s ≡ None
       → (let judge : SubscriberJudge = by_made h s.site in Unsent (with_subscriber (taken judge w.moment m s) w) (Noting.noted_reply judge s.site (pasts_with h number) m h))

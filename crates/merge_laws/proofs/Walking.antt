@@ -133,7 +133,7 @@ pub record StepsKeep (publication : Publication) (says : Saying) (B P : World �
       → (let judge : SubscriberJudge = by_made h s.site in P (with_subscriber (taken judge w.moment m s) w) (Noting.noted_reply judge s.site (pasts_with h number) m h))
 
 -- the letter that was posted last
-letter-last : (pool : List Letter) (letter : Letter) → slice_get (pool ++ letter ∷ []) (length pool) ≡ Some letter
+pub letter-last : (pool : List Letter) (letter : Letter) → slice_get (pool ++ letter ∷ []) (length pool) ≡ Some letter
 letter-last [] letter = refl
 letter-last (other ∷ pool) letter = grind (arith, letter-last pool letter)
 
@@ -144,7 +144,7 @@ found-letter : (found : Option Letter) (letter : Letter) (h : History) → found
 found-letter None letter h e = absurd (grind (arith, e))
 found-letter (Some other) letter h e = let same : other ≡ letter = cc in ap (λ (x : Letter). with_letter x h) same
 
-posted-noted : (site : SiteId) (message : Message) (w : World) (h : History) → with_posted (post site message w).0 (post site message w).1 h ≡ with_letter (record { site = site; message = message }) h
+pub posted-noted : (site : SiteId) (message : Message) (w : World) (h : History) → with_posted (post site message w).0 (post site message w).1 h ≡ with_letter (record { site = site; message = message }) h
 posted-noted site message w h =
     let letter : Letter = record { site = site; message = message } in
     found-letter (letter_at (post site message w).0 (length w.pool + 1)) letter h (letter-after (post site message w).0 (length w.pool) ∙ letter-last w.pool letter)
@@ -155,7 +155,7 @@ from-later publication now p (Insert article values) = refl
 from-later publication now p (Update article row values) = refl
 from-later publication now p (Delete article row) = refl
 
-same-sites : (a b : SiteId) → a.0 ≡ b.0 → a ≡ b
+pub same-sites : (a b : SiteId) → a.0 ≡ b.0 → a ≡ b
 same-sites a b e = ap (λ (n : ℕ). (let site : SiteId = record { 0 = n } in site)) e
 
 not-zero : (n : ℕ) → (n == 0) ≡ false → n ≡ 0 → ⊥

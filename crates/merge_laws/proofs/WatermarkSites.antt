@@ -1,16 +1,14 @@
 -- Each step of a subscriber keeps what the publisher takes it to hold.
-use Rattle.std.specs.Prelude.{◌≡◌, ◌≤◌, ◌==◌, ◌+◌, ℕ, List, Bool, true, false, Option, Some, None, Result, Ok, Err, refl, if◌then◌else◌, IfOk}
+use Rattle.std.specs.Prelude.{◌≡◌, ◌≤◌, ◌+◌, ℕ, List, Option, Some, None, refl}
 use Rattle.std.proofs.Common.{arith, sym, ap, ◌∙◌}
 use Rattle.std.proofs.lemmas.Bool.Decides.{nat_tests}
 use Rattle.merge_types.specs.declared.identifiers.Moment.{Moment}
-use Rattle.merge_types.specs.declared.identifiers.RowId.{RowId}
 use Rattle.merge_types.specs.declared.changes.Change.{Change}
 use Rattle.merge_types.specs.declared.values.Value.{Value}
 use Rattle.merge_units.specs.declared.version.Version.{Version}
 use Rattle.merge_ident.specs.Holders.{Holder}
 use Rattle.merge_gens.specs.declared.sites.SiteState.{SiteState}
 use Rattle.merge_batch.specs.Replies.{broken_by_reply}
-use Rattle.merge_batch.specs.declared.refusal.Refusal.{Refusal}
 use Rattle.merge_batch.specs.declared.reply.Downloaded.{Downloaded}
 use Rattle.merge_batch.specs.declared.reply.Reply.{Reply}
 use Rattle.merge_batch.specs.declared.reply.Reply.TheVariants as reply
@@ -20,14 +18,13 @@ use Rattle.merge_schema.specs.declared.publication.Publication.{Publication}
 use Rattle.merge_model.specs.Changes.{key_of, version_after}
 use Rattle.merge_model.specs.Faults.{reply_fault}
 use Rattle.merge_model.specs.Judge.{SubscriberJudge}
-use Rattle.merge_model.specs.Refusals.{unless}
 use Rattle.merge_model.specs.Reinit.{reinitialised}
 use Rattle.merge_model.specs.Sending.{with_message}
-use Rattle.merge_model.specs.Subscriber.{sub_at_moment, sub_drawn, sub_local, sub_local_refusal, sub_made_locally, sub_next_dot, sub_version_at, with_version_if}
+use Rattle.merge_model.specs.Subscriber.{sub_at_moment, sub_made_locally, sub_next_dot, sub_version_at, with_version_if}
 use Rattle.merge_model.specs.Tables.{Key, SubscriberTables}
-use Rattle.merge_model.specs.Taking.{Acted, Missed, Taken, met_by, seq_of, take_reply, taken}
+use Rattle.merge_model.specs.Taking.{seq_of, taken}
 use Rattle.merge_model.specs.World.{Replies}
-use Rattle.merge_laws.specs.Received.{MessageFits, SubscriberFits}
+use Rattle.merge_laws.specs.Received.{MessageFits}
 use Rattle.merge_laws.specs.Watermarks.{StateHolds}
 use Rattle.merge_laws.proofs.WatermarkLists.{Moves}
 
@@ -51,27 +48,10 @@ module _ (state : SiteState) (s : SubscriberTables) (f : StateHolds state s) whe
   version-moves key None u site seq mark flag out = quiet u site seq mark flag out
   version-moves key (Some version) u site seq mark flag out = quiet (with_version_if key (Some version) u) site seq mark flag out
 
-  drawn-moves : (publication : Publication) (now : Moment) (change : Change) (draw : Result (Value × List (ℕ × Holder)) Refusal)
-      → (let done : Result (SubscriberTables × RowId) Refusal = elim draw [ Err refusal ↦ Err refusal | Ok d ↦ Ok (sub_made_locally publication change d (sub_at_moment now s)) ] in IfOk done (λ a. Moves state s a.0))
-  drawn-moves publication now change (Err refusal) = tt
-  drawn-moves publication now change (Ok d) =
+  pub made-moves : (publication : Publication) (now : Moment) (change : Change) (d : Value × List (ℕ × Holder)) → Moves state s (sub_made_locally publication change d (sub_at_moment now s)).0
+  made-moves publication now change d =
       let t : SubscriberTables = sub_at_moment now s in
       version-moves (key_of (sub_next_dot t) change) (version_after publication (sub_next_dot t) d.0 change (sub_version_at t (key_of (sub_next_dot t) change))) (record t { changes = t.changes + 1; held = d.1 }) refl refl refl refl refl
-
-  refused-moves : (publication : Publication) (now : Moment) (change : Change) (refusal : Option Refusal)
-      → (let done : Result (SubscriberTables × RowId) Refusal = elim refusal [
-        | Some why ↦ Err why
-        | None ↦ elim (sub_drawn s change) [ Err why ↦ Err why | Ok d ↦ Ok (sub_made_locally publication change d (sub_at_moment now s)) ]
-      ] in IfOk done (λ a. Moves state s a.0))
-  refused-moves publication now change (Some why) = tt
-  refused-moves publication now change None = drawn-moves publication now change (sub_drawn s change)
-
-  pub local-moves : (publication : Publication) (now : Moment) (change : Change) → IfOk (sub_local publication now change s) (λ a. Moves state s a.0)
-  local-moves publication now change = refused-moves publication now change (sub_local_refusal publication change s)
-
-  pub unless-moves : {A : Type 0} (refusal : Option Refusal) (t : SubscriberTables) (a : A) → (refusal ≡ None → Moves state s t) → (let done : Result (SubscriberTables × A) Refusal = unless refusal (t, a) in IfOk done (λ x. Moves state s x.0))
-  unless-moves (Some why) t a moves = tt
-  unless-moves None t a moves = moves refl
 
   -- Messages.
 
@@ -127,7 +107,7 @@ module _ (state : SiteState) (s : SubscriberTables) (f : StateHolds state s) whe
   is-ask publication ask.Ranges m none = absurd (grind (arith, none))
   is-ask publication (ask.Upload low to) m none = absurd (grind (arith, none))
 
-  taken-moves : (publication : Publication) (judge : SubscriberJudge) (now : Moment) (q : ℕ) (sent : Outstanding) (m : Reply) → MessageFits state.joined_at s.site (Some s) (Replies m) → s.outstanding ≡ Some (q, sent) → s.seq ≡ seq_of m
+  pub taken-moves : (publication : Publication) (judge : SubscriberJudge) (now : Moment) (q : ℕ) (sent : Outstanding) (m : Reply) → MessageFits state.joined_at s.site (Some s) (Replies m) → s.outstanding ≡ Some (q, sent) → s.seq ≡ seq_of m
       → reply_fault publication sent m s ≡ None → Moves state s (taken judge now m s)
   taken-moves publication judge now q sent (reply.Joined m) fits out same none =
       let low : s.seq ≤ state.joined_at = omega (arith, fits, same) in (
@@ -158,29 +138,3 @@ module _ (state : SiteState) (s : SubscriberTables) (f : StateHolds state s) whe
     record { at = f.at; behind = f.behind; anew = f.anew; asked = λ k from e. absurd (grind (arith, e)) },
     λ a x. record { made = x.made; low = x.low },
   )
-
-  stays : Moves state s s
-  stays = quiet s refl refl refl refl refl
-
-  if-moves : (b : Bool) (x y : Result (SubscriberTables × Taken) Refusal) → (b ≡ true → IfOk x (λ done. Moves state s done.0)) → IfOk y (λ done. Moves state s done.0) → IfOk (if b then x else y) (λ done. Moves state s done.0)
-  if-moves true x y first second = first refl
-  if-moves false x y first second = second
-
-  same-seq : (a b c : ℕ) → a ≡ b → (a == c) ≡ true → b ≡ c
-  same-seq a b c same e = grind (arith, nat_tests, same, e)
-
-  met-moves : (publication : Publication) (received : ℕ) (judge : SubscriberJudge) (now : Moment) (m : Reply) (found : Option (ℕ × Outstanding)) → s.outstanding ≡ found → MessageFits state.joined_at s.site (Some s) (Replies m)
-      → SubscriberFits received s.site.0 s → IfOk (met_by publication judge now m s found) (λ done. Moves state s done.0)
-  met-moves publication received judge now m None is fits k = stays
-  met-moves publication received judge now m (Some sent) is fits k =
-      if-moves (sent.0 == seq_of m) (unless (reply_fault publication sent.1 m s) (taken judge now m s, Acted)) (Ok (s, Missed (seq_of m) sent.0))
-      (λ same. unless-moves (reply_fault publication sent.1 m s) (taken judge now m s) Acted
-      (λ none. taken-moves publication judge now sent.0 sent.1 m fits is (same-seq sent.0 s.seq (seq_of m) (k.last sent.0 sent.1 is) same) none)) stays
-
-  pub reply-moves : (publication : Publication) (received : ℕ) (judge : SubscriberJudge) (now : Moment) (m : Reply) → MessageFits state.joined_at s.site (Some s) (Replies m) → SubscriberFits received s.site.0 s
-      → IfOk (take_reply publication judge now m s) (λ done. Moves state s done.0)
-  reply-moves publication received judge now (reply.Joined m) fits k = met-moves publication received judge now (reply.Joined m) s.outstanding refl fits k
-  reply-moves publication received judge now (reply.Uploaded m) fits k = met-moves publication received judge now (reply.Uploaded m) s.outstanding refl fits k
-  reply-moves publication received judge now (reply.Ranged m) fits k = met-moves publication received judge now (reply.Ranged m) s.outstanding refl fits k
-  reply-moves publication received judge now (reply.Downloaded m) fits k = met-moves publication received judge now (reply.Downloaded m) s.outstanding refl fits k
-  reply-moves publication received judge now (reply.Refused number values) fits k = stays

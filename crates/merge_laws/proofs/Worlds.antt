@@ -15,8 +15,9 @@ use Rattle.merge_model.specs.World.{World, Letter, Message, with_publisher, with
 use Rattle.merge_model.specs.History.{History, is_done}
 use Rattle.merge_laws.specs.Received.{joined_at, JoinFits, MessageFits, LetterFits, SubscriberFits, AllFit, DoneIsReceived, Received}
 use Rattle.merge_laws.proofs.Finding.{all-more, all-weaker}
-use Rattle.merge_laws.proofs.Subscribing.{Goes, letters-go, all-fit}
 use Rattle.merge_laws.proofs.Publishing.{SameNumbers, greatest-step, member-step}
+use Rattle.merge_laws.proofs.Subscribing.{Goes, all-fit, letters-go}
+use Rattle.merge_laws.proofs.Tests.{numbers-same}
 
 -- only what has acted counts of a history
 pub history-same : (w : World) (h k : History) → k.done ≡ h.done → Received w h → Received w k
@@ -78,13 +79,10 @@ received-is h p n done =
     omega (arith, up, down)
 
 -- a batch that leaves no gap begins at a generation that has acted
-equal_numbers : (a b : ℕ) → (a == b) ≡ true → a ≡ b
-equal_numbers a b e = grind (arith, nat_tests, e)
-
 in-range : (test : ℕ → Bool) (n from generation : ℕ) → list_any test (range_with_len from n) ≡ false → from ≤ generation → generation < from + n → test generation ≡ false
 in-range test zero from generation none low high = absurd (omega arith)
 in-range test (suc n) from generation none low high = elim (from == generation) as (λ (b : Bool). (from == generation) ≡ b → test generation ≡ false) [
-  | true ↦ (λ e. ap test (sym (equal_numbers from generation e)) ∙ grind (arith, none))
+  | true ↦ (λ e. ap test (sym (numbers-same from generation e)) ∙ grind (arith, none))
   | false ↦ (λ e. in-range test n (from + 1) generation (grind (arith, none)) (grind (arith, nat_tests, e, low)) (omega (arith, high)))
 ] refl
 

@@ -11,3 +11,15 @@ pub mod Watermarks
 pub mod Knowledge
 pub mod Standing
 pub mod LineagesStand
+pub mod Settled
+pub mod Seen
+pub mod LetterNumbers
+pub mod Accepting
+pub mod LetterOrder
+pub mod KnownMakers
+pub mod Accepted
+pub mod TablesAgree
+pub mod Deciding
+pub mod ActsOnce
+pub mod Sessions
+pub mod Accounts

@@ -99,7 +99,8 @@ UploadCounts m pasts (Asks (request.Upload upload)) = can_act m upload ≡ true
     → AllByRecursion (λ (item : UploadItem). (dot : Dot) → has (past_in pasts (key_of_item item)).known dot ≡ true → is_given_up m.world.publisher m.history dot ≡ false) upload.items
 UploadCounts m pasts message = Unit {0}
 
-pub record Owns (m : Model) : Type 0 where
+-- Who knows which of a site's changes,
+pub record OwnKnown (m : Model) : Type 0 where
   -- a change knew all earlier changes of its site on its row, where it was made
   pub making : AllByRecursion (IsKnownLater m.history.made (counts_in m)) m.history.made
   -- a subscriber's version of a row knows all that the site made of it
@@ -108,6 +109,9 @@ pub record Owns (m : Model) : Type 0 where
   pub acted : (key : Key) → is_some (row_at m.world.publisher.rows key) ≡ true → KnowsAll m key (λ (change : MadeChange). is_of 0 change || is_done m.history change.dot.site.0 change.generation) (past_at m.history 0 key).known
   pub uploads : AllZip (λ (letter : Letter) (pasts : List (Key × Past)). UploadSends m pasts letter.message) m.world.pool m.history.letters
   pub replies : AllZip (λ (letter : Letter) (pasts : List (Key × Past)). ReplyAnswers m letter.site.0 pasts letter.message) m.world.pool m.history.letters
+
+-- and what is accepted, given up or has acted of what is known.
+pub record KnownCounts (m : Model) : Type 0 where
   -- what the publisher's versions know is accepted, and so is what a subscriber's know of other sites
   pub here : (key : Key) → OthersAccepted m 0 (past_at m.history 0 key).known
   pub there : (n : ℕ) (key : Key) → 1 ≤ n → OthersAccepted m n (past_at m.history n key).known
@@ -119,6 +123,10 @@ pub record Owns (m : Model) : Type 0 where
   -- the change that made a row is known to whoever knows any change of it, and has acted where it is accepted
   pub makers : AllByRecursion (λ (change : MadeChange). (maker : Dot) → maker_of change.key.row.0 ≡ Some maker → has change.past.known maker ≡ true) m.history.made
   pub inserts : AllByRecursion (λ (change : MadeChange). maker_of change.key.row.0 ≡ Some change.dot → is_accepted m.history change.dot ≡ true → (change.dot.site.0 ≡ 0 → ⊥) → is_done m.history change.dot.site.0 change.generation ≡ true) m.history.made
+
+pub record Owns (m : Model) : Type 0 where
+  pub known : OwnKnown m
+  pub counts : KnownCounts m
 
 -- Where the invariant holds, every lineage stands for what its version knows.
 abbrev pub StandsByInvariant : Type 0

@@ -1,11 +1,17 @@
 //! The laws.
 ghost use Rattle.merge_laws.specs.Laws.{OfEveryModel, ReceivedIsDone, ActedIsDone, GapIsDone, TakesOnlyClosed, ReceivedNumberIsDone, UnmetIsDone, ClosingsKeepTheLast, UploadsTellTheLast, SubscribersDecideAlike, KnowsOnlyMade, JoinedTakesActed, OfEach, OfEveryRun};
+ghost use Rattle.merge_laws.specs.Accounts.{NoChangeIsLost};
+ghost use Rattle.merge_laws.specs.ActsOnce.{ActedItemsDoNothing, ActedRowsStay, ActedUploadsOnlyAnswer, DoneStays, LettersStay, OfEveryReached, TakenHaveActed, TakenOnlyAnswer};
 ghost use Rattle.merge_laws.specs.LastLines.{MappingIsLastLine, ChangedIsLastChange, LeftByLine, TouchedInsideByLine, TouchedOutsideByLine};
-ghost use Rattle.merge_model.specs.Promises.{IdentitiesApart, OldIsPast, RepliesStayInside};
+ghost use Rattle.merge_model.specs.Bridge.{PublisherDecidesAlike};
+ghost use Rattle.merge_model.specs.Promises.{AllStand, IdentitiesApart, OldIsPast, RepliesStayInside};
+ghost use Rattle.merge_laws.specs.Deciding.{OfEveryValidRun, CasesDecideAlike, EachStepAlike, AnswersAlike, TablesAlike};
 ghost use Rattle.merge_laws.specs.Identities.{OfEveryRuledModel, TakenWereGranted};
 ghost use Rattle.merge_laws.specs.Watermarks.{WatermarksAreHeld};
 ghost use Rattle.merge_laws.specs.Knowledge.{MadeAreNumbered, KnownWereMade};
 ghost use Rattle.merge_laws.specs.LineagesStand.{StandsByInvariant};
+ghost use Rattle.merge_laws.specs.Sessions.{FinishedSessionsSettle};
+ghost use Rattle.merge_laws.specs.Settled.{SettledSitesHoldTheirPartitions};
 ghost use Rattle.merge_laws.specs.Standing.{TellingStands, ToldAfterChange, ToldAfterMerge, StandingAgrees, CaseIsByTops, NewsIsByTops};
 
 /// The one number that the publisher keeps of a site says which of its generations have acted,
@@ -100,8 +106,8 @@ pub fn known_changes_were_made()
 /// Such a lineage decides as what is known does, of each change that was known to the later changes of its
 /// site on the row where they were made; so the two agree on a body that such changes made. And a case is
 /// decided by no more than what each side knows of the changes that made the other's body. Where the
-/// invariant holds that is to carry this, every lineage stands for what its version knows; that every
-/// list of events keeps it is not proved yet.
+/// invariant holds that carries this, every lineage stands for what its version knows;
+/// `lineages_decide_as_histories_do` says that it holds after every list of events.
 pub fn lineages_that_tell_stand()
     ensures stands { TellingStands }
     ensures after_change { ToldAfterChange }
@@ -110,4 +116,69 @@ pub fn lineages_that_tell_stand()
     ensures case { CaseIsByTops }
     ensures news { NewsIsByTops }
     ensures invariant { StandsByInvariant }
+{}
+
+/// Where a publication can be said by a file, lineages decide as histories do, whatever happened. Each
+/// lineage of a row at a site, in a message or in a conflict table stands for what its version knows:
+/// of each change of the row that is not given up, it knows just what the version knows. So the
+/// publisher decides by its numbers and mappings as the history does, and which case an upload's item
+/// is, and what is news in it, is the same by lineages and by what versions know. And each step that
+/// the machine takes from its tables is the step of the model, with the history left out.
+pub fn lineages_decide_as_histories_do()
+    ensures stand { OfEveryValidRun (λ publication says m. AllStand m) }
+    ensures publisher { OfEveryValidRun (λ publication says m. PublisherDecidesAlike m) }
+    ensures cases { OfEveryValidRun (λ publication says m. CasesDecideAlike m) }
+    ensures steps { OfEveryValidRun EachStepAlike }
+{}
+
+/// Where a publication can be said by a file, the machine, which has tables alone, answers every list of
+/// events as the model does, which decides by histories; and it has the model's tables.
+pub fn machine_answers_as_the_model()
+    ensures answers { AnswersAlike }
+    ensures tables { TablesAlike }
+{}
+
+/// Where a publication can be said by a file, a settled site holds exactly its partition, whatever
+/// happened: messages that come late, twice or never, closings, joins, sites made anew, and purges. A
+/// site is settled that has joined and is not expired, has nothing unsent, and holds every generation
+/// of the publisher, whose open one is empty. Its live rows are then those of its partition, with the
+/// publisher's versions.
+pub fn settled_sites_hold_their_partitions()
+    ensures { SettledSitesHoldTheirPartitions }
+{}
+
+/// An upload takes effect once. Its items that stand in generations that have acted do nothing: the upload
+/// does what it would do without them. So a row of which it has no other item stays as it is, whatever the
+/// rest of the upload does: the version that the publisher holds, the generation of its change, what
+/// conflict tables have of it, and the changes that were made of it. An upload whose generations have all
+/// acted is only answered, or refused. After a delivery that was not refused each generation of the upload
+/// has acted, and what has acted stays so. So another delivery of the letter, at once or after whatever
+/// happened, changes no row, no conflict table and no change.
+pub fn uploads_take_effect_once()
+    ensures rows { ActedRowsStay }
+    ensures items { ActedItemsDoNothing }
+    ensures answered { ActedUploadsOnlyAnswer }
+    ensures taken { OfEveryReached TakenHaveActed }
+    ensures stay { OfEveryReached DoneStays }
+    ensures letters { OfEveryReached LettersStay }
+    ensures again { OfEveryReached TakenOnlyAnswer }
+{}
+
+/// A session that nothing refused leaves its site settled, whatever happened before it: the site has
+/// joined and is not expired, has nothing unsent, and holds every generation of the publisher, whose
+/// open one is empty. So a session makes uploads and downloads enough, however many generations they
+/// take. That a session is not refused is not said. Where a publication can be said by a file, the site
+/// then holds exactly its partition (`settled_sites_hold_their_partitions`).
+pub fn finished_sessions_settle_their_sites()
+    ensures { FinishedSessionsSettle }
+{}
+
+/// Where a publication can be said by a file, no change is lost, whatever happened: messages that come
+/// late, twice or never, conflicts however they are decided, joins, sites made anew, and purges. Each
+/// cell that a change set, and the row that a change deleted, is accounted for. The publisher's version
+/// of the row descends from the change there; or a version that does stands in a conflict table, of the
+/// publisher or of a site that was made anew; or the change is in its own site's version of the row,
+/// which is unsent; or the row was deleted, and its tombstone was purged.
+pub fn no_change_is_lost()
+    ensures { NoChangeIsLost }
 {}

@@ -5,11 +5,12 @@
 mod laws;
 
 pub use laws::{
-    downloads_stay_in_the_partition, identity_values_are_taken_once,
-    joined_sites_take_for_received_what_has_acted, known_changes_were_made,
+    downloads_stay_in_the_partition, finished_sessions_settle_their_sites,
+    identity_values_are_taken_once, joined_sites_take_for_received_what_has_acted,
+    known_changes_were_made, lineages_decide_as_histories_do,
     lineages_know_only_changes_that_were_made, lineages_that_tell_stand,
-    mappings_are_the_last_lines, purges_take_nothing_that_live_sites_need,
-    received_change_numbers_are_the_last_that_acted,
-    received_numbers_are_the_generations_that_acted, subscribers_decide_as_their_changes_do,
-    watermarks_are_held,
+    machine_answers_as_the_model, mappings_are_the_last_lines, no_change_is_lost,
+    purges_take_nothing_that_live_sites_need, received_change_numbers_are_the_last_that_acted,
+    received_numbers_are_the_generations_that_acted, settled_sites_hold_their_partitions,
+    subscribers_decide_as_their_changes_do, uploads_take_effect_once, watermarks_are_held,
 };

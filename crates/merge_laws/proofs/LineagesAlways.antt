@@ -1,0 +1,110 @@
+-- Lineages decide as histories do, after every list of events: the whole invariant, and what follows from it.
+use Rattle.std.specs.Prelude.{◌≡◌, ℕ, List, Some}
+use Rattle.std.proofs.Common.{arith}
+use Rattle.std.proofs.lemmas.Bool.Decides.{nat_tests}
+use Rattle.merge_schema.specs.Valid.{IsValid}
+use Rattle.merge_schema.specs.declared.publication.Publication.{Publication}
+use Rattle.merge_batch.specs.declared.request.UploadItem.{UploadItem}
+use Rattle.merge_model.specs.Acts.{key_of_item}
+use Rattle.merge_model.specs.Bridge.{CaseDecidesAlike, PublisherDecidesAlike, StepsAlike}
+use Rattle.merge_model.specs.Events.{after, machine, machine_answers}
+use Rattle.merge_model.specs.History.{past_in, pasts_with}
+use Rattle.merge_model.specs.Keys.{row_at}
+use Rattle.merge_model.specs.Model.{Model, empty_model, model, model_answers, model_step}
+use Rattle.merge_model.specs.Promises.{AllStand}
+use Rattle.merge_model.specs.Steps.{Action}
+use Rattle.merge_model.specs.Tables.{PublisherRow}
+use Rattle.merge_model.specs.World.{Saying, empty_world}
+use Rattle.merge_model.specs.declared.event.Event.{Event}
+use Rattle.merge_model.proofs.Events.{events-keep}
+use Rattle.merge_laws.specs.Accepted.{AllAccepted}
+use Rattle.merge_laws.specs.Deciding.{CasesDecideAlike}
+use Rattle.merge_laws.specs.LineagesStand.{AllTold, LineagesStand, OwnKnown, Owns}
+use Rattle.merge_laws.specs.TablesAgree.{TablesAgree}
+use Rattle.merge_laws.proofs.AcceptedSteps.{accepted-step, all-begin}
+use Rattle.merge_laws.proofs.AlikeCases.{Meets, held-meets, items-meet}
+use Rattle.merge_laws.proofs.AlikeDecisions.{case-decides-alike, publisher-decides-alike}
+use Rattle.merge_laws.proofs.AlikeRuns.{after-alike, answers-alike}
+use Rattle.merge_laws.proofs.AlikeSteps.{steps-alike}
+use Rattle.merge_laws.proofs.AllStand.{all-stand}
+use Rattle.merge_laws.proofs.Finding.{all-weaker}
+use Rattle.merge_laws.proofs.Ground.{Ground}
+use Rattle.merge_laws.proofs.LineagesStand.{lineages-stand}
+use Rattle.merge_laws.proofs.OwnSteps.{Grounded, grounded-begins, grounded-step, own-begins, own-step}
+use Rattle.merge_laws.proofs.SeenKept.{HasSeen, seen-begins, seen-step}
+use Rattle.merge_laws.proofs.TablesAgree.{tables-begin, tables-step}
+use Rattle.merge_laws.proofs.ToldSteps.{OfTold, told-begins, told-keeps}
+use Rattle.merge_laws.proofs.Walking.{step-keeps}
+
+pub record Kept (publication : Publication) (m : Model) : Type 0 where
+  pub grounded : Grounded publication m
+  -- what versions tell,
+  pub told : AllTold m
+  -- who knows which of a site's own changes, and what is accepted, given up or has acted of what is known
+  pub own : OwnKnown m
+  pub accepted : AllAccepted m.world m.history
+  -- conflict tables have the rows that were lost
+  pub tables : TablesAgree m.world m.history
+  -- what the publisher has met
+  pub seen : HasSeen m.world m.history
+
+module _ (publication : Publication) (m : Model) (k : Kept publication m) where
+  pub ground : Ground publication m.world m.history
+  ground = k.grounded.0
+
+  pub owns : Owns m
+  owns = record { known = k.own; counts = k.accepted.accepted.counts }
+
+  pub stand : LineagesStand m
+  stand = lineages-stand m ground.known.knowledge k.told owns
+
+  pub kept-step : (says : Saying) (action : Action) → Kept publication (model_step publication says m action).0
+  kept-step says action = record {
+    grounded = grounded-step publication says m action k.grounded k.accepted.accepted.counts;
+    told = step-keeps publication says (Ground publication) OfTold (λ w h g. g.received) (told-keeps publication says) m action ground k.told;
+    own = own-step publication says m action k.grounded k.accepted.accepted.counts k.own;
+    accepted = accepted-step publication says m action ground k.own k.accepted;
+    tables = tables-step publication says m action ground k.tables;
+    seen = seen-step publication says m action ground k.told owns k.seen;
+  }
+
+  -- What follows.
+
+  pub all-stands : AllStand m
+  all-stands = all-stand m stand k.tables
+
+  pub publisher-alike : PublisherDecidesAlike m
+  publisher-alike = publisher-decides-alike publication m ground k.seen
+
+  met-alike : (number : ℕ) (item : UploadItem) → Meets m (key_of_item item) item.version (past_in (pasts_with m.history number) (key_of_item item)) → (held : PublisherRow) → row_at m.world.publisher.rows (key_of_item item) ≡ Some held
+      → CaseDecidesAlike m (pasts_with m.history number) (key_of_item item) held.version item.version
+  met-alike number item meets held at = case-decides-alike publication m ground (pasts_with m.history number) (key_of_item item) held.version item.version (held-meets m ground.known.knowledge k.told stand owns (key_of_item item) held at) meets
+
+  pub cases-alike : CasesDecideAlike m
+  cases-alike number site upload at since = all-weaker (λ (item : UploadItem). Meets m (key_of_item item) item.version (past_in (pasts_with m.history number) (key_of_item item)))
+      (λ (item : UploadItem). (held : PublisherRow) → row_at m.world.publisher.rows (key_of_item item) ≡ Some held → CaseDecidesAlike m (pasts_with m.history number) (key_of_item item) held.version item.version)
+      (λ item meets held at_row. met-alike number item meets held at_row) upload.items
+      (items-meet m ground.known.knowledge k.told stand owns number site upload at (grind (arith, nat_tests, since)))
+
+  pub alike-step : (says : Saying) (action : Action) → StepsAlike publication says m action
+  alike-step says action = steps-alike publication says m action ground k.told stand owns k.seen
+
+kept-begins : (publication : Publication) (says : Saying) (tallies : List ℕ) → (resolvers : ℕ) × IsValid resolvers publication → Kept publication (empty_model publication tallies)
+kept-begins publication says tallies valid = record {
+  grounded = grounded-begins publication says tallies valid;
+  told = told-begins publication tallies;
+  own = own-begins publication tallies;
+  accepted = all-begin publication tallies;
+  tables = tables-begin publication tallies;
+  seen = seen-begins publication tallies;
+}
+
+module _ (publication : Publication) (valid : (resolvers : ℕ) × IsValid resolvers publication) (says : Saying) (tallies : List ℕ) (events : List Event) where
+  pub kept-always : Kept publication (after publication (model publication says) (empty_model publication tallies) events)
+  kept-always = events-keep publication (model publication says) (Kept publication) (λ m action k. kept-step publication m k says action) events (empty_model publication tallies) (kept-begins publication says tallies valid)
+
+  pub answers-same : machine_answers publication says tallies events ≡ model_answers publication says tallies events
+  answers-same = answers-alike publication says (Kept publication) (λ m action k. kept-step publication m k says action) (λ m action k. alike-step publication m k says action) events (empty_model publication tallies) (kept-begins publication says tallies valid)
+
+  pub worlds-same : after publication (machine publication says) (empty_world publication tallies) events ≡ (after publication (model publication says) (empty_model publication tallies) events).world
+  worlds-same = after-alike publication says (Kept publication) (λ m action k. kept-step publication m k says action) (λ m action k. alike-step publication m k says action) events (empty_model publication tallies) (kept-begins publication says tallies valid)

@@ -1,0 +1,5 @@
+use Rattle.merge_laws.proofs.SessionLaw.{sessions-settle}
+use Rattle.merge_laws.proofs.laws.finished_sessions_settle_their_sites.Goals as goal
+
+pub returns : goal.returns
+returns c publication says tallies events = sessions-settle publication says tallies events
