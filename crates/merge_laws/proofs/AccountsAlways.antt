@@ -4,7 +4,9 @@ use Rattle.merge_schema.specs.declared.publication.Publication.{Publication}
 use Rattle.merge_model.proofs.Events.{events-keep}
 use Rattle.merge_model.specs.Events.{after}
 use Rattle.merge_model.specs.Model.{Model, empty_model, model}
-use Rattle.merge_laws.specs.Accounts.{NoChangeIsLost, OfAccounts}
+use Rattle.merge_model.specs.Promises.{AllAccounted}
+use Rattle.merge_laws.specs.Accounts.{OfAccounts}
+use Rattle.merge_laws.specs.Laws.{OfEveryValidRun}
 use Rattle.merge_laws.proofs.AccountBase.{Base}
 use Rattle.merge_laws.proofs.AccountEach.{all-accounted}
 use Rattle.merge_laws.proofs.AccountSteps.{accounts-begin, accounts-keep}
@@ -17,7 +19,7 @@ base publication m k = (ground publication m k, (k.told, owns publication m k))
 abbrev IsAccounted : Publication → Model → Type 0
 IsAccounted publication m = Kept publication m × OfAccounts publication m.world m.history
 
-pub no-change-is-lost : NoChangeIsLost
+pub no-change-is-lost : OfEveryValidRun (λ publication says m. AllAccounted m)
 no-change-is-lost resolvers publication valid says tallies events =
     let m : Model = after publication (model publication says) (empty_model publication tallies) events in
     let all : IsAccounted publication m = events-keep publication (model publication says) (IsAccounted publication)

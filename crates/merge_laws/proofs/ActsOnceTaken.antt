@@ -28,7 +28,8 @@ use Rattle.merge_model.specs.Tables.{PublisherTables}
 use Rattle.merge_model.specs.World.{Asks, Letter, Message, Saying, World, letter_at}
 use Rattle.merge_model.specs.declared.event.Event.{Event}
 use Rattle.merge_model.proofs.Events.{events-keep}
-use Rattle.merge_laws.specs.ActsOnce.{AllActed, DoneStays, LettersStay, OfEveryReached, TakenHaveActed, TakenOnlyAnswer, delivered}
+use Rattle.merge_laws.specs.Laws.{OfEveryDecidedRun}
+use Rattle.merge_laws.specs.ActsOnce.{AllActed, DoneStays, LettersStay, TakenHaveActed, TakenOnlyAnswer, delivered}
 use Rattle.merge_laws.specs.Received.{Received}
 use Rattle.merge_laws.proofs.ActsOnceSteps.{acted-uploads-only-answer, delivered-by, is-fine, judge, refusal, taken_by}
 use Rattle.merge_laws.proofs.Models.{model-fine, received-always}
@@ -156,16 +157,16 @@ module _ (publication : Publication) (says : Saying) where
       acted-uploads-only-answer publication says (after publication (model publication says) done more) number site u (later.1.0 number (record { site = site; message = Asks (request.Upload u) }) (there.0 number (record { site = site; message = Asks (request.Upload u) }) at))
       (λ generation above within. later.1.1 u.site.0 generation (acted generation above within))
 
-pub taken-have-acted : OfEveryReached TakenHaveActed
+pub taken-have-acted : OfEveryDecidedRun TakenHaveActed
 taken-have-acted publication says tallies events = delivered-acted publication says (after publication (model publication says) (empty_model publication tallies) events) (received-always publication says tallies events)
 
-pub done-stays : OfEveryReached DoneStays
+pub done-stays : OfEveryDecidedRun DoneStays
 done-stays publication says tallies events site generation acted more =
     (both-stay publication says (after publication (model publication says) (empty_model publication tallies) events) (received-always publication says tallies events) more).1.1 site generation acted
 
-pub letters-stay : OfEveryReached LettersStay
+pub letters-stay : OfEveryDecidedRun LettersStay
 letters-stay publication says tallies events number letter at more =
     (both-stay publication says (after publication (model publication says) (empty_model publication tallies) events) (received-always publication says tallies events) more).1.0 number letter at
 
-pub taken-only-answer : OfEveryReached TakenOnlyAnswer
+pub taken-only-answer : OfEveryDecidedRun TakenOnlyAnswer
 taken-only-answer publication says tallies events = again-answers publication says (after publication (model publication says) (empty_model publication tallies) events) (received-always publication says tallies events)

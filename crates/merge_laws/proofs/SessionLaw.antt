@@ -19,7 +19,7 @@ use Rattle.merge_model.specs.Tables.{SubscriberTables}
 use Rattle.merge_model.specs.World.{Message, Replies, Saying, World, subscriber_at}
 use Rattle.merge_laws.specs.Numbered.{Numbered}
 use Rattle.merge_laws.specs.Received.{Received}
-use Rattle.merge_laws.specs.Sessions.{FinishedSessionsSettle}
+use Rattle.merge_laws.specs.Laws.{OfEveryDecidedRun}
 use Rattle.merge_laws.proofs.Finding.{some_same}
 use Rattle.merge_laws.proofs.Models.{model-fine}
 use Rattle.merge_laws.proofs.SessionChanges.{NoneBetween, UpTo, none-later, none-nothing, nothing-none, order-up, up-none}
@@ -298,7 +298,7 @@ session-leaves-settled publication says m r i s t here ended there =
     let f : Fetched publication says s.site k = session-settles publication says s.site m (record { tables = s; known = (r, i); here = here }) ended in
     subst (λ (x : SubscriberTables). IsSettled publication k x) (some_same f.fetches.uploaded.joins.at.tables t (sym f.fetches.uploaded.joins.at.here ∙ there)) (settled publication says s.site k f)
 
-pub sessions-settle : FinishedSessionsSettle
+pub sessions-settle : OfEveryDecidedRun SessionSettles
 sessions-settle publication says tallies events =
     let known = numbered-always publication says tallies events in
     session-leaves-settled publication says (after publication (model publication says) (empty_model publication tallies) events) known.0 known.1

@@ -22,7 +22,8 @@ use Rattle.merge_model.specs.World.{Saying, World}
 use Rattle.merge_model.specs.declared.event.Event.{Event}
 use Rattle.merge_model.specs.ByNumbers.{received_by_number}
 use Rattle.merge_model.proofs.Sorted.{key_total}
-use Rattle.merge_laws.specs.Settled.{OfPublisher, OfSites, Settled, SettledSitesHoldTheirPartitions, SiteHolds, TouchedInOrder, changed_of, held_at, live_only, made_in, owed_at, site_view}
+use Rattle.merge_laws.specs.Laws.{OfEveryValidRun}
+use Rattle.merge_laws.specs.Settled.{OfPublisher, OfSites, Settled, SiteHolds, TouchedInOrder, changed_of, held_at, live_only, made_in, owed_at, site_view}
 use Rattle.merge_laws.specs.Unsent.{last_made}
 use Rattle.merge_laws.proofs.Changed.{made-changed}
 use Rattle.merge_laws.proofs.Ground.{Ground, grounded-always}
@@ -134,7 +135,7 @@ pub settled-always : (publication : Publication) (says : Saying) (tallies : List
 settled-always publication says tallies events valid = grounded-always publication says tallies events valid (Settled publication) (settled-step publication says)
     (record { sites = sites-begin publication tallies; publisher = touched-begins publication tallies })
 
-pub settled-sites-hold : SettledSitesHoldTheirPartitions
+pub settled-sites-hold : OfEveryValidRun (λ publication says m. SettledHoldsPartition publication m)
 settled-sites-hold resolvers publication valid says tallies events =
     let both = settled-always publication says tallies events (resolvers, valid) in
     settled-holds publication (after publication (model publication says) (empty_model publication tallies) events) both.0 both.1

@@ -1,4 +1,4 @@
--- No change is lost: the statement, and the invariant that carries it.
+-- No change is lost: the invariant that carries it.
 use Rattle.std.specs.Prelude.{◌≡◌, ◌≤◌, ◌<◌, ◌==◌, ◌&&◌, ◌||◌, ◌⊎◌, ℕ, List, [], ◌∷◌, Bool, true, false, not, Option, Some, None, length, nat_le, option_map, unwrap_or}
 use Rattle.std.specs.List.{AllByRecursion, AllZip, list_any}
 use Rattle.std.specs.List.Sorted.{IsStrictlySortedBy}
@@ -12,21 +12,15 @@ use Rattle.merge_schema.specs.declared.publication.Publication.{Publication}
 use Rattle.merge_batch.specs.declared.request.Request.TheVariants as request
 use Rattle.merge_model.specs.History.{Chains, History, MadeChange, OfCells, OfDead, Past, has, is_done, past_at, past_in, pasts_at}
 use Rattle.merge_model.specs.Keys.{at_number, has_key, key_cmp, same_key}
-use Rattle.merge_model.specs.Model.{Model}
 use Rattle.merge_model.specs.Pasts.{cell_count}
-use Rattle.merge_model.specs.Promises.{AllAccounted, InCell, InRow, Place, descends}
+use Rattle.merge_model.specs.Promises.{InCell, InRow, Place, descends}
 use Rattle.merge_model.specs.PublisherLocal.{version_at}
 use Rattle.merge_model.specs.Subscriber.{sub_version_at}
 use Rattle.merge_model.specs.Tables.{Key, SubscriberTables}
-use Rattle.merge_model.specs.World.{Asks, Letter, Message, Saying, World}
-use Rattle.merge_laws.specs.Deciding.{OfEveryValidRun}
+use Rattle.merge_model.specs.World.{Asks, Letter, Message, World}
 use Rattle.merge_laws.specs.Knowledge.{same_dot}
 use Rattle.merge_laws.specs.LetterNumbers.{AreNamed}
 use Rattle.merge_laws.specs.LineagesStand.{OfMessage, is_of, is_sent}
-
--- The statement: where a file can say the publication, every change is accounted for after every list of events.
-abbrev pub NoChangeIsLost : Type 0
-NoChangeIsLost = OfEveryValidRun (λ (publication : Publication) (says : Saying) (m : Model). AllAccounted m)
 
 -- What a change did.
 

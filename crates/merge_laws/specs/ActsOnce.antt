@@ -14,7 +14,7 @@ use Rattle.merge_model.specs.ByHistory.{received_by_done}
 use Rattle.merge_model.specs.Events.{after}
 use Rattle.merge_model.specs.History.{History, MadeChange, Past, is_done, past_at}
 use Rattle.merge_model.specs.Keys.{row_at, same_key}
-use Rattle.merge_model.specs.Model.{Model, did_something, empty_model, model, model_step}
+use Rattle.merge_model.specs.Model.{Model, did_something, model, model_step}
 use Rattle.merge_model.specs.Promises.{key_of_conflict}
 use Rattle.merge_model.specs.Publisher.{at_moment}
 use Rattle.merge_model.specs.Steps.{Deliver, Outcome}
@@ -93,10 +93,6 @@ OnlyAnswers u m done = done.0 ≡ (if did_something done.1 then with_answer u m 
 abbrev pub ActedUploadsOnlyAnswer : Type 0
 ActedUploadsOnlyAnswer = (publication : Publication) (says : Saying) (m : Model) (number : ℕ) (site : SiteId) (u : Upload) → IsUpload m number site u → AllActed m.history u
     → OnlyAnswers u m (delivered publication says m number)
-
--- what holds of every model that some events lead to
-abbrev pub OfEveryReached : (Publication → Saying → Model → Type 0) → Type 0
-OfEveryReached Holds = (publication : Publication) (says : Saying) (tallies : List ℕ) (events : List Event) → Holds publication says (after publication (model publication says) (empty_model publication tallies) events)
 
 -- After a delivery that is not refused each generation of the upload has acted,
 abbrev pub TakenHaveActed : Publication → Saying → Model → Type 0

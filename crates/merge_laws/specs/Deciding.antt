@@ -1,4 +1,4 @@
--- Lineages decide as histories do: of publications that a file can say, after every list of events.
+-- Lineages decide as histories do: what is said of cases, of steps and of runs.
 use Rattle.std.specs.Prelude.{◌≡◌, ◌<◌, ℕ, List, Some}
 use Rattle.std.specs.List.{AllByRecursion}
 use Rattle.merge_types.specs.declared.identifiers.SiteId.{SiteId}
@@ -18,11 +18,6 @@ use Rattle.merge_model.specs.Tables.{PublisherRow}
 use Rattle.merge_model.specs.World.{Asks, Saying, empty_world, letter_at}
 use Rattle.merge_model.specs.declared.event.Event.{Event}
 use Rattle.merge_laws.specs.Received.{joined_at}
-
--- What a model is after some events, whatever they were, of a publication that a file can say: its sites have the numbers 1 to 63, each once.
-abbrev pub OfEveryValidRun : (Publication → Saying → Model → Type 0) → Type 0
-OfEveryValidRun Holds = (resolvers : ℕ) (publication : Publication) → IsValid resolvers publication → (says : Saying) (tallies : List ℕ) (events : List Event)
-    → Holds publication says (after publication (model publication says) (empty_model publication tallies) events)
 
 -- Of each item of an upload that was made since its site last joined, and that meets a row: which case it is and what is news.
 -- An older upload is refused, and decides nothing.

@@ -1,5 +1,6 @@
 -- What holds after every list of events.
 use Rattle.std.specs.Prelude.{true, ◌≡◌, ◌≤◌, ◌<◌, ℕ, List, Some}
+use Rattle.merge_schema.specs.Valid.{IsValid}
 use Rattle.merge_schema.specs.declared.publication.Publication.{Publication}
 use Rattle.merge_model.specs.declared.event.Event.{Event}
 use Rattle.merge_types.specs.declared.identifiers.SiteId.{SiteId}
@@ -25,6 +26,15 @@ OfEveryModel Holds = (publication : Publication) (says : Saying) (tallies : List
 -- the same of what depends on the publication
 abbrev pub OfEveryRun : (Publication → Model → Type 0) → Type 0
 OfEveryRun Holds = (publication : Publication) (says : Saying) (tallies : List ℕ) (events : List Event) → Holds publication (after publication (model publication says) (empty_model publication tallies) events)
+
+-- and on how conflicts are decided
+abbrev pub OfEveryDecidedRun : (Publication → Saying → Model → Type 0) → Type 0
+OfEveryDecidedRun Holds = (publication : Publication) (says : Saying) (tallies : List ℕ) (events : List Event) → Holds publication says (after publication (model publication says) (empty_model publication tallies) events)
+
+-- The same of publications that a file can say: their sites have the numbers 1 to 63, each once.
+abbrev pub OfEveryValidRun : (Publication → Saying → Model → Type 0) → Type 0
+OfEveryValidRun Holds = (resolvers : ℕ) (publication : Publication) → IsValid resolvers publication → (says : Saying) (tallies : List ℕ) (events : List Event)
+    → Holds publication says (after publication (model publication says) (empty_model publication tallies) events)
 
 -- and of every model, however it came about
 abbrev pub OfEach : (Publication → Model → Type 0) → Type 0

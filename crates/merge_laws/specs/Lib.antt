@@ -21,5 +21,4 @@ pub mod Accepted
 pub mod TablesAgree
 pub mod Deciding
 pub mod ActsOnce
-pub mod Sessions
 pub mod Accounts

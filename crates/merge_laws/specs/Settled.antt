@@ -1,4 +1,4 @@
--- A settled site holds its partition: the statement, and what every list of events keeps of sites, of the publisher and of the messages between them.
+-- A settled site holds its partition: what every list of events keeps of sites, of the publisher and of the messages between them.
 use Rattle.std.specs.Prelude.{◌≡◌, ◌≤◌, ◌<◌, ◌==◌, ◌+◌, ◌&&◌, max, ℕ, List, [], ◌∷◌, Bool, true, false, Option, Some, None, if◌then◌else◌, IfSome, filter, option_map, unwrap_or}
 use Rattle.std.specs.List.{AllByRecursion, list_any}
 use Rattle.std.specs.Option.{option_map_or}
@@ -9,7 +9,6 @@ use Rattle.merge_units.specs.declared.version.Version.{Version}
 use Rattle.merge_gens.specs.Retention.{is_expired}
 use Rattle.merge_gens.specs.declared.filling.Filling.{Filling}
 use Rattle.merge_gens.specs.declared.sites.SiteState.{SiteState}
-use Rattle.merge_schema.specs.Valid.{IsValid}
 use Rattle.merge_schema.specs.declared.publication.Publication.{Publication}
 use Rattle.merge_batch.specs.declared.reply.Act.{Act as Order}
 use Rattle.merge_batch.specs.declared.reply.Act.TheVariants as order
@@ -22,24 +21,16 @@ use Rattle.merge_batch.specs.declared.request.Upload.{Upload}
 use Rattle.merge_batch.specs.declared.request.UploadItem.{UploadItem}
 use Rattle.merge_model.specs.Acts.{key_of_item}
 use Rattle.merge_model.specs.ByNumbers.{changed_in, mapping_at, received_by_number, touch_by_mapping}
-use Rattle.merge_model.specs.Events.{after}
 use Rattle.merge_model.specs.History.{History, MadeChange}
 use Rattle.merge_model.specs.Keys.{at_number, has_key, same_key}
-use Rattle.merge_model.specs.Model.{empty_model, model}
-use Rattle.merge_model.specs.Promises.{SettledHoldsPartition, base_of}
+use Rattle.merge_model.specs.Promises.{base_of}
 use Rattle.merge_model.specs.Publisher.{last_closed}
 use Rattle.merge_model.specs.PublisherDownload.{inside_keys}
 use Rattle.merge_model.specs.PublisherLocal.{version_at}
 use Rattle.merge_model.specs.Subscriber.{sub_version_at}
 use Rattle.merge_model.specs.Tables.{Key, Mapping, PublisherTables, SubscriberTables}
 use Rattle.merge_model.specs.Taking.{key_of_download}
-use Rattle.merge_model.specs.World.{Asks, Letter, Message, Replies, Saying, World}
-use Rattle.merge_model.specs.declared.event.Event.{Event}
-
--- The law. Where two subscriptions have one number, or one has the number 0, it does not hold; no publication file can say that.
-abbrev pub SettledSitesHoldTheirPartitions : Type 0
-SettledSitesHoldTheirPartitions = (resolvers : ℕ) (publication : Publication) → IsValid resolvers publication → (says : Saying) (tallies : List ℕ) (events : List Event)
-    → SettledHoldsPartition publication (after publication (model publication says) (empty_model publication tallies) events)
+use Rattle.merge_model.specs.World.{Asks, Letter, Message, Replies, World}
 
 -- What it speaks of, row by row.
 

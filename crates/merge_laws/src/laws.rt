@@ -1,17 +1,14 @@
 //! The laws.
-ghost use Rattle.merge_laws.specs.Laws.{OfEveryModel, ReceivedIsDone, ActedIsDone, GapIsDone, TakesOnlyClosed, ReceivedNumberIsDone, UnmetIsDone, ClosingsKeepTheLast, UploadsTellTheLast, SubscribersDecideAlike, KnowsOnlyMade, JoinedTakesActed, OfEach, OfEveryRun};
-ghost use Rattle.merge_laws.specs.Accounts.{NoChangeIsLost};
-ghost use Rattle.merge_laws.specs.ActsOnce.{ActedItemsDoNothing, ActedRowsStay, ActedUploadsOnlyAnswer, DoneStays, LettersStay, OfEveryReached, TakenHaveActed, TakenOnlyAnswer};
+ghost use Rattle.merge_laws.specs.Laws.{OfEveryModel, ReceivedIsDone, ActedIsDone, GapIsDone, TakesOnlyClosed, ReceivedNumberIsDone, UnmetIsDone, ClosingsKeepTheLast, UploadsTellTheLast, SubscribersDecideAlike, KnowsOnlyMade, JoinedTakesActed, OfEach, OfEveryRun, OfEveryDecidedRun, OfEveryValidRun};
+ghost use Rattle.merge_laws.specs.ActsOnce.{ActedItemsDoNothing, ActedRowsStay, ActedUploadsOnlyAnswer, DoneStays, LettersStay, TakenHaveActed, TakenOnlyAnswer};
 ghost use Rattle.merge_laws.specs.LastLines.{MappingIsLastLine, ChangedIsLastChange, LeftByLine, TouchedInsideByLine, TouchedOutsideByLine};
 ghost use Rattle.merge_model.specs.Bridge.{PublisherDecidesAlike};
-ghost use Rattle.merge_model.specs.Promises.{AllStand, IdentitiesApart, OldIsPast, RepliesStayInside};
-ghost use Rattle.merge_laws.specs.Deciding.{OfEveryValidRun, CasesDecideAlike, EachStepAlike, AnswersAlike, TablesAlike};
+ghost use Rattle.merge_model.specs.Promises.{AllAccounted, AllStand, IdentitiesApart, OldIsPast, RepliesStayInside, SessionSettles, SettledHoldsPartition};
+ghost use Rattle.merge_laws.specs.Deciding.{CasesDecideAlike, EachStepAlike, AnswersAlike, TablesAlike};
 ghost use Rattle.merge_laws.specs.Identities.{OfEveryRuledModel, TakenWereGranted};
 ghost use Rattle.merge_laws.specs.Watermarks.{WatermarksAreHeld};
 ghost use Rattle.merge_laws.specs.Knowledge.{MadeAreNumbered, KnownWereMade};
 ghost use Rattle.merge_laws.specs.LineagesStand.{StandsByInvariant};
-ghost use Rattle.merge_laws.specs.Sessions.{FinishedSessionsSettle};
-ghost use Rattle.merge_laws.specs.Settled.{SettledSitesHoldTheirPartitions};
 ghost use Rattle.merge_laws.specs.Standing.{TellingStands, ToldAfterChange, ToldAfterMerge, StandingAgrees, CaseIsByTops, NewsIsByTops};
 
 /// The one number that the publisher keeps of a site says which of its generations have acted,
@@ -144,7 +141,7 @@ pub fn machine_answers_as_the_model()
 /// of the publisher, whose open one is empty. Its live rows are then those of its partition, with the
 /// publisher's versions.
 pub fn settled_sites_hold_their_partitions()
-    ensures { SettledSitesHoldTheirPartitions }
+    ensures { OfEveryValidRun (λ publication says m. SettledHoldsPartition publication m) }
 {}
 
 /// An upload takes effect once. Its items that stand in generations that have acted do nothing: the upload
@@ -158,10 +155,10 @@ pub fn uploads_take_effect_once()
     ensures rows { ActedRowsStay }
     ensures items { ActedItemsDoNothing }
     ensures answered { ActedUploadsOnlyAnswer }
-    ensures taken { OfEveryReached TakenHaveActed }
-    ensures stay { OfEveryReached DoneStays }
-    ensures letters { OfEveryReached LettersStay }
-    ensures again { OfEveryReached TakenOnlyAnswer }
+    ensures taken { OfEveryDecidedRun TakenHaveActed }
+    ensures stay { OfEveryDecidedRun DoneStays }
+    ensures letters { OfEveryDecidedRun LettersStay }
+    ensures again { OfEveryDecidedRun TakenOnlyAnswer }
 {}
 
 /// A session that nothing refused leaves its site settled, whatever happened before it: the site has
@@ -170,7 +167,7 @@ pub fn uploads_take_effect_once()
 /// take. That a session is not refused is not said. Where a publication can be said by a file, the site
 /// then holds exactly its partition (`settled_sites_hold_their_partitions`).
 pub fn finished_sessions_settle_their_sites()
-    ensures { FinishedSessionsSettle }
+    ensures { OfEveryDecidedRun SessionSettles }
 {}
 
 /// Where a publication can be said by a file, no change is lost, whatever happened: messages that come
@@ -180,5 +177,5 @@ pub fn finished_sessions_settle_their_sites()
 /// publisher or of a site that was made anew; or the change is in its own site's version of the row,
 /// which is unsent; or the row was deleted, and its tombstone was purged.
 pub fn no_change_is_lost()
-    ensures { NoChangeIsLost }
+    ensures { OfEveryValidRun (λ publication says m. AllAccounted m) }
 {}
