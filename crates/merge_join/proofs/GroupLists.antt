@@ -48,6 +48,13 @@ children-first (g ∷ groups) value (suc place) group first = rw (first_other g 
 abbrev with_children : Group → List RowId → Group
 with_children group children = record { value = group.value; children = children }
 
+-- and so are others that it is given
+pub children-set : (groups : List Group) (value : Value) (place : ℕ) (group : Group) (rows : List RowId) → IsFirst groups value place group → children_in (set groups place (with_children group rows)) value ≡ rows
+children-set [] value place group rows first = absurd (omega (arith, first.in_range))
+children-set (g ∷ groups) value zero group rows first = rw first.has_value refl
+children-set (g ∷ groups) value (suc place) group rows first =
+    rw (first_other g groups value place group first) (children-set groups value place group rows (first_tail g groups value place group first))
+
 pub set-with_child : (groups : List Group) (value : Value) (child : RowId) (place : ℕ) (group : Group) → IsFirst groups value place group
     → set groups place (with_children group (insert_key row_cmp group.children child)) ≡ with_child groups value child
 set-with_child [] value child place group first = absurd (omega (arith, first.in_range))

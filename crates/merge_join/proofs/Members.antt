@@ -1,5 +1,6 @@
 -- Which children there are after a change.
-use Rattle.std.proofs.Common.{◌≡◌, ℕ, Bool, true, false, not, cond, ◌&&◌, ◌||◌, List, [], ◌∷◌, refl, sym, ap, ◌∙◌}
+use Rattle.std.proofs.Common.{◌≡◌, ℕ, Bool, true, false, not, cond, ◌&&◌, ◌||◌, List, [], ◌∷◌, refl, sym, ap, ◌∙◌, subst, arith}
+use Rattle.std.specs.List.{Contains}
 use Rattle.std.specs.List.Sorted.{IsStrictlySortedBy}
 use Rattle.std.specs.declared.cmp.Ordering.{Ordering}
 use Rattle.std.specs.declared.cmp.Ordering.TheVariants.{Less, Equal, Greater}
@@ -9,6 +10,7 @@ use Rattle.std.specs.BTreeMap.{is_at}
 use Rattle.std.specs.BTreeSet.{insert_key}
 use Rattle.std.specs.Set.{remove_key}
 use Rattle.std.proofs.lemmas.Cmp.{tied_itself}
+use Rattle.std.proofs.lemmas.List.Folds.{list_any_at}
 use Rattle.std.proofs.lemmas.Map.Keys.{sorted_tail}
 use Rattle.std.proofs.lemmas.Map.Lookups.{exact_unsigned}
 use Rattle.merge_types.specs.declared.RowId.{RowId}
@@ -63,6 +65,21 @@ remove_step row child x xs sorted ih false at =
 among-remove : (row child : RowId) (rows : List RowId) → IsStrictlySortedBy row_cmp rows → is_among child (remove_key (is_at (row_cmp row)) rows) ≡ (not (is_at (row_cmp child) row) && is_among child rows)
 among-remove row child [] sorted = elim (is_at (row_cmp child) row) as (λ b. false ≡ (not b && false)) [ true ↦ refl | false ↦ refl ]
 among-remove row child (x ∷ xs) sorted = remove_step row child x xs sorted (among-remove row child xs (sorted_tail row_cmp x xs sorted)) (is_at (row_cmp row) x) refl
+
+no_member : (row : RowId) → Contains [] row → ⊥
+no_member row (k, less, at) = omega arith
+
+-- a row that was taken from children in order is none of them
+pub removed-gone : (rows : List RowId) (row : RowId) → IsStrictlySortedBy row_cmp rows → Contains (remove_key (is_at (row_cmp row)) rows) row → ⊥
+removed-gone rows row sorted (k, less, at) =
+    let left : List RowId = remove_key (is_at (row_cmp row)) rows in
+    let here : is_among row left ≡ true = list_any_at (is_at (row_cmp row)) left k row less (ap (is_at (row_cmp row)) at ∙ at_itself row) in
+    let gone : is_among row left ≡ false = among-remove row row rows sorted ∙ ap (λ (b : Bool). not b && is_among row rows) (at_itself row) in
+    let no : true ≡ false = sym here ∙ gone in absurd cc
+
+-- where there are no children, a row is none of them
+pub nothing-gone : (rows : List RowId) (row : RowId) → rows ≡ [] → Contains rows row → ⊥
+nothing-gone rows row none there = no_member row (subst (λ (rs : List RowId). Contains rs row) none there)
 
 -- whether a child is there after one was brought, and after one was taken
 brought : (o b rest : Bool) → cond o (b || rest) rest ≡ cond (o && b) true rest

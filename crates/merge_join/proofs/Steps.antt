@@ -1,7 +1,7 @@
 -- What one change comes to, in the index and in a plan.
 use Rattle.std.proofs.Common.{◌≡◌, ℕ, Bool, true, false, cond, List, [], ◌∷◌, Option, None, Some, refl, sym, ap, subst, ◌∙◌}
 use Rattle.std.specs.Prelude.{unwrap_or, IsTrue, Result, Ok, Err, OnErr}
-use Rattle.std.specs.List.{All}
+use Rattle.std.specs.List.{All, Contains}
 use Rattle.std.specs.List.Sorted.{IsStrictlySortedBy}
 use Rattle.std.specs.Map.{lookup, remove_entry, keys_of}
 use Rattle.std.specs.BTreeMap.{is_at, insert_entry}
@@ -18,7 +18,8 @@ use Rattle.merge_join.specs.Groups.{children_in}
 use Rattle.merge_join.specs.Keys.{key_cmp, key_of}
 use Rattle.merge_join.specs.Index.{groups_at, seen, entry_of, children_after, children_after_all, groups_after, ArePut}
 use Rattle.merge_join.specs.Plan.{groups_over, HasRoomFor}
-use Rattle.merge_join.proofs.Changed.{key_total, at_same, seen-changed}
+use Rattle.merge_join.proofs.Changed.{key_total, at_same, at_itself, seen-changed}
+use Rattle.merge_join.proofs.Members.{nothing-gone}
 use Rattle.merge_join.proofs.Puts.{Rows, are_put, put_twice, seen-same, put-planned, room-planned}
 
 abbrev pub key_for : JoinChange → JoinKey
@@ -35,6 +36,18 @@ changed-step rows rows1 rows2 rows3 key change old groups same is_key is_old is_
     subst (λ (k : JoinKey). ArePut (groups_at rows1) (groups_at rows3) k (groups_after change (groups_at rows1 (key_for change)))) is_key
     (subst (λ (gs : List Group). ArePut (groups_at rows1) (groups_at rows3) key gs) is (put_twice (groups_at rows1) (groups_at rows2) (groups_at rows3) key groups taken put)) in
     seen-changed (groups_at rows1) (groups_at rows3) change whole join v ∙ ap (λ (rs : Rows). children_after change join v (seen (groups_at rs) join v)) same
+
+gone_either : (null : Bool) (rows : List RowId) (child : RowId) → (Contains rows child → ⊥) → Contains (cond null [] rows) child → ⊥
+gone_either true rows child gone there = nothing-gone [] child refl there
+gone_either false rows child gone there = gone there
+
+-- and a child that is not among them is not found
+pub gone-step : (rows rows1 : Rows) (join : ℕ) (v : Value) (key : JoinKey) (groups : List Group) (child : RowId)
+    → key ≡ key_of join v → ArePut (groups_at rows) (groups_at rows1) key groups → (Contains (children_in groups v) child → ⊥) → Contains (seen (groups_at rows1) join v) child → ⊥
+gone-step rows rows1 join v key groups child is_key put gone =
+    let is : children_in (groups_at rows1 (key_of join v)) v ≡ children_in groups v =
+    put (key_of join v) v ∙ ap (λ (b : Bool). cond b (children_in groups v) (children_in (groups_at rows (key_of join v)) v)) (at_itself (key_of join v) key (sym is_key)) in
+    gone_either (is_null v) (children_in (groups_at rows1 (key_of join v)) v) child (λ there. gone (subst (λ (rs : List RowId). Contains rs child) is there))
 
 -- or put back as they were
 pub same-step : (rows rows1 rows2 rows3 : Rows) (key : JoinKey) (old groups : List Group)

@@ -1,5 +1,5 @@
 //! Rows in the order of their identifiers, each once.
-ghost use Rattle.std.specs.Prelude.{◌≡◌, [], ◌∷◌, IfOk, IfErr, IsOk, IsTrue, OnOk, OnErr, length};
+ghost use Rattle.std.specs.Prelude.{◌≡◌, [], ◌∷◌, Contains, IfOk, IfErr, IsOk, IsTrue, OnOk, OnErr, length};
 ghost use Rattle.std.specs.List.{list_any};
 ghost use Rattle.std.specs.List.Sorted.{IsStrictlySortedBy};
 ghost use Rattle.std.specs.BTreeMap.{is_at};
@@ -71,7 +71,8 @@ impl Children {
 
     /// Takes a row away, where it is there.
     pub fn remove(&mut self, row: RowId)
-        ensures { self.new ≡ remove_key (is_at (row_cmp row)) self.old }
+        ensures rows { self.new ≡ remove_key (is_at (row_cmp row)) self.old }
+        ensures gone { Contains self.new row → ⊥ }
     {
         if let Ok(at) = self.search(row) {
             self.rows.remove(at);

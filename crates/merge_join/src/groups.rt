@@ -1,5 +1,5 @@
 //! The children of each of some values.
-ghost use Rattle.std.specs.Prelude.{◌≡◌, ◌++◌, ◌∷◌, [], IsOk, IsTrue, OnOk, OnErr};
+ghost use Rattle.std.specs.Prelude.{◌≡◌, ◌++◌, ◌∷◌, [], Contains, IsOk, IsTrue, OnOk, OnErr};
 ghost use Rattle.std.specs.List.{list_any};
 ghost use Rattle.std.specs.List.Sorted.{IsStrictlySortedBy};
 ghost use Rattle.std.specs.BTreeMap.{is_at};
@@ -87,7 +87,8 @@ impl Groups {
 
     /// Takes a child away from a value's.
     pub fn remove(&mut self, value: &Value, child: RowId)
-        ensures { self.new ≡ without_child self.old value.now child }
+        ensures groups { self.new ≡ without_child self.old value.now child }
+        ensures gone { Contains (children_in self.new value.now) child → ⊥ }
     {
         if let Some(at) = self.place_of(value) {
             self.groups[at].children.remove(child);

@@ -1,5 +1,5 @@
 //! The index.
-ghost use Rattle.std.specs.Prelude.{◌≡◌, [], ◌∷◌, IfOk, IsOk, IsTrue, OnOk, OnErr};
+ghost use Rattle.std.specs.Prelude.{◌≡◌, [], ◌∷◌, Contains, IfOk, IsOk, IsTrue, OnOk, OnErr};
 ghost use Rattle.std.specs.List.{list_any};
 ghost use Rattle.std.specs.List.Sorted.{IsStrictlySortedBy};
 ghost use Rattle.std.specs.BTreeMap.{is_at};
@@ -91,7 +91,8 @@ impl JoinIndex {
 
     /// Takes a child away from those of the value by the join, where it is there.
     pub fn remove(&mut self, join: usize, value: &Value, child: RowId)
-        ensures { IsChanged self.old (Remove (record { join = join; value = value.now; child = child }) ∷ []) self.new }
+        ensures changed { IsChanged self.old (Remove (record { join = join; value = value.now; child = child }) ∷ []) self.new }
+        ensures gone { Contains (children_of self.new join value.now) child → ⊥ }
     {
         if is_null(value) {
             return;

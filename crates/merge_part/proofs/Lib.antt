@@ -19,5 +19,6 @@ pub mod Prepared
 pub mod Orders
 pub mod Begun
 pub mod Forgotten
+pub mod NotFound
 pub mod Once
 pub mod Trials

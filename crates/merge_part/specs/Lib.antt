@@ -4,6 +4,7 @@ pub mod Draft
 pub mod Places
 pub mod Rule
 pub mod Index
+pub mod Forgetting
 pub mod Waiting
 pub mod Filtering
 pub mod Taking

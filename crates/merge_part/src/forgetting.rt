@@ -6,6 +6,7 @@ ghost use Rattle.merge_types.specs.declared.values.Value.TheVariants.{Null};
 ghost use Rattle.merge_table.specs.Edits.{key_of, row_of};
 ghost use Rattle.merge_part.specs.declared.content.Content.{Content as OneContent};
 ghost use Rattle.merge_part.specs.declared.key.RowKey.{RowKey as OneKey};
+ghost use Rattle.merge_part.specs.Forgetting.{AddsNone, AddNone, IsForgotten, IsChildForgotten, IsParentForgotten, IsRowForgotten, IsEditForgotten};
 ghost use Rattle.merge_part.specs.Index.{AreIndexed, AreChildrenIndexed, AreParentsIndexed, HasEntry};
 ghost use Rattle.merge_part.specs.Rule.{content_value};
 
@@ -28,7 +29,9 @@ fn forget(
     new: Option<&Value>,
     row: RowId,
 )
-    ensures { (n : ℕ) (value : OneValue) (r : OneRow) → (n ≡ number → r ≡ row → value ≡ unwrap_or (option_copied new.entry) Null) → HasEntry index.old n value r → HasEntry index.new n value r }
+    ensures kept { (n : ℕ) (value : OneValue) (r : OneRow) → (n ≡ number → r ≡ row → value ≡ unwrap_or (option_copied new.entry) Null) → HasEntry index.old n value r → HasEntry index.new n value r }
+    ensures none_added { AddsNone index.old index.new }
+    ensures forgotten { IsForgotten index.new number (unwrap_or (option_copied old.entry) Null) (unwrap_or (option_copied new.entry) Null) row }
 {
     let Some(value) = old else {
         return;
@@ -49,7 +52,9 @@ fn forget_child(
     new: Option<&Content>,
 )
     requires { number < length links.now }
-    ensures { (rows : OneKey → Option OneContent) → rows key ≡ option_copied new.entry → AreChildrenIndexed links.now children.old rows → AreChildrenIndexed links.now children.new rows }
+    ensures indexed { (rows : OneKey → Option OneContent) → rows key ≡ option_copied new.entry → AreChildrenIndexed links.now children.old rows → AreChildrenIndexed links.now children.new rows }
+    ensures none_added { AddsNone children.old children.new }
+    ensures forgotten { IsChildForgotten links.now number children.new key (option_copied old.entry) (option_copied new.entry) }
 {
     let link = links[number];
     if link.child != key.article {
@@ -70,7 +75,9 @@ fn forget_parent(
     new: Option<&Content>,
 )
     requires { number < length links.now }
-    ensures { (rows : OneKey → Option OneContent) → rows key ≡ option_copied new.entry → AreParentsIndexed links.now parents.old rows → AreParentsIndexed links.now parents.new rows }
+    ensures indexed { (rows : OneKey → Option OneContent) → rows key ≡ option_copied new.entry → AreParentsIndexed links.now parents.old rows → AreParentsIndexed links.now parents.new rows }
+    ensures none_added { AddsNone parents.old parents.new }
+    ensures forgotten { IsParentForgotten links.now number parents.new key (option_copied old.entry) (option_copied new.entry) }
 {
     let link = links[number];
     if link.parent != key.article {
@@ -89,7 +96,9 @@ fn forget_row(
     old: Option<&Content>,
     new: Option<&Content>,
 )
-    ensures { (rows : OneKey → Option OneContent) → rows key ≡ option_copied new.entry → AreIndexed links.now index.old rows → AreIndexed links.now index.new rows }
+    ensures indexed { (rows : OneKey → Option OneContent) → rows key ≡ option_copied new.entry → AreIndexed links.now index.old rows → AreIndexed links.now index.new rows }
+    ensures none_added { AddNone index.old index.new }
+    ensures forgotten { IsRowForgotten links.now (length links.now) index.new key (option_copied old.entry) (option_copied new.entry) }
 {
     for number in 0..links.len() {
         forget_child(links, number, &mut index.children, key, old, new);
@@ -100,7 +109,9 @@ fn forget_row(
 /// Lets the rows no longer be found by what is held of them and the changes take away. Each row is
 /// changed once.
 pub fn forget_rows(rules: &Rules, index: &mut Indexes, held: &Held, edits: &[RowEdit])
-    ensures { (rows : OneKey → Option OneContent) → All (λ edit. rows (key_of edit) ≡ row_of edit) edits.now → AreIndexed rules.now.links index.old rows → AreIndexed rules.now.links index.new rows }
+    ensures indexed { (rows : OneKey → Option OneContent) → All (λ edit. rows (key_of edit) ≡ row_of edit) edits.now → AreIndexed rules.now.links index.old rows → AreIndexed rules.now.links index.new rows }
+    ensures none_added { AddNone index.old index.new }
+    ensures forgotten { All (λ edit. IsEditForgotten rules.now.links index.new held.now.rows.rows edit) edits.now }
 {
     for edit in edits {
         let key = edited_key(edit);

@@ -10,6 +10,6 @@ invariant_of-self c =
       kept = rw (c.apply.ensures, c.apply-2.ensures) record {
         met = kept.met;
         filtered = kept.filtered;
-        indexed = (rw c.deref.ensures.value at c.forget_rows.ensures) (rows_in c.self.inside.held.rows.rows c.plan.inside.rows.items) once kept.indexed;
+        indexed = (rw c.deref.ensures.value at c.forget_rows.ensures.indexed) (rows_in c.self.inside.held.rows.rows c.plan.inside.rows.items) once kept.indexed;
       };
     }
