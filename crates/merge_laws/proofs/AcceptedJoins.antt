@@ -17,9 +17,9 @@ use Rattle.merge_model.specs.Publisher.{last_closed}
 use Rattle.merge_model.specs.PublisherJoin.{join_acts, join_taken}
 use Rattle.merge_model.specs.Tables.{Key, PublisherTables, SubscriberTables}
 use Rattle.merge_model.specs.World.{Asks, Letter, Message, Replies, World, letter_at, with_publisher}
-use Rattle.merge_laws.specs.Accepted.{Accepted, OthersOf, SendsAccepted}
+use Rattle.merge_laws.specs.Accepted.{Accepted, SendsAccepted}
 use Rattle.merge_laws.specs.LetterOrder.{JoinIsLater, LetterOrder, last_upload, upload_seq}
-use Rattle.merge_laws.specs.LineagesStand.{UploadCounts, is_given_up}
+use Rattle.merge_laws.specs.LineagesStand.{UploadCounts, is_given_up, OthersAccepted}
 use Rattle.merge_laws.specs.Received.{JoinFits, LetterFits, MessageFits, joined_at}
 use Rattle.merge_laws.proofs.AcceptedParts.{CountsGo, PastFits, SiteFits, all-fit, counts-go, lines-accept, nothing-fits, past-among, send-on}
 use Rattle.merge_laws.proofs.Finding.{all-at, all-weaker}
@@ -82,7 +82,7 @@ module _ (publication : Publication) (judge : PublisherJudge) (w : World) (h : H
   can-act-step pasts site u false differs own bound sent acts_now =
       let joined = joined-joined m (here w) u.site false differs in (
         (grind (arith, nat_tests, acts_now, joined)),
-        (λ key dot is counted. keep dot (λ same. past-among (λ (past : Past). OthersOf h u.site.0 past.known) (λ x none other. absurd (grind (arith, none))) pasts sent key dot is (λ mine. differs (sym mine ∙ same))) counted),
+        (λ key dot is counted. keep dot (λ same. past-among (λ (past : Past). OthersAccepted h u.site.0 past.known) (λ x none other. absurd (grind (arith, none))) pasts sent key dot is (λ mine. differs (sym mine ∙ same))) counted),
       )
 
   message-goes : (pasts : List (Key × Past)) (site : SiteId) (message : Message) → MessageFits (joined_at w.publisher site) site (at_number w.subscribers site.0) message → (site.0 ≡ m.site.0 → upload_seq message ≤ last_upload m.site.0 w.pool) → SendsAccepted h pasts message → CountsGo w v h k pasts message

@@ -18,7 +18,7 @@ use Rattle.merge_model.specs.Noting
 use Rattle.merge_model.specs.PublisherUpload.{brings_news, taken_in, upload_refusal}
 use Rattle.merge_model.specs.Tables.{Key, PublisherTables}
 use Rattle.merge_model.specs.World.{Asks, Letter, Saying, World}
-use Rattle.merge_laws.specs.Accepted.{was_made}
+use Rattle.merge_laws.specs.Knowledge.{was_made}
 use Rattle.merge_laws.specs.LineagesStand.{OwnKnown, UploadSends, counts_in, is_given_up, is_of, is_sent}
 use Rattle.merge_laws.specs.Numbered.{last_of}
 use Rattle.merge_laws.proofs.AcceptedOrder.{StandsUpTo, last-within, of-made, of-site, order-numbers, order-up-to}

@@ -8,8 +8,7 @@ use Rattle.merge_model.specs.History.{History, MadeChange, made_at}
 use Rattle.merge_model.specs.Keys.{at_number}
 use Rattle.merge_model.specs.Tables.{SubscriberTables}
 use Rattle.merge_model.specs.World.{World}
-use Rattle.merge_laws.specs.Accepted.{was_made}
-use Rattle.merge_laws.specs.Knowledge.{AreNumbered, same_dot}
+use Rattle.merge_laws.specs.Knowledge.{AreNumbered, same_dot, was_made}
 use Rattle.merge_laws.specs.Numbered.{InOrder, Numbered, is_up_to, last_of}
 use Rattle.merge_laws.proofs.Finding.{all-weaker}
 use Rattle.merge_laws.proofs.Knowing.{fresh-above, fresh-anywhere}

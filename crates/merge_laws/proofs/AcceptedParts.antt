@@ -21,8 +21,8 @@ use Rattle.merge_model.specs.Noting
 use Rattle.merge_model.specs.Tables.{Key, PublisherTables, SubscriberTables}
 use Rattle.merge_model.specs.Taking.{key_of_download}
 use Rattle.merge_model.specs.World.{Asks, Letter, Message, Replies, World, subscriber_at, with_publisher, with_subscriber}
-use Rattle.merge_laws.specs.Accepted.{Accepted, OthersOf, SendsAccepted, SendsInserts}
-use Rattle.merge_laws.specs.LineagesStand.{UploadCounts, can_act, is_given_up}
+use Rattle.merge_laws.specs.Accepted.{Accepted, SendsAccepted, SendsInserts}
+use Rattle.merge_laws.specs.LineagesStand.{UploadCounts, can_act, is_given_up, OthersAccepted}
 use Rattle.merge_laws.specs.Received.{joined_at}
 use Rattle.merge_laws.proofs.Finding.{all-more, all-weaker}
 use Rattle.merge_laws.proofs.Lists.{zip-more, zip-weaker}
@@ -32,7 +32,7 @@ use Rattle.merge_laws.proofs.WorldLists.{all-subscribers}
 -- What a past knows: of other sites only what is accepted, and at a subscriber nothing that is given up.
 
 abbrev pub PastFits : PublisherTables → History → ℕ → Past → Type 0
-PastFits p h n past = OthersOf h n past.known × (1 ≤ n → (dot : Dot) → has past.known dot ≡ true → is_given_up p h dot ≡ false)
+PastFits p h n past = OthersAccepted h n past.known × (1 ≤ n → (dot : Dot) → has past.known dot ≡ true → is_given_up p h dot ≡ false)
 
 abbrev pub SiteFits : PublisherTables → History → ℕ → List (Key × Past) → Type 0
 SiteFits p h n rows = (key : Key) → PastFits p h n (past_in rows key)
@@ -55,17 +55,17 @@ zero-step : (h : History) (dot : Dot) (b : Bool) → (dot.site.0 == 0) ≡ b →
 zero-step h dot true is other = grind (arith, is)
 zero-step h dot false is other = other (λ zero. grind (arith, nat_tests, is, zero))
 
-pub others-zero : (h : History) (known : List Dot) → OthersOf h 0 known → (dot : Dot) → has known dot ≡ true → is_accepted h dot ≡ true
+pub others-zero : (h : History) (known : List Dot) → OthersAccepted h 0 known → (dot : Dot) → has known dot ≡ true → is_accepted h dot ≡ true
 others-zero h known others dot is = zero-step h dot (dot.site.0 == 0) refl (λ named. others dot is named)
 
 -- Letters.
 
 pub sent-on : (h k : History) → ((dot : Dot) → is_accepted h dot ≡ true → is_accepted k dot ≡ true) → (pasts : List (Key × Past)) (message : Message) → SendsAccepted h pasts message → SendsAccepted k pasts message
-sent-on h k more pasts (Asks (request.Upload m)) all = all-weaker (λ (row : Key × Past). OthersOf h m.site.0 row.1.known) (λ (row : Key × Past). OthersOf k m.site.0 row.1.known) (λ row others dot is other. more dot (others dot is other)) pasts all
+sent-on h k more pasts (Asks (request.Upload m)) all = all-weaker (λ (row : Key × Past). OthersAccepted h m.site.0 row.1.known) (λ (row : Key × Past). OthersAccepted k m.site.0 row.1.known) (λ row others dot is other. more dot (others dot is other)) pasts all
 sent-on h k more pasts (Asks (request.Join m)) all = tt
 sent-on h k more pasts (Asks (request.Ranges m)) all = tt
 sent-on h k more pasts (Asks (request.Download m)) all = tt
-sent-on h k more pasts (Replies (reply.Downloaded m)) all = all-weaker (λ (row : Key × Past). OthersOf h 0 row.1.known) (λ (row : Key × Past). OthersOf k 0 row.1.known) (λ row others dot is other. more dot (others dot is other)) pasts all
+sent-on h k more pasts (Replies (reply.Downloaded m)) all = all-weaker (λ (row : Key × Past). OthersAccepted h 0 row.1.known) (λ (row : Key × Past). OthersAccepted k 0 row.1.known) (λ row others dot is other. more dot (others dot is other)) pasts all
 sent-on h k more pasts (Replies (reply.Joined m)) all = tt
 sent-on h k more pasts (Replies (reply.Uploaded m)) all = tt
 sent-on h k more pasts (Replies (reply.Ranged m)) all = tt

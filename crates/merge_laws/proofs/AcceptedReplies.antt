@@ -20,7 +20,9 @@ use Rattle.merge_model.specs.Noting
 use Rattle.merge_model.specs.Tables.{Key, PublisherTables, SubscriberRow, SubscriberTables}
 use Rattle.merge_model.specs.Taking.{row_above, seq_of, taken}
 use Rattle.merge_model.specs.World.{Letter, Replies, World, subscriber_at, with_subscriber}
-use Rattle.merge_laws.specs.Accepted.{Accepted, OthersOf, SendsAccepted, SendsInserts, was_made}
+use Rattle.merge_laws.specs.Knowledge.{was_made}
+use Rattle.merge_laws.specs.LineagesStand.{OthersAccepted}
+use Rattle.merge_laws.specs.Accepted.{Accepted, SendsAccepted, SendsInserts}
 use Rattle.merge_laws.specs.Behind.{StaysBehind}
 use Rattle.merge_laws.specs.KnownMakers.{Ascend, KnownMakers}
 use Rattle.merge_laws.specs.Received.{joined_at}
@@ -66,9 +68,9 @@ download-accepts publication w h s number m sent g makers i at came out none =
     let v : World = with_subscriber t w in
     let letter : Letter = record { site = s.site; message = Replies (reply.Downloaded m) } in
     let joins : s.is_joined ≡ true = download-joined publication (received_by_number w.publisher n) (joined_at w.publisher (record { 0 = n })) sent m s s.is_joined refl out none (g.behind.subscribers n s at) in
-    let rows : AllByRecursion (λ (row : Key × Past). OthersOf h 0 row.1.known) incoming = letter-zip (λ (x : Letter) (pasts : List (Key × Past)). SendsAccepted h pasts x.message) w h number letter i.sent came in
+    let rows : AllByRecursion (λ (row : Key × Past). OthersAccepted h 0 row.1.known) incoming = letter-zip (λ (x : Letter) (pasts : List (Key × Past)). SendsAccepted h pasts x.message) w h number letter i.sent came in
     let all : (key : Key) → PastFits w.publisher h n (past_in incoming key) =
-    λ key. accepted-fits w.publisher h n (past_in incoming key) (others-zero h (past_in incoming key).known (past-among (λ (past : Past). OthersOf h 0 past.known) (λ dot is other. absurd (grind (arith, is))) incoming rows key)) in
+    λ key. accepted-fits w.publisher h n (past_in incoming key) (others-zero h (past_in incoming key).known (past-among (λ (past : Past). OthersAccepted h 0 past.known) (λ dot is other. absurd (grind (arith, is))) incoming rows key)) in
     let S : ℕ → List (Key × Past) → Type 0 = λ x ps. Ascend ps × SiteFits w.publisher h x ps in
     let kept : (x : ℕ) → S x (pasts_at k x) = reply-pasts S judge m.received n incoming
     (λ key ps old. (put-ascends ps key (past_in incoming key) old.0, each-put (λ (q : Key) (past : Past). PastFits w.publisher h n past) ps key (past_in incoming key) (all key) old.1))

@@ -25,9 +25,9 @@ use Rattle.merge_model.specs.Sending.{upload_item, upload_sent}
 use Rattle.merge_model.specs.Subscriber.{sub_at_moment, sub_closed}
 use Rattle.merge_model.specs.Tables.{Key, PublisherTables, SubscriberRow, SubscriberTables}
 use Rattle.merge_model.specs.World.{Asks, Message, Replies, World, subscriber_at, with_publisher, with_subscriber}
-use Rattle.merge_laws.specs.Accepted.{Accepted, IsUpTo, OthersOf}
+use Rattle.merge_laws.specs.Accepted.{Accepted, IsUpTo}
 use Rattle.merge_laws.specs.KnownMakers.{IsAfterMaker, KnownMakers}
-use Rattle.merge_laws.specs.LineagesStand.{is_given_up}
+use Rattle.merge_laws.specs.LineagesStand.{is_given_up, OthersAccepted}
 use Rattle.merge_laws.proofs.AcceptedOrder.{StandsBelow, of-site, order-below}
 use Rattle.merge_laws.proofs.AcceptedParts.{PastFits, all-fit, nothing-fits, past-among, post-accepted, publisher-accepted, put-rows, sent-rows, subscriber-accepted}
 use Rattle.merge_laws.proofs.Finding.{all-weaker, found-named}
@@ -119,7 +119,7 @@ upload-posted publication w h s g makers i at =
     let after : AllByRecursion IsAfterMaker (made_at h n) = all-filter IsAfterMaker (λ (x : MadeChange). x.dot.site.0 == n) h.made makers.firsts in
     post-accepted v h s.site (Asks (request.Upload m))
     (λ acts. all-of (λ (item : UploadItem). (dot : Dot) → has (past_in pasts (key_of_item item)).known dot ≡ true → is_given_up w.publisher h dot ≡ false) (λ item dot is. (fits (key_of_item item)).1 low dot is) m.items)
-    (sent-rows (λ (past : Past). OthersOf h n past.known) (pasts_at h n) (λ key. (all-fit w h i n key).0) m.items)
+    (sent-rows (λ (past : Past). OthersAccepted h n past.known) (pasts_at h n) (λ key. (all-fit w h i n key).0) m.items)
     (all-weaker (λ (item : UploadItem). ChangedIn (is_between_made c.received m.to) (made_at h n) (key_of_item item)) (λ (item : UploadItem). AllByRecursion (IsUpTo n m.to (key_of_item item)) h.made)
     (λ item is. up-to-each n c.received m.to (key_of_item item) (made_at h n) after (passes-filter n h.made) is h.made below) m.items
     (items-of (ChangedIn (is_between_made c.received m.to) (made_at h n)) c (changed_between_by_made h s.site c.received m.to) changed))
@@ -133,5 +133,5 @@ ask-answered publication w h number site m i =
     let q : PublisherTables = asked m (here w) in
     let sent : Downloaded = reply_to publication judge m q in
     let same = asked-same m (here w) in
-    post-accepted (with_publisher q w) h site (Replies (reply.Downloaded sent)) tt (put-rows (λ (past : Past). OthersOf h 0 past.known) (pasts_at h 0) i.counts.here sent.items) tt
+    post-accepted (with_publisher q w) h site (Replies (reply.Downloaded sent)) tt (put-rows (λ (past : Past). OthersAccepted h 0 past.known) (pasts_at h 0) i.counts.here sent.items) tt
     (publisher-accepted w h q (record { received = λ n. same.received n; number = λ n. same.number n; joined = λ x. same.joined x }) i)

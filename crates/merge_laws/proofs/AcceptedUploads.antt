@@ -24,10 +24,10 @@ use Rattle.merge_model.specs.PublisherUpload.{brings_news, upload_refusal}
 use Rattle.merge_model.specs.Steps.{kept_decisions, upload_questions}
 use Rattle.merge_model.specs.Tables.{Key, PublisherTables}
 use Rattle.merge_model.specs.World.{Asks, Letter, Message, Replies, Saying, World, letter_at, with_publisher}
-use Rattle.merge_laws.specs.Accepted.{Accepted, IsUpTo, OthersOf, SendsAccepted, SendsInserts, was_made}
-use Rattle.merge_laws.specs.Knowledge.{AllKnow, changes_of}
+use Rattle.merge_laws.specs.Accepted.{Accepted, IsUpTo, SendsAccepted, SendsInserts}
+use Rattle.merge_laws.specs.Knowledge.{AllKnow, changes_of, was_made}
 use Rattle.merge_laws.specs.KnownMakers.{KnownMakers, KnowsMaker}
-use Rattle.merge_laws.specs.LineagesStand.{OwnKnown, UploadCounts, is_given_up}
+use Rattle.merge_laws.specs.LineagesStand.{OwnKnown, UploadCounts, is_given_up, OthersAccepted}
 use Rattle.merge_laws.proofs.AcceptedChanges.{inserts-on, new-up-to}
 use Rattle.merge_laws.proofs.AcceptedNews.{accepts-items, accepts-more, after, noted, placed, reaches, upload-counts}
 use Rattle.merge_laws.proofs.AcceptedParts.{CountsGo, PastFits, SiteFits, accepted-fits, all-fit, counts-go, past-among, send-on}
@@ -224,7 +224,7 @@ module _ (publication : Publication) (says : Saying) (w : World) (h : History) (
       let received = ap (λ (x : ℕ). received_by_number w.publisher x) own_site in
       grind (arith, nat_tests, joins, same, was, received, begins, own_site, from, up)
 
-  items-sent : AllByRecursion (λ (row : Key × Past). OthersOf h m.site.0 row.1.known) incoming
+  items-sent : AllByRecursion (λ (row : Key × Past). OthersAccepted h m.site.0 row.1.known) incoming
   items-sent = letter-zip (λ (x : Letter) (pasts : List (Key × Past)). SendsAccepted h pasts x.message) w h number (record { site = m.site; message = Asks (request.Upload m) }) i.sent at
 
   item-acted : (c : MadeChange) (item : UploadItem) (b : Bool) → (c.dot.site.0 == m.site.0) ≡ b → IsAlone h.made c → InsertActed h c → ((c.dot.site.0 == m.site.0) ≡ true → 1 ≤ c.generation) → IsUpTo m.site.0 m.to (key_of_item item) c
@@ -235,7 +235,7 @@ module _ (publication : Publication) (says : Saying) (w : World) (h : History) (
       done-now c.dot.site.0 c.generation site (from is) (up_to (one (key_of_item item) here_made) maker site)
   item-acted c item false is one acted_before from up_to maker named knows =
       let differs : c.dot.site.0 ≡ m.site.0 → ⊥ = λ same. grind (arith, nat_tests, is, same) in
-      let accepted : is_accepted h c.dot ≡ true = past-among (λ (past : Past). OthersOf h m.site.0 past.known) (λ dot none other. absurd (grind (arith, none))) incoming items-sent (key_of_item item) c.dot knows differs in
+      let accepted : is_accepted h c.dot ≡ true = past-among (λ (past : Past). OthersAccepted h m.site.0 past.known) (λ dot none other. absurd (grind (arith, none))) incoming items-sent (key_of_item item) c.dot knows differs in
       done-before c.dot.site.0 c.generation (acted_before maker accepted named)
 
   insert-acted : (c : MadeChange) → IsAlone h.made c → InsertActed h c → ((c.dot.site.0 == m.site.0) ≡ true → 1 ≤ c.generation) → AllByRecursion (λ (item : UploadItem). IsUpTo m.site.0 m.to (key_of_item item) c) m.items → InsertActed k c

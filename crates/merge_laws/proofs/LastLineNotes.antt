@@ -30,5 +30,3 @@ taken-lines judges site incoming m found h = taker-leave (λ (x : History). x.li
 pub anew-lines : (judges : Judges) (site : SiteId) (found : Option SubscriberTables) (h : History)
     → (let k : History = elim found [ None ↦ h | Some s ↦ Noting.noted_anew (judges.subscriber site s) s h ] in k.lines ≡ h.lines)
 anew-lines judges site found h = anew-leave (λ (x : History). x.lines) (λ x pasts. refl) (λ x lost. refl) judges site found h
-
--- Messages that are made.

@@ -1,18 +1,13 @@
 -- What a step notes leaves alone each part of a history that it does not speak of.
-use Rattle.std.specs.Prelude.{◌≡◌, ◌+◌, ℕ, List, [], ◌∷◌, Bool, true, false, Option, Some, None, Result, Ok, Err, refl, if◌then◌else◌}
+use Rattle.std.specs.Prelude.{◌≡◌, ℕ, List, [], ◌∷◌, Bool, true, false, Option, Some, None, refl, if◌then◌else◌}
 use Rattle.std.specs.List.{fold}
 use Rattle.std.proofs.Common.{◌∙◌}
-use Rattle.merge_types.specs.declared.changes.Change.{Change}
 use Rattle.merge_types.specs.declared.identifiers.Dot.{Dot}
 use Rattle.merge_types.specs.declared.identifiers.SiteId.{SiteId}
-use Rattle.merge_types.specs.declared.values.Value.{Value}
 use Rattle.merge_units.specs.declared.case.Case.{Case}
 use Rattle.merge_units.specs.declared.result.Decision.{Decision}
 use Rattle.merge_units.specs.declared.result.Decision.TheVariants.{KeepPublisher, TakeSubscriber, Custom}
 use Rattle.merge_units.specs.declared.version.Version.{Version}
-use Rattle.merge_ident.specs.Holders.{Holder}
-use Rattle.merge_schema.specs.declared.publication.Publication.{Publication}
-use Rattle.merge_batch.specs.declared.refusal.Refusal.{Refusal}
 use Rattle.merge_batch.specs.declared.reply.Act.{Act as Order}
 use Rattle.merge_batch.specs.declared.reply.Act.TheVariants as order
 use Rattle.merge_batch.specs.declared.reply.DownloadItem.{DownloadItem}
@@ -26,7 +21,6 @@ use Rattle.merge_model.specs.Judge.{SubscriberJudge}
 use Rattle.merge_model.specs.Noting
 use Rattle.merge_model.specs.Pasts.{past_by}
 use Rattle.merge_model.specs.Reinit.{discarded}
-use Rattle.merge_model.specs.Subscriber.{sub_drawn, sub_last_closed, sub_next_dot}
 use Rattle.merge_model.specs.Tables.{Key, SubscriberTables}
 use Rattle.merge_model.specs.Taking.{key_of_download}
 use Rattle.merge_model.specs.World.{Judges}
@@ -87,23 +81,6 @@ module _ {X : Type 0} (part : History → X) where
   anew-leave pasts lost judges site (Some s) h =
       let after : History = fold (Noting.with_discarded s.site) h (discarded (judges.subscriber site s) s) in
       pasts after (Noting.noted_anew (judges.subscriber site s) s h).pasts ∙ discarded-leave lost s.site (discarded (judges.subscriber site s) s) h
-
-  -- Local changes of a subscriber.
-
-  drawn-leaves : MadeLeaves → (publication : Publication) (change : Change) (s : SubscriberTables) (draw : Result (Value × List (ℕ × Holder)) Refusal) (h : History)
-      → (let k : History = elim draw [
-        | Err refusal ↦ h
-        | Ok d ↦ Noting.with_change publication (sub_next_dot s) (sub_last_closed s + 1) change d.0 h
-      ] in part k ≡ part h)
-  drawn-leaves same publication change s (Err refusal) h = refl
-  drawn-leaves same publication change s (Ok d) h =
-      let k : History = Noting.with_change publication (sub_next_dot s) (sub_last_closed s + 1) change d.0 h in
-      same h k.made k.pasts
-
-  pub change-leaves : MadeLeaves → (publication : Publication) (change : Change) (found : Option SubscriberTables) (h : History)
-      → (let k : History = elim found [ None ↦ h | Some s ↦ Noting.noted_at_subscriber publication change s h ] in part k ≡ part h)
-  change-leaves same publication change None h = refl
-  change-leaves same publication change (Some s) h = drawn-leaves same publication change s (sub_drawn s change) h
 
   -- Uploads.
 

@@ -20,8 +20,6 @@ use Rattle.merge_laws.proofs.NotesLeave.{acts-leave, anew-leave, fold-leave, tak
 pub lines-bases : (lines : List Line) (h : History) → (Noting.with_lines lines h).bases ≡ h.bases
 lines-bases lines h = fold-leave (λ (x : History). x.bases) Noting.with_line (λ x line. refl) lines h
 
--- The publisher's own changes.
-
 -- Uploads.
 
 acts-bases : (incoming : List (Key × Past)) (entries : Entries) (acts : List Act) (h : History) → (fold (Noting.with_act incoming entries) h acts).bases ≡ h.bases
@@ -51,5 +49,3 @@ taken-bases judges site incoming m found h = taker-leave (λ (x : History). x.ba
 pub anew-bases : (judges : Judges) (site : SiteId) (found : Option SubscriberTables) (h : History)
     → (let k : History = elim found [ None ↦ h | Some s ↦ Noting.noted_anew (judges.subscriber site s) s h ] in k.bases ≡ h.bases)
 anew-bases judges site found h = anew-leave (λ (x : History). x.bases) (λ x pasts. refl) (λ x lost. refl) judges site found h
-
--- Messages that are made.

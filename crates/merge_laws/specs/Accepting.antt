@@ -1,12 +1,12 @@
 -- What is accepted: with a change all that it knew, and where the publisher holds the row, it knows the change.
 use Rattle.std.specs.Prelude.{◌≡◌, ◌==◌, ◌||◌, List, Bool, true, is_some}
-use Rattle.std.specs.List.{AllByRecursion, list_any}
+use Rattle.std.specs.List.{AllByRecursion}
 use Rattle.merge_types.specs.declared.identifiers.Dot.{Dot}
 use Rattle.merge_model.specs.History.{History, MadeChange, Past, has, past_in, pasts_at}
 use Rattle.merge_model.specs.Keys.{row_at, same_key}
 use Rattle.merge_model.specs.Tables.{Key, PublisherRow}
 use Rattle.merge_model.specs.World.{World}
-use Rattle.merge_laws.specs.Knowledge.{same_dot}
+use Rattle.merge_laws.specs.Knowledge.{was_made}
 
 -- a history with these accepted changes accepts one
 abbrev pub accepts : List Dot → Dot → Bool
@@ -26,7 +26,7 @@ KnowsAccepted made accepted key known = AllByRecursion (λ (change : MadeChange)
 pub record Accepting (rows : List (Key × PublisherRow)) (made : List MadeChange) (accepted : List Dot) (pasts : List (Key × Past)) : Type 0 where
   pub fine : AllByRecursion (IsFine accepted) made
   -- what is accepted was made
-  pub were_made : (dot : Dot) → has accepted dot ≡ true → list_any (λ (change : MadeChange). same_dot change.dot dot) made ≡ true
+  pub were_made : (dot : Dot) → has accepted dot ≡ true → was_made made dot ≡ true
   pub held : (key : Key) → is_some (row_at rows key) ≡ true → KnowsAccepted made accepted key (past_in pasts key).known
 
 abbrev pub AcceptsWell : World → History → Type 0

@@ -34,6 +34,10 @@ MadeAreNumbered m = AreNumbered (changes_of m.world) m.history
 abbrev pub same_dot : Dot → Dot → Bool
 same_dot a b = (a.site.0 == b.site.0) && (a.number == b.number)
 
+-- whether a change was made
+abbrev pub was_made : List MadeChange → Dot → Bool
+was_made made dot = list_any (λ (change : MadeChange). same_dot change.dot dot) made
+
 -- whether a change of a row was made
 abbrev pub is_made : List MadeChange → Key → Dot → Bool
 is_made made key dot = list_any (λ (change : MadeChange). same_dot change.dot dot && same_key key change.key) made

@@ -90,8 +90,8 @@ ReplyAnswers m site pasts (Replies (reply.Downloaded reply)) =
 ReplyAnswers m site pasts message = Unit {0}
 
 -- all that other sites made and that is known is accepted
-abbrev pub OthersAccepted : Model → ℕ → List Dot → Type 0
-OthersAccepted m site known = (dot : Dot) → has known dot ≡ true → (dot.site.0 ≡ site → ⊥) → is_accepted m.history dot ≡ true
+abbrev pub OthersAccepted : History → ℕ → List Dot → Type 0
+OthersAccepted h site known = (dot : Dot) → has known dot ≡ true → (dot.site.0 ≡ site → ⊥) → is_accepted h dot ≡ true
 
 -- an upload that can act has nothing that is given up
 abbrev pub UploadCounts : Model → List (Key × Past) → Message → Type 0
@@ -113,8 +113,8 @@ pub record OwnKnown (m : Model) : Type 0 where
 -- and what is accepted, given up or has acted of what is known.
 pub record KnownCounts (m : Model) : Type 0 where
   -- what the publisher's versions know is accepted, and so is what a subscriber's know of other sites
-  pub here : (key : Key) → OthersAccepted m 0 (past_at m.history 0 key).known
-  pub there : (n : ℕ) (key : Key) → 1 ≤ n → OthersAccepted m n (past_at m.history n key).known
+  pub here : (key : Key) → OthersAccepted m.history 0 (past_at m.history 0 key).known
+  pub there : (n : ℕ) (key : Key) → 1 ≤ n → OthersAccepted m.history n (past_at m.history n key).known
   -- nothing is given up that a site holds or that can act
   pub holds : (n : ℕ) (key : Key) (dot : Dot) → 1 ≤ n → has (past_at m.history n key).known dot ≡ true → is_given_up m.world.publisher m.history dot ≡ false
   pub counts : AllZip (λ (letter : Letter) (pasts : List (Key × Past)). UploadCounts m pasts letter.message) m.world.pool m.history.letters
