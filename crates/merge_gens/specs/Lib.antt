@@ -4,3 +4,4 @@ pub mod Plan
 pub mod Retention
 pub mod Entries
 pub mod Index
+pub mod Moves

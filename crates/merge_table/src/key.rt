@@ -4,6 +4,8 @@ ghost use Rattle.std.specs.declared.cmp.Ordering.TheVariants.{Equal};
 ghost use Rattle.std.proofs.Common.{rules};
 ghost use Rattle.std.proofs.lemmas.Map.Lookups.{exact_unsigned, exact_pairs};
 
+use merge_types::RowKey;
+
 /// A key of which equal values are one, and clones too.
 ///
 /// A slot keeps the key that it was made for. By this law that is the key that is put there later.
@@ -45,6 +47,14 @@ impl TableKey for u128 {
 
 impl<A: TableKey, B: TableKey> TableKey for (A, B) {
     ghost equal_is_same = { exact_pairs A.cmp B.cmp A.equal_is_same B.equal_is_same };
+
+    ghost clone_is_same = { Prim.search rules };
+}
+
+impl TableKey for RowKey {
+    ghost use Rattle.merge_types.specs.RowKeys.{key_exact};
+
+    ghost equal_is_same = { key_exact };
 
     ghost clone_is_same = { Prim.search rules };
 }

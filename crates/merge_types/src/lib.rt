@@ -6,6 +6,7 @@ mod fault;
 mod identifiers;
 mod listing;
 mod literal;
+mod row_key;
 mod steps;
 #[cfg(test)]
 mod tests;
@@ -17,6 +18,7 @@ pub use fault::NoMemory;
 pub use identifiers::{Dot, HostName, Moment, RowId, SiteId};
 pub use listing::{Exact, Listing, Octets};
 pub use literal::{read_day, read_decimal, read_guid, read_int};
+pub use row_key::RowKey;
 pub use steps::Steps;
 pub use values::{ColType, Column, Value, Values};
 pub use words::Words;

@@ -7,6 +7,7 @@ mod laws;
 mod length;
 mod local_change;
 mod result;
+mod site_row;
 #[cfg(test)]
 mod tests;
 mod version;
@@ -19,4 +20,5 @@ pub use laws::{case_laws, kept_laws, result_laws};
 pub use length::stored_length;
 pub use local_change::{change, remove};
 pub use result::{Decision, apply};
+pub use site_row::{PublisherRow, SubscriberRow};
 pub use version::{Body, Cell, Cells, RowList, RowVersion, Version};
