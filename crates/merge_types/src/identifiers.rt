@@ -1,7 +1,9 @@
 //! Sites, changes, rows and moments.
 ghost use Rattle.std.specs.Prelude.{◌≡◌, ◌≢◌, All, ◌<◌, ◌≤◌, ◌+◌, ◌*◌, ◌^◌, ℕ, IfOk, IfSome, IfNone};
+ghost use Rattle.merge_types.specs.Limits.{number_limit};
 ghost use Rattle.merge_types.specs.Rows.{row_number, row_text, HasFirstPoint, IsDotText, IsMadeBy, IsRowLiteral};
 
+use crate::limits::NUMBER_LIMIT;
 use crate::literal::{guid, read_decimal, read_guid};
 use crate::{Exact, NoMemory, Words};
 use std::alloc::{AllocError, Global};
@@ -74,14 +76,11 @@ const SITE_UNIT: u128 = 1 << 80;
 // The version 8 and the variant binary 10, at their places.
 const MARKS: u128 = (8 << 76) + (2 << 62);
 
-// Numbers of changes lie below this.
-const NUMBER_LIMIT: u128 = 1 << 62;
-
 impl RowId {
     /// The identifier of the row that a change makes.
     pub fn of(dot: Dot) -> Self
         requires low { 1 ≤ dot.number }
-        requires high { dot.number < 2 ^ 62 }
+        requires high { dot.number < number_limit }
         ensures number { result.0 ≡ row_number dot.site.0 dot.number }
         ensures made { IsMadeBy result.0 dot.site.0 dot.number }
     {
@@ -96,7 +95,7 @@ impl RowId {
     {
         let site = self.0 / SITE_UNIT;
         let rest = self.0 % SITE_UNIT;
-        if site >= 65536 || rest <= MARKS || rest >= MARKS + NUMBER_LIMIT {
+        if site >= 65536 || rest <= MARKS || rest >= MARKS + NUMBER_LIMIT as u128 {
             return None;
         }
         Some(Dot {
@@ -141,7 +140,7 @@ fn read_dot(text: &[u8]) -> Option<Dot>
     let (before, behind) = split_at_point(text)?;
     let site = read_decimal(before)?;
     let number = read_decimal(behind)?;
-    if site >= 65536 || number == 0 || number as u128 >= NUMBER_LIMIT {
+    if site >= 65536 || number == 0 || number >= NUMBER_LIMIT {
         return None;
     }
     Some(Dot {

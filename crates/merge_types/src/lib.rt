@@ -4,6 +4,7 @@
 mod changes;
 mod fault;
 mod identifiers;
+pub mod limits;
 mod listing;
 mod literal;
 mod row_key;

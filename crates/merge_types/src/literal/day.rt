@@ -2,14 +2,10 @@
 ghost use Rattle.std.specs.Prelude.{◌≡◌, ◌↔◌, ℕ, ℤ, ◌+◌, ◌*◌, ◌<◌, [], ◌∷◌, ◌++◌, IsTrue, IfOk, IfSome, IfNone, OnOk, string_bytes};
 ghost use Rattle.merge_types.specs.Day.{IsDay, IsDateOf, IsDayText, year_of, month_of, date_of, two_digits, date_text, day_text};
 
+use crate::limits::{FIRST_DAY, LAST_DAY};
 use crate::{NoMemory, Words};
 use jiff_core::civil::Date;
 use std::alloc::{AllocError, Global};
-
-// The days of 0001-01-01 and 9999-12-31.
-const FIRST_DAY: i32 = -719_162;
-
-const LAST_DAY: i32 = 2_932_896;
 
 /// Whether the day lies in the years 0001 to 9999.
 pub fn is_proper(day: i32) -> bool
