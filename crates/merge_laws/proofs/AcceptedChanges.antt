@@ -28,7 +28,8 @@ use Rattle.merge_model.specs.PublisherLocal.{Drawn, local_refusal, made_locally,
 use Rattle.merge_model.specs.PublisherPurge.{purge}
 use Rattle.merge_model.specs.Reinit.{discarded, reinitialised}
 use Rattle.merge_model.specs.Subscriber.{is_joining, sub_at_moment, sub_last_closed, sub_local_refusal, sub_made_locally, sub_next_dot, sub_version_at, with_version_if}
-use Rattle.merge_model.specs.Tables.{Key, PublisherTables, SubscriberTables}
+use Rattle.merge_types.specs.declared.row_key.RowKey.{RowKey as Key}
+use Rattle.merge_model.specs.Tables.{PublisherTables, SubscriberTables}
 use Rattle.merge_model.specs.World.{Asks, Letter, Message, Replies, World, subscriber_at, with_publisher, with_subscriber}
 use Rattle.merge_laws.specs.Accepted.{Accepted, IsUpTo, SendsInserts}
 use Rattle.merge_laws.specs.Knowledge.{AllKnow, AreNumbered, Known, changes_of, same_dot, was_made}

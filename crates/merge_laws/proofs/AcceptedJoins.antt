@@ -15,7 +15,8 @@ use Rattle.merge_model.specs.Keys.{at_number, put_number}
 use Rattle.merge_model.specs.Noting
 use Rattle.merge_model.specs.Publisher.{last_closed}
 use Rattle.merge_model.specs.PublisherJoin.{join_acts, join_taken}
-use Rattle.merge_model.specs.Tables.{Key, PublisherTables, SubscriberTables}
+use Rattle.merge_types.specs.declared.row_key.RowKey.{RowKey as Key}
+use Rattle.merge_model.specs.Tables.{PublisherTables, SubscriberTables}
 use Rattle.merge_model.specs.World.{Asks, Letter, Message, Replies, World, letter_at, with_publisher}
 use Rattle.merge_laws.specs.Accepted.{Accepted, SendsAccepted}
 use Rattle.merge_laws.specs.LetterOrder.{JoinIsLater, LetterOrder, last_upload, upload_seq}

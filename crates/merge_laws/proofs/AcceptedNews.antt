@@ -16,7 +16,8 @@ use Rattle.merge_model.specs.Judge.{PublisherJudge}
 use Rattle.merge_model.specs.Keys.{at_number, same_key}
 use Rattle.merge_model.specs.Noting
 use Rattle.merge_model.specs.PublisherUpload.{brings_news, taken_in, upload_refusal}
-use Rattle.merge_model.specs.Tables.{Key, PublisherTables}
+use Rattle.merge_types.specs.declared.row_key.RowKey.{RowKey as Key}
+use Rattle.merge_model.specs.Tables.{PublisherTables}
 use Rattle.merge_model.specs.World.{Asks, Letter, Saying, World}
 use Rattle.merge_laws.specs.Knowledge.{was_made}
 use Rattle.merge_laws.specs.LineagesStand.{OwnKnown, UploadSends, counts_in, is_given_up, is_of, is_sent}

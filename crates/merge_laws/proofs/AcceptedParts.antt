@@ -15,10 +15,12 @@ use Rattle.merge_batch.specs.declared.request.Request.TheVariants as request
 use Rattle.merge_batch.specs.declared.request.UploadItem.{UploadItem}
 use Rattle.merge_model.specs.Acts.{key_of_item}
 use Rattle.merge_model.specs.History.{History, Line, Past, has, is_accepted, no_past, past_in, pasts_at}
-use Rattle.merge_model.specs.Keys.{key_cmp, put_number, row_at}
+use Rattle.merge_types.specs.RowKeys.{key_cmp}
+use Rattle.merge_model.specs.Keys.{put_number, row_at}
 use Rattle.merge_model.specs.Model.{past_of_item, pasts_in, put_past, with_letter}
 use Rattle.merge_model.specs.Noting
-use Rattle.merge_model.specs.Tables.{Key, PublisherTables, SubscriberTables}
+use Rattle.merge_types.specs.declared.row_key.RowKey.{RowKey as Key}
+use Rattle.merge_model.specs.Tables.{PublisherTables, SubscriberTables}
 use Rattle.merge_model.specs.Taking.{key_of_download}
 use Rattle.merge_model.specs.World.{Asks, Letter, Message, Replies, World, subscriber_at, with_publisher, with_subscriber}
 use Rattle.merge_laws.specs.Accepted.{Accepted, SendsAccepted, SendsInserts}

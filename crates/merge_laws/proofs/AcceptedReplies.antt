@@ -17,7 +17,9 @@ use Rattle.merge_model.specs.Faults.{reply_fault}
 use Rattle.merge_model.specs.History.{History, MadeChange, Past, has, is_accepted, past_in, pasts_at, pasts_with}
 use Rattle.merge_model.specs.Judge.{SubscriberJudge}
 use Rattle.merge_model.specs.Noting
-use Rattle.merge_model.specs.Tables.{Key, PublisherTables, SubscriberRow, SubscriberTables}
+use Rattle.merge_types.specs.declared.row_key.RowKey.{RowKey as Key}
+use Rattle.merge_units.specs.declared.site_row.SubscriberRow.{SubscriberRow}
+use Rattle.merge_model.specs.Tables.{PublisherTables, SubscriberTables}
 use Rattle.merge_model.specs.Taking.{row_above, seq_of, taken}
 use Rattle.merge_model.specs.World.{Letter, Replies, World, subscriber_at, with_subscriber}
 use Rattle.merge_laws.specs.Knowledge.{was_made}

@@ -18,12 +18,15 @@ use Rattle.merge_model.specs.Acts.{key_of_item}
 use Rattle.merge_model.specs.ByHistory.{by_made, by_past, changed_between_by_made, is_between_made, with_change_of}
 use Rattle.merge_model.specs.History.{History, MadeChange, Past, has, made_at, past_in, pasts_at, pasts_with}
 use Rattle.merge_model.specs.Judge.{PublisherJudge}
-use Rattle.merge_model.specs.Keys.{key_cmp, row_at, same_key}
+use Rattle.merge_types.specs.RowKeys.{key_cmp}
+use Rattle.merge_model.specs.Keys.{row_at, same_key}
 use Rattle.merge_model.specs.Model.{past_of_item, with_letter}
 use Rattle.merge_model.specs.PublisherDownload.{asked, reply_to}
 use Rattle.merge_model.specs.Sending.{upload_item, upload_sent}
 use Rattle.merge_model.specs.Subscriber.{sub_at_moment, sub_closed}
-use Rattle.merge_model.specs.Tables.{Key, PublisherTables, SubscriberRow, SubscriberTables}
+use Rattle.merge_types.specs.declared.row_key.RowKey.{RowKey as Key}
+use Rattle.merge_units.specs.declared.site_row.SubscriberRow.{SubscriberRow}
+use Rattle.merge_model.specs.Tables.{PublisherTables, SubscriberTables}
 use Rattle.merge_model.specs.World.{Asks, Message, Replies, World, subscriber_at, with_publisher, with_subscriber}
 use Rattle.merge_laws.specs.Accepted.{Accepted, IsUpTo}
 use Rattle.merge_laws.specs.KnownMakers.{IsAfterMaker, KnownMakers}

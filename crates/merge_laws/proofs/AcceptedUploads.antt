@@ -22,7 +22,8 @@ use Rattle.merge_model.specs.Pasts.{decided_dots, past_by}
 use Rattle.merge_model.specs.Publisher.{last_closed}
 use Rattle.merge_model.specs.PublisherUpload.{brings_news, upload_refusal}
 use Rattle.merge_model.specs.Steps.{kept_decisions, upload_questions}
-use Rattle.merge_model.specs.Tables.{Key, PublisherTables}
+use Rattle.merge_types.specs.declared.row_key.RowKey.{RowKey as Key}
+use Rattle.merge_model.specs.Tables.{PublisherTables}
 use Rattle.merge_model.specs.World.{Asks, Letter, Message, Replies, Saying, World, letter_at, with_publisher}
 use Rattle.merge_laws.specs.Accepted.{Accepted, IsUpTo, SendsAccepted, SendsInserts}
 use Rattle.merge_laws.specs.Knowledge.{AllKnow, changes_of, was_made}

@@ -29,7 +29,7 @@ use Rattle.merge_model.specs.Noting
 use Rattle.merge_model.specs.Pasts.{all_chains, cell_chains, cell_count, past_after, set_cells}
 use Rattle.merge_model.specs.Promises.{InRow}
 use Rattle.merge_model.specs.Publications.{columns_at, identity_column, tracking_at, types_at}
-use Rattle.merge_model.specs.Tables.{Key}
+use Rattle.merge_types.specs.declared.row_key.RowKey.{RowKey as Key}
 use Rattle.merge_laws.specs.Accounts.{CellGrown, Ends, Grown, GrownAlone, Holds, Traced, is_made_at, is_past}
 use Rattle.merge_laws.specs.Knowledge.{KnowsItsPast}
 use Rattle.merge_laws.proofs.AccountChains.{cells-known, chain_at}

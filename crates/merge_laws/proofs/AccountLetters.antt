@@ -13,7 +13,8 @@ use Rattle.merge_batch.specs.declared.request.Request.TheVariants as request
 use Rattle.merge_batch.specs.declared.request.UploadItem.{UploadItem}
 use Rattle.merge_model.specs.Acts.{key_of_item}
 use Rattle.merge_model.specs.History.{History, Past, past_in, pasts_with}
-use Rattle.merge_model.specs.Tables.{Key, SubscriberTables}
+use Rattle.merge_types.specs.declared.row_key.RowKey.{RowKey as Key}
+use Rattle.merge_model.specs.Tables.{SubscriberTables}
 use Rattle.merge_model.specs.Keys.{at_number}
 use Rattle.merge_model.specs.Taking.{key_of_download}
 use Rattle.merge_model.specs.World.{Asks, Letter, Message, Replies, World}

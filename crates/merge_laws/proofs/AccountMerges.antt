@@ -18,7 +18,7 @@ use Rattle.merge_model.specs.Cases.{Knowing, bodies_case, has_news, is_conflict,
 use Rattle.merge_model.specs.History.{Chains, MadeChange, OfCells, OfDead, has}
 use Rattle.merge_model.specs.Pasts.{chains_by}
 use Rattle.merge_model.specs.Promises.{InCell, InRow, Place, descends}
-use Rattle.merge_model.specs.Tables.{Key}
+use Rattle.merge_types.specs.declared.row_key.RowKey.{RowKey as Key}
 use Rattle.merge_laws.specs.Accounts.{CellGrown, Grown, GrownAlone, is_made_at, is_set}
 use Rattle.merge_laws.specs.Knowledge.{KnowsItsPast, same_dot}
 use Rattle.merge_laws.proofs.AccountCells.{AreFour, Follows, OwnGrown, are-four, cells-hold, loses, results-grown}

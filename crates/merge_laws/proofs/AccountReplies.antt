@@ -21,7 +21,9 @@ use Rattle.merge_model.specs.Noting
 use Rattle.merge_model.specs.Pasts.{cell_count}
 use Rattle.merge_model.specs.PublisherLocal.{version_at}
 use Rattle.merge_model.specs.Subscriber.{sub_at_moment}
-use Rattle.merge_model.specs.Tables.{Key, SubscriberRow, SubscriberTables}
+use Rattle.merge_types.specs.declared.row_key.RowKey.{RowKey as Key}
+use Rattle.merge_units.specs.declared.site_row.SubscriberRow.{SubscriberRow}
+use Rattle.merge_model.specs.Tables.{SubscriberTables}
 use Rattle.merge_model.specs.Taking.{key_of_download, seq_of, taken, with_item, with_order, with_received}
 use Rattle.merge_model.specs.World.{Letter, Message, Replies, World, subscriber_at, with_subscriber}
 use Rattle.merge_laws.specs.Accounts.{Accounts, GrownAlone, IsSafe, IsTraced, OfAccounts, is_settled}

@@ -12,7 +12,8 @@ use Rattle.merge_model.specs.History.{History, Line, MadeChange, Past, has, past
 use Rattle.merge_model.specs.Keys.{at_number, has_key, same_key}
 use Rattle.merge_model.specs.Pasts.{cell_count}
 use Rattle.merge_model.specs.Promises.{InRow, Place, descends}
-use Rattle.merge_model.specs.Tables.{Key, SubscriberTables}
+use Rattle.merge_types.specs.declared.row_key.RowKey.{RowKey as Key}
+use Rattle.merge_model.specs.Tables.{SubscriberTables}
 use Rattle.merge_model.specs.World.{Asks, Letter, Message, Replies}
 use Rattle.merge_laws.specs.Accounts.{Grown, GrownAlone, Holds, IsSafe, IsTraced, Accounts, SendsAll, is_kept_elsewhere, is_made_at, is_past, is_settled}
 use Rattle.merge_laws.specs.Knowledge.{AllKnow, Knowledge, is_made}

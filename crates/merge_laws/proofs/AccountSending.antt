@@ -17,7 +17,8 @@ use Rattle.merge_model.specs.Pasts.{cell_count}
 use Rattle.merge_model.specs.PublisherLocal.{version_at}
 use Rattle.merge_model.specs.Sending.{upload_sent}
 use Rattle.merge_model.specs.Subscriber.{sub_at_moment, sub_closed, sub_version_at}
-use Rattle.merge_model.specs.Tables.{Key, SubscriberTables}
+use Rattle.merge_types.specs.declared.row_key.RowKey.{RowKey as Key}
+use Rattle.merge_model.specs.Tables.{SubscriberTables}
 use Rattle.merge_model.specs.World.{Asks, World, subscriber_at, with_subscriber}
 use Rattle.merge_laws.specs.Accounts.{Accounts, GrownAlone, IsSafe, IsTraced, OfAccounts, is_settled, received_of}
 use Rattle.merge_laws.specs.LineagesStand.{is_of, is_sent}

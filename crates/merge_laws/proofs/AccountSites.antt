@@ -9,10 +9,12 @@ use Rattle.merge_types.specs.declared.identifiers.Dot.{Dot}
 use Rattle.merge_units.specs.declared.version.Version.{Version}
 use Rattle.merge_schema.specs.declared.publication.Publication.{Publication}
 use Rattle.merge_model.specs.History.{History, MadeChange, Past, has, no_past, past_at, past_in}
-use Rattle.merge_model.specs.Keys.{at_number, key_cmp, put_number}
+use Rattle.merge_types.specs.RowKeys.{key_cmp}
+use Rattle.merge_model.specs.Keys.{at_number, put_number}
 use Rattle.merge_model.specs.Pasts.{cell_count}
 use Rattle.merge_model.specs.Subscriber.{sub_version_at}
-use Rattle.merge_model.specs.Tables.{Key, SubscriberTables}
+use Rattle.merge_types.specs.declared.row_key.RowKey.{RowKey as Key}
+use Rattle.merge_model.specs.Tables.{SubscriberTables}
 use Rattle.merge_model.specs.World.{Letter}
 use Rattle.merge_laws.specs.Accounts.{Accounts, Grown, GrownAlone, IsSafe, IsTraced, SendsAll, Traced, is_past, is_settled, received_of}
 use Rattle.merge_laws.specs.Knowledge.{AllKnow, Knowledge, is_made}

@@ -23,7 +23,9 @@ use Rattle.merge_model.specs.PublisherPurge.{is_old_tombstone, purge}
 use Rattle.merge_model.specs.PublisherRanges.{plans, ranged}
 use Rattle.merge_model.specs.Sending.{join_of, want_of, with_message}
 use Rattle.merge_model.specs.Subscriber.{sub_at_moment, sub_closed, sub_version_at}
-use Rattle.merge_model.specs.Tables.{Key, PublisherTables, SubscriberRow, SubscriberTables}
+use Rattle.merge_types.specs.declared.row_key.RowKey.{RowKey as Key}
+use Rattle.merge_units.specs.declared.site_row.SubscriberRow.{SubscriberRow}
+use Rattle.merge_model.specs.Tables.{PublisherTables, SubscriberTables}
 use Rattle.merge_model.specs.World.{Asks, Replies, Saying, World, empty_world, with_publisher}
 use Rattle.merge_laws.specs.Accounts.{Accounts, IsSafe, OfAccounts, is_settled, received_of}
 use Rattle.merge_laws.specs.LineagesStand.{is_of}

@@ -21,7 +21,8 @@ use Rattle.merge_model.specs.Publisher.{last_closed}
 use Rattle.merge_model.specs.PublisherLocal.{version_at}
 use Rattle.merge_model.specs.PublisherUpload.{brings_news, changing_by, taken_in, upload_refusal, with_acts}
 use Rattle.merge_model.specs.Steps.{kept_decisions, upload_questions}
-use Rattle.merge_model.specs.Tables.{Key, PublisherTables}
+use Rattle.merge_types.specs.declared.row_key.RowKey.{RowKey as Key}
+use Rattle.merge_model.specs.Tables.{PublisherTables}
 use Rattle.merge_model.specs.World.{Asks, Letter, Replies, Saying, World}
 use Rattle.merge_model.specs.ByNumbers.{received_by_number}
 use Rattle.merge_laws.specs.Accounts.{Accounts, GrownAlone, IsSafe, IsTraced, OfAccounts, SendsAll, is_settled}

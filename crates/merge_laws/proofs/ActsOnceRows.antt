@@ -28,7 +28,9 @@ use Rattle.merge_model.specs.Pasts.{past_by}
 use Rattle.merge_model.specs.Promises.{key_of_conflict}
 use Rattle.merge_model.specs.Publisher.{last_closed}
 use Rattle.merge_model.specs.PublisherUpload.{changing_by, taken_in, with_acts}
-use Rattle.merge_model.specs.Tables.{Key, PublisherRow, PublisherTables}
+use Rattle.merge_types.specs.declared.row_key.RowKey.{RowKey as Key}
+use Rattle.merge_units.specs.declared.site_row.PublisherRow.{PublisherRow}
+use Rattle.merge_model.specs.Tables.{PublisherTables}
 use Rattle.merge_laws.specs.ActsOnce.{OfRow, of_row}
 use Rattle.merge_laws.proofs.Finding.{at_put_same}
 use Rattle.merge_laws.proofs.KeyLookUps.{row-put}

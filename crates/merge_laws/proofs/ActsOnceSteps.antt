@@ -30,7 +30,8 @@ use Rattle.merge_model.specs.Publisher.{counters, site_refusal}
 use Rattle.merge_model.specs.PublisherUpload.{brings_news, taken_in, too_many_new, upload_refusal, uploaded}
 use Rattle.merge_model.specs.Refusals.{counter_end, refused_if, unless}
 use Rattle.merge_model.specs.Steps.{NoLetter, Outcome, Posted, Refuses, asked_of, deliver_letter, kept_decisions, post, unless_refused, upload_questions}
-use Rattle.merge_model.specs.Tables.{Key, PublisherTables}
+use Rattle.merge_types.specs.declared.row_key.RowKey.{RowKey as Key}
+use Rattle.merge_model.specs.Tables.{PublisherTables}
 use Rattle.merge_model.specs.World.{Letter, Replies, Saying, World}
 use Rattle.merge_laws.specs.ActsOnce.{ActedRowsStay, ActedUploadsOnlyAnswer, AllActed, IsUpload, OnlyAnswers, delivered, of_row, row_has_acted}
 use Rattle.merge_laws.proofs.ActsOnceRows.{acting-elsewhere, acts-elsewhere, noted-stays, tables-stay}

@@ -25,7 +25,8 @@ use Rattle.merge_model.specs.Publisher.{at_moment, counters, site_refusal}
 use Rattle.merge_model.specs.PublisherUpload.{brings_news, changing_by, state_seeing, taken_in, too_many_new, upload_refusal, uploaded, with_acts, with_taken}
 use Rattle.merge_model.specs.Refusals.{counter_end, first_refusal, refused_if, unless}
 use Rattle.merge_model.specs.Steps.{Outcome, asked_of, deliver_upload, kept_decisions, post, unless_refused, upload_questions}
-use Rattle.merge_model.specs.Tables.{Key, PublisherTables}
+use Rattle.merge_types.specs.declared.row_key.RowKey.{RowKey as Key}
+use Rattle.merge_model.specs.Tables.{PublisherTables}
 use Rattle.merge_model.specs.World.{Replies, Saying, World}
 use Rattle.merge_laws.proofs.AlikeUploads.{ItemAgrees, acting-same, acts-from-same, lost-from-same, questions-same}
 use Rattle.merge_laws.proofs.Arrivals.{first-none}

@@ -14,9 +14,12 @@ use Rattle.merge_batch.specs.declared.request.UploadItem.{UploadItem}
 use Rattle.merge_model.specs.Acts.{key_of_item}
 use Rattle.merge_model.specs.Cases.{case_by, new_tops, tops_of}
 use Rattle.merge_model.specs.History.{History, MadeChange, Past, has, is_accepted, past_at, past_in, pasts_with}
-use Rattle.merge_model.specs.Keys.{key_cmp, row_at, same_key}
+use Rattle.merge_types.specs.RowKeys.{key_cmp}
+use Rattle.merge_model.specs.Keys.{row_at, same_key}
 use Rattle.merge_model.specs.Model.{Model}
-use Rattle.merge_model.specs.Tables.{Key, PublisherRow, PublisherTables}
+use Rattle.merge_types.specs.declared.row_key.RowKey.{RowKey as Key}
+use Rattle.merge_units.specs.declared.site_row.PublisherRow.{PublisherRow}
+use Rattle.merge_model.specs.Tables.{PublisherTables}
 use Rattle.merge_model.specs.ByNumbers.{received_number_by_number}
 use Rattle.merge_model.specs.World.{Asks, Letter, letter_at}
 use Rattle.merge_laws.specs.Knowledge.{Knowledge, Knows, is_made, same_dot}

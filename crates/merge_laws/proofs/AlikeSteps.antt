@@ -16,7 +16,8 @@ use Rattle.merge_model.specs.History.{History, Past, pasts_with}
 use Rattle.merge_model.specs.Keys.{at_number}
 use Rattle.merge_model.specs.Model.{Model}
 use Rattle.merge_model.specs.Steps.{Action, CloseAt, Deliver, Forget, Make, MakeAnew, NoLetter, Outcome, Pass, Refuses, Send, deliver_letter, deliver_reply, deliver_request, make_anew, make_at, send_from, step_by}
-use Rattle.merge_model.specs.Tables.{Key, SubscriberTables}
+use Rattle.merge_types.specs.declared.row_key.RowKey.{RowKey as Key}
+use Rattle.merge_model.specs.Tables.{SubscriberTables}
 use Rattle.merge_model.specs.World.{Asks, Judges, Letter, Message, Replies, Saying, World, by_tables, letter_at, subscriber_at}
 use Rattle.merge_laws.specs.LineagesStand.{AllTold, LineagesStand, Owns}
 use Rattle.merge_laws.specs.Seen.{Seen}

@@ -20,7 +20,8 @@ use Rattle.merge_model.specs.Reinit.{reinitialised}
 use Rattle.merge_model.specs.Sending.{sending_refusal, upload_made}
 use Rattle.merge_model.specs.Steps.{Discards, SendDownload, SendJoin, SendRanges, SendUpload, Sending, Took, deliver_reply, make_anew, posted, send_from, unless_refused}
 use Rattle.merge_model.specs.Subscriber.{sub_at_moment, sub_counters}
-use Rattle.merge_model.specs.Tables.{Key, SubscriberTables}
+use Rattle.merge_types.specs.declared.row_key.RowKey.{RowKey as Key}
+use Rattle.merge_model.specs.Tables.{SubscriberTables}
 use Rattle.merge_model.specs.Taking.{Acted, Missed, Taken, met_by, seq_of, take_reply, taken}
 use Rattle.merge_model.specs.World.{World, by_tables, with_subscriber}
 use Rattle.merge_laws.proofs.Replying.{downloaded-least}

@@ -18,7 +18,9 @@ use Rattle.merge_model.specs.Keys.{same_key}
 use Rattle.merge_model.specs.Model.{Model}
 use Rattle.merge_model.specs.Promises.{AllStand, lineages_in, lost_at, put_lineage}
 use Rattle.merge_model.specs.Promises.{StandsFor as IsStandIn, is_given_up as gave_up}
-use Rattle.merge_model.specs.Tables.{Key, PublisherRow, SubscriberRow}
+use Rattle.merge_types.specs.declared.row_key.RowKey.{RowKey as Key}
+use Rattle.merge_units.specs.declared.site_row.PublisherRow.{PublisherRow}
+use Rattle.merge_units.specs.declared.site_row.SubscriberRow.{SubscriberRow}
 use Rattle.merge_model.specs.Taking.{key_of_download}
 use Rattle.merge_model.specs.World.{Asks, Message, Replies}
 use Rattle.merge_lineage.specs.Lineage.{knows}

@@ -18,7 +18,8 @@ use Rattle.merge_batch.specs.declared.reply.Ranged.{Ranged}
 use Rattle.merge_batch.specs.declared.reply.Downloaded.{Downloaded}
 use Rattle.merge_schema.specs.declared.publication.Publication.{Publication}
 use Rattle.merge_resolve.specs.Asked.{tallies_after}
-use Rattle.merge_model.specs.Tables.{Key, PublisherTables, SubscriberTables}
+use Rattle.merge_types.specs.declared.row_key.RowKey.{RowKey as Key}
+use Rattle.merge_model.specs.Tables.{PublisherTables, SubscriberTables}
 use Rattle.merge_model.specs.Keys.{at_number, put_number}
 use Rattle.merge_model.specs.Refusals.{unless}
 use Rattle.merge_model.specs.Judge.{PublisherJudge}

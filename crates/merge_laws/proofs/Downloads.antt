@@ -17,12 +17,15 @@ use Rattle.merge_model.specs.ByHistory.{by_past, has_left_by_line, last_line, sa
 use Rattle.merge_model.specs.Entries.{key_of_live, keys_of, live_row, live_rows, partition_keys}
 use Rattle.merge_model.specs.History.{Changed, EnteredFor, GoneFor, LeftFor, Line}
 use Rattle.merge_model.specs.Judge.{PublisherJudge}
-use Rattle.merge_model.specs.Keys.{has_key, key_cmp, row_at, same_key}
+use Rattle.merge_types.specs.RowKeys.{key_cmp}
+use Rattle.merge_model.specs.Keys.{has_key, row_at, same_key}
 use Rattle.merge_model.specs.Model.{Model}
 use Rattle.merge_model.specs.Promises.{RepliesStayInside, stays_inside}
 use Rattle.merge_model.specs.Publications.{subscription_at}
 use Rattle.merge_model.specs.PublisherDownload.{TouchedRow, inside_keys, item_of, touched_row}
-use Rattle.merge_model.specs.Tables.{Key, PublisherRow, PublisherTables}
+use Rattle.merge_types.specs.declared.row_key.RowKey.{RowKey as Key}
+use Rattle.merge_units.specs.declared.site_row.PublisherRow.{PublisherRow}
+use Rattle.merge_model.specs.Tables.{PublisherTables}
 use Rattle.merge_laws.proofs.KeyLookUps.{key-test}
 use Rattle.merge_laws.proofs.Lists.{any-filtered}
 use Rattle.merge_laws.proofs.Tests.{either}

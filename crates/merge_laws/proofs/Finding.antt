@@ -9,7 +9,7 @@ use Rattle.std.proofs.lemmas.Bool.Decides.{nat_tests}
 use Rattle.merge_table.proofs.LookUps.{lookup-insert_entry}
 use Rattle.merge_model.specs.Keys.{at_number, put_number}
 use Rattle.merge_model.specs.History.{History, Past, pasts_with}
-use Rattle.merge_model.specs.Tables.{Key}
+use Rattle.merge_types.specs.declared.row_key.RowKey.{RowKey as Key}
 use Rattle.merge_model.specs.World.{Letter, World, letter_at}
 
 pub at_put : {V : Type 0} (n q : ℕ) (v : V) (es : List (ℕ × V)) → at_number (put_number es n v) q ≡ cond (is_at (nat_cmp q) n) (Some v) (at_number es q)

@@ -30,7 +30,8 @@ use Rattle.merge_batch.specs.declared.request.Outstanding.{Outstanding}
 use Rattle.merge_batch.specs.declared.request.Outstanding.TheVariants as ask
 use Rattle.merge_batch.proofs.Values.{slice_get-append_past}
 use Rattle.merge_model.specs.declared.event.Event.{Event}
-use Rattle.merge_model.specs.Tables.{Key, PublisherTables, SubscriberTables}
+use Rattle.merge_types.specs.declared.row_key.RowKey.{RowKey as Key}
+use Rattle.merge_model.specs.Tables.{PublisherTables, SubscriberTables}
 use Rattle.merge_model.specs.Keys.{put_number, at_number}
 use Rattle.merge_model.specs.Acts.{Act}
 use Rattle.merge_model.specs.Judge.{PublisherJudge, SubscriberJudge}

@@ -7,8 +7,9 @@ use Rattle.std.specs.declared.cmp.Ordering.TheVariants.{Equal}
 use Rattle.std.proofs.Common.{arith, ap, ◌∙◌, sym, subst}
 use Rattle.std.proofs.lemmas.Bool.Decides.{nat_tests}
 use Rattle.merge_table.proofs.LookUps.{lookup-insert_entry, lookup-remove_entry}
-use Rattle.merge_model.specs.Keys.{drop_row, key_cmp, put_row, row_at, same_key}
-use Rattle.merge_model.specs.Tables.{Key}
+use Rattle.merge_types.specs.RowKeys.{key_cmp}
+use Rattle.merge_model.specs.Keys.{drop_row, put_row, row_at, same_key}
+use Rattle.merge_types.specs.declared.row_key.RowKey.{RowKey as Key}
 use Rattle.merge_model.proofs.Sorted.{key_total}
 use Rattle.merge_table.proofs.Room.{rest_above}
 use Rattle.merge_table.proofs.Slots.{lookup_above}

@@ -17,7 +17,8 @@ use Rattle.merge_model.specs.Model.{pasts_in, with_letter}
 use Rattle.merge_model.specs.Publications.{by_site}
 use Rattle.merge_model.specs.Publisher.{last_closed}
 use Rattle.merge_model.specs.Reinit.{discarded}
-use Rattle.merge_model.specs.Tables.{Key, PublisherTables, SubscriberTables}
+use Rattle.merge_types.specs.declared.row_key.RowKey.{RowKey as Key}
+use Rattle.merge_model.specs.Tables.{PublisherTables, SubscriberTables}
 use Rattle.merge_model.specs.Taking.{key_of_download}
 use Rattle.merge_model.specs.World.{Letter}
 use Rattle.merge_model.specs.Noting

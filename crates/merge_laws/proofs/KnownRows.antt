@@ -15,9 +15,10 @@ use Rattle.merge_batch.specs.declared.request.Request.TheVariants as request
 use Rattle.merge_batch.specs.declared.request.UploadItem.{UploadItem}
 use Rattle.merge_model.specs.Acts.{key_of_item}
 use Rattle.merge_model.specs.History.{History, MadeChange, Past, no_past, past_at, past_in, pasts_at, pasts_with}
-use Rattle.merge_model.specs.Keys.{at_number, drop_row, key_cmp, put_number, put_row, row_at}
+use Rattle.merge_types.specs.RowKeys.{key_cmp}
+use Rattle.merge_model.specs.Keys.{at_number, drop_row, put_number, put_row, row_at}
 use Rattle.merge_model.specs.Model.{past_of_item, pasts_in, put_past}
-use Rattle.merge_model.specs.Tables.{Key}
+use Rattle.merge_types.specs.declared.row_key.RowKey.{RowKey as Key}
 use Rattle.merge_model.specs.Taking.{key_of_download}
 use Rattle.merge_model.specs.World.{Asks, Message, Replies}
 use Rattle.merge_laws.specs.Knowledge.{AllKnow, Knowledge, Knows, RowKnows}

@@ -13,8 +13,14 @@ use Rattle.merge_table.proofs.LookUps.{lookup-insert_entry}
 use Rattle.merge_schema.proofs.Searches.{any_map}
 use Rattle.merge_types.specs.declared.identifiers.SiteId.{SiteId}
 use Rattle.merge_schema.specs.declared.publication.Publication.{Publication}
-use Rattle.merge_model.specs.Tables.{Key, RowSite, PublisherRow, Mapping, Entered, Left, is_left}
-use Rattle.merge_model.specs.Keys.{key_cmp, row_site_cmp, same_key, has_key, row_at, put_row, at_row_site}
+use Rattle.merge_types.specs.declared.row_key.RowKey.{RowKey as Key}
+use Rattle.merge_gens.specs.declared.moves.RowSite.{RowSite}
+use Rattle.merge_units.specs.declared.site_row.PublisherRow.{PublisherRow}
+use Rattle.merge_gens.specs.declared.moves.Mapping.{Mapping}
+use Rattle.merge_gens.specs.declared.moves.MoveKind.TheVariants.{Entered, Left}
+use Rattle.merge_gens.specs.Moves.{is_left, row_site_cmp}
+use Rattle.merge_types.specs.RowKeys.{key_cmp}
+use Rattle.merge_model.specs.Keys.{same_key, has_key, row_at, put_row, at_row_site}
 use Rattle.merge_model.specs.Entries as entry
 use Rattle.merge_model.specs.History.{Line, LineKind, Changed, EnteredFor, LeftFor, GoneFor}
 use Rattle.merge_model.specs.ByHistory.{is_line_for, line_site, says_left, touched_outside}

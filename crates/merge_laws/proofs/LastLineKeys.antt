@@ -13,8 +13,11 @@ use Rattle.merge_table.proofs.Room.{rest_above}
 use Rattle.merge_table.proofs.Slots.{lookup_above}
 use Rattle.merge_table.proofs.LookUps.{lookup-remove_entry}
 use Rattle.merge_gens.proofs.Sets.{sorted_take}
-use Rattle.merge_model.specs.Tables.{Key, RowSite, Mapping}
-use Rattle.merge_model.specs.Keys.{row_site_cmp, same_key, at_row_site, drop_row_site}
+use Rattle.merge_types.specs.declared.row_key.RowKey.{RowKey as Key}
+use Rattle.merge_gens.specs.declared.moves.RowSite.{RowSite}
+use Rattle.merge_gens.specs.declared.moves.Mapping.{Mapping}
+use Rattle.merge_gens.specs.Moves.{row_site_cmp}
+use Rattle.merge_model.specs.Keys.{same_key, at_row_site, drop_row_site}
 use Rattle.merge_model.proofs.Sorted.{row_site_total}
 use Rattle.merge_laws.proofs.KeyLookUps.{keys-same}
 

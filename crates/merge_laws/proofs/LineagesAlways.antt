@@ -13,7 +13,7 @@ use Rattle.merge_model.specs.Keys.{row_at}
 use Rattle.merge_model.specs.Model.{Model, empty_model, model, model_answers, model_step}
 use Rattle.merge_model.specs.Promises.{AllStand}
 use Rattle.merge_model.specs.Steps.{Action}
-use Rattle.merge_model.specs.Tables.{PublisherRow}
+use Rattle.merge_units.specs.declared.site_row.PublisherRow.{PublisherRow}
 use Rattle.merge_model.specs.World.{Saying, empty_world}
 use Rattle.merge_model.specs.declared.event.Event.{Event}
 use Rattle.merge_model.proofs.Events.{events-keep}

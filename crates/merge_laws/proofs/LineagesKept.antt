@@ -44,7 +44,10 @@ use Rattle.merge_model.specs.Reinit.{discarded, numbered_from, reinitialised}
 use Rattle.merge_model.specs.Sending.{join_of, upload_sent, want_of, with_message}
 use Rattle.merge_model.specs.Steps.{kept_decisions, upload_questions}
 use Rattle.merge_model.specs.Subscriber.{sub_at_moment, sub_closed, sub_made_locally, sub_next_dot, sub_version_at, with_version_if}
-use Rattle.merge_model.specs.Tables.{Key, PublisherRow, PublisherTables, SubscriberRow, SubscriberTables}
+use Rattle.merge_types.specs.declared.row_key.RowKey.{RowKey as Key}
+use Rattle.merge_units.specs.declared.site_row.PublisherRow.{PublisherRow}
+use Rattle.merge_units.specs.declared.site_row.SubscriberRow.{SubscriberRow}
+use Rattle.merge_model.specs.Tables.{PublisherTables, SubscriberTables}
 use Rattle.merge_model.specs.Taking.{row_above, taken}
 use Rattle.merge_model.specs.World.{Asks, Letter, Message, Replies, Saying, World, empty_world, letter_at, subscriber_at, with_publisher, with_subscriber}
 use Rattle.merge_model.specs.declared.event.Event.{Event}

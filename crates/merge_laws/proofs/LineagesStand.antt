@@ -13,7 +13,9 @@ use Rattle.merge_batch.specs.declared.request.UploadItem.{UploadItem}
 use Rattle.merge_model.specs.Acts.{key_of_item}
 use Rattle.merge_model.specs.History.{History, Past, past_at, past_in}
 use Rattle.merge_model.specs.Model.{Model}
-use Rattle.merge_model.specs.Tables.{Key, PublisherRow, SubscriberRow}
+use Rattle.merge_types.specs.declared.row_key.RowKey.{RowKey as Key}
+use Rattle.merge_units.specs.declared.site_row.PublisherRow.{PublisherRow}
+use Rattle.merge_units.specs.declared.site_row.SubscriberRow.{SubscriberRow}
 use Rattle.merge_model.specs.Taking.{key_of_download}
 use Rattle.merge_model.specs.World.{Asks, Letter, Message, Replies}
 use Rattle.merge_laws.specs.Knowledge.{AllKnow, Knowledge, Knows, RowKnows}

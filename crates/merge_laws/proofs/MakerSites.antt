@@ -15,11 +15,15 @@ use Rattle.merge_gens.proofs.Sets.{sorted_put, sorted_take}
 use Rattle.merge_model.specs.Acts.{key_of_item}
 use Rattle.merge_model.specs.History.{History, Past, past_in, pasts_at}
 use Rattle.merge_model.specs.Judge.{SubscriberJudge}
-use Rattle.merge_model.specs.Keys.{drop_row, has_key, key_cmp, put_row, row_at, same_key}
+use Rattle.merge_types.specs.RowKeys.{key_cmp}
+use Rattle.merge_model.specs.Keys.{drop_row, has_key, put_row, row_at, same_key}
 use Rattle.merge_model.specs.Noting
 use Rattle.merge_model.specs.PublisherDownload.{TouchedRow, item_of, order_by}
 use Rattle.merge_model.specs.Sending.{upload_item}
-use Rattle.merge_model.specs.Tables.{Key, PublisherRow, PublisherTables, SubscriberRow, SubscriberTables}
+use Rattle.merge_types.specs.declared.row_key.RowKey.{RowKey as Key}
+use Rattle.merge_units.specs.declared.site_row.PublisherRow.{PublisherRow}
+use Rattle.merge_units.specs.declared.site_row.SubscriberRow.{SubscriberRow}
+use Rattle.merge_model.specs.Tables.{PublisherTables, SubscriberTables}
 use Rattle.merge_model.specs.Taking.{key_of_download, row_above, with_item, with_order}
 use Rattle.merge_model.proofs.Sorted.{key_total}
 use Rattle.merge_laws.specs.KnownMakers.{Ascend, HeldKnow, KnowsMaker}

@@ -25,7 +25,8 @@ use Rattle.merge_model.specs.PublisherRanges.{plans, ranged, with_grants}
 use Rattle.merge_model.specs.PublisherUpload.{taken_in}
 use Rattle.merge_model.specs.Sending.{join_of, upload_sent, want_of, with_message}
 use Rattle.merge_model.specs.Subscriber.{sub_at_moment, sub_closed}
-use Rattle.merge_model.specs.Tables.{Key, PublisherTables, SubscriberTables}
+use Rattle.merge_types.specs.declared.row_key.RowKey.{RowKey as Key}
+use Rattle.merge_model.specs.Tables.{PublisherTables, SubscriberTables}
 use Rattle.merge_model.specs.Taking.{taken}
 use Rattle.merge_model.specs.World.{Asks, Message, Replies, Saying, World, empty_world, subscriber_at, with_publisher, with_subscriber}
 use Rattle.merge_laws.specs.KnownMakers.{HeldKnow, KnownMakers, KnowsMaker}

@@ -28,7 +28,9 @@ use Rattle.merge_model.specs.Publisher.{last_closed}
 use Rattle.merge_model.specs.PublisherJoin.{join_taken}
 use Rattle.merge_model.specs.PublisherUpload.{changing_by, taken_in, with_acts}
 use Rattle.merge_model.specs.Steps.{kept_decisions, upload_questions}
-use Rattle.merge_model.specs.Tables.{Key, PublisherRow, PublisherTables, SubscriberTables}
+use Rattle.merge_types.specs.declared.row_key.RowKey.{RowKey as Key}
+use Rattle.merge_units.specs.declared.site_row.PublisherRow.{PublisherRow}
+use Rattle.merge_model.specs.Tables.{PublisherTables, SubscriberTables}
 use Rattle.merge_model.specs.Taking.{row_above, taken}
 use Rattle.merge_model.specs.World.{Asks, Letter, Replies, Saying, World, subscriber_at, with_publisher, with_subscriber}
 use Rattle.merge_model.specs.Laws.{AreSubSorted}

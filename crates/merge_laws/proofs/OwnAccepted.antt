@@ -23,7 +23,9 @@ use Rattle.merge_model.specs.PublisherLocal.{Drawn, changing_locally, local_refu
 use Rattle.merge_model.specs.PublisherPurge.{is_old_tombstone, purge}
 use Rattle.merge_model.specs.Reinit.{discarded}
 use Rattle.merge_model.specs.Subscriber.{sub_last_closed, sub_next_dot}
-use Rattle.merge_model.specs.Tables.{Key, PublisherRow, PublisherTables, SubscriberTables}
+use Rattle.merge_types.specs.declared.row_key.RowKey.{RowKey as Key}
+use Rattle.merge_units.specs.declared.site_row.PublisherRow.{PublisherRow}
+use Rattle.merge_model.specs.Tables.{PublisherTables, SubscriberTables}
 use Rattle.merge_model.specs.World.{World, subscriber_at, with_publisher, with_subscriber}
 use Rattle.merge_laws.specs.Accepting.{AcceptsWell, Accepting, IsFine, KnowsAccepted, accepts}
 use Rattle.merge_laws.specs.Knowledge.{same_dot}

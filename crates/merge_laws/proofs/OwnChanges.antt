@@ -20,7 +20,9 @@ use Rattle.merge_model.specs.Pasts.{past_after}
 use Rattle.merge_model.specs.Publisher.{last_closed}
 use Rattle.merge_model.specs.PublisherLocal.{Drawn, local_refusal, made_locally, next_dot}
 use Rattle.merge_model.specs.Subscriber.{generations_at, with_open, sub_at_moment, sub_last_closed, sub_local_refusal, sub_next_dot, sub_version_at, with_version_if}
-use Rattle.merge_model.specs.Tables.{Key, SubscriberRow, SubscriberTables}
+use Rattle.merge_types.specs.declared.row_key.RowKey.{RowKey as Key}
+use Rattle.merge_units.specs.declared.site_row.SubscriberRow.{SubscriberRow}
+use Rattle.merge_model.specs.Tables.{SubscriberTables}
 use Rattle.merge_model.specs.World.{World, subscriber_at, with_publisher, with_subscriber}
 use Rattle.merge_laws.specs.Knowledge.{changes_of}
 use Rattle.merge_laws.specs.LineagesStand.{KnowsAll, counts_in, is_of}

@@ -11,7 +11,7 @@ use Rattle.merge_model.specs.Acts.{is_new_row, key_of_item}
 use Rattle.merge_model.specs.ByHistory.{by_past}
 use Rattle.merge_model.specs.History.{History, MadeChange, Past, has, is_accepted, is_done, made_at, past_in}
 use Rattle.merge_model.specs.Keys.{same_key}
-use Rattle.merge_model.specs.Tables.{Key}
+use Rattle.merge_types.specs.declared.row_key.RowKey.{RowKey as Key}
 use Rattle.merge_laws.specs.Accepting.{IsFine, accepts}
 use Rattle.merge_laws.specs.Knowledge.{AllKnow, Knowledge, Knows, KnowsItsPast, same_dot}
 use Rattle.merge_laws.proofs.ChangeDots.{IsAlone}

@@ -7,7 +7,9 @@ use Rattle.merge_types.specs.declared.identifiers.SiteId.{SiteId}
 use Rattle.merge_model.specs.History.{History, Line, MadeChange, Past, past_at}
 use Rattle.merge_model.specs.Keys.{at_number, put_number, row_at}
 use Rattle.merge_model.specs.Model.{Model, pasts_in, with_letter}
-use Rattle.merge_model.specs.Tables.{Key, PublisherTables, SubscriberRow, SubscriberTables}
+use Rattle.merge_types.specs.declared.row_key.RowKey.{RowKey as Key}
+use Rattle.merge_units.specs.declared.site_row.SubscriberRow.{SubscriberRow}
+use Rattle.merge_model.specs.Tables.{PublisherTables, SubscriberTables}
 use Rattle.merge_model.specs.World.{Letter, Message, World, subscriber_at, with_subscriber}
 use Rattle.merge_laws.specs.LineagesStand.{KnowsAll, ReplyAnswers, UploadSends, counts_in, is_of}
 use Rattle.merge_laws.specs.Received.{joined_at}

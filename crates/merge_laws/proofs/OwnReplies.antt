@@ -17,13 +17,16 @@ use Rattle.merge_gens.proofs.Sets.{sorted_put, sorted_take}
 use Rattle.merge_model.specs.ByHistory.{by_made}
 use Rattle.merge_model.specs.History.{History, MadeChange, Past, has, past_at, past_in, pasts_with}
 use Rattle.merge_model.specs.Judge.{SubscriberJudge}
-use Rattle.merge_model.specs.Keys.{drop_row, key_cmp, put_number, put_row, row_at, same_key}
+use Rattle.merge_types.specs.RowKeys.{key_cmp}
+use Rattle.merge_model.specs.Keys.{drop_row, put_number, put_row, row_at, same_key}
 use Rattle.merge_model.specs.Laws.{AreSubSorted}
 use Rattle.merge_model.specs.Model.{Model}
 use Rattle.merge_model.specs.Noting
 use Rattle.merge_model.specs.Reinit.{discarded, reinitialised}
 use Rattle.merge_model.specs.Subscriber.{sub_at_moment}
-use Rattle.merge_model.specs.Tables.{Key, SubscriberRow, SubscriberTables}
+use Rattle.merge_types.specs.declared.row_key.RowKey.{RowKey as Key}
+use Rattle.merge_units.specs.declared.site_row.SubscriberRow.{SubscriberRow}
+use Rattle.merge_model.specs.Tables.{SubscriberTables}
 use Rattle.merge_model.specs.Taking.{key_of_download, row_above, taken, with_item, with_order}
 use Rattle.merge_model.specs.World.{Letter, Replies, World, subscriber_at, with_subscriber}
 use Rattle.merge_model.proofs.Sorted.{key_total}

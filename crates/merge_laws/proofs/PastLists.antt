@@ -5,8 +5,9 @@ use Rattle.std.specs.Map.{keys_of}
 use Rattle.std.proofs.Common.{arith, subst, sym}
 use Rattle.merge_gens.proofs.Sets.{sorted_put, sorted_take}
 use Rattle.merge_model.specs.History.{Past, no_past, past_in}
-use Rattle.merge_model.specs.Keys.{drop_row, key_cmp, put_row, same_key}
-use Rattle.merge_model.specs.Tables.{Key}
+use Rattle.merge_types.specs.RowKeys.{key_cmp}
+use Rattle.merge_model.specs.Keys.{drop_row, put_row, same_key}
+use Rattle.merge_types.specs.declared.row_key.RowKey.{RowKey as Key}
 use Rattle.merge_model.proofs.Sorted.{key_total}
 use Rattle.merge_laws.specs.KnownMakers.{Ascend, HeldKnow, KnowsMaker}
 use Rattle.merge_laws.proofs.HeldRows.{held-dropped, held-put}

@@ -21,7 +21,8 @@ use Rattle.merge_model.specs.Judge.{PublisherJudge, SubscriberJudge}
 use Rattle.merge_model.specs.Keys.{drop_row, has_key, put_number, put_row, same_key}
 use Rattle.merge_model.specs.Noting
 use Rattle.merge_model.specs.Pasts.{decided_dots, past_by}
-use Rattle.merge_model.specs.Tables.{Key, PublisherTables}
+use Rattle.merge_types.specs.declared.row_key.RowKey.{RowKey as Key}
+use Rattle.merge_model.specs.Tables.{PublisherTables}
 use Rattle.merge_model.specs.Taking.{key_of_download}
 use Rattle.merge_laws.specs.KnownMakers.{Ascend, KnowsMaker}
 use Rattle.merge_laws.proofs.KeyLookUps.{keys-same}

@@ -32,7 +32,8 @@ use Rattle.merge_model.specs.PublisherJoin.{join_acts, join_taken, joined_state}
 use Rattle.merge_model.specs.PublisherUpload.{brings_news, taken_in, upload_refusal}
 use Rattle.merge_model.specs.Steps.{kept_decisions, upload_questions}
 use Rattle.merge_model.specs.Subscriber.{sub_last_closed}
-use Rattle.merge_model.specs.Tables.{Key, SubscriberTables}
+use Rattle.merge_types.specs.declared.row_key.RowKey.{RowKey as Key}
+use Rattle.merge_model.specs.Tables.{SubscriberTables}
 use Rattle.merge_model.specs.World.{Asks, Letter, Saying, World, letter_at}
 use Rattle.merge_laws.specs.LineagesStand.{AllTold, OfMessage, Owns, UploadSends}
 use Rattle.merge_laws.specs.Numbered.{JoinTells, LetterTells, last_of}

@@ -45,7 +45,8 @@ use Rattle.merge_model.specs.Sending.{join_made, join_of, ranges_made, sending_r
 use Rattle.merge_model.specs.Session.{exchange}
 use Rattle.merge_model.specs.Steps.{Outcome, SendDownload, SendJoin, SendRanges, SendUpload, kept_decisions, post, posted, upload_questions}
 use Rattle.merge_model.specs.Subscriber.{sub_at_moment, sub_closed, sub_counters, sub_last_closed}
-use Rattle.merge_model.specs.Tables.{Key, PublisherTables, SubscriberTables}
+use Rattle.merge_types.specs.declared.row_key.RowKey.{RowKey as Key}
+use Rattle.merge_model.specs.Tables.{PublisherTables, SubscriberTables}
 use Rattle.merge_model.specs.Taking.{taken}
 use Rattle.merge_model.specs.World.{Asks, Letter, Message, Replies, Saying, World, subscriber_at, with_publisher, with_subscriber}
 use Rattle.merge_laws.proofs.Arrivals.{first-none}

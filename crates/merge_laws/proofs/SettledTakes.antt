@@ -16,7 +16,9 @@ use Rattle.merge_model.specs.Keys.{same_key}
 use Rattle.merge_model.specs.Reinit.{reinitialised}
 use Rattle.merge_model.specs.Sending.{with_message}
 use Rattle.merge_model.specs.Subscriber.{sub_at_moment, sub_last_closed}
-use Rattle.merge_model.specs.Tables.{Key, PublisherTables, SubscriberRow, SubscriberTables}
+use Rattle.merge_types.specs.declared.row_key.RowKey.{RowKey as Key}
+use Rattle.merge_units.specs.declared.site_row.SubscriberRow.{SubscriberRow}
+use Rattle.merge_model.specs.Tables.{PublisherTables, SubscriberTables}
 use Rattle.merge_model.specs.ByNumbers.{received_by_number}
 use Rattle.merge_model.specs.World.{Asks, Message, Replies}
 use Rattle.merge_laws.specs.Received.{MessageFits}

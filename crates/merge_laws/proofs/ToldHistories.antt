@@ -12,7 +12,7 @@ use Rattle.merge_conflict.specs.declared.row.ConflictRow.{ConflictRow}
 use Rattle.merge_model.specs.History.{History, Line, MadeChange, Past, past_at, past_in, pasts_at}
 use Rattle.merge_model.specs.Keys.{drop_row, put_number, put_row, same_key}
 use Rattle.merge_model.specs.Noting
-use Rattle.merge_model.specs.Tables.{Key}
+use Rattle.merge_types.specs.declared.row_key.RowKey.{RowKey as Key}
 use Rattle.merge_laws.specs.LineagesStand.{lost_at}
 use Rattle.merge_laws.proofs.PastLookUps.{put-here, put-there, with-past-same}
 use Rattle.merge_laws.proofs.Tests.{if-false}

@@ -13,7 +13,8 @@ use Rattle.merge_model.specs.PublisherDownload.{TouchedRow, item_of, order_by}
 use Rattle.merge_model.specs.PublisherLocal.{version_at}
 use Rattle.merge_model.specs.Sending.{upload_item}
 use Rattle.merge_model.specs.Subscriber.{sub_version_at}
-use Rattle.merge_model.specs.Tables.{Key, PublisherTables, SubscriberTables}
+use Rattle.merge_types.specs.declared.row_key.RowKey.{RowKey as Key}
+use Rattle.merge_model.specs.Tables.{PublisherTables, SubscriberTables}
 use Rattle.merge_model.specs.Taking.{key_of_download}
 use Rattle.merge_model.specs.World.{Letter, World, letter_at}
 use Rattle.merge_laws.specs.LineagesStand.{OfMessage, OfOrder}

@@ -16,10 +16,17 @@ use Rattle.merge_schema.proofs.Searches.{any_map}
 use Rattle.merge_model.specs.Entries as entry
 use Rattle.merge_model.specs.Entries.{Changing, Entries, Parts, Touched, changed_by, changing_entries, entry_count, live_rows, move_of, moves_of, parts_of, returned, rows_after, touched_by, with_move, with_rows}
 use Rattle.merge_model.specs.Judge.{PublisherJudge}
-use Rattle.merge_model.specs.Keys.{at_row_site, has_key, key_cmp, row_at, row_site_cmp, same_key}
+use Rattle.merge_types.specs.RowKeys.{key_cmp}
+use Rattle.merge_gens.specs.Moves.{row_site_cmp}
+use Rattle.merge_model.specs.Keys.{at_row_site, has_key, row_at, same_key}
 use Rattle.merge_model.specs.Publications.{subscription_at}
 use Rattle.merge_model.specs.PublisherDownload.{inside_keys}
-use Rattle.merge_model.specs.Tables.{Key, Mapping, MoveKind, PublisherRow, PublisherTables, RowSite}
+use Rattle.merge_types.specs.declared.row_key.RowKey.{RowKey as Key}
+use Rattle.merge_gens.specs.declared.moves.Mapping.{Mapping}
+use Rattle.merge_gens.specs.declared.moves.MoveKind.{MoveKind}
+use Rattle.merge_units.specs.declared.site_row.PublisherRow.{PublisherRow}
+use Rattle.merge_gens.specs.declared.moves.RowSite.{RowSite}
+use Rattle.merge_model.specs.Tables.{PublisherTables}
 use Rattle.merge_model.proofs.Sorted.{key_total, row_site_total}
 use Rattle.merge_laws.specs.Settled.{last_used}
 use Rattle.merge_laws.proofs.Downloads.{inside-held}

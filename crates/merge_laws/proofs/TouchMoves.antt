@@ -6,7 +6,9 @@ use Rattle.std.proofs.lemmas.Bool.Decides.{nat_tests}
 use Rattle.merge_model.specs.Entries.{Parts, Touched, comes_back, move_at, move_of, moves_of, returned}
 use Rattle.merge_model.specs.Judge.{PublisherJudge}
 use Rattle.merge_model.specs.Keys.{has_key, same_key}
-use Rattle.merge_model.specs.Tables.{Key, MoveKind, RowSite}
+use Rattle.merge_types.specs.declared.row_key.RowKey.{RowKey as Key}
+use Rattle.merge_gens.specs.declared.moves.MoveKind.{MoveKind}
+use Rattle.merge_gens.specs.declared.moves.RowSite.{RowSite}
 use Rattle.merge_laws.proofs.Finding.{all-weaker}
 use Rattle.merge_laws.proofs.KeyLookUps.{keys-same}
 use Rattle.merge_laws.proofs.LastLineKeys.{has_place, is_place}

@@ -20,7 +20,9 @@ use Rattle.merge_model.specs.Entries.{Changing, changed_by}
 use Rattle.merge_model.specs.Changes.{key_of, version_after}
 use Rattle.merge_model.specs.History.{History, Line, no_history, pasts_with}
 use Rattle.merge_model.specs.Judge.{PublisherJudge}
-use Rattle.merge_model.specs.Keys.{at_number, has_key, key_cmp, put_number, row_at, row_site_cmp}
+use Rattle.merge_types.specs.RowKeys.{key_cmp}
+use Rattle.merge_gens.specs.Moves.{row_site_cmp}
+use Rattle.merge_model.specs.Keys.{at_number, has_key, put_number, row_at}
 use Rattle.merge_model.specs.Laws.{AreSorted}
 use Rattle.merge_model.specs.Noting
 use Rattle.merge_model.specs.Promises.{base_of}
@@ -34,7 +36,11 @@ use Rattle.merge_model.specs.PublisherUpload.{changing_by, with_acts}
 use Rattle.merge_model.specs.Reinit.{reinitialised}
 use Rattle.merge_model.specs.Sending.{upload_sent, with_message}
 use Rattle.merge_model.specs.Subscriber.{sub_at_moment, sub_closed, sub_last_closed, sub_made_locally, sub_next_dot, sub_version_at, with_version_if}
-use Rattle.merge_model.specs.Tables.{Key, Mapping, PublisherRow, PublisherTables, RowSite, SubscriberTables}
+use Rattle.merge_types.specs.declared.row_key.RowKey.{RowKey as Key}
+use Rattle.merge_gens.specs.declared.moves.Mapping.{Mapping}
+use Rattle.merge_units.specs.declared.site_row.PublisherRow.{PublisherRow}
+use Rattle.merge_gens.specs.declared.moves.RowSite.{RowSite}
+use Rattle.merge_model.specs.Tables.{PublisherTables, SubscriberTables}
 use Rattle.merge_model.specs.Taking.{taken}
 use Rattle.merge_model.specs.World.{Saying, World, empty_subscribers, empty_world, subscriber_at, with_subscriber}
 use Rattle.merge_model.proofs.Sorted.{closed_filling-rises, key_total, row_site_total}

@@ -33,7 +33,9 @@ use Rattle.merge_model.specs.Publications.{by_site}
 use Rattle.merge_model.specs.Sending.{upload_sent, with_message}
 use Rattle.merge_model.specs.Steps.{Action}
 use Rattle.merge_model.specs.Subscriber.{empty_subscriber, sub_at_moment, sub_closed, sub_last_closed, sub_local_refusal, sub_made_locally, sub_next_dot, sub_version_at, with_version_if}
-use Rattle.merge_model.specs.Tables.{Key, SubscriberRow, SubscriberTables}
+use Rattle.merge_types.specs.declared.row_key.RowKey.{RowKey as Key}
+use Rattle.merge_units.specs.declared.site_row.SubscriberRow.{SubscriberRow}
+use Rattle.merge_model.specs.Tables.{SubscriberTables}
 use Rattle.merge_model.specs.Taking.{row_above, seq_of, taken}
 use Rattle.merge_model.specs.World.{Saying, World, empty_world, subscriber_at, with_subscriber}
 use Rattle.merge_model.specs.declared.event.Event.{Event}

@@ -48,7 +48,8 @@ use Rattle.merge_model.specs.Reinit.{reinitialised}
 use Rattle.merge_model.specs.Sending.{join_made, join_of, ranges_made, sending_refusal, unsent_rows, upload_made, upload_sent, want_of, with_message}
 use Rattle.merge_model.specs.Steps.{Action, CloseAt, Closes, Deliver, Discards, Forget, Made, Make, MakeAnew, NoLetter, Outcome, Pass, Refuses, Send, SendDownload, SendJoin, SendRanges, SendUpload, Sending, Took, answered, asked_of, at_subscriber, close_at, close_publisher, close_subscriber, deliver_letter, deliver_reply, deliver_request, kept_decisions, make_anew, make_at, make_at_publisher, make_at_subscriber, post, posted, send_from, step_by, unless_refused, upload_questions}
 use Rattle.merge_model.specs.Subscriber.{sub_at_moment, sub_closed, sub_counters, sub_drawn, sub_last_closed, sub_local_refusal, sub_made_locally, sub_next_dot}
-use Rattle.merge_model.specs.Tables.{Key, PublisherTables, SubscriberTables}
+use Rattle.merge_types.specs.declared.row_key.RowKey.{RowKey as Key}
+use Rattle.merge_model.specs.Tables.{PublisherTables, SubscriberTables}
 use Rattle.merge_model.specs.Taking.{Acted, Missed, Taken, met_by, seq_of, taken}
 use Rattle.merge_model.specs.World.{Asks, Letter, Message, Replies, Saying, World, letter_at, subscriber_at, with_publisher, with_subscriber}
 use Rattle.merge_resolve.specs.Asked.{tallies_after}

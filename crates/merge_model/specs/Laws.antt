@@ -18,7 +18,8 @@ use Rattle.merge_batch.specs.declared.request.Upload.{Upload}
 use Rattle.merge_model.specs.Events.{after, happens, machine}
 use Rattle.merge_model.specs.History.{History, is_done}
 use Rattle.merge_model.specs.Judge.{PublisherJudge, SubscriberJudge}
-use Rattle.merge_model.specs.Keys.{key_cmp, row_site_cmp}
+use Rattle.merge_types.specs.RowKeys.{key_cmp}
+use Rattle.merge_gens.specs.Moves.{row_site_cmp}
 use Rattle.merge_model.specs.Model.{Model, empty_model, model, model_step}
 use Rattle.merge_model.specs.Promises.{NoneActsTwice, acting_generations}
 use Rattle.merge_model.specs.Publications.{rules_of}

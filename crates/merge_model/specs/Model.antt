@@ -16,7 +16,7 @@ use Rattle.merge_model.specs.Noting.{noted_anew, noted_at_publisher, noted_at_su
 use Rattle.merge_model.specs.Publisher.{at_moment}
 use Rattle.merge_model.specs.Session.{Stepping}
 use Rattle.merge_model.specs.Steps.{Action, Deliver, Forget, Make, MakeAnew, Outcome, Posted, Refuses, Took, kept_decisions, step_by, upload_questions}
-use Rattle.merge_model.specs.Tables.{Key}
+use Rattle.merge_types.specs.declared.row_key.RowKey.{RowKey as Key}
 use Rattle.merge_model.specs.Taking.{Missed, key_of_download}
 use Rattle.merge_model.specs.World.{Asks, Judges, Letter, Message, Replies, Saying, World, empty_world, letter_at, subscriber_at}
 use Rattle.merge_model.specs.declared.event.Event.{Event}

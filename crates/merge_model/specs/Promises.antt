@@ -30,7 +30,10 @@ use Rattle.merge_model.specs.PublisherDownload.{inside_keys, reply_to}
 use Rattle.merge_model.specs.PublisherPurge.{is_old}
 use Rattle.merge_model.specs.Sending.{unsent_rows}
 use Rattle.merge_model.specs.Session.{Session, session}
-use Rattle.merge_model.specs.Tables.{Key, PublisherRow, SubscriberRow, SubscriberTables}
+use Rattle.merge_types.specs.declared.row_key.RowKey.{RowKey as Key}
+use Rattle.merge_units.specs.declared.site_row.PublisherRow.{PublisherRow}
+use Rattle.merge_units.specs.declared.site_row.SubscriberRow.{SubscriberRow}
+use Rattle.merge_model.specs.Tables.{SubscriberTables}
 use Rattle.merge_model.specs.Taking.{key_of_download}
 use Rattle.merge_model.specs.World.{Asks, Letter, Message, Replies, Saying, World, letter_at, subscriber_at}
 use Rattle.merge_batch.specs.declared.reply.Act.TheVariants as order

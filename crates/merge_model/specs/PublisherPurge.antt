@@ -6,7 +6,12 @@ use Rattle.merge_gens.specs.Book.{moment_of, purged}
 use Rattle.merge_gens.specs.declared.closings.Closing.{Closing}
 use Rattle.merge_schema.specs.declared.publication.Publication.{Publication}
 use Rattle.merge_model.specs.Publisher.{at_moment}
-use Rattle.merge_model.specs.Tables.{Key, Mapping, PublisherRow, PublisherTables, RowSite, is_left}
+use Rattle.merge_types.specs.declared.row_key.RowKey.{RowKey as Key}
+use Rattle.merge_gens.specs.declared.moves.Mapping.{Mapping}
+use Rattle.merge_units.specs.declared.site_row.PublisherRow.{PublisherRow}
+use Rattle.merge_gens.specs.declared.moves.RowSite.{RowSite}
+use Rattle.merge_gens.specs.Moves.{is_left}
+use Rattle.merge_model.specs.Tables.{PublisherTables}
 
 -- A generation is old where it closed longer ago than the retention and one day more.
 abbrev pub grace : ℕ

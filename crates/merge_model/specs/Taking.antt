@@ -20,7 +20,9 @@ use Rattle.merge_model.specs.Judge.{SubscriberJudge}
 use Rattle.merge_model.specs.Keys.{at_number, drop_row, put_number, put_row}
 use Rattle.merge_model.specs.Refusals.{unless}
 use Rattle.merge_model.specs.Subscriber.{sub_at_moment}
-use Rattle.merge_model.specs.Tables.{Key, SubscriberRow, SubscriberTables}
+use Rattle.merge_types.specs.declared.row_key.RowKey.{RowKey as Key}
+use Rattle.merge_units.specs.declared.site_row.SubscriberRow.{SubscriberRow}
+use Rattle.merge_model.specs.Tables.{SubscriberTables}
 use Rattle.merge_batch.specs.declared.reply.Act.TheVariants as order
 use Rattle.merge_batch.specs.declared.reply.Reply.TheVariants as reply
 
