@@ -3,7 +3,7 @@ use Rattle.std.proofs.lemmas.List.{get_or_default}
 use Rattle.std.proofs.lemmas.Bool.Decides.{nat_tests}
 use Rattle.merge_lineage.specs.Lineage.{no_dot, IsAscending}
 use Rattle.merge_lineage.proofs.Place.{number-at_place, number-in_gap}
-use Rattle.merge_lineage.proofs.lineage.Lineage.knows.Goals as goal
+use Rattle.merge_lineage.proofs.lineage.Lineage.number_of.Goals as goal
 
 -- the site is at its place, and the dot there is the one that was read
 pub returns-in-Ok : goal.returns-in-Ok
