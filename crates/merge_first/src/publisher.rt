@@ -3,7 +3,7 @@ ghost use Rattle.std.specs.Prelude.{◌≡◌, ◌<◌, ◌≤◌, ◌^◌, ◌+
 ghost use Rattle.std.specs.List.Sorted.{IsNonDecreasingBy, IsPartitionPoint};
 ghost use Rattle.merge_first.specs.Publisher.{IsInsert, FitSettings, with_row, empty_publisher, changed, inserted_values, next_row, closing, items_after, publisher_rows, greatest_counter, MayRefuse, site_row};
 
-use merge_first::{Downloaded, Refusal, Row, RowList, SiteRow};
+use crate::{Downloaded, Refusal, Row, RowList, SiteRow};
 use merge_types::{
     Change, Dot, Listing, Moment, NoMemory, RowId, Setting, SiteId, Steps, Value, Values,
 };
@@ -28,7 +28,7 @@ pub struct Publisher {
 
 impl Model for Publisher {
     ghost use Rattle.merge_first.specs.Publisher.{PublisherTables};
-    ghost use Rattle.merge_pub.specs.Sound.{IsSound};
+    ghost use Rattle.merge_first.specs.Sound.{IsSound};
 
     ghost Value = { PublisherTables };
 

@@ -1,10 +1,10 @@
 //! The subscriber, kept in memory.
 ghost use Rattle.std.specs.Prelude.{◌≡◌, IfOk, IfErr, OnOk, OnErr, map, true, false};
-ghost use Rattle.merge_sub.specs.Puts.{put};
+ghost use Rattle.merge_first.specs.Puts.{put};
 ghost use Rattle.merge_first.specs.declared.rows.Phase.TheVariants.{Joined};
 ghost use Rattle.merge_first.specs.Subscriber.{empty_subscriber, subscribes, taken_over, subscriber_rows};
 
-use merge_first::{Downloaded, Phase, RowList, SiteRow};
+use crate::{Downloaded, Phase, RowList, SiteRow};
 use merge_table::{Edit, Table};
 use merge_types::{Listing, Moment, NoMemory, SiteId};
 use std::alloc::Global;

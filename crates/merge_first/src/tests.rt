@@ -1,10 +1,55 @@
-use crate::{Subscriber, UnknownSite};
-use merge_first::{Downloaded, Phase, SiteRow};
-use merge_types::{Listing, Moment, RowId, SiteId, Value, Values};
+ghost use Rattle.std.specs.Prelude.{◌≡◌, ◌≤◌, IfOk};
+ghost use Rattle.merge_first.specs.Publisher.{IsInsert, FitsColumn};
+
+use crate::{Downloaded, Phase, Publisher, SiteRow, Subscriber, UnknownSite};
+use merge_types::{Change, Listing, Moment, RowId, Setting, SiteId, Steps, Value, Values};
 use std::alloc::Global;
+use std::marker::Brand;
+use std::sync::ledger::{Blank, Ledger};
 use std::test::Fail;
 
 const START: Moment = Moment(0);
+
+fn insert(alloc: Global, value: Value) -> Result<Change, Fail>
+    requires { FitsColumn value }
+    ensures { IfOk result IsInsert }
+{
+    let mut values = Listing::empty(alloc);
+    values.push(Setting { column: 0, value })?;
+    Ok(Change::Insert { article: 0, values })
+}
+
+fn two_rows<L: Ledger>(alloc: Global, blank: Blank) -> Result<Publisher, Fail>
+    requires name { blank.name ≡ L.name }
+    requires parts { blank.parts ≡ L.parts }
+    requires some { 1 ≤ blank.parts }
+{
+    let mut steps = Steps::<L>::new(blank);
+    let mut sites = Listing::empty(alloc);
+    sites.push(SiteId(1))?;
+    let mut publisher = Publisher::start(alloc, sites);
+    publisher.local(&insert(alloc, Value::Int(7))?, START, &mut steps)?;
+    publisher.local(&insert(alloc, Value::Null)?, START, &mut steps)?;
+    Ok(publisher)
+}
+
+#[test]
+fn rows_go_out_once(rt: HostRuntime) -> Result<(), Fail> {
+    let mut publisher = two_rows::<Brand>(rt.alloc(), Blank::new(1))?;
+    assert_eq!(rt; publisher.sites(), [SiteId(1)].as_slice());
+    assert_eq!(rt; publisher.filled(), 2);
+    assert_eq!(rt; publisher.last_closed(), 0);
+    let first = publisher.download(0, START)?;
+    assert_eq!(rt; first.to, 1);
+    assert_eq!(rt; first.items.len(), 2);
+    assert_eq!(rt; publisher.last_closed(), 1);
+    let next = publisher.download(1, START)?;
+    assert_eq!(rt; next.to, 1);
+    assert_eq!(rt; next.items.len(), 0);
+    assert_eq!(rt; publisher.rows(0)?.len(), 2);
+    assert_eq!(rt; publisher.rows(1)?.len(), 0);
+    Ok(())
+}
 
 fn reply(alloc: Global, to: u64, rows: &[(u128, i64)]) -> Result<Downloaded, Fail> {
     let mut items = Listing::empty(alloc);

@@ -2,8 +2,8 @@
 use Rattle.std.proofs.Common.{◌≡◌, ℕ, true, false, arith, nat_le, nat_lt, drop, filter}
 use Rattle.std.proofs.lemmas.Bool.Decides.{nat_tests}
 use Rattle.merge_first.specs.Publisher.{is_after}
-use Rattle.merge_pub.proofs.Suffix.{suffix}
-use Rattle.merge_pub.proofs.publisher.items_of.Goals as goal
+use Rattle.merge_first.proofs.Suffix.{suffix}
+use Rattle.merge_first.proofs.publisher.items_of.Goals as goal
 
 up_to : (from generation : ℕ) → nat_le generation from ≡ true → nat_lt from generation ≡ false
 up_to from generation h = grind (arith, nat_tests)
