@@ -24,7 +24,9 @@ pub struct Column {
 }
 
 /// A value of a column. A day counts from 1970-01-01 and lies in the years 0001 to 9999.
-#[derive(Debug, Drop, PartialEq, Eq)]
+///
+/// Values are ordered by their type, and within it as numbers, or as texts and bytes are.
+#[derive(Debug, Drop, PartialEq, Eq, PartialOrd, Ord)]
 pub enum Value {
     Null,
     Int(i64),
