@@ -1,6 +1,6 @@
 use Rattle.std.proofs.Common.{◌≡◌, min, take, sum_by, ◌^◌, ◌-◌}
 use Rattle.merge_types.specs.Length.{stored_length}
-use Rattle.merge_types.proofs.values.Listing+Value.length.Given as goal
+use Rattle.merge_types.proofs.values.Listing+Value.stored_len.Given as goal
 
 -- of the values so far
 abbrev pub invariant-loop-value : goal.invariant-loop-value
