@@ -1,5 +1,5 @@
 -- The set of a table's keys.
-use Rattle.std.proofs.Common.{◌≡◌, true, false, Bool, ◌||◌, ◌&&◌, not, List, [], ◌∷◌, Option, None, is_some, cond, refl, sym, ap, ◌∙◌}
+use Rattle.std.proofs.Common.{◌≡◌, ◌+◌, length, add-one, true, false, Bool, ◌||◌, ◌&&◌, not, List, [], ◌∷◌, Option, None, is_some, cond, refl, sym, ap, ◌∙◌}
 use Rattle.std.specs.FinSet as set
 use Rattle.std.specs.declared.cmp.Ordering.{Ordering}
 use Rattle.std.specs.declared.cmp.Ordering.TheVariants.{Less, Equal, Greater}
@@ -14,7 +14,7 @@ use Rattle.std.specs.BTreeSet.{insert_key}
 use Rattle.std.proofs.lemmas.Map.{lookup-remove_entry}
 use Rattle.std.proofs.lemmas.Map.Keys.{IsDistinct-from_sorted}
 use Rattle.std.proofs.lemmas.Map.Made.{is_some-lookup}
-use Rattle.merge_table.proofs.Room.{AreAbove, all_above, has_room-insert_key}
+use Rattle.merge_table.proofs.Room.{AreAbove, all_above, has_room-insert_key, no_room_above}
 use Rattle.merge_table.proofs.Slots.{keys-insert_entry, keys-remove_entry}
 
 module _ {K : Type 0} (cmp : K → K → Ordering) (o : IsTotalOrder cmp) where
@@ -71,6 +71,16 @@ module _ {K : Type 0} (cmp : K → K → Ordering) (o : IsTotalOrder cmp) where
       ∙ none_taken (is_at (cmp k) q) (lookup (eq_by_cmp cmp q) es)
       ∙ ap (λ b. not b && is_some (lookup (eq_by_cmp cmp q) es)) ((eq_by_cmp_equiv o).symm k q)
       ∙ ap (λ b. not (eq_by_cmp cmp q k) && b) (is_some-lookup (eq_by_cmp cmp q) es)
+
+  -- keys in order are as many as their set has
+  pub len-sorted : (ks : List K) → IsStrictlySortedBy cmp ks → set.len (set.from_list {R = cmp} ks) ≡ length ks
+  unfolding IsStrictlySortedBy
+  len-sorted [] sorted = set.len-empty cmp
+  len-sorted (k ∷ ks) sorted =
+      set.len-insert o (set.from_list {R = cmp} ks) k
+      ∙ ap (λ b. cond b (set.len (set.from_list {R = cmp} ks)) (set.len (set.from_list {R = cmp} ks) + 1)) (set.contains-from_list o ks k ∙ no_room_above cmp k ks sorted.0)
+      ∙ ap (λ n. n + 1) (len-sorted ks sorted.1)
+      ∙ add-one (length ks)
 
   module _ (exact : (x y : K) → cmp x y ≡ Equal → x ≡ y) where
     -- a row that is put adds its key to the set, and one that is taken removes it

@@ -7,7 +7,7 @@ use std::alloc::Global;
 
 // How many entries a generation takes, as in SQL Server, whose setting for it
 // (`generation_leveling_threshold` of `sp_addmergepublication`) is 1000 by default.
-const ENTRY_LIMIT: u64 = 1000;
+pub(crate) const ENTRY_LIMIT: u64 = 1000;
 
 /// Where a site stands in its generations, which are numbered from 1. The open generation is the
 /// one behind the last closed.
