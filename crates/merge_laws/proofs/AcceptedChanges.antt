@@ -30,7 +30,10 @@ use Rattle.merge_model.specs.Reinit.{discarded, reinitialised}
 use Rattle.merge_model.specs.Subscriber.{is_joining, sub_at_moment, sub_last_closed, sub_local_refusal, sub_made_locally, sub_next_dot, sub_version_at, with_version_if}
 use Rattle.merge_types.specs.declared.row_key.RowKey.{RowKey as Key}
 use Rattle.merge_model.specs.Tables.{PublisherTables, SubscriberTables}
-use Rattle.merge_model.specs.World.{Asks, Letter, Message, Replies, World, subscriber_at, with_publisher, with_subscriber}
+use Rattle.merge_model.specs.World.{World, subscriber_at, with_publisher, with_subscriber}
+use Rattle.merge_model.specs.declared.letter.Message.TheVariants.{Asks, Replies}
+use Rattle.merge_model.specs.declared.letter.Letter.{Letter}
+use Rattle.merge_model.specs.declared.letter.Message.{Message}
 use Rattle.merge_laws.specs.Accepted.{Accepted, IsUpTo, SendsInserts}
 use Rattle.merge_laws.specs.Knowledge.{AllKnow, AreNumbered, Known, changes_of, same_dot, was_made}
 use Rattle.merge_laws.specs.KnownMakers.{Ascend, KnownMakers, KnowsMaker}

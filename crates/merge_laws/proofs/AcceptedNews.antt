@@ -18,7 +18,9 @@ use Rattle.merge_model.specs.Noting
 use Rattle.merge_model.specs.PublisherUpload.{brings_news, taken_in, upload_refusal}
 use Rattle.merge_types.specs.declared.row_key.RowKey.{RowKey as Key}
 use Rattle.merge_model.specs.Tables.{PublisherTables}
-use Rattle.merge_model.specs.World.{Asks, Letter, Saying, World}
+use Rattle.merge_model.specs.World.{Saying, World}
+use Rattle.merge_model.specs.declared.letter.Message.TheVariants.{Asks}
+use Rattle.merge_model.specs.declared.letter.Letter.{Letter}
 use Rattle.merge_laws.specs.Knowledge.{was_made}
 use Rattle.merge_laws.specs.LineagesStand.{OwnKnown, UploadSends, counts_in, is_given_up, is_of, is_sent}
 use Rattle.merge_laws.specs.Numbered.{last_of}

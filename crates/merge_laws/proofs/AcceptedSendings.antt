@@ -27,7 +27,9 @@ use Rattle.merge_model.specs.Subscriber.{sub_at_moment, sub_closed}
 use Rattle.merge_types.specs.declared.row_key.RowKey.{RowKey as Key}
 use Rattle.merge_units.specs.declared.site_row.SubscriberRow.{SubscriberRow}
 use Rattle.merge_model.specs.Tables.{PublisherTables, SubscriberTables}
-use Rattle.merge_model.specs.World.{Asks, Message, Replies, World, subscriber_at, with_publisher, with_subscriber}
+use Rattle.merge_model.specs.World.{World, subscriber_at, with_publisher, with_subscriber}
+use Rattle.merge_model.specs.declared.letter.Message.TheVariants.{Asks, Replies}
+use Rattle.merge_model.specs.declared.letter.Message.{Message}
 use Rattle.merge_laws.specs.Accepted.{Accepted, IsUpTo}
 use Rattle.merge_laws.specs.KnownMakers.{IsAfterMaker, KnownMakers}
 use Rattle.merge_laws.specs.LineagesStand.{is_given_up, OthersAccepted}

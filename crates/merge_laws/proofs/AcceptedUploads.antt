@@ -24,7 +24,10 @@ use Rattle.merge_model.specs.PublisherUpload.{brings_news, upload_refusal}
 use Rattle.merge_model.specs.Steps.{kept_decisions, upload_questions}
 use Rattle.merge_types.specs.declared.row_key.RowKey.{RowKey as Key}
 use Rattle.merge_model.specs.Tables.{PublisherTables}
-use Rattle.merge_model.specs.World.{Asks, Letter, Message, Replies, Saying, World, letter_at, with_publisher}
+use Rattle.merge_model.specs.World.{Saying, World, letter_at, with_publisher}
+use Rattle.merge_model.specs.declared.letter.Message.TheVariants.{Asks, Replies}
+use Rattle.merge_model.specs.declared.letter.Letter.{Letter}
+use Rattle.merge_model.specs.declared.letter.Message.{Message}
 use Rattle.merge_laws.specs.Accepted.{Accepted, IsUpTo, SendsAccepted, SendsInserts}
 use Rattle.merge_laws.specs.Knowledge.{AllKnow, changes_of, was_made}
 use Rattle.merge_laws.specs.KnownMakers.{KnownMakers, KnowsMaker}

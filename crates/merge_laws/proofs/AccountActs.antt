@@ -23,7 +23,7 @@ use Rattle.merge_model.specs.Promises.{InRow, Place}
 use Rattle.merge_types.specs.declared.row_key.RowKey.{RowKey as Key}
 use Rattle.merge_units.specs.declared.site_row.PublisherRow.{PublisherRow}
 use Rattle.merge_model.specs.Tables.{SubscriberTables}
-use Rattle.merge_model.specs.World.{Letter}
+use Rattle.merge_model.specs.declared.letter.Letter.{Letter}
 use Rattle.merge_laws.specs.Accounts.{Accounts, GrownAlone, IsSafe, IsTraced, is_kept_elsewhere, is_made_at, is_past, is_settled, makes}
 use Rattle.merge_laws.specs.Knowledge.{Knows, is_made}
 use Rattle.merge_laws.proofs.AccountElements.{IsIn}

@@ -33,7 +33,8 @@ use Rattle.merge_types.specs.declared.row_key.RowKey.{RowKey as Key}
 use Rattle.merge_units.specs.declared.site_row.PublisherRow.{PublisherRow}
 use Rattle.merge_model.specs.Tables.{PublisherTables}
 use Rattle.merge_model.specs.Taking.{key_of_download}
-use Rattle.merge_model.specs.World.{Replies, World, with_publisher}
+use Rattle.merge_model.specs.World.{World, with_publisher}
+use Rattle.merge_model.specs.declared.letter.Message.TheVariants.{Replies}
 use Rattle.merge_laws.specs.Accounts.{Grown, GrownAlone, IsTraced, OfAccounts}
 use Rattle.merge_laws.specs.LineagesStand.{OfOrder}
 use Rattle.merge_laws.proofs.AccountBase.{Base}

@@ -21,7 +21,7 @@ use Rattle.merge_model.specs.Promises.{InRow, Place}
 use Rattle.merge_model.specs.PublisherLocal.{version_at}
 use Rattle.merge_types.specs.declared.row_key.RowKey.{RowKey as Key}
 use Rattle.merge_model.specs.Tables.{PublisherTables, SubscriberTables}
-use Rattle.merge_model.specs.World.{Letter}
+use Rattle.merge_model.specs.declared.letter.Letter.{Letter}
 use Rattle.merge_laws.specs.Accounts.{Accounts, GrownAlone, IsSafe, IsTraced, is_made_at, makes}
 use Rattle.merge_laws.proofs.AccountActs.{Acted, fate-acted, put_by}
 use Rattle.merge_laws.proofs.AccountElements.{IsIn}

@@ -25,7 +25,10 @@ use Rattle.merge_model.specs.Subscriber.{generations_at, is_joining, sub_at_mome
 use Rattle.merge_types.specs.declared.row_key.RowKey.{RowKey as Key}
 use Rattle.merge_units.specs.declared.site_row.SubscriberRow.{SubscriberRow}
 use Rattle.merge_model.specs.Tables.{SubscriberTables}
-use Rattle.merge_model.specs.World.{Asks, Letter, Message, Replies, World, subscriber_at, with_subscriber}
+use Rattle.merge_model.specs.World.{World, subscriber_at, with_subscriber}
+use Rattle.merge_model.specs.declared.letter.Message.TheVariants.{Asks, Replies}
+use Rattle.merge_model.specs.declared.letter.Letter.{Letter}
+use Rattle.merge_model.specs.declared.letter.Message.{Message}
 use Rattle.merge_laws.specs.Accounts.{Accounts, GrownAlone, OfAccounts, SendsAll, Traced, is_settled}
 use Rattle.merge_laws.specs.Knowledge.{is_made}
 use Rattle.merge_laws.specs.LineagesStand.{is_of}

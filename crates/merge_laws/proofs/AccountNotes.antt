@@ -12,7 +12,8 @@ use Rattle.merge_model.specs.Noting
 use Rattle.merge_model.specs.Pasts.{cell_count}
 use Rattle.merge_types.specs.declared.row_key.RowKey.{RowKey as Key}
 use Rattle.merge_model.specs.Tables.{SubscriberTables}
-use Rattle.merge_model.specs.World.{Letter, Message}
+use Rattle.merge_model.specs.declared.letter.Letter.{Letter}
+use Rattle.merge_model.specs.declared.letter.Message.{Message}
 use Rattle.merge_laws.specs.Accounts.{Accounts, GrownAlone, IsSafe, IsTraced, SendsAll, is_settled, received_of}
 use Rattle.merge_laws.specs.LineagesStand.{OfMessage, is_of}
 use Rattle.merge_laws.proofs.AccountSites.{nothing-traced}

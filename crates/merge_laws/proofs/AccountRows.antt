@@ -14,7 +14,9 @@ use Rattle.merge_model.specs.Pasts.{cell_count}
 use Rattle.merge_model.specs.Promises.{InRow, Place, descends}
 use Rattle.merge_types.specs.declared.row_key.RowKey.{RowKey as Key}
 use Rattle.merge_model.specs.Tables.{SubscriberTables}
-use Rattle.merge_model.specs.World.{Asks, Letter, Message, Replies}
+use Rattle.merge_model.specs.declared.letter.Message.TheVariants.{Asks, Replies}
+use Rattle.merge_model.specs.declared.letter.Letter.{Letter}
+use Rattle.merge_model.specs.declared.letter.Message.{Message}
 use Rattle.merge_laws.specs.Accounts.{Grown, GrownAlone, Holds, IsSafe, IsTraced, Accounts, SendsAll, is_kept_elsewhere, is_made_at, is_past, is_settled}
 use Rattle.merge_laws.specs.Knowledge.{AllKnow, Knowledge, is_made}
 use Rattle.merge_laws.specs.LineagesStand.{OfMessage, is_of, is_sent}

@@ -15,7 +15,7 @@ use Rattle.merge_model.specs.Pasts.{cell_count}
 use Rattle.merge_model.specs.Subscriber.{sub_version_at}
 use Rattle.merge_types.specs.declared.row_key.RowKey.{RowKey as Key}
 use Rattle.merge_model.specs.Tables.{SubscriberTables}
-use Rattle.merge_model.specs.World.{Letter}
+use Rattle.merge_model.specs.declared.letter.Letter.{Letter}
 use Rattle.merge_laws.specs.Accounts.{Accounts, Grown, GrownAlone, IsSafe, IsTraced, SendsAll, Traced, is_past, is_settled, received_of}
 use Rattle.merge_laws.specs.Knowledge.{AllKnow, Knowledge, is_made}
 use Rattle.merge_laws.specs.LetterNumbers.{AreNamed}

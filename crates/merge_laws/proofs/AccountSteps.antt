@@ -26,7 +26,8 @@ use Rattle.merge_model.specs.Subscriber.{sub_at_moment, sub_closed, sub_version_
 use Rattle.merge_types.specs.declared.row_key.RowKey.{RowKey as Key}
 use Rattle.merge_units.specs.declared.site_row.SubscriberRow.{SubscriberRow}
 use Rattle.merge_model.specs.Tables.{PublisherTables, SubscriberTables}
-use Rattle.merge_model.specs.World.{Asks, Replies, Saying, World, empty_world, with_publisher}
+use Rattle.merge_model.specs.World.{Saying, World, empty_world, with_publisher}
+use Rattle.merge_model.specs.declared.letter.Message.TheVariants.{Asks, Replies}
 use Rattle.merge_laws.specs.Accounts.{Accounts, IsSafe, OfAccounts, is_settled, received_of}
 use Rattle.merge_laws.specs.LineagesStand.{is_of}
 use Rattle.merge_laws.specs.Received.{JoinFits, LetterFits, joined_at}

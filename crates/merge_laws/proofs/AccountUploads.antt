@@ -23,7 +23,9 @@ use Rattle.merge_model.specs.PublisherUpload.{brings_news, changing_by, taken_in
 use Rattle.merge_model.specs.Steps.{kept_decisions, upload_questions}
 use Rattle.merge_types.specs.declared.row_key.RowKey.{RowKey as Key}
 use Rattle.merge_model.specs.Tables.{PublisherTables}
-use Rattle.merge_model.specs.World.{Asks, Letter, Replies, Saying, World}
+use Rattle.merge_model.specs.World.{Saying, World}
+use Rattle.merge_model.specs.declared.letter.Message.TheVariants.{Asks, Replies}
+use Rattle.merge_model.specs.declared.letter.Letter.{Letter}
 use Rattle.merge_model.specs.ByNumbers.{received_by_number}
 use Rattle.merge_laws.specs.Accounts.{Accounts, GrownAlone, IsSafe, IsTraced, OfAccounts, SendsAll, is_settled}
 use Rattle.merge_laws.specs.Knowledge.{changes_of}

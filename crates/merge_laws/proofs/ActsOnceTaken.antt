@@ -23,9 +23,13 @@ use Rattle.merge_model.specs.Model.{Model, did_something, empty_model, model}
 use Rattle.merge_model.specs.Noting
 use Rattle.merge_model.specs.Publisher.{last_closed}
 use Rattle.merge_model.specs.PublisherUpload.{brings_news}
-use Rattle.merge_model.specs.Steps.{Deliver, Outcome, kept_decisions, upload_questions}
+use Rattle.merge_model.specs.Steps.{Deliver, kept_decisions, upload_questions}
+use Rattle.merge_model.specs.declared.outcome.Outcome.{Outcome}
 use Rattle.merge_model.specs.Tables.{PublisherTables}
-use Rattle.merge_model.specs.World.{Asks, Letter, Message, Saying, World, letter_at}
+use Rattle.merge_model.specs.World.{Saying, World, letter_at}
+use Rattle.merge_model.specs.declared.letter.Message.TheVariants.{Asks}
+use Rattle.merge_model.specs.declared.letter.Letter.{Letter}
+use Rattle.merge_model.specs.declared.letter.Message.{Message}
 use Rattle.merge_model.specs.declared.event.Event.{Event}
 use Rattle.merge_model.proofs.Events.{events-keep}
 use Rattle.merge_laws.specs.Laws.{OfEveryDecidedRun}
@@ -125,26 +129,26 @@ module _ (publication : Publication) (says : Saying) where
 
   -- What was delivered has acted.
 
-  news-acted : (m : Model) (number : ℕ) (u : Upload) → Received m.world m.history → (news : Bool) → (let j : PublisherJudge = judge publication says m number u in brings_news j u ≡ news → u.from < u.to
+  news-acted : (m : Model) (number : ℕ) (site : SiteId) (u : Upload) → Received m.world m.history → (news : Bool) → (let j : PublisherJudge = judge publication says m number site u in brings_news j u ≡ news → u.from < u.to
       → (let h : History = if news then Noting.with_acts_noted publication j u (acts_in publication says j u m.world) (pasts_with m.history number) (here m.world) m.history else m.history in AllActed h u))
-  news-acted m number u r true is up generation above within =
-      let j : PublisherJudge = judge publication says m number u in
+  news-acted m number site u r true is up generation above within =
+      let j : PublisherJudge = judge publication says m number site u in
       let acts : List Act = acts_in publication says j u m.world in
       let entries : Entries = Noting.acts_entries publication j u acts (here m.world) in
       let acted : History = fold (Noting.with_act (pasts_with m.history number) entries) m.history acts in
       let lined : History = Noting.with_lines (Noting.lines_of_entries (last_closed (here m.world) + 1) entries) acted in
       grind (arith, nat_tests, done-joins lined u.site.0 u.from u.to u.site.0 generation (omega (arith, up)), above, within)
-  news-acted m number u r false is up generation above within =
+  news-acted m number site u r false is up generation above within =
       grind (arith, nat_tests, is, received-is m.history m.world.publisher u.site.0 r.done, r.done u.site.0 generation (omega (arith, above)), within)
 
-  taken-acted : (m : Model) (number : ℕ) (u : Upload) → Received m.world m.history → (why : Option Refusal) → refusal publication says m number u ≡ why
-      → (let done : Model × Outcome = taken_by publication says m number u why in did_something done.1 ≡ true → AllActed done.0.history u)
-  taken-acted m number u r (Some why) is did = absurd (cc did)
-  taken-acted m number u r None is did = news-acted m number u r (brings_news (judge publication says m number u) u) refl (is-fine publication says m number u is).0
+  taken-acted : (m : Model) (number : ℕ) (site : SiteId) (u : Upload) → Received m.world m.history → (why : Option Refusal) → refusal publication says m number site u ≡ why
+      → (let done : Model × Outcome = taken_by publication says m number site u why in did_something done.1 ≡ true → AllActed done.0.history u)
+  taken-acted m number site u r (Some why) is did = absurd (cc did)
+  taken-acted m number site u r None is did = news-acted m number site u r (brings_news (judge publication says m number site u) u) refl (is-fine publication says m number site u is).0
 
   delivered-acted : (m : Model) → Received m.world m.history → TakenHaveActed publication says m
-  delivered-acted m r number site u at = subst (λ (done : Model × Outcome). did_something done.1 ≡ true → AllActed done.0.history u) (sym (delivered-by publication says m number u site at))
-      (taken-acted m number u r (refusal publication says m number u) refl)
+  delivered-acted m r number site u at = subst (λ (done : Model × Outcome). did_something done.1 ≡ true → AllActed done.0.history u) (sym (delivered-by publication says m number site u at))
+      (taken-acted m number site u r (refusal publication says m number site u) refl)
 
   -- So another delivery is only answered.
 

@@ -22,7 +22,8 @@ use Rattle.merge_types.specs.declared.row_key.RowKey.{RowKey as Key}
 use Rattle.merge_units.specs.declared.site_row.PublisherRow.{PublisherRow}
 use Rattle.merge_units.specs.declared.site_row.SubscriberRow.{SubscriberRow}
 use Rattle.merge_model.specs.Taking.{key_of_download}
-use Rattle.merge_model.specs.World.{Asks, Message, Replies}
+use Rattle.merge_model.specs.declared.letter.Message.TheVariants.{Asks, Replies}
+use Rattle.merge_model.specs.declared.letter.Message.{Message}
 use Rattle.merge_lineage.specs.Lineage.{knows}
 use Rattle.merge_laws.specs.LineagesStand.{LineagesStand, OfMessage, OfOrder, counts_in}
 use Rattle.merge_laws.specs.Standing.{StandsAt, StandsFor}

@@ -22,7 +22,9 @@ use Rattle.merge_model.specs.Publisher.{no_state, site_refusal, state_refusal, u
 use Rattle.merge_model.specs.PublisherJoin.{join_taken, join_acts}
 use Rattle.merge_model.specs.PublisherUpload.{upload_refusal}
 use Rattle.merge_model.specs.Subscriber.{sub_last_closed}
-use Rattle.merge_model.specs.World.{World, Message, Asks, Replies, with_publisher}
+use Rattle.merge_model.specs.World.{World, with_publisher}
+use Rattle.merge_model.specs.declared.letter.Message.{Message}
+use Rattle.merge_model.specs.declared.letter.Message.TheVariants.{Asks, Replies}
 use Rattle.merge_model.specs.History.{History, is_done}
 use Rattle.merge_model.specs.Noting
 use Rattle.merge_laws.specs.Received.{joined_at, MessageFits, LetterFits, SubscriberFits, DoneIsReceived, Received}

@@ -32,8 +32,10 @@ use Rattle.merge_model.specs.PublisherJoin.{join, join_refusal, join_acts, join_
 use Rattle.merge_model.specs.PublisherUpload.{upload_refusal, uploaded, taken_in, brings_news}
 use Rattle.merge_model.specs.PublisherRanges.{ranges, plans, with_grants}
 use Rattle.merge_model.specs.PublisherDownload.{download}
-use Rattle.merge_model.specs.World.{World, Saying, Asks, Replies, with_publisher}
-use Rattle.merge_model.specs.Steps.{Outcome, post, answered, after_upload, kept_decisions, upload_questions, deliver_request}
+use Rattle.merge_model.specs.World.{World, Saying, with_publisher}
+use Rattle.merge_model.specs.declared.letter.Message.TheVariants.{Asks, Replies}
+use Rattle.merge_model.specs.Steps.{post, answered, after_upload, kept_decisions, upload_questions, deliver_request}
+use Rattle.merge_model.specs.declared.outcome.Outcome.{Outcome}
 use Rattle.merge_model.specs.History.{History, Past, Line}
 use Rattle.merge_model.specs.Noting
 use Rattle.merge_model.specs.Model.{noted_if, noted_request, did_something}
@@ -143,7 +145,7 @@ module _ (w : World) (h : History) (r : Received w h) where
   upload-answered : (publication : Publication) (says : Saying) (incoming : List (Key × Past)) (m : Upload) (decisions : List Decision) (told : Uploaded) (refusal : Option Refusal) → upload_refusal publication (by_past h incoming) w.moment m w.publisher ≡ refusal
       → has_closed m (at_number w.subscribers m.site.0)
       → (let judge : PublisherJudge = by_past h incoming in
-      Keeps (after_upload publication says judge m w (unless refusal (uploaded publication judge m decisions here, told))) (Noting.noted_upload publication judge m decisions incoming here h) h)
+      Keeps (after_upload publication says judge m.site m w (unless refusal (uploaded publication judge m decisions here, told))) (Noting.noted_upload publication judge m decisions incoming here h) h)
   upload-answered publication says incoming m decisions told (Some why) is closed = r
   upload-answered publication says incoming m decisions told None is closed =
       let judge : PublisherJudge = by_past h incoming in
@@ -153,13 +155,14 @@ module _ (w : World) (h : History) (r : Received w h) where
 
   upload-fine : (publication : Publication) (says : Saying) (incoming : List (Key × Past)) (m : Upload) (site : SiteId) → UploadFits site m (at_number w.subscribers site.0)
       → (let judge : PublisherJudge = by_past h incoming in
-      Keeps (deliver_upload publication says judge m w) (noted_request publication says judge incoming w (request.Upload m) h) h)
+      Keeps (deliver_upload publication says judge site m w) (noted_request publication says judge incoming w (request.Upload m) h) h)
   upload-fine publication says incoming m site fits =
       let judge : PublisherJudge = by_past h incoming in
       let same : m.site ≡ site = upload-site m site (at_number w.subscribers site.0) fits in
-      upload-answered publication says incoming m (kept_decisions says w.tallies (upload_questions publication judge w.moment m w.publisher)) (record { seq = m.seq; received = max m.to (judge.received m.site.0) })
+      subst (λ (x : SiteId). Keeps (deliver_upload publication says judge x m w) (noted_request publication says judge incoming w (request.Upload m) h) h) same
+      (upload-answered publication says incoming m (kept_decisions says w.tallies (upload_questions publication judge w.moment m w.publisher)) (record { seq = m.seq; received = max m.to (judge.received m.site.0) })
       (upload_refusal publication judge w.moment m w.publisher) refl
-      (subst (λ (x : SiteId). has_closed m (at_number w.subscribers x.0)) (sym same) (upload-closed m site (at_number w.subscribers site.0) fits))
+      (subst (λ (x : SiteId). has_closed m (at_number w.subscribers x.0)) (sym same) (upload-closed m site (at_number w.subscribers site.0) fits)))
 
   -- Every message.
 

@@ -10,7 +10,8 @@ use Rattle.merge_table.proofs.LookUps.{lookup-insert_entry}
 use Rattle.merge_model.specs.Keys.{at_number, put_number}
 use Rattle.merge_model.specs.History.{History, Past, pasts_with}
 use Rattle.merge_types.specs.declared.row_key.RowKey.{RowKey as Key}
-use Rattle.merge_model.specs.World.{Letter, World, letter_at}
+use Rattle.merge_model.specs.World.{World, letter_at}
+use Rattle.merge_model.specs.declared.letter.Letter.{Letter}
 
 pub at_put : {V : Type 0} (n q : ℕ) (v : V) (es : List (ℕ × V)) → at_number (put_number es n v) q ≡ cond (is_at (nat_cmp q) n) (Some v) (at_number es q)
 at_put n q v es = lookup-insert_entry nat_cmp nat_cmp_total n q v es

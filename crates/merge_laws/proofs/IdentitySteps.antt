@@ -40,7 +40,10 @@ use Rattle.merge_model.specs.Publisher.{last_closed, new_holders}
 use Rattle.merge_model.specs.PublisherLocal.{Drawn, drawn, made_locally, next_dot}
 use Rattle.merge_model.specs.PublisherRanges.{ranged, plans, with_grants, ask_by}
 use Rattle.merge_model.specs.PublisherDownload.{asked, reply_to}
-use Rattle.merge_model.specs.World.{Asks, Letter, Message, Replies, Saying, World, subscriber_at, with_publisher, with_subscriber, empty_world, empty_subscribers}
+use Rattle.merge_model.specs.World.{Saying, World, subscriber_at, with_publisher, with_subscriber, empty_world, empty_subscribers}
+use Rattle.merge_model.specs.declared.letter.Message.TheVariants.{Asks, Replies}
+use Rattle.merge_model.specs.declared.letter.Letter.{Letter}
+use Rattle.merge_model.specs.declared.letter.Message.{Message}
 use Rattle.merge_model.specs.Steps.{Action, post}
 use Rattle.merge_model.specs.History.{History, Line, pasts_with, MadeChange, past_at}
 use Rattle.merge_model.specs.ByHistory.{by_history, by_past, by_made}

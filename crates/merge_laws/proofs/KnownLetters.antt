@@ -20,7 +20,7 @@ use Rattle.merge_model.specs.Reinit.{discarded}
 use Rattle.merge_types.specs.declared.row_key.RowKey.{RowKey as Key}
 use Rattle.merge_model.specs.Tables.{PublisherTables, SubscriberTables}
 use Rattle.merge_model.specs.Taking.{key_of_download}
-use Rattle.merge_model.specs.World.{Letter}
+use Rattle.merge_model.specs.declared.letter.Letter.{Letter}
 use Rattle.merge_model.specs.Noting
 use Rattle.merge_laws.specs.Knowledge.{AllKnow, Known}
 use Rattle.merge_laws.proofs.Finding.{all-more}

@@ -20,7 +20,8 @@ use Rattle.merge_model.specs.Keys.{at_number, drop_row, put_number, put_row, row
 use Rattle.merge_model.specs.Model.{past_of_item, pasts_in, put_past}
 use Rattle.merge_types.specs.declared.row_key.RowKey.{RowKey as Key}
 use Rattle.merge_model.specs.Taking.{key_of_download}
-use Rattle.merge_model.specs.World.{Asks, Message, Replies}
+use Rattle.merge_model.specs.declared.letter.Message.TheVariants.{Asks, Replies}
+use Rattle.merge_model.specs.declared.letter.Message.{Message}
 use Rattle.merge_laws.specs.Knowledge.{AllKnow, Knowledge, Knows, RowKnows}
 use Rattle.merge_laws.proofs.Finding.{all-at}
 use Rattle.merge_laws.proofs.KeyLookUps.{keys-exact}

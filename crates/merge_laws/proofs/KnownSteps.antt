@@ -30,7 +30,9 @@ use Rattle.merge_model.specs.PublisherUpload.{taken_in}
 use Rattle.merge_model.specs.PublisherRanges.{plans, ranged, with_grants}
 use Rattle.merge_model.specs.PublisherDownload.{asked, reply_to}
 use Rattle.merge_model.specs.Subscriber.{sub_at_moment, sub_last_closed, sub_made_locally, sub_next_dot, empty_subscriber, sub_closed}
-use Rattle.merge_model.specs.World.{Asks, Message, Replies, Saying, World, subscriber_at, with_publisher, with_subscriber, empty_subscribers, empty_world}
+use Rattle.merge_model.specs.World.{Saying, World, subscriber_at, with_publisher, with_subscriber, empty_subscribers, empty_world}
+use Rattle.merge_model.specs.declared.letter.Message.TheVariants.{Asks, Replies}
+use Rattle.merge_model.specs.declared.letter.Message.{Message}
 use Rattle.merge_model.specs.Steps.{kept_decisions, upload_questions}
 use Rattle.merge_model.specs.History.{History, Line, Past, pasts_with, no_history}
 use Rattle.merge_model.specs.ByHistory.{by_past, by_made}

@@ -49,7 +49,10 @@ use Rattle.merge_units.specs.declared.site_row.PublisherRow.{PublisherRow}
 use Rattle.merge_units.specs.declared.site_row.SubscriberRow.{SubscriberRow}
 use Rattle.merge_model.specs.Tables.{PublisherTables, SubscriberTables}
 use Rattle.merge_model.specs.Taking.{row_above, taken}
-use Rattle.merge_model.specs.World.{Asks, Letter, Message, Replies, Saying, World, empty_world, letter_at, subscriber_at, with_publisher, with_subscriber}
+use Rattle.merge_model.specs.World.{Saying, World, empty_world, letter_at, subscriber_at, with_publisher, with_subscriber}
+use Rattle.merge_model.specs.declared.letter.Message.TheVariants.{Asks, Replies}
+use Rattle.merge_model.specs.declared.letter.Letter.{Letter}
+use Rattle.merge_model.specs.declared.letter.Message.{Message}
 use Rattle.merge_model.specs.declared.event.Event.{Event}
 use Rattle.merge_model.proofs.Events.{events-keep}
 use Rattle.merge_laws.specs.Lineages.{IsOfMade, LineagesAreMade, OfLineages, OfLost, OfMessage, OfOrder, OfPublisher, OfSubscriber, changes_of}

@@ -17,7 +17,9 @@ use Rattle.merge_types.specs.declared.row_key.RowKey.{RowKey as Key}
 use Rattle.merge_units.specs.declared.site_row.PublisherRow.{PublisherRow}
 use Rattle.merge_units.specs.declared.site_row.SubscriberRow.{SubscriberRow}
 use Rattle.merge_model.specs.Taking.{key_of_download}
-use Rattle.merge_model.specs.World.{Asks, Letter, Message, Replies}
+use Rattle.merge_model.specs.declared.letter.Message.TheVariants.{Asks, Replies}
+use Rattle.merge_model.specs.declared.letter.Letter.{Letter}
+use Rattle.merge_model.specs.declared.letter.Message.{Message}
 use Rattle.merge_laws.specs.Knowledge.{AllKnow, Knowledge, Knows, RowKnows}
 use Rattle.merge_laws.specs.LineagesStand.{AllTold, EveryVersion, LineagesStand, OfMessage, OfOrder, Owns, counts_in, lost_at}
 use Rattle.merge_laws.specs.Standing.{StandsFor, Told}

@@ -28,7 +28,9 @@ use Rattle.merge_model.specs.Subscriber.{sub_at_moment, sub_closed}
 use Rattle.merge_types.specs.declared.row_key.RowKey.{RowKey as Key}
 use Rattle.merge_model.specs.Tables.{PublisherTables, SubscriberTables}
 use Rattle.merge_model.specs.Taking.{taken}
-use Rattle.merge_model.specs.World.{Asks, Message, Replies, Saying, World, empty_world, subscriber_at, with_publisher, with_subscriber}
+use Rattle.merge_model.specs.World.{Saying, World, empty_world, subscriber_at, with_publisher, with_subscriber}
+use Rattle.merge_model.specs.declared.letter.Message.TheVariants.{Asks, Replies}
+use Rattle.merge_model.specs.declared.letter.Message.{Message}
 use Rattle.merge_laws.specs.KnownMakers.{HeldKnow, KnownMakers, KnowsMaker}
 use Rattle.merge_laws.proofs.Finding.{found-named}
 use Rattle.merge_laws.proofs.Ground.{Ground}

@@ -32,7 +32,9 @@ use Rattle.merge_types.specs.declared.row_key.RowKey.{RowKey as Key}
 use Rattle.merge_units.specs.declared.site_row.PublisherRow.{PublisherRow}
 use Rattle.merge_model.specs.Tables.{PublisherTables, SubscriberTables}
 use Rattle.merge_model.specs.Taking.{row_above, taken}
-use Rattle.merge_model.specs.World.{Asks, Letter, Replies, Saying, World, subscriber_at, with_publisher, with_subscriber}
+use Rattle.merge_model.specs.World.{Saying, World, subscriber_at, with_publisher, with_subscriber}
+use Rattle.merge_model.specs.declared.letter.Message.TheVariants.{Asks, Replies}
+use Rattle.merge_model.specs.declared.letter.Letter.{Letter}
 use Rattle.merge_model.specs.Laws.{AreSubSorted}
 use Rattle.merge_laws.specs.Knowledge.{changes_of}
 use Rattle.merge_laws.specs.KnownMakers.{Ascend, HeldKnow, IsAfterMaker, KnownMakers, KnowsMaker}

@@ -15,8 +15,13 @@ use Rattle.merge_model.specs.ByHistory.{by_history, is_gap_by_done}
 use Rattle.merge_model.specs.Publisher.{at_moment, no_state}
 use Rattle.merge_model.specs.PublisherJoin.{joined}
 use Rattle.merge_model.specs.PublisherPurge.{purge}
-use Rattle.merge_model.specs.World.{World, Judges, Saying, Letter, Message, Asks, Replies, letter_at, subscriber_at, with_publisher}
-use Rattle.merge_model.specs.Steps.{Action, Pass, Make, CloseAt, Send, Deliver, MakeAnew, Forget, Outcome, NoLetter, at_subscriber, make_at, close_at, send_from, deliver_reply, deliver_letter, make_anew, step_by}
+use Rattle.merge_model.specs.World.{World, Judges, Saying, letter_at, subscriber_at, with_publisher}
+use Rattle.merge_model.specs.declared.letter.Letter.{Letter}
+use Rattle.merge_model.specs.declared.letter.Message.{Message}
+use Rattle.merge_model.specs.declared.letter.Message.TheVariants.{Asks, Replies}
+use Rattle.merge_model.specs.Steps.{Action, Pass, Make, CloseAt, Send, Deliver, MakeAnew, Forget, Look, at_subscriber, make_at, close_at, send_from, deliver_reply, deliver_letter, make_anew, step_by}
+use Rattle.merge_model.specs.declared.outcome.Outcome.{Outcome}
+use Rattle.merge_model.specs.declared.outcome.Outcome.TheVariants.{NoLetter}
 use Rattle.merge_model.specs.History.{History, is_done, pasts_with}
 use Rattle.merge_model.specs.Noting
 use Rattle.merge_model.specs.Model.{Model, model_step, noted, noted_if, noted_letter, did_something, with_posted}
@@ -103,6 +108,7 @@ module _ (publication : Publication) (says : Saying) (w : World) (h : History) (
       noted-same (did_something done.1) done.0 (noted publication says judges w (MakeAnew site) h) h (anew-done judges site (subscriber_at w site) h) (at-fine w h r site (make_anew judges w) (λ s at. anew-fine w h r site s at judges))
   action-fine Forget = history-same (with_publisher (purge publication w.moment w.publisher).0 w) h (Noting.noted_purge publication (judges.publisher 0) (at_moment w.moment w.publisher) h)
       (purge-done publication (judges.publisher 0) (at_moment w.moment w.publisher) h) (sites-fine w h r (purge publication w.moment w.publisher).0 refl)
+  action-fine Look = r
 
 pub model-fine : (publication : Publication) (says : Saying) (m : Model) (action : Action) → Received m.world m.history → (let n : Model = (model_step publication says m action).0 in Received n.world n.history)
 model-fine publication says m action r =

@@ -20,7 +20,8 @@ use Rattle.merge_model.specs.PublisherUpload.{changing_by, taken_in, with_acts}
 use Rattle.merge_model.specs.Steps.{kept_decisions, upload_questions}
 use Rattle.merge_types.specs.declared.row_key.RowKey.{RowKey as Key}
 use Rattle.merge_units.specs.declared.site_row.PublisherRow.{PublisherRow}
-use Rattle.merge_model.specs.World.{Asks, Saying, World}
+use Rattle.merge_model.specs.World.{Saying, World}
+use Rattle.merge_model.specs.declared.letter.Message.TheVariants.{Asks}
 use Rattle.merge_laws.specs.Accepting.{AcceptsWell, Accepting, IsFine, KnowsAccepted, accepts}
 use Rattle.merge_laws.specs.Knowledge.{AllKnow, changes_of, same_dot}
 use Rattle.merge_laws.specs.Standing.{IsKnownLater}

@@ -10,7 +10,8 @@ use Rattle.merge_model.specs.History.{History, MadeChange}
 use Rattle.merge_model.specs.Keys.{at_number}
 use Rattle.merge_model.specs.Subscriber.{sub_last_closed}
 use Rattle.merge_model.specs.Tables.{SubscriberTables}
-use Rattle.merge_model.specs.World.{Letter, World}
+use Rattle.merge_model.specs.World.{World}
+use Rattle.merge_model.specs.declared.letter.Letter.{Letter}
 use Rattle.merge_laws.specs.Accepting.{AcceptsWell}
 use Rattle.merge_laws.specs.Behind.{TellsActed}
 use Rattle.merge_laws.specs.LetterNumbers.{IsForSubscriber, LettersAreNamed}

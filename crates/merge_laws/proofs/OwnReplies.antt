@@ -28,7 +28,9 @@ use Rattle.merge_types.specs.declared.row_key.RowKey.{RowKey as Key}
 use Rattle.merge_units.specs.declared.site_row.SubscriberRow.{SubscriberRow}
 use Rattle.merge_model.specs.Tables.{SubscriberTables}
 use Rattle.merge_model.specs.Taking.{key_of_download, row_above, taken, with_item, with_order}
-use Rattle.merge_model.specs.World.{Letter, Replies, World, subscriber_at, with_subscriber}
+use Rattle.merge_model.specs.World.{World, subscriber_at, with_subscriber}
+use Rattle.merge_model.specs.declared.letter.Letter.{Letter}
+use Rattle.merge_model.specs.declared.letter.Message.TheVariants.{Replies}
 use Rattle.merge_model.proofs.Sorted.{key_total}
 use Rattle.merge_laws.specs.LineagesStand.{KnowsAll, OfOrder, ReplyAnswers, counts_in, is_of}
 use Rattle.merge_laws.specs.Unsent.{is_changed_above}

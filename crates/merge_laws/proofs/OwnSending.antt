@@ -33,7 +33,8 @@ use Rattle.merge_units.specs.declared.site_row.PublisherRow.{PublisherRow}
 use Rattle.merge_units.specs.declared.site_row.SubscriberRow.{SubscriberRow}
 use Rattle.merge_model.specs.Tables.{PublisherTables, SubscriberTables}
 use Rattle.merge_model.specs.Taking.{key_of_download}
-use Rattle.merge_model.specs.World.{Asks, Replies, World, letter_at, subscriber_at, with_publisher, with_subscriber}
+use Rattle.merge_model.specs.World.{World, letter_at, subscriber_at, with_publisher, with_subscriber}
+use Rattle.merge_model.specs.declared.letter.Message.TheVariants.{Asks, Replies}
 use Rattle.merge_laws.specs.Accepting.{accepts}
 use Rattle.merge_laws.specs.LineagesStand.{KnowsAll, OfOrder, ReplyAnswers, counts_in, is_of, is_sent}
 use Rattle.merge_laws.specs.Unsent.{RowsTell, is_changed_above}

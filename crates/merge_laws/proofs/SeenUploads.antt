@@ -34,7 +34,9 @@ use Rattle.merge_model.specs.Steps.{kept_decisions, upload_questions}
 use Rattle.merge_model.specs.Subscriber.{sub_last_closed}
 use Rattle.merge_types.specs.declared.row_key.RowKey.{RowKey as Key}
 use Rattle.merge_model.specs.Tables.{SubscriberTables}
-use Rattle.merge_model.specs.World.{Asks, Letter, Saying, World, letter_at}
+use Rattle.merge_model.specs.World.{Saying, World, letter_at}
+use Rattle.merge_model.specs.declared.letter.Message.TheVariants.{Asks}
+use Rattle.merge_model.specs.declared.letter.Letter.{Letter}
 use Rattle.merge_laws.specs.LineagesStand.{AllTold, OfMessage, Owns, UploadSends}
 use Rattle.merge_laws.specs.Numbered.{JoinTells, LetterTells, last_of}
 use Rattle.merge_laws.specs.Received.{JoinFits, LetterFits, joined_at}

@@ -43,7 +43,10 @@ use Rattle.merge_types.specs.declared.row_key.RowKey.{RowKey as Key}
 use Rattle.merge_units.specs.declared.site_row.SubscriberRow.{SubscriberRow}
 use Rattle.merge_model.specs.Tables.{PublisherTables, SubscriberTables}
 use Rattle.merge_model.specs.Taking.{seq_of, taken}
-use Rattle.merge_model.specs.World.{Asks, Letter, Message, Replies, Saying, World, empty_subscribers, empty_world, subscriber_at, with_publisher, with_subscriber}
+use Rattle.merge_model.specs.World.{Saying, World, empty_subscribers, empty_world, subscriber_at, with_publisher, with_subscriber}
+use Rattle.merge_model.specs.declared.letter.Message.TheVariants.{Asks, Replies}
+use Rattle.merge_model.specs.declared.letter.Letter.{Letter}
+use Rattle.merge_model.specs.declared.letter.Message.{Message}
 use Rattle.merge_model.proofs.Sorted.{closed_filling-rises}
 use Rattle.merge_laws.specs.Received.{JoinFits, LetterFits, joined_at}
 use Rattle.merge_laws.specs.Settled.{LetterSettles, MessageSettles, OfPublisher, OfSites, SendsChanged, SiteHolds, SitesSettle, TouchedInOrder, changed_of, held_at, live_only, made_in, site_view, touched_at}

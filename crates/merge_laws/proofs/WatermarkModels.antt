@@ -34,7 +34,10 @@ use Rattle.merge_model.specs.PublisherDownload.{asked, download_refusal, reply_t
 use Rattle.merge_model.specs.Subscriber.{empty_subscriber, sub_at_moment, sub_closed, sub_made_locally}
 use Rattle.merge_model.specs.Sending.{join_of, upload_end, upload_to, want_of, with_message}
 use Rattle.merge_model.specs.Reinit.{reinitialised}
-use Rattle.merge_model.specs.World.{Asks, Letter, Message, Replies, Saying, World, letter_at, subscriber_at, with_publisher, with_subscriber}
+use Rattle.merge_model.specs.World.{Saying, World, letter_at, subscriber_at, with_publisher, with_subscriber}
+use Rattle.merge_model.specs.declared.letter.Message.TheVariants.{Asks, Replies}
+use Rattle.merge_model.specs.declared.letter.Letter.{Letter}
+use Rattle.merge_model.specs.declared.letter.Message.{Message}
 use Rattle.merge_model.specs.Steps.{post}
 use Rattle.merge_model.specs.History.{History, pasts_with}
 use Rattle.merge_model.specs.Model.{Model, empty_model, model}

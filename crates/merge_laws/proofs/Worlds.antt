@@ -11,7 +11,9 @@ use Rattle.merge_model.specs.ByNumbers.{received_by_number}
 use Rattle.merge_model.specs.ByHistory.{received_by_done, is_gap_by_done}
 use Rattle.merge_model.specs.Publisher.{no_state}
 use Rattle.merge_model.specs.Subscriber.{sub_last_closed}
-use Rattle.merge_model.specs.World.{World, Letter, Message, with_publisher, with_subscriber}
+use Rattle.merge_model.specs.World.{World, with_publisher, with_subscriber}
+use Rattle.merge_model.specs.declared.letter.Letter.{Letter}
+use Rattle.merge_model.specs.declared.letter.Message.{Message}
 use Rattle.merge_model.specs.History.{History, is_done}
 use Rattle.merge_laws.specs.Received.{joined_at, JoinFits, MessageFits, LetterFits, SubscriberFits, AllFit, DoneIsReceived, Received}
 use Rattle.merge_laws.proofs.Finding.{all-more, all-weaker}

@@ -15,7 +15,8 @@ use Rattle.merge_model.specs.Keys.{row_at}
 use Rattle.merge_model.specs.Model.{Model, empty_model, model, model_answers}
 use Rattle.merge_model.specs.Steps.{Action}
 use Rattle.merge_units.specs.declared.site_row.PublisherRow.{PublisherRow}
-use Rattle.merge_model.specs.World.{Asks, Saying, empty_world, letter_at}
+use Rattle.merge_model.specs.World.{Saying, empty_world, letter_at}
+use Rattle.merge_model.specs.declared.letter.Message.TheVariants.{Asks}
 use Rattle.merge_model.specs.declared.event.Event.{Event}
 use Rattle.merge_laws.specs.Received.{joined_at}
 

@@ -21,7 +21,10 @@ use Rattle.merge_model.specs.Model.{Model, empty_model, model}
 use Rattle.merge_model.specs.Promises.{takes}
 use Rattle.merge_model.specs.Publications.{rules_of}
 use Rattle.merge_model.specs.Tables.{SubscriberTables}
-use Rattle.merge_model.specs.World.{Asks, Letter, Message, Replies, Saying}
+use Rattle.merge_model.specs.World.{Saying}
+use Rattle.merge_model.specs.declared.letter.Message.TheVariants.{Asks, Replies}
+use Rattle.merge_model.specs.declared.letter.Letter.{Letter}
+use Rattle.merge_model.specs.declared.letter.Message.{Message}
 
 -- The laws.
 

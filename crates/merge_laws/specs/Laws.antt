@@ -13,7 +13,8 @@ use Rattle.merge_model.specs.Bridge.{SubscriberDecidesAlike}
 use Rattle.merge_model.specs.Keys.{at_number}
 use Rattle.merge_model.specs.Tables.{SubscriberTables}
 use Rattle.merge_model.specs.Subscriber.{sub_last_closed}
-use Rattle.merge_model.specs.World.{Asks, Saying, letter_at}
+use Rattle.merge_model.specs.World.{Saying, letter_at}
+use Rattle.merge_model.specs.declared.letter.Message.TheVariants.{Asks}
 use Rattle.merge_model.specs.Events.{after}
 use Rattle.merge_model.specs.Model.{Model, empty_model, model}
 use Rattle.merge_laws.specs.Lineages.{LineagesAreMade}

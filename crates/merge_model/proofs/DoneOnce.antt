@@ -42,8 +42,13 @@ use Rattle.merge_model.specs.Keys.{put_number}
 use Rattle.merge_model.specs.Pasts.{past_by}
 use Rattle.merge_model.specs.Taking.{key_of_download}
 use Rattle.merge_model.specs.Reinit.{discarded}
-use Rattle.merge_model.specs.World.{World, Judges, Saying, Letter, Message, Asks, Replies, letter_at, subscriber_at}
-use Rattle.merge_model.specs.Steps.{Action, Pass, Make, CloseAt, Send, Deliver, MakeAnew, Forget, Outcome, Posted, kept_decisions, upload_questions, step_by}
+use Rattle.merge_model.specs.World.{World, Judges, Saying, letter_at, subscriber_at}
+use Rattle.merge_model.specs.declared.letter.Letter.{Letter}
+use Rattle.merge_model.specs.declared.letter.Message.{Message}
+use Rattle.merge_model.specs.declared.letter.Message.TheVariants.{Asks, Replies}
+use Rattle.merge_model.specs.Steps.{Action, Pass, Make, CloseAt, Send, Deliver, MakeAnew, Forget, Look, kept_decisions, upload_questions, step_by}
+use Rattle.merge_model.specs.declared.outcome.Outcome.{Outcome}
+use Rattle.merge_model.specs.declared.outcome.Outcome.TheVariants.{Posted}
 use Rattle.merge_model.specs.History.{History, Past, Line, is_done, past_at, past_in, pasts_with}
 use Rattle.merge_model.specs.Noting
 use Rattle.merge_model.specs.Model.{Model, model, empty_model, model_step, with_posted, with_letter, noted, noted_if, did_something, noted_make, noted_deliver, noted_letter, noted_request, noted_anew_at}
@@ -286,6 +291,7 @@ noted-once publication says judges w (Send site sending) h once = once
 noted-once publication says judges w (Deliver number) h once = letter-once publication says judges number w (letter_at w number) h once
 noted-once publication says judges w (MakeAnew site) h once = subst (λ (done : List (ℕ × ℕ)). Once done) (sym (anew-done judges site (subscriber_at w site) h)) once
 noted-once publication says judges w Forget h once = same-once h (Noting.noted_purge publication (judges.publisher 0) (at_moment w.moment w.publisher) h) (purge-done publication (judges.publisher 0) (at_moment w.moment w.publisher) h) once
+noted-once publication says judges w Look h once = once
 
 found-done : (found : Option Letter) (h : History) → (let k : History = elim found [ None ↦ h | Some letter ↦ with_letter letter h ] in k.done ≡ h.done)
 found-done None h = refl

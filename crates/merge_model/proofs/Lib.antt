@@ -21,3 +21,10 @@ pub mod DoneOnce
 pub mod SubscriberSteps
 pub mod Subscribers
 pub mod Runs
+pub mod Alike
+pub mod NoSlips
+pub mod Reached
+pub mod Calling
+pub mod ReachedSessions
+pub mod ReachedEvents
+pub mod Places

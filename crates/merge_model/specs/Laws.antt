@@ -27,7 +27,8 @@ use Rattle.merge_model.specs.Publisher.{at_moment}
 use Rattle.merge_model.specs.PublisherUpload.{brings_news, upload}
 use Rattle.merge_model.specs.Reinit.{reinitialise}
 use Rattle.merge_model.specs.Sending.{with_message}
-use Rattle.merge_model.specs.Steps.{Action, Refuses, step, step_by}
+use Rattle.merge_model.specs.Steps.{Action, step, step_by}
+use Rattle.merge_model.specs.declared.outcome.Outcome.TheVariants.{Refuses}
 use Rattle.merge_model.specs.Subscriber.{close_sub_generation, sub_at_moment, sub_closed, sub_local}
 use Rattle.merge_model.specs.Tables.{PublisherTables, SubscriberTables}
 use Rattle.merge_model.specs.Taking.{take_reply}
