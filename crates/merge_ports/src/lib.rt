@@ -5,6 +5,7 @@
 mod entry;
 mod keeper;
 mod memory;
+mod outside;
 mod ports;
 mod short;
 mod streams;
@@ -15,6 +16,7 @@ mod whole;
 pub use entry::{Entries, EntryEdit, EntryKey};
 pub use keeper::{KeepFault, Keeper};
 pub use memory::{MemorySink, MemorySource};
+pub use outside::{Counts, OpenFault, Outside};
 pub use ports::{Failed, Sink, Source};
 pub use short::Short;
 pub use streams::{Reading, Writing};
