@@ -11,6 +11,7 @@ ghost use Rattle.std.specs.List.Sorted.{IsStrictlySortedBy};
 ghost use Rattle.merge_table.specs.Contents.{count_of, has_room};
 
 use crate::{Rows, TableKey};
+use merge_types::Exact;
 use std::alloc::{AllocError, Global};
 use std::collections::BTreeMap;
 use std::marker::Model;
@@ -211,6 +212,24 @@ impl<K: TableKey, V: Drop> Table<K, V> {
             self.sweep();
         }
     }
+}
+
+/// A copy has the same rows and the same room.
+impl<K: TableKey, V: Exact + Drop> Clone for Table<K, V> {
+    ghost use Rattle.std.specs.Prelude.{◌≡◌};
+
+    ghost is_clone = { λ old new. new ≡ old };
+
+    fn clone(&self) -> Result<Table<K, V>, AllocError> {
+        Ok(Table {
+            slots: self.slots.clone()?,
+            held: self.held,
+        })
+    }
+}
+
+impl<K: TableKey, V: Exact + Drop> Exact for Table<K, V> {
+    ghost exact = { λ value copy same. same };
 }
 
 // Puts the value into the key's slot, if it has one, and answers the row that was there.
