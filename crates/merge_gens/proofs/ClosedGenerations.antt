@@ -15,7 +15,7 @@ use Rattle.std.proofs.lemmas.Bool.Decides.{nat_tests}
 use Rattle.merge_types.specs.declared.Moment.{Moment}
 use Rattle.merge_gens.specs.declared.filling.Filling.{Filling}
 use Rattle.merge_gens.specs.declared.closings.Closing.{Closing}
-use Rattle.merge_gens.specs.Filling.{entry_limit}
+use Rattle.merge_types.specs.Limits.{entry_limit}
 use Rattle.merge_gens.specs.Book.{Book, IsSound, closing_at, closings_between, moved_to, moment_of}
 
 -- what is dropped and what is kept make up the list

@@ -6,7 +6,8 @@ use Rattle.std.specs.List.{range_with_len}
 use Rattle.merge_types.specs.declared.Moment.{Moment}
 use Rattle.merge_gens.specs.declared.filling.Filling.{Filling}
 use Rattle.merge_gens.specs.declared.closings.Closing.{Closing}
-use Rattle.merge_gens.specs.Filling.{entry_limit, filled_by, closed}
+use Rattle.merge_types.specs.Limits.{entry_limit}
+use Rattle.merge_gens.specs.Filling.{filled_by, closed}
 
 -- where the filling stands, and the closed generations that are kept, in ascending order
 pub record Book : Type 0 where

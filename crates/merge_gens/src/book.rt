@@ -1,6 +1,7 @@
 //! A site's generations, and what is kept of the closed ones.
 ghost use Rattle.std.specs.Prelude.{◌≡◌, ◌+◌, ◌≤◌, ◌<◌, ◌↔◌, [], nat_lt, nat_le, IsTrue, count_by, length, IfOk, IsOk, OnOk, OnErr};
-ghost use Rattle.merge_gens.specs.Filling.{entry_limit, generations_of, closed};
+ghost use Rattle.merge_types.specs.Limits.{entry_limit};
+ghost use Rattle.merge_gens.specs.Filling.{generations_of, closed};
 ghost use Rattle.merge_gens.specs.Book.{IsSound, NeverFall, moved_to, entered, closed_now, moment_of, purged, forgotten, last_before};
 ghost use Rattle.merge_gens.specs.Plan.{settled, IsPrepared, AreAllowed, answers_of, book_after_all};
 
@@ -8,8 +9,8 @@ use crate::closings::{
     add_closings, append, count_before, each_closed, generations_rise, keep_above, keep_from,
     last_before, moment_at, moments_never_fall,
 };
-use crate::filling::ENTRY_LIMIT;
 use crate::{Closing, Closings, Filling, GenAnswers, GenChange, GenPlan};
+use merge_types::limits::ENTRY_LIMIT;
 use merge_types::{Listing, Moment, NoMemory};
 use std::alloc::Global;
 use std::marker::Model;

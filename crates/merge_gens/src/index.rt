@@ -104,7 +104,7 @@ impl GenIndex {
         ensures compact { IsCompact self.new }
     {
         self.entries.remove(&IndexEntry { generation, key });
-        sweep_if_spare(&mut self.entries);
+        self.entries.sweep_if_due();
     }
 
     /// Takes the memory for several changes, and gives the plan. The index stays as it is.
@@ -128,8 +128,7 @@ impl GenIndex {
         ensures entries { self.new.entries ≡ entries_after_all self.old.entries plan.changes }
         ensures compact { IsCompact self.new }
     {
-        self.entries.apply(plan.changes.into_vec());
-        sweep_if_spare(&mut self.entries);
+        self.entries.apply_and_sweep(plan.changes.into_vec());
     }
 
     /// Adds the rows with a generation behind `from`, up to `to`, behind a list, which `sort_rows`
@@ -158,16 +157,6 @@ pub fn sort_rows(rows: &mut Vec<RowKey>)
 {
     rows.sort_unstable();
     rows.dedup();
-}
-
-// Lets go of spare slots once they are the most.
-fn sweep_if_spare(entries: &mut Table<IndexEntry, ()>)
-    ensures rows { entries.new.rows ≡ entries.old.rows }
-    ensures slots { length entries.new.slots ≤ length entries.new.rows + length entries.new.rows }
-{
-    if entries.spare() > entries.len() {
-        entries.sweep();
-    }
 }
 
 // Adds the rows with a generation between, by generation.

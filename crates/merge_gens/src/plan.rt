@@ -1,6 +1,6 @@
 //! Changes of a book, and the plan of the changes of one step.
 ghost use Rattle.std.specs.Prelude.{◌≡◌, ◌<◌, [], IfOk, IsOk};
-ghost use Rattle.merge_gens.specs.Filling.{entry_limit};
+ghost use Rattle.merge_types.specs.Limits.{entry_limit};
 ghost use Rattle.merge_gens.specs.Plan.{filling_after, closing_moment, answer_of, answers_of, book_after_all, book_of, IsAllowed, AreAllowed};
 
 use crate::closings::add_closings;

@@ -1,5 +1,6 @@
 use Rattle.merge_gens.specs.Entries.{entry_cmp, entry_exact}
-use Rattle.merge_gens.proofs.Sets.{sorted_put, set_put}
+use Rattle.merge_table.proofs.Sorted.{sorted_put}
+use Rattle.merge_gens.proofs.Sets.{set_put}
 use Rattle.merge_gens.proofs.EntryLists.{entry_total}
 use Rattle.merge_gens.proofs.index.GenIndex.put.Goals as goal
 
