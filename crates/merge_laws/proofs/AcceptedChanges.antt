@@ -42,9 +42,9 @@ use Rattle.merge_laws.specs.Numbered.{Numbered}
 use Rattle.merge_laws.proofs.AcceptedOrder.{was-below}
 use Rattle.merge_laws.proofs.AcceptedParts.{PastFits, SiteFits, all-fit, count-on, lines-accept, nothing-fits, others-accepted, publisher-accepted, send-on}
 use Rattle.merge_laws.proofs.Arrivals.{first-none}
-use Rattle.merge_laws.proofs.Finding.{found-named}
+use Rattle.merge_model.proofs.Finding.{found-named}
 use Rattle.merge_laws.proofs.Ground.{Ground}
-use Rattle.merge_laws.proofs.KeyLookUps.{keys-same}
+use Rattle.merge_model.proofs.KeyLookUps.{keys-same}
 use Rattle.merge_laws.proofs.Knowing.{after-known}
 use Rattle.merge_laws.proofs.KnownCounts.{own-count}
 use Rattle.merge_laws.proofs.KnownRows.{past-knows}
@@ -53,7 +53,7 @@ use Rattle.merge_laws.proofs.PastLists.{drop-ascends, each-dropped, each-put}
 use Rattle.merge_laws.proofs.PastLookUps.{all-sites, put-here, put-there}
 use Rattle.merge_laws.proofs.Publishing.{same-sites}
 use Rattle.merge_laws.proofs.Steps.{joined-flag}
-use Rattle.merge_laws.proofs.Tests.{either}
+use Rattle.merge_model.proofs.Tests.{either}
 use Rattle.merge_laws.proofs.Through.{order-within}
 use Rattle.merge_laws.proofs.UnsentKept.{version-site}
 use Rattle.merge_laws.proofs.Walking.{here, own_noted}

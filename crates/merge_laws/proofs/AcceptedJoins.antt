@@ -26,7 +26,7 @@ use Rattle.merge_laws.specs.LetterOrder.{JoinIsLater, LetterOrder, last_upload, 
 use Rattle.merge_laws.specs.LineagesStand.{UploadCounts, is_given_up, OthersAccepted}
 use Rattle.merge_laws.specs.Received.{JoinFits, LetterFits, MessageFits, joined_at}
 use Rattle.merge_laws.proofs.AcceptedParts.{CountsGo, PastFits, SiteFits, all-fit, counts-go, lines-accept, nothing-fits, past-among, send-on}
-use Rattle.merge_laws.proofs.Finding.{all-at, all-weaker}
+use Rattle.merge_model.proofs.Finding.{all-at, all-weaker}
 use Rattle.merge_laws.proofs.Ground.{Ground}
 use Rattle.merge_laws.proofs.LetterOrder.{all-up-to}
 use Rattle.merge_laws.proofs.MessageFacts.{acts-later, letter-fits, upload-site}

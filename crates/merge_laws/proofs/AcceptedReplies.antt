@@ -31,7 +31,7 @@ use Rattle.merge_laws.specs.Behind.{StaysBehind}
 use Rattle.merge_laws.specs.KnownMakers.{Ascend, KnownMakers}
 use Rattle.merge_laws.specs.Received.{joined_at}
 use Rattle.merge_laws.proofs.AcceptedParts.{PastFits, SiteFits, accepted-fits, all-fit, count-on, fits-on, nothing-fits, others-zero, past-among, send-on, subscriber-accepted}
-use Rattle.merge_laws.proofs.Finding.{all-weaker, letter-zip}
+use Rattle.merge_model.proofs.Finding.{all-weaker, letter-zip}
 use Rattle.merge_laws.proofs.Ground.{Ground}
 use Rattle.merge_laws.proofs.NotesLeave.{items-leave}
 use Rattle.merge_laws.proofs.OwnItems.{InsertActed}

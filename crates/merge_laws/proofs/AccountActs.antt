@@ -32,7 +32,7 @@ use Rattle.merge_laws.proofs.AccountLetters.{IsOfSite}
 use Rattle.merge_laws.proofs.AccountMeetings.{IsNew, decided_new, knows-either, lost-keeps, lost-last, lost_after, meeting-is, met-grown, met-holds, own_dot, past-stays}
 use Rattle.merge_laws.proofs.AccountRows.{KeepsLost, at-key, at-other, gone_on, in-new, lost-accounts, lost-goes, more-elsewhere, row-accounts, row-goes}
 use Rattle.merge_laws.proofs.ChangeDots.{AreDistinct, made-distinct}
-use Rattle.merge_laws.proofs.KeyLookUps.{keys-same}
+use Rattle.merge_model.proofs.KeyLookUps.{keys-same}
 use Rattle.merge_laws.proofs.Knowing.{IsFresh, fresh-above}
 use Rattle.merge_laws.proofs.KnownNotes.{Reached}
 use Rattle.merge_laws.proofs.KnownRows.{held-knows, past-knows}

@@ -39,11 +39,11 @@ use Rattle.merge_laws.specs.Accounts.{Grown, GrownAlone, IsTraced, OfAccounts}
 use Rattle.merge_laws.specs.LineagesStand.{OfOrder}
 use Rattle.merge_laws.proofs.AccountBase.{Base}
 use Rattle.merge_laws.proofs.AccountNotes.{none-traced, post-accounts}
-use Rattle.merge_laws.proofs.Downloads.{any-map, inside-live, live-held}
-use Rattle.merge_laws.proofs.Finding.{some_same}
-use Rattle.merge_laws.proofs.KeyLookUps.{key-test, none-behind}
+use Rattle.merge_model.proofs.Downloads.{any-map, inside-live, live-held}
+use Rattle.merge_model.proofs.Finding.{some_same}
+use Rattle.merge_model.proofs.KeyLookUps.{key-test, none-behind}
 use Rattle.merge_laws.proofs.LetterPasts.{orders-past, orders-sent, removed-order}
-use Rattle.merge_laws.proofs.Lists.{OfSome, all-filter, all-filter_map, all-map, all-unit}
+use Rattle.merge_model.proofs.Lists.{OfSome, all-filter, all-filter_map, all-map, all-unit}
 use Rattle.merge_laws.proofs.Walking.{Sends, here}
 
 -- A row in a partition lives.

@@ -23,7 +23,7 @@ use Rattle.merge_model.specs.declared.letter.Letter.{Letter}
 use Rattle.merge_model.specs.declared.letter.Message.{Message}
 use Rattle.merge_laws.specs.LineagesStand.{OfMessage, OfOrder}
 use Rattle.merge_laws.specs.Received.{MessageFits, Received, joined_at}
-use Rattle.merge_laws.proofs.Finding.{all-at, all-weaker}
+use Rattle.merge_model.proofs.Finding.{all-at, all-weaker}
 
 got-all : (P : List (Key × Past) → Type 0) (found : Option (List (Key × Past))) (letters : List (List (Key × Past))) (k : ℕ) → slice_get letters k ≡ found → P [] → AllByRecursion P letters → P (unwrap_or found [])
 got-all P None letters k at none all = none

@@ -41,12 +41,12 @@ use Rattle.merge_laws.proofs.AccountHistory.{traced-new}
 use Rattle.merge_laws.proofs.AccountSending.{received-safe, site-away}
 use Rattle.merge_laws.proofs.AccountSites.{held-made, received-own, sent-made, sub-accounts}
 use Rattle.merge_laws.proofs.Arrivals.{first-none}
-use Rattle.merge_laws.proofs.Finding.{all-weaker, some_same}
+use Rattle.merge_model.proofs.Finding.{all-weaker, some_same}
 use Rattle.merge_laws.proofs.Ground.{Ground}
-use Rattle.merge_laws.proofs.KeyLookUps.{key-itself, keys-same}
+use Rattle.merge_model.proofs.KeyLookUps.{key-itself, keys-same}
 use Rattle.merge_laws.proofs.Knowing.{IsFresh}
 use Rattle.merge_laws.proofs.KnownRows.{held-knows}
-use Rattle.merge_laws.proofs.Lists.{zip-first}
+use Rattle.merge_model.proofs.Lists.{zip-first}
 use Rattle.merge_laws.proofs.OwnKnowing.{NoneOf}
 use Rattle.merge_laws.proofs.OwnLocal.{sub-fresh, sub-none}
 use Rattle.merge_laws.proofs.PastLookUps.{past-put}

@@ -17,8 +17,8 @@ use Rattle.merge_model.specs.declared.letter.Message.{Message}
 use Rattle.merge_laws.specs.Accounts.{Accounts, GrownAlone, IsSafe, IsTraced, SendsAll, is_settled, received_of}
 use Rattle.merge_laws.specs.LineagesStand.{OfMessage, is_of}
 use Rattle.merge_laws.proofs.AccountSites.{nothing-traced}
-use Rattle.merge_laws.proofs.Finding.{all-more}
-use Rattle.merge_laws.proofs.Lists.{all-both, zip-more}
+use Rattle.merge_model.proofs.Finding.{all-more}
+use Rattle.merge_model.proofs.Lists.{all-both, zip-more}
 use Rattle.merge_laws.proofs.OwnPasts.{lines-on}
 use Rattle.merge_laws.proofs.Publishing.{done-joins, in_reach}
 use Rattle.merge_laws.proofs.Telling.{decided}

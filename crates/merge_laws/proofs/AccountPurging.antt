@@ -22,8 +22,8 @@ use Rattle.merge_laws.specs.Accounts.{Accounts, Grown, GrownAlone, IsSafe, IsTra
 use Rattle.merge_laws.specs.LineagesStand.{is_of}
 use Rattle.merge_laws.proofs.AccountHistory.{Goes, SortedAt, goes-safe, goes-traced}
 use Rattle.merge_laws.proofs.AccountSites.{nothing-traced}
-use Rattle.merge_laws.proofs.Finding.{all-weaker, at_put_same, found-named}
-use Rattle.merge_laws.proofs.KeyLookUps.{key-itself, keys-same, row-dropped}
+use Rattle.merge_model.proofs.Finding.{all-weaker, at_put_same, found-named}
+use Rattle.merge_model.proofs.KeyLookUps.{key-itself, keys-same, row-dropped}
 use Rattle.merge_laws.proofs.PastLookUps.{past-left, put-there}
 use Rattle.merge_laws.proofs.ToldRows.{drop_version}
 

@@ -38,10 +38,10 @@ use Rattle.merge_laws.proofs.AccountNotes.{none-traced}
 use Rattle.merge_laws.proofs.AccountSending.{received-safe, site-away, stays-accounts}
 use Rattle.merge_laws.proofs.AccountSites.{held-made, sent-made, site-accounts}
 use Rattle.merge_laws.proofs.AccountTaking.{Takes, alike-accounts, order-takes, put-twice}
-use Rattle.merge_laws.proofs.Finding.{at_put_other, at_put_same, letter-zip, pool-at}
+use Rattle.merge_model.proofs.Finding.{at_put_other, at_put_same, letter-zip, pool-at}
 use Rattle.merge_laws.proofs.Ground.{Ground}
 use Rattle.merge_laws.proofs.KnownRows.{letter-knows, past-knows}
-use Rattle.merge_laws.proofs.Lists.{all-both}
+use Rattle.merge_model.proofs.Lists.{all-both}
 use Rattle.merge_laws.proofs.Replying.{downloaded-least, uploaded-least}
 use Rattle.merge_laws.proofs.ToldReplies.{versions-above}
 use Rattle.merge_laws.proofs.Unsending.{received-sorted}

@@ -23,11 +23,11 @@ use Rattle.merge_laws.specs.LineagesStand.{OfMessage, is_of, is_sent}
 use Rattle.merge_laws.proofs.AccountElements.{IsIn, all-in, each-in}
 use Rattle.merge_laws.proofs.AccountHistory.{Goes, OfNew, all-new, alone-new, at-other-site, goes-safe, goes-traced, grown-new, others-new, put_pasts, sorted-at, traced-new, with_new}
 use Rattle.merge_laws.proofs.AccountLetters.{IsOfSite, message-weaker}
-use Rattle.merge_laws.proofs.Finding.{all-weaker, found-named, some_same}
-use Rattle.merge_laws.proofs.KeyLookUps.{keys-same}
+use Rattle.merge_model.proofs.Finding.{all-weaker, found-named, some_same}
+use Rattle.merge_model.proofs.KeyLookUps.{keys-same}
 use Rattle.merge_laws.proofs.Knowing.{IsFresh}
 use Rattle.merge_laws.proofs.KnownRows.{held-knows, past-knows}
-use Rattle.merge_laws.proofs.Lists.{zip-first, zip-weaker}
+use Rattle.merge_model.proofs.Lists.{zip-first, zip-weaker}
 use Rattle.merge_laws.proofs.PastLookUps.{with-past-same}
 use Rattle.merge_laws.proofs.ToldRows.{put_version}
 

@@ -28,11 +28,11 @@ use Rattle.merge_laws.proofs.AccountBase.{Base}
 use Rattle.merge_laws.proofs.AccountElements.{IsIn, all-in, any-in, each-in, filter-in}
 use Rattle.merge_laws.proofs.AccountNotes.{none-traced, post-accounts}
 use Rattle.merge_laws.proofs.AccountSites.{site-accounts}
-use Rattle.merge_laws.proofs.Finding.{all-weaker, found-named}
+use Rattle.merge_model.proofs.Finding.{all-weaker, found-named}
 use Rattle.merge_laws.proofs.Ground.{Ground}
-use Rattle.merge_laws.proofs.KeyLookUps.{key-itself, keys-turned}
+use Rattle.merge_model.proofs.KeyLookUps.{key-itself, keys-turned}
 use Rattle.merge_laws.proofs.LetterPasts.{item-past, items-past}
-use Rattle.merge_laws.proofs.Lists.{any-mono}
+use Rattle.merge_model.proofs.Lists.{any-mono}
 use Rattle.merge_laws.proofs.OwnSending.{fold-reaches, gens-some, items-reach, reaches, version-some}
 use Rattle.merge_laws.proofs.ToldLetters.{sent-fit}
 use Rattle.merge_laws.proofs.ToldRows.{AllFit, HeldFits}

@@ -42,7 +42,7 @@ use Rattle.merge_laws.proofs.AccountReplies.{reply-accounts}
 use Rattle.merge_laws.proofs.AccountSending.{sending-accounts, stays-accounts}
 use Rattle.merge_laws.proofs.AccountSites.{nothing-traced}
 use Rattle.merge_laws.proofs.AccountUploads.{upload-accounts}
-use Rattle.merge_laws.proofs.Finding.{all-weaker, pool-at}
+use Rattle.merge_model.proofs.Finding.{all-weaker, pool-at}
 use Rattle.merge_laws.proofs.KnownMakers.{none-ascends}
 use Rattle.merge_laws.proofs.LetterNumbers.{named-begins}
 use Rattle.merge_laws.proofs.Models.{begins-with}

@@ -36,11 +36,11 @@ use Rattle.merge_laws.proofs.AccountItems.{AllActed, IsBrought, IsReady, acts-ac
 use Rattle.merge_laws.proofs.AccountLetters.{IsOfSite, pasts-all, uploads-away}
 use Rattle.merge_laws.proofs.AccountNotes.{based-accounts, done-accounts, none-traced, post-accounts, same-accounts}
 use Rattle.merge_laws.proofs.Arrivals.{upload-known}
-use Rattle.merge_laws.proofs.Finding.{all-weaker, letter-zip, pool-at}
+use Rattle.merge_model.proofs.Finding.{all-weaker, letter-zip, pool-at}
 use Rattle.merge_laws.proofs.Ground.{Ground}
-use Rattle.merge_laws.proofs.KeyLookUps.{keys-same}
+use Rattle.merge_model.proofs.KeyLookUps.{keys-same}
 use Rattle.merge_laws.proofs.KnownRows.{letter-knows}
-use Rattle.merge_laws.proofs.Lists.{all-filter}
+use Rattle.merge_model.proofs.Lists.{all-filter}
 use Rattle.merge_laws.proofs.OwnPasts.{lines-on}
 use Rattle.merge_laws.proofs.Publishing.{in_reach}
 use Rattle.merge_laws.proofs.ToldItems.{filter-apart, items-apart}

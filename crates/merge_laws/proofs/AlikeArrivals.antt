@@ -33,7 +33,7 @@ use Rattle.merge_model.specs.World.{Saying, World}
 use Rattle.merge_model.specs.declared.letter.Message.TheVariants.{Replies}
 use Rattle.merge_laws.proofs.AlikeUploads.{ItemAgrees, acting-same, acts-from-same, lost-from-same, questions-same}
 use Rattle.merge_laws.proofs.Arrivals.{first-none}
-use Rattle.merge_laws.proofs.Lists.{all-filter}
+use Rattle.merge_model.proofs.Lists.{all-filter}
 
 -- What two ways to decide agree on, of the sites that have joined and of moves.
 pub record SitesAgree (sites : List (ℕ × SiteState)) (one other : PublisherJudge) : Type 0 where

@@ -27,10 +27,10 @@ use Rattle.merge_model.specs.declared.letter.Letter.{Letter}
 use Rattle.merge_laws.specs.Knowledge.{Knowledge, Knows, is_made, same_dot}
 use Rattle.merge_laws.specs.LineagesStand.{AllTold, LineagesStand, OfMessage, Owns, UploadCounts, can_act, counts_in, is_given_up}
 use Rattle.merge_laws.specs.Standing.{StandsFor, Told, is_counted}
-use Rattle.merge_laws.proofs.Finding.{all-weaker, letter-zip, some_same}
-use Rattle.merge_laws.proofs.KeyLookUps.{keys-exact}
+use Rattle.merge_model.proofs.Finding.{all-weaker, letter-zip, some_same}
+use Rattle.merge_model.proofs.KeyLookUps.{keys-exact}
 use Rattle.merge_laws.proofs.KnownRows.{held-knows, letter-knows, past-knows}
-use Rattle.merge_laws.proofs.Lists.{all-three}
+use Rattle.merge_model.proofs.Lists.{all-three}
 use Rattle.merge_laws.proofs.Standing.{case-alike, news-alike, standing-agrees}
 
 -- What holds of all rows, and of all letters with their pasts, holds of one that is found.

@@ -38,7 +38,7 @@ use Rattle.merge_laws.proofs.AlikeFields.{acted-alike, gap-alike, left-alike, nu
 use Rattle.merge_laws.proofs.AlikeUploads.{ItemAgrees, MetAgrees}
 use Rattle.merge_laws.proofs.Arrivals.{first-none}
 use Rattle.merge_laws.proofs.Ground.{Ground}
-use Rattle.merge_laws.proofs.Lists.{all-both}
+use Rattle.merge_model.proofs.Lists.{all-both}
 use Rattle.merge_laws.proofs.ToldItems.{fault-none}
 use Rattle.merge_laws.proofs.WatermarkModels.{state-later}
 

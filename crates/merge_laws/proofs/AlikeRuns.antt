@@ -1,16 +1,18 @@
 -- Where each step is alike, so is each list of events: the machine's run is the model's run with the history left out.
-use Rattle.std.specs.Prelude.{◌≡◌, List, refl}
+use Rattle.std.specs.Prelude.{◌≡◌, ℕ, List, refl}
 use Rattle.std.proofs.Common.{ap, subst, sym}
 use Rattle.merge_schema.specs.declared.publication.Publication.{Publication}
 use Rattle.merge_model.specs.Answers.{Answer}
 use Rattle.merge_model.specs.Bridge.{StepsAlike}
 use Rattle.merge_model.specs.Events.{after, answers, machine}
+use Rattle.merge_model.specs.Failing.{Slips, failing, faulty}
 use Rattle.merge_model.specs.Model.{Model, model, model_step}
 use Rattle.merge_model.specs.Steps.{Action, step}
 use Rattle.merge_model.specs.World.{Saying, World}
 use Rattle.merge_model.specs.declared.event.Event.{Event}
 use Rattle.merge_model.specs.declared.outcome.Outcome.{Outcome}
 use Rattle.merge_model.proofs.Alike.{Both, events-alike}
+use Rattle.merge_model.proofs.AlikeFailing.{runs-alike as failing-runs}
 
 module _ (publication : Publication) (says : Saying) (Kept : Model → Type 0) (keeps : (m : Model) (action : Action) → Kept m → Kept (model_step publication says m action).0) (acts : (m : Model) (action : Action) → Kept m → StepsAlike publication says m action) where
   -- the same but for the history
@@ -30,3 +32,13 @@ module _ (publication : Publication) (says : Saying) (Kept : Model → Type 0) (
 
   pub after-alike : (events : List Event) (m : Model) → Kept m → after publication (machine publication says) m.world events ≡ (after publication (model publication says) m events).world
   after-alike events m k = (runs-alike events m k).1.0
+
+  -- and the same steps fail
+  module _ (stays : (m : Model) (others : List ℕ) → Kept m → Kept ((model publication says).retally others m)) where
+    tally-alike : (w : World) (m : Model) (others : List ℕ) → Same w m → Same ((machine publication says).retally others w) ((model publication says).retally others m)
+    tally-alike w m others same = (ap (λ (v : World). record v { tallies = others }) same.0, stays m others same.1)
+
+    pub failing-alike : (slips : Slips) (events : List Event) (m : Model) → Kept m
+        → (answers publication (failing publication (machine publication says)) (faulty m.world slips) events ≡ answers publication (failing publication (model publication says)) (faulty m slips) events)
+        × ((after publication (failing publication (machine publication says)) (faulty m.world slips) events).world ≡ (after publication (failing publication (model publication says)) (faulty m slips) events).world.world)
+    failing-alike slips events m k = (let run = failing-runs publication (machine publication says) (model publication says) Same act-alike (λ w n same. same.0) tally-alike slips events m.world m (refl, k) in (run.0, run.1.1.0))

@@ -28,9 +28,9 @@ use Rattle.merge_lineage.specs.Lineage.{knows}
 use Rattle.merge_laws.specs.LineagesStand.{LineagesStand, OfMessage, OfOrder, counts_in}
 use Rattle.merge_laws.specs.Standing.{StandsAt, StandsFor}
 use Rattle.merge_laws.specs.TablesAgree.{TablesAgree}
-use Rattle.merge_laws.proofs.Finding.{all-weaker}
-use Rattle.merge_laws.proofs.KeyLookUps.{keys-turned}
-use Rattle.merge_laws.proofs.Lists.{OfSome, all-filter_map, all-map}
+use Rattle.merge_model.proofs.Finding.{all-weaker}
+use Rattle.merge_model.proofs.KeyLookUps.{keys-turned}
+use Rattle.merge_model.proofs.Lists.{OfSome, all-filter_map, all-map}
 use Rattle.merge_laws.proofs.ToldLetters.{letter-fits}
 
 -- what is said of each item of a list that is made of another

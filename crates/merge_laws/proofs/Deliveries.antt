@@ -42,6 +42,7 @@ use Rattle.merge_model.specs.Model.{noted_if, noted_request, did_something}
 use Rattle.merge_model.specs.Steps.{deliver_upload, asked_of}
 use Rattle.merge_model.proofs.Publishers.{ranges-ok, download-ok}
 use Rattle.merge_model.proofs.DoneOnce.{lines-done, acts-done}
+use Rattle.merge_laws.proofs.Tallied.{received-tallied}
 use Rattle.merge_laws.specs.Received.{joined_at, JoinFits, UploadFits, MessageFits, LetterFits, Received}
 use Rattle.merge_laws.proofs.Arrivals.{has_closed, join-fits, tells_all, upload-fits, upload-known}
 use Rattle.merge_laws.proofs.MessageFacts.{acts-later, join-site, upload-site}
@@ -52,9 +53,6 @@ use Rattle.merge_laws.proofs.Worlds.{history-same, posted-fits, publisher-same, 
 -- a step keeps it, with what it notes where it did something
 abbrev pub Keeps : World × Outcome → History → History → Type 0
 Keeps done after before = Received done.0 (noted_if (did_something done.1) after before)
-
-tallies-fine : (w : World) (h : History) (tallies : List ℕ) → Received w h → Received (record w { tallies = tallies }) h
-tallies-fine w h tallies r = record { subscribers = r.subscribers; letters = r.letters; done = r.done }
 
 -- the same generations join where the same have acted
 with_done-same : (site from to : ℕ) (k h : History) → k.done ≡ h.done → (Noting.with_done site from to k).done ≡ (Noting.with_done site from to h).done
@@ -137,10 +135,10 @@ module _ (w : World) (h : History) (r : Received w h) where
       let v : World = record w { publisher = q; tallies = tallies } in
       history-same (record v { pool = w.pool ++ record { site = m.site; message = Replies (reply.Uploaded told) } ∷ [] }) done (Noting.with_done m.site.0 m.from m.to noted) (with_done-same m.site.0 m.from m.to noted h same)
       (posted-fits v done (record { site = m.site; message = Replies (reply.Uploaded told) }) tt
-      (tallies-fine (with_publisher q w) done tallies (upload-fits m acts (with_publisher here w) q h refl known begins (news-above incoming m news) closed moved)))
+      (received-tallied (with_publisher q w) tallies done (upload-fits m acts (with_publisher here w) q h refl known begins (news-above incoming m news) closed moved)))
   upload-taken publication incoming m acts tallies told false none known begins closed =
       let v : World = record w { publisher = here; tallies = tallies } in
-      posted-fits v h (record { site = m.site; message = Replies (reply.Uploaded told) }) tt (tallies-fine (with_publisher here w) h tallies moved)
+      posted-fits v h (record { site = m.site; message = Replies (reply.Uploaded told) }) tt (received-tallied (with_publisher here w) tallies h moved)
 
   upload-answered : (publication : Publication) (says : Saying) (incoming : List (Key × Past)) (m : Upload) (decisions : List Decision) (told : Uploaded) (refusal : Option Refusal) → upload_refusal publication (by_past h incoming) w.moment m w.publisher ≡ refusal
       → has_closed m (at_number w.subscribers m.site.0)

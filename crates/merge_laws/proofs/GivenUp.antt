@@ -41,8 +41,8 @@ use Rattle.merge_laws.specs.Numbered.{JoinTells, Numbered, last_of}
 use Rattle.merge_laws.specs.Received.{Received}
 use Rattle.merge_laws.proofs.Arrivals.{first-none, not-refused, upload-known}
 use Rattle.merge_laws.proofs.Deliveries.{news-above}
-use Rattle.merge_laws.proofs.Finding.{letter-zip}
-use Rattle.merge_laws.proofs.Lists.{any-among}
+use Rattle.merge_model.proofs.Finding.{letter-zip}
+use Rattle.merge_model.proofs.Lists.{any-among}
 use Rattle.merge_laws.proofs.MessageFacts.{acts-later, join-up, letter-fits}
 use Rattle.merge_laws.proofs.NotesLeave.{fate-leaves, lines-accepted}
 use Rattle.merge_laws.proofs.Numbers.{letter-tells, upload-says}

@@ -33,7 +33,7 @@ use Rattle.merge_model.specs.declared.letter.Message.TheVariants.{Asks, Replies}
 use Rattle.merge_model.specs.declared.letter.Letter.{Letter}
 use Rattle.merge_model.specs.declared.letter.Message.{Message}
 use Rattle.merge_laws.specs.Identities.{takes_at, gives_heard, gives_to, holders_at, holder_in, Held, MessageTells, LetterTells, Identities}
-use Rattle.merge_laws.proofs.Finding.{all-weaker}
+use Rattle.merge_model.proofs.Finding.{all-weaker}
 use Rattle.merge_laws.proofs.IdentityCalls.{held-receive, held-take, held-with}
 use Rattle.merge_laws.proofs.IdentityGrants.{Grows, all-told, with_new-grows}
 use Rattle.merge_laws.proofs.IdentityNotes.{elsewhere-taken, none-taken, one-taken}

@@ -34,12 +34,12 @@ use Rattle.merge_model.specs.declared.letter.Message.{Message}
 use Rattle.merge_laws.specs.Knowledge.{changes_of}
 use Rattle.merge_laws.specs.KnownMakers.{Ascend, HeldKnow, IsAfterMaker, KnownMakers, KnowsMaker}
 use Rattle.merge_laws.specs.LineagesStand.{OfMessage}
-use Rattle.merge_laws.proofs.Finding.{found-named}
+use Rattle.merge_model.proofs.Finding.{found-named}
 use Rattle.merge_laws.proofs.Ground.{Ground}
 use Rattle.merge_laws.proofs.HeldRows.{changed-held, held-put, one-version}
 use Rattle.merge_laws.proofs.KnownCounts.{own-count}
 use Rattle.merge_laws.proofs.KnownRows.{held-knows}
-use Rattle.merge_laws.proofs.Lists.{zip-more}
+use Rattle.merge_model.proofs.Lists.{zip-more}
 use Rattle.merge_laws.proofs.MakerChanges.{after-maker, knows-after, own-held, own-small, sub-held, sub-small}
 use Rattle.merge_laws.proofs.MakerSites.{know-more, purged-know}
 use Rattle.merge_laws.proofs.NotesLeave.{fold-leave}

@@ -23,7 +23,7 @@ use Rattle.merge_model.specs.declared.letter.Message.TheVariants.{Asks}
 use Rattle.merge_model.specs.declared.letter.Letter.{Letter}
 use Rattle.merge_model.specs.declared.letter.Message.{Message}
 use Rattle.merge_laws.specs.LetterNumbers.{AreNamed, DownloadsAreNamed, IsForSubscriber, LettersAreNamed}
-use Rattle.merge_laws.proofs.Finding.{all-at, all-more, at_put_other, found-named}
+use Rattle.merge_model.proofs.Finding.{all-at, all-more, at_put_other, found-named}
 use Rattle.merge_laws.proofs.Ground.{Ground}
 use Rattle.merge_laws.proofs.Models.{at-map}
 use Rattle.merge_laws.proofs.Subscribing.{number-decided, same_number}

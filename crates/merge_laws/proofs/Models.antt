@@ -8,6 +8,8 @@ use Rattle.merge_types.specs.declared.identifiers.Moment.{Moment}
 use Rattle.merge_batch.specs.declared.reply.Reply.{Reply}
 use Rattle.merge_batch.specs.declared.reply.Reply.TheVariants as reply
 use Rattle.merge_schema.specs.declared.publication.Publication.{Publication}
+use Rattle.merge_model.specs.Failing.{Slips, faulty}
+use Rattle.merge_model.specs.Runs.{model_behind}
 use Rattle.merge_model.specs.Tables.{PublisherTables, SubscriberTables}
 use Rattle.merge_model.specs.Keys.{at_number, put_number}
 use Rattle.merge_model.specs.ByNumbers.{received_by_number}
@@ -26,8 +28,9 @@ use Rattle.merge_model.specs.History.{History, is_done, pasts_with}
 use Rattle.merge_model.specs.Noting
 use Rattle.merge_model.specs.Model.{Model, model_step, noted, noted_if, noted_letter, did_something, with_posted}
 use Rattle.merge_model.proofs.DoneOnce.{taker-done, make-done, anew-done, purge-done, posted-done}
+use Rattle.merge_laws.proofs.Tallied.{received-tallied}
 use Rattle.merge_laws.specs.Received.{joined_at, MessageFits, LetterFits, SubscriberFits, DoneIsReceived, Received}
-use Rattle.merge_laws.proofs.Finding.{all-at, at_put_same}
+use Rattle.merge_model.proofs.Finding.{all-at, at_put_same}
 use Rattle.merge_laws.proofs.Worlds.{history-same}
 use Rattle.merge_laws.proofs.Steps.{at-fine}
 use Rattle.merge_laws.proofs.Sendings.{reply-fine}
@@ -41,8 +44,8 @@ use Rattle.merge_model.specs.World.{empty_subscribers, empty_world}
 use Rattle.merge_model.specs.Model.{empty_model, model}
 use Rattle.merge_model.specs.Events.{after}
 use Rattle.merge_model.specs.declared.event.Event.{Event}
-use Rattle.merge_model.proofs.Events.{events-keep}
-use Rattle.merge_laws.proofs.Finding.{at_put_other}
+use Rattle.merge_model.proofs.KeptFailing.{runs-keep}
+use Rattle.merge_model.proofs.Finding.{at_put_other}
 use Rattle.merge_laws.proofs.Subscribing.{same_number, number-decided}
 use Rattle.merge_laws.proofs.Steps.{sites-fine, fits-here, make-fine, close-fine}
 use Rattle.merge_laws.proofs.Sendings.{send-fine, anew-fine}
@@ -164,10 +167,10 @@ begins publication tallies = record {
   done = λ n generation from. grind (arith, nat_tests, from);
 }
 
-pub received-always : (publication : Publication) (says : Saying) (tallies : List ℕ) (events : List Event)
-    → (let m : Model = after publication (model publication says) (empty_model publication tallies) events in Received m.world m.history)
-received-always publication says tallies events = events-keep publication (model publication says) (λ (m : Model). Received m.world m.history)
-    (λ m action r. model-fine publication says m action r) events (empty_model publication tallies) (begins publication tallies)
+pub received-always : (publication : Publication) (says : Saying) (tallies : List ℕ) (slips : Slips) (events : List Event)
+    → (let m : Model = model_behind publication says tallies slips events in Received m.world m.history)
+received-always publication says tallies slips events = runs-keep publication (model publication says) (λ (m : Model). Received m.world m.history)
+    (λ m action r. model-fine publication says m action r) (λ m others r. received-tallied m.world others m.history r) events (faulty (empty_model publication tallies) slips) (begins publication tallies)
 
 -- A gap, by the number and by Done.
 

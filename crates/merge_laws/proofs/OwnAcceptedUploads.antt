@@ -26,12 +26,12 @@ use Rattle.merge_laws.specs.Accepting.{AcceptsWell, Accepting, IsFine, KnowsAcce
 use Rattle.merge_laws.specs.Knowledge.{AllKnow, changes_of, same_dot}
 use Rattle.merge_laws.specs.Standing.{IsKnownLater}
 use Rattle.merge_laws.proofs.ChangeDots.{are-alone}
-use Rattle.merge_laws.proofs.Finding.{all-weaker}
+use Rattle.merge_model.proofs.Finding.{all-weaker}
 use Rattle.merge_laws.proofs.GivenUp.{knows_of, upload-accepts}
 use Rattle.merge_laws.proofs.HeldRows.{changed-held}
-use Rattle.merge_laws.proofs.KeyLookUps.{keys-same}
+use Rattle.merge_model.proofs.KeyLookUps.{keys-same}
 use Rattle.merge_laws.proofs.KnownRows.{letter-knows}
-use Rattle.merge_laws.proofs.Lists.{all-both, each-found}
+use Rattle.merge_model.proofs.Lists.{all-both, each-found}
 use Rattle.merge_laws.proofs.MessageFacts.{letter-fits, upload-sent}
 use Rattle.merge_laws.proofs.Noted.{NotesKeep, acts-keep, acts-own}
 use Rattle.merge_laws.proofs.NotesLeave.{lines-accepted}

@@ -26,8 +26,8 @@ use Rattle.merge_model.specs.declared.letter.Message.{Message}
 use Rattle.merge_laws.specs.LineagesStand.{KnowsAll, OfOrder, ReplyAnswers, UploadSends, counts_in, is_of, is_sent}
 use Rattle.merge_laws.specs.Received.{joined_at}
 use Rattle.merge_laws.specs.Standing.{IsKnownLater}
-use Rattle.merge_laws.proofs.Finding.{all-weaker}
-use Rattle.merge_laws.proofs.Lists.{zip-first}
+use Rattle.merge_model.proofs.Finding.{all-weaker}
+use Rattle.merge_model.proofs.Lists.{zip-first}
 
 -- all of it but what has acted, which is what is accepted
 pub record OwnRest (m : Model) : Type 0 where

@@ -21,7 +21,7 @@ use Rattle.merge_model.specs.declared.letter.Message.TheVariants.{Asks, Replies}
 use Rattle.merge_laws.specs.Accepting.{AcceptsWell}
 use Rattle.merge_laws.specs.LetterNumbers.{LettersAreNamed}
 use Rattle.merge_laws.specs.LineagesStand.{KnownCounts, OwnKnown}
-use Rattle.merge_laws.proofs.Finding.{found-named}
+use Rattle.merge_model.proofs.Finding.{found-named}
 use Rattle.merge_laws.proofs.Ground.{Ground, ground-begins, ground-step}
 use Rattle.merge_laws.proofs.LetterNumbers.{named-begins, named-keeps}
 use Rattle.merge_laws.proofs.OwnAccepted.{Counted}

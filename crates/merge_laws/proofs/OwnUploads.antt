@@ -26,7 +26,7 @@ use Rattle.merge_model.specs.declared.letter.Message.TheVariants.{Asks, Replies}
 use Rattle.merge_model.specs.declared.letter.Letter.{Letter}
 use Rattle.merge_laws.specs.LineagesStand.{KnowsAll, ReplyAnswers, UploadSends, counts_in, is_of}
 use Rattle.merge_laws.specs.Received.{joined_at}
-use Rattle.merge_laws.proofs.Finding.{all-weaker}
+use Rattle.merge_model.proofs.Finding.{all-weaker}
 use Rattle.merge_laws.proofs.GivenUp.{counts-before, upload-given}
 use Rattle.merge_laws.proofs.Noted.{NotesKeep, acts-keep, acts-own}
 use Rattle.merge_laws.proofs.NotesLeave.{lines-accepted}

@@ -47,9 +47,9 @@ use Rattle.merge_laws.proofs.AlikeFields.{number-alike}
 use Rattle.merge_laws.proofs.AlikeItems.{site-acts, sound-items}
 use Rattle.merge_laws.proofs.Arrivals.{upload-known}
 use Rattle.merge_laws.proofs.Deliveries.{news-above}
-use Rattle.merge_laws.proofs.Finding.{all-at, all-weaker, at_put_other, letter-zip}
+use Rattle.merge_model.proofs.Finding.{all-at, all-weaker, at_put_other, letter-zip}
 use Rattle.merge_laws.proofs.Ground.{Ground}
-use Rattle.merge_laws.proofs.Lists.{all-filter}
+use Rattle.merge_model.proofs.Lists.{all-filter}
 use Rattle.merge_laws.proofs.NotesLeave.{lines-accepted}
 use Rattle.merge_laws.proofs.Numbers.{upload-says}
 use Rattle.merge_laws.proofs.Publishing.{found-number, joined-number, sites_taken, upload-change}

@@ -54,7 +54,7 @@ use Rattle.merge_model.specs.declared.letter.Message.TheVariants.{Asks, Replies}
 use Rattle.merge_model.specs.declared.letter.Letter.{Letter}
 use Rattle.merge_model.specs.declared.letter.Message.{Message}
 use Rattle.merge_laws.proofs.Arrivals.{first-none}
-use Rattle.merge_laws.proofs.Finding.{at_put_same}
+use Rattle.merge_model.proofs.Finding.{at_put_same}
 use Rattle.merge_laws.proofs.IdentityNotes.{taker-made}
 use Rattle.merge_laws.proofs.Sendings.{batch-bound}
 use Rattle.merge_laws.proofs.SessionSteps.{After, Answered, Sent, back-step, comes-step, post-step, posted_model, reply-step, send-step, unless-step}

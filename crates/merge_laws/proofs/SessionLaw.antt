@@ -7,6 +7,7 @@ use Rattle.merge_schema.specs.declared.publication.Publication.{Publication}
 use Rattle.merge_batch.specs.declared.refusal.Refusal.{Refusal}
 use Rattle.merge_batch.specs.declared.reply.Downloaded.{Downloaded}
 use Rattle.merge_batch.specs.declared.reply.Reply.TheVariants as reply
+use Rattle.merge_model.specs.Runs.{model_behind}
 use Rattle.merge_model.specs.Events.{after}
 use Rattle.merge_model.specs.History.{History, MadeChange, made_at}
 use Rattle.merge_model.specs.Model.{Model, empty_model, model, model_step}
@@ -24,7 +25,7 @@ use Rattle.merge_model.specs.declared.letter.Message.TheVariants.{Replies}
 use Rattle.merge_laws.specs.Numbered.{Numbered}
 use Rattle.merge_laws.specs.Received.{Received}
 use Rattle.merge_laws.specs.Laws.{OfEveryDecidedRun}
-use Rattle.merge_laws.proofs.Finding.{some_same}
+use Rattle.merge_model.proofs.Finding.{some_same}
 use Rattle.merge_laws.proofs.Models.{model-fine}
 use Rattle.merge_laws.proofs.SessionChanges.{NoneBetween, UpTo, none-later, none-nothing, nothing-none, order-up, up-none}
 use Rattle.merge_laws.proofs.SessionExchanges.{DownloadLeaves, JoinLeaves, RangesLeave, UploadLeaves, UploadRests, download-leaves, join-leaves, ranges-leave, upload-leaves}
@@ -312,6 +313,6 @@ session-leaves-settled publication says m r i s t here ended there =
     subst (λ (x : SubscriberTables). IsSettled publication k x) (some_same f.fetches.uploaded.joins.at.tables t (sym f.fetches.uploaded.joins.at.here ∙ there)) (settled publication says s.site k f)
 
 pub sessions-settle : OfEveryDecidedRun SessionSettles
-sessions-settle publication says tallies events =
-    let known = numbered-always publication says tallies events in
-    session-leaves-settled publication says (after publication (model publication says) (empty_model publication tallies) events) known.0 known.1
+sessions-settle publication says tallies slips events =
+    let known = numbered-always publication says tallies slips events in
+    session-leaves-settled publication says (model_behind publication says tallies slips events) known.0 known.1

@@ -28,7 +28,7 @@ use Rattle.merge_model.specs.declared.letter.Letter.{Letter}
 use Rattle.merge_model.specs.declared.letter.Message.{Message}
 use Rattle.merge_model.specs.declared.letter.Message.TheVariants.{Replies}
 use Rattle.merge_model.specs.World.{Saying}
-use Rattle.merge_laws.proofs.Tests.{number-itself}
+use Rattle.merge_model.proofs.Tests.{number-itself}
 use Rattle.merge_laws.proofs.Walking.{letter-last}
 
 -- how an exchange ends: its reply acted, something was refused, or there was no message to make

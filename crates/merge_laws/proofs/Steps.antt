@@ -27,7 +27,7 @@ use Rattle.merge_model.specs.declared.outcome.Outcome.TheVariants.{Refuses, Made
 use Rattle.merge_model.specs.History.{History}
 use Rattle.merge_model.proofs.Publishers.{local-ok, close-ok}
 use Rattle.merge_laws.specs.Received.{joined_at, MessageFits, SubscriberFits, Received}
-use Rattle.merge_laws.proofs.Finding.{at_put_same}
+use Rattle.merge_model.proofs.Finding.{at_put_same}
 use Rattle.merge_laws.proofs.Subscribing.{Goes, closing-goes, made-goes}
 use Rattle.merge_laws.proofs.Publishing.{same-sites}
 use Rattle.merge_laws.proofs.Worlds.{posted-fits, subscriber-goes, publisher-same}

@@ -29,7 +29,7 @@ use Rattle.merge_model.specs.declared.letter.Letter.{Letter}
 use Rattle.merge_model.specs.declared.letter.Message.{Message}
 use Rattle.merge_model.specs.declared.letter.Message.TheVariants.{Asks, Replies}
 use Rattle.merge_laws.specs.Received.{joined_at, JoinFits, MessageFits, LetterFits, SubscriberFits, AllFit}
-use Rattle.merge_laws.proofs.Finding.{at_put_same, at_put_other, all-weaker}
+use Rattle.merge_model.proofs.Finding.{at_put_same, at_put_other, all-weaker}
 
 -- A join that can act still waits after a step of its site.
 abbrev pub StillWaits : ℕ → SiteId → SubscriberTables → SubscriberTables → Type 0

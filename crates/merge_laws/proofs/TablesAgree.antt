@@ -46,7 +46,7 @@ use Rattle.merge_model.specs.World.{Saying, World, empty_world, subscriber_at, w
 use Rattle.merge_model.specs.declared.letter.Message.TheVariants.{Asks, Replies}
 use Rattle.merge_model.specs.declared.letter.Message.{Message}
 use Rattle.merge_laws.specs.TablesAgree.{TableAgrees, TablesAgree, keys_lost}
-use Rattle.merge_laws.proofs.Finding.{found-named}
+use Rattle.merge_model.proofs.Finding.{found-named}
 use Rattle.merge_laws.proofs.Ground.{Ground}
 use Rattle.merge_laws.proofs.Models.{begins-with}
 use Rattle.merge_laws.proofs.Subscribing.{number-decided, version-conflicts}

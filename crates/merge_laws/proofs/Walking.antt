@@ -61,7 +61,7 @@ use Rattle.merge_model.specs.declared.letter.Letter.{Letter}
 use Rattle.merge_model.specs.declared.letter.Message.{Message}
 use Rattle.merge_resolve.specs.Asked.{tallies_after}
 use Rattle.merge_laws.specs.Received.{JoinFits, MessageFits, Received, UploadFits, joined_at}
-use Rattle.merge_laws.proofs.Finding.{all-at}
+use Rattle.merge_model.proofs.Finding.{all-at}
 use Rattle.merge_laws.proofs.Steps.{own-at}
 
 abbrev pub here : World → PublisherTables

@@ -8,6 +8,8 @@ use Rattle.merge_batch.specs.declared.reply.Reply.TheVariants as reply
 use Rattle.merge_batch.specs.declared.request.Request.TheVariants as request
 use Rattle.merge_batch.specs.declared.request.Upload.{Upload}
 use Rattle.merge_batch.specs.declared.request.UploadItem.{UploadItem}
+use Rattle.merge_model.specs.Failing.{Slips}
+use Rattle.merge_model.specs.Runs.{model_after}
 use Rattle.merge_model.specs.declared.event.Event.{Event}
 use Rattle.merge_model.specs.Acts.{key_of_item}
 use Rattle.merge_model.specs.ByHistory.{received_by_done}
@@ -106,14 +108,14 @@ TakenHaveActed publication says m = (number : ℕ) (site : SiteId) (u : Upload) 
 
 -- what has acted stays so, whatever happens,
 abbrev pub DoneStays : Publication → Saying → Model → Type 0
-DoneStays publication says m = (site generation : ℕ) → is_done m.history site generation ≡ true → (more : List Event) → is_done (after publication (model publication says) m more).history site generation ≡ true
+DoneStays publication says m = (site generation : ℕ) → is_done m.history site generation ≡ true → (slips : Slips) (more : List Event) → is_done (model_after publication says m slips more).history site generation ≡ true
 
 -- the pool keeps each letter at its number,
 abbrev pub LettersStay : Publication → Saying → Model → Type 0
-LettersStay publication says m = (number : ℕ) (letter : Letter) → letter_at m.world number ≡ Some letter → (more : List Event) → letter_at (after publication (model publication says) m more).world number ≡ Some letter
+LettersStay publication says m = (number : ℕ) (letter : Letter) → letter_at m.world number ≡ Some letter → (slips : Slips) (more : List Event) → letter_at (model_after publication says m slips more).world number ≡ Some letter
 
 -- so that another delivery, at once or after whatever events, is only answered.
 abbrev pub TakenOnlyAnswer : Publication → Saying → Model → Type 0
 TakenOnlyAnswer publication says m = (number : ℕ) (site : SiteId) (u : Upload) → IsUpload m number site u
-    → (let done : Model × Outcome = delivered publication says m number in did_something done.1 ≡ true → (more : List Event)
-    → (let later : Model = after publication (model publication says) done.0 more in OnlyAnswers site u later (delivered publication says later number)))
+    → (let done : Model × Outcome = delivered publication says m number in did_something done.1 ≡ true → (slips : Slips) (more : List Event)
+    → (let later : Model = model_after publication says done.0 slips more in OnlyAnswers site u later (delivered publication says later number)))

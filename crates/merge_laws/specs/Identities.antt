@@ -13,6 +13,8 @@ use Rattle.merge_batch.specs.declared.reply.RangeGrant.{RangeGrant}
 use Rattle.merge_batch.specs.declared.reply.Reply.TheVariants as reply
 use Rattle.merge_batch.specs.declared.request.Request.TheVariants as request
 use Rattle.merge_schema.specs.declared.publication.Publication.{Publication}
+use Rattle.merge_model.specs.Failing.{Slips}
+use Rattle.merge_model.specs.Runs.{model_behind}
 use Rattle.merge_model.specs.declared.event.Event.{Event}
 use Rattle.merge_model.specs.Events.{after}
 use Rattle.merge_model.specs.History.{MadeChange}
@@ -30,8 +32,8 @@ use Rattle.merge_model.specs.declared.letter.Message.{Message}
 
 -- what a model is after some events, whatever they were, where the publication's ranges have values
 abbrev pub OfEveryRuledModel : (Model → Type 0) → Type 0
-OfEveryRuledModel Holds = (publication : Publication) → All IsRule (rules_of publication) → (says : Saying) (tallies : List ℕ) (events : List Event)
-    → Holds (after publication (model publication says) (empty_model publication tallies) events)
+OfEveryRuledModel Holds = (publication : Publication) → All IsRule (rules_of publication) → (says : Saying) (tallies : List ℕ) (slips : Slips) (events : List Event)
+    → Holds (model_behind publication says tallies slips events)
 
 -- whether a change is an insert of a site that took a value of an article
 abbrev pub takes_at : ℕ → ℕ → ℤ → MadeChange → Bool

@@ -55,7 +55,9 @@ use Rattle.merge_model.specs.Model.{Model, model, empty_model, model_step, with_
 use Rattle.merge_model.specs.ByHistory.{by_history}
 use Rattle.merge_model.specs.Events.{after}
 use Rattle.merge_model.specs.Promises.{NoneActsTwice, is_generation_of, acting_generations}
-use Rattle.merge_model.proofs.Events.{events-keep}
+use Rattle.merge_model.specs.Failing.{Slips, faulty}
+use Rattle.merge_model.specs.Runs.{model_behind}
+use Rattle.merge_model.proofs.KeptFailing.{runs-keep}
 
 -- each of a site's generations comes at most once
 abbrev pub Once : List (ℕ × ℕ) → Type 0
@@ -314,9 +316,9 @@ step-once publication says m action once =
     subst (λ (d : List (ℕ × ℕ)). Once d) (sym (posted-done done.0 done.1 kept))
     (if_noted-once (did_something done.1) new m.history (noted-once publication says judges m.world action m.history once) once)
 
-pub none_acts_twice : (publication : Publication) (says : Saying) (tallies : List ℕ) (events : List Event) → NoneActsTwice (after publication (model publication says) (empty_model publication tallies) events)
-none_acts_twice publication says tallies events =
-    events-keep publication (model publication says) (λ (m : Model). Once m.history.done) (λ m action h. step-once publication says m action h) events (empty_model publication tallies) (λ site generation. omega arith)
+pub none_acts_twice : (publication : Publication) (says : Saying) (tallies : List ℕ) (slips : Slips) (events : List Event) → NoneActsTwice (model_behind publication says tallies slips events)
+none_acts_twice publication says tallies slips events =
+    runs-keep publication (model publication says) (λ (m : Model). Once m.history.done) (λ m action h. step-once publication says m action h) (λ m others h. h) events (faulty (empty_model publication tallies) slips) (λ site generation. omega arith)
 
 -- what a filter keeps passes its test
 kept-step : (b : Bool) (keeps : ℕ → Bool) (x : ℕ) (kept : List ℕ) → keeps x ≡ b → list_all keeps kept ≡ true → list_all keeps (cond b (x ∷ kept) kept) ≡ true

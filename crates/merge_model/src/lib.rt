@@ -20,4 +20,4 @@ pub use outcome::{Forgotten, Outcome, Taken};
 pub use reading::{
     events_are_read_exactly, literals_are_read_exactly, reading_stops_at_the_first_fault,
 };
-pub use slips::{calls_are_steps, steps_without_slips_are_plain};
+pub use slips::{calls_are_steps, steps_that_fail_show, steps_without_slips_are_plain};

@@ -2,8 +2,8 @@
 use Rattle.std.specs.Prelude.{◌≡◌, ◌++◌, ◌||◌, List, [], ◌∷◌, Bool, true, false, Option, Some, None, refl, cond, filter, filter_map, map, option_map}
 use Rattle.std.specs.List.{AllByRecursion, AllZip, cons_option, list_any}
 use Rattle.std.proofs.Common.{arith, ap, ◌∙◌}
-use Rattle.merge_laws.proofs.Finding.{all-weaker}
-use Rattle.merge_laws.proofs.Tests.{either, or-onward, or-second}
+use Rattle.merge_model.proofs.Finding.{all-weaker}
+use Rattle.merge_model.proofs.Tests.{either, or-onward, or-second}
 
 -- Of each element.
 

@@ -26,9 +26,9 @@ use Rattle.merge_model.specs.PublisherDownload.{TouchedRow, inside_keys, item_of
 use Rattle.merge_types.specs.declared.row_key.RowKey.{RowKey as Key}
 use Rattle.merge_units.specs.declared.site_row.PublisherRow.{PublisherRow}
 use Rattle.merge_model.specs.Tables.{PublisherTables}
-use Rattle.merge_laws.proofs.KeyLookUps.{key-test}
-use Rattle.merge_laws.proofs.Lists.{any-filtered}
-use Rattle.merge_laws.proofs.Tests.{either}
+use Rattle.merge_model.proofs.KeyLookUps.{key-test}
+use Rattle.merge_model.proofs.Lists.{any-filtered}
+use Rattle.merge_model.proofs.Tests.{either}
 
 -- A row of a partition is one of the live rows.
 

@@ -25,10 +25,10 @@ use Rattle.merge_model.specs.Keys.{at_number, has_key, put_number, put_row, row_
 use Rattle.merge_model.specs.Publications.{by_site, subscription_at}
 use Rattle.merge_types.specs.declared.row_key.RowKey.{RowKey as Key}
 use Rattle.merge_units.specs.declared.site_row.PublisherRow.{PublisherRow}
-use Rattle.merge_laws.proofs.KnownRows.{all-put}
-use Rattle.merge_laws.proofs.LastLineGone.{put-keys, row-key}
-use Rattle.merge_laws.proofs.Lists.{all-both, any-same}
-use Rattle.merge_laws.proofs.TouchLists.{puts-hold}
+use Rattle.merge_model.proofs.EntryLists.{all-put}
+use Rattle.merge_model.proofs.KeyLists.{put-keys, row-key}
+use Rattle.merge_model.proofs.Lists.{all-both, any-same}
+use Rattle.merge_model.proofs.EntryLists.{puts-hold}
 
 -- a publication that a file can say
 abbrev pub CanBeSaid : Publication → Type 0

@@ -19,7 +19,7 @@ use Rattle.merge_gens.specs.declared.moves.Mapping.{Mapping}
 use Rattle.merge_gens.specs.Moves.{row_site_cmp}
 use Rattle.merge_model.specs.Keys.{same_key, at_row_site, drop_row_site}
 use Rattle.merge_model.proofs.Sorted.{row_site_total}
-use Rattle.merge_laws.proofs.KeyLookUps.{keys-same}
+use Rattle.merge_model.proofs.KeyLookUps.{keys-same}
 
 -- The comparisons as tests.
 

@@ -9,11 +9,11 @@ use Rattle.merge_model.specs.Keys.{has_key, same_key}
 use Rattle.merge_types.specs.declared.row_key.RowKey.{RowKey as Key}
 use Rattle.merge_gens.specs.declared.moves.MoveKind.{MoveKind}
 use Rattle.merge_gens.specs.declared.moves.RowSite.{RowSite}
-use Rattle.merge_laws.proofs.Finding.{all-weaker}
-use Rattle.merge_laws.proofs.KeyLookUps.{keys-same}
-use Rattle.merge_laws.proofs.LastLineKeys.{has_place, is_place}
-use Rattle.merge_laws.proofs.TouchLists.{all-flat, all-given, any-flat, any-given, none-flat, passes}
-use Rattle.merge_laws.proofs.TouchParts.{IsPart}
+use Rattle.merge_model.proofs.Finding.{all-weaker}
+use Rattle.merge_model.proofs.KeyLookUps.{keys-same}
+use Rattle.merge_model.proofs.PlaceLookUps.{has_place, is_place}
+use Rattle.merge_model.proofs.EntryLists.{all-flat, all-given, any-flat, any-given, none-flat, passes}
+use Rattle.merge_model.proofs.StepParts.{IsPart}
 
 back-none : (b a c left : Bool) → (not b && (a && c)) ≡ false → (not b && a && c && left) ≡ false
 back-none true a c left out = refl
