@@ -9,3 +9,4 @@ pub mod Sums
 pub mod Choices
 pub mod Priorities
 pub mod Questions
+pub mod CountedLaws

@@ -20,7 +20,7 @@ pub use case::{CaseKind, ConflictCase, Places};
 pub use choice::ResolverChoice;
 pub use counted::counted_decision;
 pub use extremes::{Maximum, Minimum};
-pub use laws::asking_law;
+pub use laws::{asking_law, counted_laws};
 pub use priorities::{incoming_priority, publisher_priority};
 pub use priority::{Priority, SubscriberWins};
 pub use question::Meeting;
