@@ -6,18 +6,34 @@ use std::alloc::AllocError;
 /// The places of cells, in order.
 pub type Places = Listing<u8>;
 
-/// Two versions of a row that conflict. The kind is 1 with row tracking and 2 with column tracking,
-/// and 3 where one of the bodies is a delete, whichever wins: then no cells are named.
+/// What two versions of a row that conflict are.
+#[derive(Clone, Copy, Debug, PartialEq, Eq)]
+pub enum CaseKind {
+    /// Updates of one row, with row tracking.
+    ByRow,
+    /// Updates of one column, with column tracking.
+    ByColumn,
+    /// An update and a delete, whichever wins.
+    Delete,
+}
+
+impl Exact for CaseKind {
+    ghost use Rattle.std.proofs.Common.{rules};
+
+    ghost exact = { Prim.search rules };
+}
+
+/// Two versions of a row that conflict. An article is named by its place.
 #[derive(Debug, Drop)]
 pub struct ConflictCase {
     pub article: u8,
     pub row: RowId,
-    pub kind: u8,
+    pub kind: CaseKind,
     /// The site whose version comes in.
     pub site: SiteId,
     pub publisher: Body,
     pub incoming: Body,
-    /// The conflicting cells.
+    /// The conflicting cells; of an update and a delete none is named.
     pub cells: Places,
     /// In whole hundredths, as is the next.
     pub publisher_priority: u16,
