@@ -1,7 +1,7 @@
 use Rattle.std.proofs.Common.{◌≡◌, arith}
 use Rattle.merge_ident.specs.Answers.{answer_of}
 use Rattle.merge_ident.proofs.Plans.{answer_follows, room_for_le}
-use Rattle.merge_ident.proofs.book.RangeBook.plan.Goals as goal
+use Rattle.merge_ident.proofs.book.RangeBook.prepare.Goals as goal
 
 pub answer-answer-requires-clause-numbered : goal.answer-answer-requires-clause-numbered
 answer-answer-requires-clause-numbered c = rw c.deref.ensures.value c.self.invariant.grants_fit.numbered

@@ -2,7 +2,7 @@ use Rattle.std.proofs.Common.{sym, ◌∙◌}
 use Rattle.merge_ident.specs.Books.{IsNext}
 use Rattle.merge_ident.proofs.Order.{book-with_next}
 use Rattle.merge_ident.proofs.Plans.{next_if_some}
-use Rattle.merge_ident.proofs.book.RangeBook.make.Goals as goal
+use Rattle.merge_ident.proofs.book.RangeBook.settle.Goals as goal
 
 pub invariant_of-self : goal.invariant_of-self
 invariant_of-self c =
