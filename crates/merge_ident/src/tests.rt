@@ -8,6 +8,7 @@ use crate::{
 };
 use merge_types::{Listing, SiteId};
 use std::alloc::{AllocError, Global};
+use std::process::Abort;
 use std::test::Fail;
 
 // A book with one article, whose ranges have two values each.
@@ -177,15 +178,25 @@ fn takes_what_was_received(rt: HostRuntime) -> Result<(), Fail> {
     Ok(())
 }
 
+// Ranges that were kept, as a start restores them once it has asked.
+fn restored(
+    rt: &impl Abort,
+    threshold: u8,
+    have: u64,
+    last_end: i64,
+    held: &[Range],
+    next: i64,
+) -> Ranges
+    ensures { result.have ≡ have }
+{
+    assert!(rt; Ranges::can_restore(held, next));
+    Ranges::restore(threshold, have, last_end, held, next)
+}
+
 #[test]
 fn restores_what_was_kept(rt: HostRuntime) {
-    let mut ranges = Ranges::restore(
-        100,
-        3,
-        6,
-        &[Range { begin: 3, end: 4 }, Range { begin: 5, end: 6 }],
-        4,
-    );
+    let held = [Range { begin: 3, end: 4 }, Range { begin: 5, end: 6 }];
+    let mut ranges = restored(&rt, 100, 3, 6, &held, 4);
     let mut after = ranges;
     assert_eq!(rt; after.take(), Ok(4));
     after.receive(4, Range { begin: 9, end: 9 });
@@ -216,11 +227,16 @@ fn bears_the_widest_range(rt: HostRuntime) {
         end: i64::MAX,
     };
     let held = [widest, only(0)];
-    assert!(rt; !Ranges::restore(1, u64::MAX, 0, &held, i64::MIN).due());
-    assert!(rt; !Ranges::restore(50, u64::MAX, 0, &held, -1).due());
-    assert!(rt; Ranges::restore(50, u64::MAX, 0, &held, 0).due());
-    assert!(rt; Ranges::restore(100, u64::MAX, 0, &held, i64::MAX).next() == Ok(i64::MAX));
-    assert!(rt; !Ranges::restore(255, u64::MAX, 0, &held, i64::MAX).due());
+    for (threshold, next, due) in [
+        (1, i64::MIN, false),
+        (50, -1, false),
+        (50, 0, true),
+        (100, i64::MAX, false),
+    ] {
+        let ranges = restored(&rt, threshold, u64::MAX, 0, &held, next);
+        assert_eq!(rt; ranges.due(), due);
+        assert_eq!(rt; ranges.next(), Ok(next));
+    }
 }
 
 // The first grant is told that breaks what a book's grants have, with those before it.
