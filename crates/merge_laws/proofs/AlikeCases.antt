@@ -25,7 +25,8 @@ use Rattle.merge_model.specs.World.{letter_at}
 use Rattle.merge_model.specs.declared.letter.Message.TheVariants.{Asks}
 use Rattle.merge_model.specs.declared.letter.Letter.{Letter}
 use Rattle.merge_laws.specs.Knowledge.{Knowledge, Knows, is_made, same_dot}
-use Rattle.merge_laws.specs.LineagesStand.{AllTold, LineagesStand, OfMessage, Owns, UploadCounts, can_act, counts_in, is_given_up}
+use Rattle.merge_model.specs.Promises.{is_given_up}
+use Rattle.merge_laws.specs.LineagesStand.{AllTold, LineagesStand, OfMessage, Owns, UploadCounts, can_act, counts_in}
 use Rattle.merge_laws.specs.Standing.{StandsFor, Told, is_counted}
 use Rattle.merge_model.proofs.Finding.{all-weaker, letter-zip, some_same}
 use Rattle.merge_model.proofs.KeyLookUps.{keys-exact}

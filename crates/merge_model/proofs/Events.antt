@@ -14,7 +14,8 @@ use Rattle.merge_model.specs.declared.event.Event.{Event}
 use Rattle.merge_model.specs.declared.event.Event.TheVariants as event
 use Rattle.merge_model.specs.Tables.{PublisherTables}
 use Rattle.merge_model.specs.Judge.{PublisherJudge}
-use Rattle.merge_model.specs.Answers.{Answer, Refused}
+use Rattle.merge_model.specs.declared.answer.Answer.{Answer}
+use Rattle.merge_model.specs.declared.answer.Answer.TheVariants.{Refused}
 use Rattle.merge_model.specs.Publisher.{at_moment}
 use Rattle.merge_model.specs.PublisherUpload.{upload, brings_news}
 use Rattle.merge_model.specs.World.{World, Judges, Saying, subscriber_at}

@@ -52,7 +52,7 @@ with_grant held grant = elim (at_number held grant.article) [
 abbrev pub with_grants : Ranged → SubscriberTables → SubscriberTables
 with_grants m s = record s { held = fold with_grant s.held m.grants }
 
--- a row is put as the publisher has it, or dropped; one with a change that the publisher has not taken stays
+-- a row is put as the publisher has it, or dropped
 abbrev pub with_order : Key → Order → List (Key × SubscriberRow) → List (Key × SubscriberRow)
 with_order key (order.Put lineage live) rows = put_row rows key (record { version = record { lineage = lineage; body = Live live }; generations = [] })
 with_order key order.RemoveDeleted rows = drop_row rows key
@@ -61,6 +61,7 @@ with_order key order.RemoveLeft rows = drop_row rows key
 abbrev pub key_of_download : DownloadItem → Key
 key_of_download item = record { article = item.article; row = item.row }
 
+-- but one with a change that the publisher has not taken stays as it is
 abbrev pub with_item : SubscriberJudge → ℕ → List (Key × SubscriberRow) → DownloadItem → List (Key × SubscriberRow)
 with_item judge received rows item = if judge.is_unsent received (key_of_download item) then rows else with_order (key_of_download item) item.act rows
 
