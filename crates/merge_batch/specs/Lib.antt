@@ -1,5 +1,6 @@
 pub mod Refusals
 pub mod Search
+pub mod LocalChanges
 pub mod Makers
 pub mod Known
 pub mod Articles

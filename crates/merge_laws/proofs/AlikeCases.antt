@@ -12,7 +12,8 @@ use Rattle.merge_batch.specs.declared.request.Request.TheVariants as request
 use Rattle.merge_batch.specs.declared.request.Upload.{Upload}
 use Rattle.merge_batch.specs.declared.request.UploadItem.{UploadItem}
 use Rattle.merge_model.specs.Acts.{key_of_item}
-use Rattle.merge_model.specs.Cases.{case_by, new_tops, tops_of}
+use Rattle.merge_units.specs.Cases.{case_by}
+use Rattle.merge_units.specs.Version.{new_tops, tops_of}
 use Rattle.merge_model.specs.History.{History, MadeChange, Past, has, is_accepted, past_at, past_in, pasts_with}
 use Rattle.merge_types.specs.RowKeys.{key_cmp}
 use Rattle.merge_model.specs.Keys.{row_at, same_key}

@@ -25,7 +25,7 @@ use Rattle.merge_model.specs.declared.outcome.Outcome.TheVariants.{Refuses}
 use Rattle.merge_model.specs.Session.{Stepping}
 use Rattle.merge_model.specs.Naming.{insert_by, update_by, delete_by}
 use Rattle.merge_model.specs.Events.{is_site, looking, where_site, where_subscriber, acting, changing, syncing, happens, after}
-use Rattle.merge_batch.specs.Lineages.{is_subscription}
+use Rattle.merge_schema.specs.Places.{is_subscription}
 use Rattle.merge_model.specs.Laws.{is_report}
 use Rattle.merge_model.proofs.Kept.{session-keeps}
 use Rattle.merge_model.proofs.Reports.{looking-leaves, report-looks}

@@ -5,6 +5,7 @@ use Rattle.merge_types.specs.declared.identifiers.RowId.{RowId}
 use Rattle.merge_types.specs.declared.values.Value.TheVariants.{Null, Int, Bit, Text}
 use Rattle.merge_types.specs.Rows.{row_number}
 use Rattle.merge_units.specs.declared.version.Body.TheVariants.{Live, Dead}
+use Rattle.merge_conflict.specs.declared.kind.ConflictKind.TheVariants as kind
 use Rattle.merge_conflict.specs.declared.row.Verdict.TheVariants.{Publisher, Subscriber, Custom, Purged as PurgedRow, Discarded as DiscardedRow}
 use Rattle.merge_model.specs.declared.answer.Answer.TheVariants.{Now, RowMade, Fine, ClosedAt, Done, Stopped, Sent, Nothing, Applied, Ignored, NoMessage, Discarded, Purged, Rows, Partition, Counts, Conflicts, Grants, Held, OfPublisher, OfSubscriber, Refused, RefusedIn}
 use Rattle.merge_batch.specs.declared.refusal.Refusal.TheVariants.{UnknownSite, Expired, Stale, Gap, BadBatch, WrongWatermark, StoreFault, NoRow, WrongType, RowTooLong, IdentityUsedUp, TooManyRows, IdentityColumn, Joining, CounterEnd, NotJoined, UnknownName, NoMemory}
@@ -95,11 +96,11 @@ text_counts : text_of names (Counts (3 ∷ 0 ∷ [])) ≡ codes "item 3" ++ line
 unfolding opened
 text_counts = refl
 
-text_conflicts : text_of names (Conflicts (record { number = 1; article = 0; row = row 0 1; kind = 1; losing = record { lineage = []; body = Live (record { top = record { site = record { 0 = 0 }; number = 1 }; values = Int (pos 10) ∷ [] } ∷ record { top = record { site = record { 0 = 0 }; number = 1 }; values = Null ∷ [] } ∷ []) }; from = record { 0 = 1 }; verdict = Publisher; moment = record { 0 = 0 } } ∷ record { number = 2; article = 0; row = row 0 1; kind = 3; losing = record { lineage = []; body = Dead (record { site = record { 0 = 2 }; number = 4 }) }; from = record { 0 = 2 }; verdict = Subscriber; moment = record { 0 = 86401 } } ∷ [])) ≡ codes "1 item 00000000-0000-8000-8000-000000000001 1 1 publisher 0 live 10 null" ++ line_feed ++ codes "2 item 00000000-0000-8000-8000-000000000001 3 2 subscriber 86401 dead" ++ line_feed ++ codes "conflicts 2" ++ line_feed
+text_conflicts : text_of names (Conflicts (record { number = 1; article = 0; row = row 0 1; kind = kind.RowUpdate; losing = record { lineage = []; body = Live (record { top = record { site = record { 0 = 0 }; number = 1 }; values = Int (pos 10) ∷ [] } ∷ record { top = record { site = record { 0 = 0 }; number = 1 }; values = Null ∷ [] } ∷ []) }; from = record { 0 = 1 }; verdict = Publisher; moment = record { 0 = 0 } } ∷ record { number = 2; article = 0; row = row 0 1; kind = kind.DeleteWins; losing = record { lineage = []; body = Dead (record { site = record { 0 = 2 }; number = 4 }) }; from = record { 0 = 2 }; verdict = Subscriber; moment = record { 0 = 86401 } } ∷ [])) ≡ codes "1 item 00000000-0000-8000-8000-000000000001 1 1 publisher 0 live 10 null" ++ line_feed ++ codes "2 item 00000000-0000-8000-8000-000000000001 3 2 subscriber 86401 dead" ++ line_feed ++ codes "conflicts 2" ++ line_feed
 unfolding opened
 text_conflicts = refl
 
-text_verdicts : text_of names (Conflicts (record { number = 3; article = 0; row = row 0 1; kind = 2; losing = record { lineage = []; body = Dead (record { site = record { 0 = 2 }; number = 4 }) }; from = record { 0 = 0 }; verdict = Custom; moment = record { 0 = 9 } } ∷ record { number = 4; article = 0; row = row 0 1; kind = 2; losing = record { lineage = []; body = Dead (record { site = record { 0 = 2 }; number = 4 }) }; from = record { 0 = 0 }; verdict = PurgedRow; moment = record { 0 = 9 } } ∷ record { number = 5; article = 0; row = row 0 1; kind = 2; losing = record { lineage = []; body = Dead (record { site = record { 0 = 2 }; number = 4 }) }; from = record { 0 = 0 }; verdict = DiscardedRow; moment = record { 0 = 9 } } ∷ [])) ≡ codes "3 item 00000000-0000-8000-8000-000000000001 2 0 custom 9 dead" ++ line_feed ++ codes "4 item 00000000-0000-8000-8000-000000000001 2 0 purged 9 dead" ++ line_feed ++ codes "5 item 00000000-0000-8000-8000-000000000001 2 0 discarded 9 dead" ++ line_feed ++ codes "conflicts 3" ++ line_feed
+text_verdicts : text_of names (Conflicts (record { number = 3; article = 0; row = row 0 1; kind = kind.ColumnUpdate; losing = record { lineage = []; body = Dead (record { site = record { 0 = 2 }; number = 4 }) }; from = record { 0 = 0 }; verdict = Custom; moment = record { 0 = 9 } } ∷ record { number = 4; article = 0; row = row 0 1; kind = kind.ColumnUpdate; losing = record { lineage = []; body = Dead (record { site = record { 0 = 2 }; number = 4 }) }; from = record { 0 = 0 }; verdict = PurgedRow; moment = record { 0 = 9 } } ∷ record { number = 5; article = 0; row = row 0 1; kind = kind.ColumnUpdate; losing = record { lineage = []; body = Dead (record { site = record { 0 = 2 }; number = 4 }) }; from = record { 0 = 0 }; verdict = DiscardedRow; moment = record { 0 = 9 } } ∷ [])) ≡ codes "3 item 00000000-0000-8000-8000-000000000001 2 0 custom 9 dead" ++ line_feed ++ codes "4 item 00000000-0000-8000-8000-000000000001 2 0 purged 9 dead" ++ line_feed ++ codes "5 item 00000000-0000-8000-8000-000000000001 2 0 discarded 9 dead" ++ line_feed ++ codes "conflicts 3" ++ line_feed
 unfolding opened
 text_verdicts = refl
 

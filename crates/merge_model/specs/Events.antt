@@ -3,7 +3,7 @@ use Rattle.std.specs.Prelude.{Bool, Err, List, None, Ok, Result, Some, [], if◌
 use Rattle.merge_types.specs.declared.changes.Change.{Change}
 use Rattle.merge_types.specs.declared.identifiers.SiteId.{SiteId}
 use Rattle.merge_schema.specs.declared.publication.Publication.{Publication}
-use Rattle.merge_batch.specs.Lineages.{is_subscription}
+use Rattle.merge_schema.specs.Places.{is_subscription}
 use Rattle.merge_batch.specs.declared.refusal.Refusal.{Refusal}
 use Rattle.merge_batch.specs.declared.refusal.Refusal.TheVariants.{NoMemory, UnknownName, UnknownSite}
 use Rattle.merge_model.specs.declared.answer.Answer.{Answer}

@@ -1,7 +1,7 @@
 -- What a site decides by. A step reads these and neither lineages nor histories itself.
 use Rattle.std.specs.Prelude.{Bool, List, Option, ℕ}
 use Rattle.merge_units.specs.declared.version.Version.{Version}
-use Rattle.merge_model.specs.Cases.{Knowing}
+use Rattle.merge_units.specs.Version.{Knowing}
 use Rattle.merge_types.specs.declared.row_key.RowKey.{RowKey as Key}
 
 -- what the publisher decides by. Sites are named by number

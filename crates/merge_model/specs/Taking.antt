@@ -3,8 +3,7 @@ use Rattle.std.specs.List.{fold}
 use Rattle.std.specs.Prelude.{List, None, Ok, Option, Result, Some, [], filter, if◌then◌else◌, map, nat_lt, true, ℕ, ◌==◌}
 use Rattle.merge_types.specs.declared.identifiers.Moment.{Moment}
 use Rattle.merge_units.specs.declared.version.Body.TheVariants.{Live}
-use Rattle.merge_gens.specs.Book.{Book}
-use Rattle.merge_gens.specs.declared.closings.Closing.{Closing}
+use Rattle.merge_gens.specs.Book.{forgotten}
 use Rattle.merge_ident.specs.Holders.{Holder, after_receive}
 use Rattle.merge_schema.specs.declared.publication.Publication.{Publication}
 use Rattle.merge_batch.specs.declared.refusal.Refusal.{Refusal}
@@ -32,14 +31,11 @@ use Rattle.merge_batch.specs.declared.reply.Reply.TheVariants as reply
 abbrev pub row_above : ℕ → Key × SubscriberRow → Key × SubscriberRow
 row_above received row = (row.0, record row.1 { generations = filter (λ (generation : ℕ). nat_lt received generation) row.1.generations })
 
-abbrev pub gens_above : ℕ → Book → Book
-gens_above received book = record book { closings = filter (λ (closing : Closing). nat_lt received closing.generation) book.closings }
-
 abbrev pub with_received : ℕ → SubscriberTables → SubscriberTables
 with_received received s = record s {
   received = received;
   rows = map (row_above received) s.rows;
-  gens = gens_above received s.gens;
+  gens = forgotten s.gens received;
 }
 
 -- ranges that were granted

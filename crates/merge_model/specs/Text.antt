@@ -15,6 +15,7 @@ use Rattle.merge_gens.specs.declared.sites.SiteState.{SiteState}
 use Rattle.merge_gens.specs.declared.sites.Marks.{Marks}
 use Rattle.merge_ident.specs.declared.grants.Grant.{Grant}
 use Rattle.merge_ident.specs.Holders.{Received, next_of}
+use Rattle.merge_conflict.specs.Kinds.{number_of_kind}
 use Rattle.merge_conflict.specs.declared.row.ConflictRow.{ConflictRow}
 use Rattle.merge_conflict.specs.declared.row.Verdict.{Verdict}
 use Rattle.merge_conflict.specs.declared.row.Verdict.TheVariants.{Publisher, Subscriber, Custom, Purged as PurgedRow, Discarded as DiscardedRow}
@@ -109,7 +110,7 @@ conflict_line names row =
     decimal row.number
     ∷ names.article row.article
     ∷ row_text row.row.0
-    ∷ decimal row.kind
+    ∷ decimal (number_of_kind row.kind)
     ∷ decimal row.from.0
     ∷ verdict_text row.verdict
     ∷ decimal row.moment.0
