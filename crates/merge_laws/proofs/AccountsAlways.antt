@@ -4,7 +4,6 @@ use Rattle.merge_schema.specs.declared.publication.Publication.{Publication}
 use Rattle.merge_model.specs.Failing.{faulty}
 use Rattle.merge_model.specs.Runs.{model_behind}
 use Rattle.merge_model.proofs.KeptFailing.{runs-keep}
-use Rattle.merge_model.specs.Events.{after}
 use Rattle.merge_model.specs.Model.{Model, empty_model, model}
 use Rattle.merge_model.specs.Promises.{AllAccounted}
 use Rattle.merge_laws.specs.Accounts.{OfAccounts}

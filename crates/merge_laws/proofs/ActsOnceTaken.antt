@@ -17,11 +17,10 @@ use Rattle.merge_model.specs.Runs.{model_behind, model_after}
 use Rattle.merge_model.specs.Acts.{Act}
 use Rattle.merge_model.specs.ByHistory.{by_made, by_past}
 use Rattle.merge_model.specs.Entries.{Entries}
-use Rattle.merge_model.specs.Events.{after}
 use Rattle.merge_model.specs.History.{History, is_done, pasts_with}
 use Rattle.merge_model.specs.Judge.{PublisherJudge}
 use Rattle.merge_model.specs.Keys.{put_number}
-use Rattle.merge_model.specs.Model.{Model, did_something, empty_model, model}
+use Rattle.merge_model.specs.Model.{Model, did_something, model}
 use Rattle.merge_model.specs.Noting
 use Rattle.merge_model.specs.Publisher.{last_closed}
 use Rattle.merge_model.specs.PublisherUpload.{brings_news}

@@ -1,11 +1,10 @@
 -- An upload that comes in is refused alike, and does the same, by two ways to decide that agree on the sites and on its items.
-use Rattle.std.specs.Prelude.{◌≡◌, ◌+◌, ◌++◌, ℕ, List, [], ◌∷◌, Bool, true, Option, Some, None, Result, refl, if◌then◌else◌, is_some, length, map, max, nat_lt, option_map, filter_map}
+use Rattle.std.specs.Prelude.{◌≡◌, ◌+◌, ℕ, List, [], ◌∷◌, Bool, true, Option, Some, None, Result, refl, if◌then◌else◌, is_some, map, max, nat_lt, option_map, filter_map}
 use Rattle.std.specs.List.{AllByRecursion}
 use Rattle.std.proofs.Common.{ap, ◌∙◌}
 use Rattle.merge_types.specs.declared.identifiers.Moment.{Moment}
 use Rattle.merge_types.specs.declared.identifiers.SiteId.{SiteId}
 use Rattle.merge_units.specs.declared.result.Decision.{Decision}
-use Rattle.merge_conflict.specs.declared.row.ConflictRow.{ConflictRow}
 use Rattle.merge_gens.specs.declared.sites.SiteState.{SiteState}
 use Rattle.merge_resolve.specs.Asked.{tallies_after}
 use Rattle.merge_schema.specs.declared.publication.Publication.{Publication}
@@ -17,14 +16,14 @@ use Rattle.merge_batch.specs.declared.reply.Reply.TheVariants as reply
 use Rattle.merge_batch.specs.declared.reply.Uploaded.{Uploaded}
 use Rattle.merge_batch.specs.declared.request.Upload.{Upload}
 use Rattle.merge_batch.specs.declared.request.UploadItem.{UploadItem}
-use Rattle.merge_model.specs.Acts.{Act, acting_items, acts_from, acts_of, changes_by, question_of}
+use Rattle.merge_model.specs.Acts.{Act, acting_items, acts_from, acts_of, question_of}
 use Rattle.merge_resolve.specs.declared.asking.Question.{Question}
 use Rattle.merge_model.specs.Entries.{Changing, changed_by}
 use Rattle.merge_model.specs.Faults.{fault_of, judged_state, known_by, upload_fault}
 use Rattle.merge_model.specs.Judge.{PublisherJudge}
 use Rattle.merge_model.specs.Keys.{at_number}
 use Rattle.merge_model.specs.Publisher.{at_moment, counters, site_refusal}
-use Rattle.merge_model.specs.PublisherUpload.{brings_news, changing_by, state_seeing, taken_in, too_many_new, upload_refusal, uploaded, with_acts, with_taken}
+use Rattle.merge_model.specs.PublisherUpload.{brings_news, changing_by, taken_in, too_many_new, upload_refusal, uploaded, with_acts}
 use Rattle.merge_model.specs.Refusals.{counter_end, first_refusal, refused_if, unless}
 use Rattle.merge_model.specs.Steps.{deliver_upload, kept_decisions, post, unless_refused, upload_questions}
 use Rattle.merge_resolve.specs.Questions.{question_of as asked_of}

@@ -1,5 +1,5 @@
 -- An upload does the same by two ways to decide that agree on the sites and on its items.
-use Rattle.std.specs.Prelude.{◌≡◌, ◌+◌, ℕ, List, [], ◌∷◌, Bool, true, false, Option, Some, None, refl, if◌then◌else◌, cond, filter, filter_map, not}
+use Rattle.std.specs.Prelude.{◌≡◌, ◌+◌, ℕ, List, [], ◌∷◌, Bool, Option, Some, None, refl, if◌then◌else◌, cond, filter, filter_map, not}
 use Rattle.std.specs.List.{AllByRecursion, cons_option}
 use Rattle.std.proofs.Common.{ap, ◌∙◌}
 use Rattle.merge_types.specs.declared.identifiers.Dot.{Dot}
@@ -13,7 +13,7 @@ use Rattle.merge_resolve.specs.declared.question.Meeting.{Meeting}
 use Rattle.merge_conflict.specs.Losers.{publisher_site}
 use Rattle.merge_schema.specs.declared.publication.Publication.{Publication}
 use Rattle.merge_batch.specs.declared.request.UploadItem.{UploadItem}
-use Rattle.merge_model.specs.Acts.{Act, Fate, Met, New, Unknown, acting_items, act_of, acts_from, acts_of, asked_at, case_met, decision_for, fate_by, is_new_row, key_of_item, left_by, made_by, meeting_of, question_of, question_on, questions_of}
+use Rattle.merge_model.specs.Acts.{Act, Fate, Met, New, Unknown, act_of, acts_from, asked_at, case_met, decision_for, fate_by, is_new_row, key_of_item, left_by, made_by, meeting_of, question_of, question_on}
 use Rattle.merge_resolve.specs.Priorities.{greatest_priority}
 use Rattle.merge_resolve.specs.declared.asking.Question.{Question}
 use Rattle.merge_units.specs.Cases.{is_conflict}

@@ -1,11 +1,10 @@
 -- What tests of dots say.
-use Rattle.std.specs.Prelude.{◌≡◌, ◌==◌, ◌||◌, ℕ, List, ◌∷◌, Bool, true, false, refl, if◌then◌else◌}
+use Rattle.std.specs.Prelude.{◌≡◌, ℕ, List, ◌∷◌, true}
 use Rattle.std.proofs.Common.{arith, ap, ◌∙◌}
 use Rattle.std.proofs.lemmas.Bool.Decides.{nat_tests}
 use Rattle.merge_types.specs.declared.identifiers.Dot.{Dot}
 use Rattle.merge_model.specs.History.{has}
 use Rattle.merge_laws.specs.Knowledge.{same_dot}
-use Rattle.merge_model.proofs.Tests.{number-itself, numbers-same, or-first, or-second}
 
 -- dots with the same parts are the same
 pub dots-same : (a b : Dot) → same_dot a b ≡ true → a ≡ b

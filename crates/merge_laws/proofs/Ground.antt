@@ -29,7 +29,6 @@ use Rattle.merge_model.proofs.Runs.{publisher_stays_sorted}
 use Rattle.merge_model.proofs.Sorted.{step-sorted}
 use Rattle.merge_model.proofs.Subscribers.{step-sub-sorted}
 use Rattle.merge_model.specs.ByHistory.{by_history, by_made}
-use Rattle.merge_model.specs.Events.{after}
 use Rattle.merge_model.specs.History.{History, no_history}
 use Rattle.merge_model.specs.Keys.{at_number, put_number}
 use Rattle.merge_model.specs.Laws.{AreSorted, AreSubSorted}

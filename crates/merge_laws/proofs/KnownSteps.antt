@@ -41,7 +41,6 @@ use Rattle.merge_model.specs.ByHistory.{by_past, by_made}
 use Rattle.merge_model.specs.Noting
 use Rattle.merge_model.specs.Publications.{by_site}
 use Rattle.merge_model.specs.Model.{Model, empty_model, model}
-use Rattle.merge_model.specs.Events.{after}
 use Rattle.merge_model.specs.Reinit.{reinitialised}
 use Rattle.merge_model.specs.Sending.{join_of, upload_sent, want_of, with_message}
 use Rattle.merge_model.specs.Taking.{taken}

@@ -4,12 +4,9 @@ use Rattle.std.specs.List.{fold, list_any}
 use Rattle.std.specs.Option.{option_map_or}
 use Rattle.std.specs.List.Sorted.{IsStrictlySortedBy}
 use Rattle.std.specs.Map.{keys_of}
-use Rattle.std.specs.BTreeMap.{is_at}
 use Rattle.std.proofs.Common.{subst, sym, ap, ◌∙◌}
 use Rattle.std.proofs.lemmas.List.Folds.{list_any-append}
-use Rattle.std.proofs.lemmas.Map.Made.{is_some-lookup}
-use Rattle.std.proofs.Math.Bool.{and-false, and-true, and_comm, and-or_distrib_right, or-false}
-use Rattle.merge_table.proofs.LookUps.{lookup-insert_entry}
+use Rattle.std.proofs.Math.Bool.{and-false, and-true, and_comm, and-or_distrib_right}
 use Rattle.merge_schema.proofs.Searches.{any_map}
 use Rattle.merge_types.specs.declared.identifiers.SiteId.{SiteId}
 use Rattle.merge_schema.specs.declared.publication.Publication.{Publication}
@@ -20,16 +17,15 @@ use Rattle.merge_gens.specs.declared.moves.Mapping.{Mapping}
 use Rattle.merge_gens.specs.declared.moves.MoveKind.TheVariants.{Entered, Left}
 use Rattle.merge_gens.specs.Moves.{is_left, row_site_cmp}
 use Rattle.merge_types.specs.RowKeys.{key_cmp}
-use Rattle.merge_model.proofs.EntryLists.{passes}
 use Rattle.merge_model.proofs.KeyLists.{some-head, keys-once}
-use Rattle.merge_model.specs.Keys.{same_key, has_key, row_at, put_row, at_row_site}
+use Rattle.merge_model.specs.Keys.{same_key, has_key, row_at, at_row_site}
 use Rattle.merge_model.specs.Entries as entry
 use Rattle.merge_model.specs.History.{Line, LineKind, Changed, EnteredFor, LeftFor, GoneFor}
 use Rattle.merge_model.specs.ByHistory.{is_line_for, line_site, says_left, touched_outside}
 use Rattle.merge_model.specs.Noting.{gone_line, gone_for}
 use Rattle.merge_model.proofs.Sorted.{key_total, row_site_total}
 use Rattle.merge_laws.specs.LastLines.{move_told, move_in, MappingsFit, RowsFit, MovedForSubscribers}
-use Rattle.merge_model.proofs.KeyLookUps.{key-test, keys-exact, keys-same}
+use Rattle.merge_model.proofs.KeyLookUps.{keys-exact, keys-same}
 use Rattle.merge_laws.proofs.LastLineAdded.{added, gone-last}
 use Rattle.merge_model.proofs.PlaceLookUps.{places-exact, is_place, has_place, kept, kept-found, lookup-filter}
 use Rattle.merge_model.proofs.Lists.{any-same}

@@ -32,7 +32,6 @@ use Rattle.merge_model.specs.History.{History, Line, Past, pasts_with, no_histor
 use Rattle.merge_model.specs.ByHistory.{by_history, by_past, by_made}
 use Rattle.merge_model.specs.Noting
 use Rattle.merge_model.specs.Model.{Model, empty_model, model}
-use Rattle.merge_model.specs.Events.{after}
 use Rattle.merge_model.proofs.KeptFailing.{runs-keep}
 use Rattle.merge_model.proofs.Sorted.{step-sorted}
 use Rattle.merge_model.proofs.Runs.{publisher_stays_sorted}

@@ -30,7 +30,6 @@ use Rattle.merge_model.specs.Runs.{model_behind}
 use Rattle.merge_model.specs.Acts.{Act, acting_items, changes_by}
 use Rattle.merge_model.specs.ByHistory.{by_made, by_past}
 use Rattle.merge_model.specs.Changes.{key_of, version_after}
-use Rattle.merge_model.specs.Events.{after}
 use Rattle.merge_model.specs.History.{History, pasts_with}
 use Rattle.merge_model.specs.Judge.{PublisherJudge, SubscriberJudge}
 use Rattle.merge_model.specs.Keys.{at_number, put_number}

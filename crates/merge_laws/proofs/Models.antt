@@ -42,7 +42,6 @@ use Rattle.merge_model.specs.History.{no_history}
 use Rattle.merge_model.specs.Subscriber.{empty_subscriber}
 use Rattle.merge_model.specs.World.{empty_subscribers, empty_world}
 use Rattle.merge_model.specs.Model.{empty_model, model}
-use Rattle.merge_model.specs.Events.{after}
 use Rattle.merge_model.specs.declared.event.Event.{Event}
 use Rattle.merge_model.proofs.KeptFailing.{runs-keep}
 use Rattle.merge_model.proofs.Finding.{at_put_other}

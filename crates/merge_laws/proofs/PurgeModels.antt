@@ -25,7 +25,6 @@ use Rattle.merge_model.specs.History.{History, pasts_with, Line}
 use Rattle.merge_model.specs.ByHistory.{by_history, by_past, by_made}
 use Rattle.merge_model.specs.Noting
 use Rattle.merge_model.specs.Model.{Model, empty_model, model, model_step}
-use Rattle.merge_model.specs.Events.{after}
 use Rattle.merge_model.specs.Acts.{Act}
 use Rattle.merge_model.specs.PublisherUpload.{taken_in}
 use Rattle.merge_model.proofs.KeptFailing.{runs-keep}

@@ -8,9 +8,8 @@ use Rattle.merge_batch.specs.declared.refusal.Refusal.{Refusal}
 use Rattle.merge_batch.specs.declared.reply.Downloaded.{Downloaded}
 use Rattle.merge_batch.specs.declared.reply.Reply.TheVariants as reply
 use Rattle.merge_model.specs.Runs.{model_behind}
-use Rattle.merge_model.specs.Events.{after}
 use Rattle.merge_model.specs.History.{History, MadeChange, made_at}
-use Rattle.merge_model.specs.Model.{Model, empty_model, model, model_step}
+use Rattle.merge_model.specs.Model.{Model, model, model_step}
 use Rattle.merge_model.specs.Promises.{IsSettled, SessionSettles, is_expired_at}
 use Rattle.merge_model.specs.Publisher.{last_closed}
 use Rattle.merge_model.specs.Session.{Session, after_download, all_downloads, answered_as, arrived, as_it_is, ask, all_ranges, all_uploads, asking_ranges, downloaded_in, downloading, exchange, has_grant, is_joined_in, joining, last_message, range_asks, session, then_deliver, unless_stopped, unsent_generations, uploading, with_answer, with_upload}

@@ -10,12 +10,11 @@ use Rattle.merge_schema.specs.declared.publication.Publication.{Publication}
 use Rattle.merge_table.proofs.LookUps.{rows_from_look_ups}
 use Rattle.merge_model.specs.Failing.{Slips}
 use Rattle.merge_model.specs.Runs.{model_behind}
-use Rattle.merge_model.specs.Events.{after}
 use Rattle.merge_model.specs.History.{MadeChange, made_at}
 use Rattle.merge_types.specs.RowKeys.{key_cmp}
 use Rattle.merge_model.specs.Keys.{at_number, has_key, row_at}
 use Rattle.merge_model.specs.Laws.{AreSubSorted}
-use Rattle.merge_model.specs.Model.{Model, empty_model, model, model_step}
+use Rattle.merge_model.specs.Model.{Model, model_step}
 use Rattle.merge_model.specs.Promises.{HoldsPartition, IsSettled, SettledHoldsPartition, base_of, live_version, version_if_in}
 use Rattle.merge_model.specs.PublisherDownload.{inside_keys}
 use Rattle.merge_model.specs.Steps.{Action}

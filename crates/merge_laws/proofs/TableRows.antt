@@ -5,7 +5,6 @@ use Rattle.std.proofs.Common.{sym, ap, ◌∙◌}
 use Rattle.std.proofs.lemmas.List.{append-nil, append_assoc, map-append}
 use Rattle.merge_types.specs.declared.identifiers.Moment.{Moment}
 use Rattle.merge_types.specs.declared.identifiers.SiteId.{SiteId}
-use Rattle.merge_units.specs.declared.case.Case.{Case}
 use Rattle.merge_units.specs.declared.result.Decision.{Decision}
 use Rattle.merge_units.specs.declared.result.Decision.TheVariants.{Custom, KeepPublisher, TakeSubscriber}
 use Rattle.merge_units.specs.declared.version.Version.{Version}
@@ -18,7 +17,7 @@ use Rattle.merge_model.specs.Acts.{Act, Fate, Met, New, Unknown, conflict_of, lo
 use Rattle.merge_units.specs.Cases.{is_conflict}
 use Rattle.merge_model.specs.Entries.{Entries}
 use Rattle.merge_model.specs.History.{History, Line, Past, past_at, past_in}
-use Rattle.merge_model.specs.Judge.{PublisherJudge, SubscriberJudge}
+use Rattle.merge_model.specs.Judge.{SubscriberJudge}
 use Rattle.merge_model.specs.Noting
 use Rattle.merge_model.specs.Pasts.{past_by}
 use Rattle.merge_model.specs.Promises.{key_of_conflict}

@@ -1,5 +1,5 @@
 -- No invariant speaks of how often resolvers were asked, so each holds where only that changes: what a step leaves that failed.
-use Rattle.std.specs.Prelude.{◌≡◌, ℕ, List}
+use Rattle.std.specs.Prelude.{ℕ, List}
 use Rattle.merge_types.specs.declared.identifiers.Dot.{Dot}
 use Rattle.merge_model.specs.History.{History}
 use Rattle.merge_model.specs.World.{World}

@@ -25,7 +25,6 @@ use Rattle.merge_model.specs.ByHistory.{by_made, by_past}
 use Rattle.merge_model.specs.ByNumbers.{received_by_number}
 use Rattle.merge_model.specs.Changes.{key_of, version_after}
 use Rattle.merge_model.specs.Entries.{Entries}
-use Rattle.merge_model.specs.Events.{after}
 use Rattle.merge_model.specs.Faults.{reply_fault}
 use Rattle.merge_model.specs.History.{History, MadeChange, Past, made_at, no_history, past_at, pasts_with}
 use Rattle.merge_model.specs.Judge.{PublisherJudge, SubscriberJudge}

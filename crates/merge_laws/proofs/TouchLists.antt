@@ -1,20 +1,12 @@
 -- The generations that a step's entries get.
-use Rattle.std.specs.Prelude.{◌≡◌, ◌≤◌, ◌<◌, ◌==◌, ◌||◌, ◌+◌, ◌/◌, ◌%◌, ℕ, zero, suc, List, [], ◌∷◌, Bool, true, false, Option, Some, None, IfSome, refl, if◌then◌else◌, cond, drop, filter_map, flat_map, length, map, take}
-use Rattle.std.specs.BTreeMap.{insert_entry, is_at}
-use Rattle.std.specs.Cmp.{IsTotalOrder}
-use Rattle.std.specs.List.{AllByRecursion, cons_option, fold, list_any, range_with_len, zip}
-use Rattle.std.specs.Map.{lookup}
-use Rattle.std.specs.declared.cmp.Ordering.{Ordering}
-use Rattle.std.proofs.Common.{arith, subst, sym, ap, ◌∙◌}
+use Rattle.std.specs.Prelude.{◌≡◌, ◌≤◌, ◌<◌, ◌==◌, ◌+◌, ◌/◌, ◌%◌, ℕ, zero, suc, Bool, true, false, refl, if◌then◌else◌, length, map}
+use Rattle.std.specs.List.{AllByRecursion, range_with_len}
+use Rattle.std.proofs.Common.{arith}
 use Rattle.std.proofs.lemmas.Bool.Decides.{nat_tests}
-use Rattle.std.proofs.lemmas.List.Elements.{All-drop, All-from_recursion, All-take, recursion_from_All}
-use Rattle.std.proofs.lemmas.List.Folds.{list_any-append}
 use Rattle.std.proofs.lemmas.List.FromFn.{length-map-range_with_len}
 use Rattle.merge_gens.specs.Filling.{closed, filled_by, generation_of, generations_of}
 use Rattle.merge_gens.specs.declared.filling.Filling.{Filling}
-use Rattle.merge_table.proofs.LookUps.{lookup-insert_entry}
 use Rattle.merge_laws.specs.Settled.{last_used}
-use Rattle.merge_model.proofs.Lists.{all-append}
 
 -- The generations of a step's entries are behind the last closed one, and are closed or open afterwards.
 

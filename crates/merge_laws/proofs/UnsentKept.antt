@@ -21,7 +21,6 @@ use Rattle.merge_model.specs.Runs.{model_behind}
 use Rattle.merge_model.specs.Bridge.{SubscriberDecidesAlike}
 use Rattle.merge_model.specs.ByHistory.{by_history, by_made, by_past}
 use Rattle.merge_model.specs.Changes.{key_of, version_after}
-use Rattle.merge_model.specs.Events.{after}
 use Rattle.merge_model.specs.Faults.{reply_fault}
 use Rattle.merge_model.specs.History.{History, MadeChange, made_at, no_history, past_at, pasts_with}
 use Rattle.merge_model.specs.Judge.{PublisherJudge, SubscriberJudge}

@@ -13,10 +13,9 @@ use Rattle.merge_model.specs.Runs.{model_after}
 use Rattle.merge_model.specs.declared.event.Event.{Event}
 use Rattle.merge_model.specs.Acts.{key_of_item}
 use Rattle.merge_model.specs.ByHistory.{received_by_done}
-use Rattle.merge_model.specs.Events.{after}
 use Rattle.merge_model.specs.History.{History, MadeChange, Past, is_done, past_at}
 use Rattle.merge_model.specs.Keys.{row_at, same_key}
-use Rattle.merge_model.specs.Model.{Model, did_something, model, model_step}
+use Rattle.merge_model.specs.Model.{Model, did_something, model_step}
 use Rattle.merge_model.specs.Promises.{key_of_conflict}
 use Rattle.merge_model.specs.Publisher.{at_moment}
 use Rattle.merge_model.specs.Steps.{Deliver}

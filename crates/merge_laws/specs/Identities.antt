@@ -16,10 +16,9 @@ use Rattle.merge_schema.specs.declared.publication.Publication.{Publication}
 use Rattle.merge_model.specs.Failing.{Slips}
 use Rattle.merge_model.specs.Runs.{model_behind}
 use Rattle.merge_model.specs.declared.event.Event.{Event}
-use Rattle.merge_model.specs.Events.{after}
 use Rattle.merge_model.specs.History.{MadeChange}
 use Rattle.merge_model.specs.Keys.{at_number}
-use Rattle.merge_model.specs.Model.{Model, empty_model, model}
+use Rattle.merge_model.specs.Model.{Model}
 use Rattle.merge_model.specs.Promises.{takes}
 use Rattle.merge_model.specs.Publications.{rules_of}
 use Rattle.merge_model.specs.Tables.{SubscriberTables}

@@ -1,5 +1,5 @@
 -- Two worlds whose steps are alike answer events alike, until one of the first world is refused for a reason that excuses it.
-use Rattle.std.proofs.Common.{◌≡◌, ◌==◌, ◌+◌, ◌-◌, ℕ, zero, suc, List, [], ◌∷◌, Bool, true, false, Option, Some, None, Result, Ok, Err, refl, if◌then◌else◌, ap, ◌∙◌, sym, subst, ◌⊎◌, inl, inr, ◌||◌}
+use Rattle.std.proofs.Common.{◌≡◌, ◌+◌, ◌-◌, ℕ, zero, suc, List, [], ◌∷◌, Bool, true, false, Option, Some, None, Result, Ok, Err, refl, if◌then◌else◌, ap, ◌∙◌, subst, ◌⊎◌, inl, inr, ◌||◌}
 use Rattle.std.specs.List.{list_any}
 use Rattle.std.specs.Prelude.{nat_le, nat_lt}
 use Rattle.merge_types.specs.declared.changes.Change.{Change}
@@ -9,7 +9,6 @@ use Rattle.merge_schema.specs.Places.{is_subscription}
 use Rattle.merge_batch.specs.declared.refusal.Refusal.{Refusal}
 use Rattle.merge_batch.specs.declared.refusal.Refusal.TheVariants.{NoMemory, UnknownName, UnknownSite}
 use Rattle.merge_batch.specs.declared.reply.Downloaded.{Downloaded}
-use Rattle.merge_model.specs.declared.letter.Message.{Message}
 use Rattle.merge_model.specs.declared.answer.Answer.{Answer}
 use Rattle.merge_model.specs.declared.answer.Answer.TheVariants.{Conflicts, Counts, Done, Fine, Grants, Held, Now, Refused, RefusedIn, Rows, Stopped}
 use Rattle.merge_model.specs.Events.{after, answers as answers_to, acting, refused_change, answered_by, change_answer, changing, looked, looking, is_site, where_site, where_subscriber, syncing, session_answer, outcome_answer, happens, reported, reporting, showing, watermark_in}
@@ -21,7 +20,7 @@ use Rattle.merge_model.specs.declared.event.Event.{Event}
 use Rattle.merge_model.specs.declared.event.Event.TheVariants as event
 use Rattle.merge_model.specs.Session.{Session, Stepping, after_download, all_downloads, all_ranges, all_uploads, answered_as, arrived, as_it_is, ask, asking_ranges, downloaded_in, downloading, exchange, has_grant, is_joined_in, joining, last_message, range_asks, session, then_deliver, unless_stopped, unsent_generations, uploading, with_answer, with_download, with_upload}
 use Rattle.merge_model.specs.Steps.{Action, CloseAt, Deliver, Forget, Look, Make, MakeAnew, Pass, Send, SendDownload, SendJoin, SendRanges, SendUpload, Sending}
-use Rattle.merge_model.specs.declared.outcome.Outcome.TheVariants.{Closes, Discards, Forgot, Made, NoLetter, NoPost, Passed, Posted, Refuses, Took}
+use Rattle.merge_model.specs.declared.outcome.Outcome.TheVariants.{Passed, Posted, Refuses, Took}
 use Rattle.merge_model.specs.declared.outcome.Outcome.{Outcome}
 use Rattle.merge_model.specs.World.{World}
 use Rattle.merge_model.specs.SlipLaws.{shown}

@@ -1,15 +1,14 @@
 -- Two worlds whose steps are alike fail alike, with the same slips.
-use Rattle.std.proofs.Common.{◌≡◌, ℕ, List, [], ◌∷◌, Bool, true, false, Option, Some, None, refl, ap, sym, subst, ◌∙◌, take}
+use Rattle.std.proofs.Common.{◌≡◌, ℕ, List, [], ◌∷◌, Bool, true, false, Some, None, refl, ap, subst, ◌∙◌, take}
 use Rattle.merge_resolve.specs.Asked.{tallies_after}
 use Rattle.merge_schema.specs.declared.publication.Publication.{Publication}
 use Rattle.merge_model.specs.Events.{after, answers}
-use Rattle.merge_model.specs.Failing.{Faulty, Slip, Slips, acting_with, failing, fails, faulty, is_allowed, questions_by, slip_if, slip_refusal}
+use Rattle.merge_model.specs.Failing.{Faulty, Slip, Slips, acting_with, failing, fails, faulty, is_allowed, questions_by, slip_if}
 use Rattle.merge_model.specs.Session.{Stepping}
 use Rattle.merge_model.specs.Steps.{Action, CloseAt, Deliver, Forget, Look, Make, MakeAnew, Pass, Send}
 use Rattle.merge_model.specs.World.{World}
 use Rattle.merge_model.specs.declared.event.Event.{Event}
 use Rattle.merge_model.specs.declared.outcome.Outcome.{Outcome}
-use Rattle.merge_model.specs.declared.outcome.Outcome.TheVariants.{Refuses}
 use Rattle.merge_model.proofs.Alike.{Both, events-alike}
 
 module _ {V W : Type 0} (publication : Publication) (one : Stepping V) (other : Stepping W) (R : V → W → Type 0) (acts : (v : V) (w : W) (action : Action) → R v w → Both R (one.act v action) (other.act w action)) (looks : (v : V) (w : W) → R v w → one.look v ≡ other.look w)

@@ -1,5 +1,5 @@
 -- What one action does to a world that may fail.
-use Rattle.std.proofs.Common.{◌≡◌, ◌≤◌, ◌+◌, ◌++◌, ℕ, Bool, true, false, List, [], ◌∷◌, Option, Some, None, Result, Ok, Err, length, map, zero, suc, length-append, take, refl, ap, sym, subst, ◌∙◌, arith, count_by, inl, inr, ◌⊎◌}
+use Rattle.std.proofs.Common.{◌≡◌, ◌≤◌, ◌+◌, ◌++◌, ℕ, Bool, true, false, List, [], ◌∷◌, Option, Some, None, Result, Ok, Err, length, map, zero, suc, length-append, take, refl, ap, sym, subst, ◌∙◌, arith, inl, inr, ◌⊎◌}
 use Rattle.merge_types.specs.declared.identifiers.Moment.{Moment}
 use Rattle.merge_types.specs.declared.identifiers.SiteId.{SiteId}
 use Rattle.merge_resolve.specs.Asked.{tallies_after}
@@ -10,10 +10,9 @@ use Rattle.merge_batch.specs.declared.reply.Reply.{Reply}
 use Rattle.merge_batch.specs.declared.reply.Reply.TheVariants as reply
 use Rattle.merge_batch.specs.declared.request.Request.{Request}
 use Rattle.merge_batch.specs.declared.request.Request.TheVariants as request
-use Rattle.merge_model.specs.Failing.{Faulty, Slip, acting_with, commits, failing, fails, faulty, is_made, made_with, posting_by, questions_by, questions_in}
+use Rattle.merge_model.specs.Failing.{acting_with, commits, faulty, is_made, made_with, posting_by, questions_by}
 use Rattle.merge_model.specs.Events.{machine}
 use Rattle.merge_model.specs.Steps.{Action, CloseAt, Deliver, Forget, Look, Make, MakeAnew, Pass, Send, after_upload, answered, deliver_letter, deliver_reply, deliver_request, kept_decisions, posted, send_from, SendDownload, Sending, step, unless_refused, upload_questions}
-use Rattle.merge_resolve.specs.Questions.{question_of as asked_of}
 use Rattle.merge_model.specs.declared.outcome.Outcome.TheVariants.{Closes, NoLetter, NoPost, Posted, Refuses, Took}
 use Rattle.merge_model.specs.declared.outcome.Outcome.{Outcome}
 use Rattle.merge_model.specs.declared.outcome.Taken.{Taken}
@@ -40,7 +39,6 @@ use Rattle.merge_model.specs.Calls.{Called, Counted, always_commits, as_reply, c
 use Rattle.merge_model.specs.Parts.{after_result, pooled, world_of}
 use Rattle.merge_resolve.specs.declared.case.ConflictCase.{ConflictCase}
 use Rattle.merge_model.specs.declared.letter.Message.{Message}
-use Rattle.merge_model.specs.Reach.{Reaches, is_store_fault}
 use Rattle.merge_model.specs.Failing.{Slips}
 
 -- whether an action takes one of the slips

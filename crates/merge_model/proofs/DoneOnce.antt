@@ -1,5 +1,5 @@
 -- No generation acts twice.
-use Rattle.std.specs.Prelude.{◌≡◌, ◌≤◌, ◌+◌, ◌-◌, ◌<◌, ◌==◌, ◌&&◌, ℕ, zero, suc, List, [], ◌∷◌, ◌++◌, Bool, true, false, not, Option, Some, None, Result, Ok, Err, refl, if◌then◌else◌, map, filter, count_by, Contains, cond, flat_map}
+use Rattle.std.specs.Prelude.{◌≡◌, ◌≤◌, ◌+◌, ◌-◌, ◌<◌, ◌==◌, ◌&&◌, ℕ, zero, suc, List, [], ◌∷◌, ◌++◌, Bool, true, false, not, Option, Some, None, Result, Ok, Err, refl, if◌then◌else◌, map, filter, count_by, cond, flat_map}
 use Rattle.std.specs.List.{fold, range_with_len, list_any, list_all}
 use Rattle.std.proofs.Common.{arith, sym, subst, ap, ◌∙◌}
 use Rattle.std.proofs.lemmas.Bool.Decides.{nat_tests}
@@ -26,7 +26,6 @@ use Rattle.merge_batch.specs.declared.reply.DownloadItem.{DownloadItem}
 use Rattle.merge_schema.specs.declared.publication.Publication.{Publication}
 use Rattle.merge_model.specs.declared.event.Event.{Event}
 use Rattle.merge_types.specs.declared.row_key.RowKey.{RowKey as Key}
-use Rattle.merge_gens.specs.declared.moves.RowSite.{RowSite}
 use Rattle.merge_model.specs.Tables.{PublisherTables, SubscriberTables}
 use Rattle.merge_model.specs.Judge.{PublisherJudge, SubscriberJudge}
 use Rattle.merge_units.specs.Cases.{is_conflict}
@@ -51,7 +50,7 @@ use Rattle.merge_model.specs.declared.outcome.Outcome.{Outcome}
 use Rattle.merge_model.specs.declared.outcome.Outcome.TheVariants.{Posted}
 use Rattle.merge_model.specs.History.{History, Past, Line, is_done, past_at, past_in, pasts_with}
 use Rattle.merge_model.specs.Noting
-use Rattle.merge_model.specs.Model.{Model, model, empty_model, model_step, with_posted, with_letter, noted, noted_if, did_something, noted_make, noted_deliver, noted_letter, noted_request, noted_anew_at}
+use Rattle.merge_model.specs.Model.{Model, model, empty_model, model_step, with_posted, with_letter, noted, noted_if, did_something, noted_make, noted_letter, noted_request}
 use Rattle.merge_model.specs.ByHistory.{by_history}
 use Rattle.merge_model.specs.Events.{after}
 use Rattle.merge_model.specs.Promises.{NoneActsTwice, is_generation_of, acting_generations}

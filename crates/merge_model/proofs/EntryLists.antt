@@ -1,19 +1,15 @@
 -- Lists of what a step enters: what some or all of their members are, and what is found after entries are put.
-use Rattle.std.specs.Prelude.{◌≡◌, ◌≤◌, ◌<◌, ◌==◌, ◌||◌, ◌+◌, ◌/◌, ◌%◌, ℕ, zero, suc, List, [], ◌∷◌, Bool, true, false, Option, Some, None, IfSome, refl, if◌then◌else◌, cond, drop, filter_map, flat_map, length, map, take}
+use Rattle.std.specs.Prelude.{◌≡◌, ◌≤◌, ◌||◌, ℕ, List, [], ◌∷◌, Bool, true, false, Option, Some, None, IfSome, refl, cond, drop, filter_map, flat_map, length, take}
 use Rattle.std.specs.BTreeMap.{insert_entry, is_at}
 use Rattle.std.specs.Cmp.{IsTotalOrder}
-use Rattle.std.specs.List.{AllByRecursion, cons_option, fold, list_any, range_with_len, zip}
+use Rattle.std.specs.List.{AllByRecursion, cons_option, fold, list_any, zip}
 use Rattle.std.specs.Map.{lookup}
 use Rattle.std.specs.Ordering.{match_ordering}
 use Rattle.std.specs.declared.cmp.Ordering.{Ordering}
 use Rattle.std.specs.declared.cmp.Ordering.TheVariants.{Less, Equal, Greater}
 use Rattle.std.proofs.Common.{arith, subst, sym, ap, ◌∙◌}
-use Rattle.std.proofs.lemmas.Bool.Decides.{nat_tests}
 use Rattle.std.proofs.lemmas.List.Elements.{All-drop, All-from_recursion, All-take, recursion_from_All}
 use Rattle.std.proofs.lemmas.List.Folds.{list_any-append}
-use Rattle.std.proofs.lemmas.List.FromFn.{length-map-range_with_len}
-use Rattle.merge_gens.specs.Filling.{closed, filled_by, generation_of, generations_of}
-use Rattle.merge_gens.specs.declared.filling.Filling.{Filling}
 use Rattle.merge_table.proofs.LookUps.{lookup-insert_entry}
 use Rattle.merge_model.proofs.Lists.{all-append}
 

@@ -1,12 +1,10 @@
 -- What every step keeps, every list of events keeps.
-use Rattle.std.specs.Prelude.{◌≡◌, ◌==◌, ℕ, List, [], ◌∷◌, Bool, true, false, Option, Some, None, Result, Ok, Err, refl, if◌then◌else◌, IfOk}
+use Rattle.std.specs.Prelude.{◌≡◌, ℕ, List, [], ◌∷◌, Bool, true, false, Result, Ok, Err, refl, if◌then◌else◌, IfOk}
 use Rattle.std.proofs.Common.{arith, subst, sym}
-use Rattle.std.proofs.lemmas.Bool.Decides.{nat_tests}
 use Rattle.merge_types.specs.declared.identifiers.SiteId.{SiteId}
 use Rattle.merge_types.specs.declared.identifiers.Moment.{Moment}
 use Rattle.merge_types.specs.declared.changes.Change.{Change}
 use Rattle.merge_units.specs.declared.result.Decision.{Decision}
-use Rattle.merge_batch.specs.declared.refusal.Refusal.{Refusal}
 use Rattle.merge_batch.specs.declared.refusal.Refusal.TheVariants.{UnknownSite, UnknownName}
 use Rattle.merge_batch.specs.declared.request.Upload.{Upload}
 use Rattle.merge_schema.specs.declared.publication.Publication.{Publication}
@@ -18,10 +16,7 @@ use Rattle.merge_model.specs.declared.answer.Answer.{Answer}
 use Rattle.merge_model.specs.declared.answer.Answer.TheVariants.{Refused}
 use Rattle.merge_model.specs.Publisher.{at_moment}
 use Rattle.merge_model.specs.PublisherUpload.{upload, brings_news}
-use Rattle.merge_model.specs.World.{World, Judges, Saying, subscriber_at}
 use Rattle.merge_model.specs.Steps.{Action, Pass, Make, CloseAt, Send, Deliver, MakeAnew, Forget, Look, SendJoin, SendUpload, SendRanges, SendDownload}
-use Rattle.merge_model.specs.declared.outcome.Outcome.{Outcome}
-use Rattle.merge_model.specs.declared.outcome.Outcome.TheVariants.{Refuses}
 use Rattle.merge_model.specs.Session.{Stepping}
 use Rattle.merge_model.specs.Naming.{insert_by, update_by, delete_by}
 use Rattle.merge_model.specs.Events.{is_site, looking, where_site, where_subscriber, acting, changing, syncing, happens, after}

@@ -1,21 +1,12 @@
 -- What every step keeps, a session keeps, and so do all events.
-use Rattle.std.specs.Prelude.{◌≡◌, ℕ, zero, suc, List, [], ◌∷◌, Bool, true, false, Option, Some, None, Result, Ok, Err, refl, nat_le, if◌then◌else◌, ◌+◌, ◌-◌}
-use Rattle.std.proofs.Common.{arith}
+use Rattle.std.specs.Prelude.{◌≡◌, ℕ, zero, suc, Bool, true, false, Option, Some, None, refl, nat_le, if◌then◌else◌, ◌+◌, ◌-◌}
 use Rattle.merge_types.specs.declared.identifiers.SiteId.{SiteId}
-use Rattle.merge_types.specs.declared.changes.Change.{Change}
 use Rattle.merge_batch.specs.declared.refusal.Refusal.{Refusal}
 use Rattle.merge_batch.specs.declared.reply.Downloaded.{Downloaded}
-use Rattle.merge_schema.specs.declared.publication.Publication.{Publication}
-use Rattle.merge_model.specs.declared.event.Event.{Event}
-use Rattle.merge_model.specs.declared.event.Event.TheVariants as event
-use Rattle.merge_model.specs.declared.outcome.Taken.{Taken}
-use Rattle.merge_model.specs.declared.answer.Answer.{Answer}
 use Rattle.merge_model.specs.Steps.{Action, Deliver, Send, Sending, SendJoin, SendUpload, SendRanges, SendDownload}
 use Rattle.merge_model.specs.declared.outcome.Outcome.{Outcome}
 use Rattle.merge_model.specs.declared.outcome.Outcome.TheVariants.{Posted, Took, Refuses}
 use Rattle.merge_model.specs.Session.{Stepping, Session, then_deliver, ask, arrived, answered_as, as_it_is, exchange, unless_stopped, joining, is_joined_in, with_upload, uploading, all_uploads, unsent_generations, has_grant, last_message, asking_ranges, all_ranges, range_asks, with_download, with_answer, after_download, downloaded_in, downloading, all_downloads, session}
-use Rattle.merge_model.specs.Events.{answered_by, acting, where_site, where_subscriber, changing, syncing, happens, after}
-use Rattle.merge_model.specs.Naming
 
 module _ {W : Type 0} (stepping : Stepping W) (P : W → Type 0) (of_act : (w : W) (action : Action) → P w → P (stepping.act w action).0) where
   module _ (site : SiteId) where

@@ -1,6 +1,6 @@
 -- Lists of rows' keys, each once, and what is found in them.
-use Rattle.std.specs.Prelude.{◌≡◌, ◌||◌, List, [], ◌∷◌, Bool, true, false, Option, Some, None, refl, cond, map, is_some}
-use Rattle.std.specs.List.{fold, list_any}
+use Rattle.std.specs.Prelude.{◌≡◌, ◌||◌, List, [], ◌∷◌, Bool, true, false, Option, Some, refl, cond, map, is_some}
+use Rattle.std.specs.List.{fold}
 use Rattle.std.specs.BTreeMap.{is_at}
 use Rattle.std.proofs.Common.{sym, ap, ◌∙◌}
 use Rattle.std.proofs.lemmas.Map.Made.{is_some-lookup}

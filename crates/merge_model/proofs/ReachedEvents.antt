@@ -1,5 +1,5 @@
 -- From actions to events, and from events to lists of them.
-use Rattle.std.proofs.Common.{◌≡◌, ◌++◌, ◌∷◌, [], ℕ, true, List, Option, Some, None, Result, Ok, Err, ◌+◌, arith, refl, ap, ◌∙◌}
+use Rattle.std.proofs.Common.{◌≡◌, ◌++◌, ◌∷◌, [], ℕ, true, List, Option, Ok, ◌+◌, arith, refl, ap}
 use Rattle.merge_types.specs.declared.changes.Change.{Change}
 use Rattle.merge_types.specs.declared.identifiers.SiteId.{SiteId}
 use Rattle.merge_batch.specs.declared.refusal.Refusal.{Refusal}
@@ -10,11 +10,11 @@ use Rattle.merge_model.specs.declared.answer.Answer.TheVariants.{Counts, Now, Re
 use Rattle.merge_model.specs.Entries.{live_rows}
 use Rattle.merge_model.specs.Reports.{counts_of, sub_live_rows}
 use Rattle.merge_model.specs.Tables.{PublisherTables, SubscriberTables}
-use Rattle.merge_model.specs.Events.{after, answered_by, answers, change_answer, changing, happens, is_site, looked, outcome_answer, reported, session_answer, where_site, where_subscriber, syncing}
+use Rattle.merge_model.specs.Events.{answered_by, change_answer, happens, is_site, looked, outcome_answer, reported, session_answer}
 use Rattle.merge_model.specs.Failing.{Faulty, faulty}
 use Rattle.merge_model.specs.Naming.{insert_by}
 use Rattle.merge_model.specs.Session.{Session, session}
-use Rattle.merge_model.specs.Steps.{Action, Deliver, Look, Make}
+use Rattle.merge_model.specs.Steps.{Deliver, Look, Make}
 use Rattle.merge_model.specs.declared.outcome.Outcome.{Outcome}
 use Rattle.merge_model.specs.declared.outcome.Outcome.TheVariants.{Passed, Refuses}
 use Rattle.merge_model.specs.World.{Saying, World}
@@ -23,8 +23,7 @@ use Rattle.merge_model.specs.declared.event.NamedValue.{NamedValue}
 use Rattle.merge_model.specs.declared.event.Event.TheVariants as event
 use Rattle.merge_model.specs.Reach.{Acts, Happens, at, run, stepping, with_outcome}
 use Rattle.merge_model.specs.Reach.{Reaches}
-use Rattle.merge_model.specs.Failing.{Slips}
-use Rattle.merge_model.proofs.Reached.{same-end, same-start, stays, then, under}
+use Rattle.merge_model.proofs.Reached.{same-start, stays, then, under}
 
 module _ (p : Publication) (says : Saying) where
   pub delivering : (number : ℕ) (w v : World) (outcome : Outcome) (a b : ℕ) → Acts p says (Deliver number) w v outcome a b → Happens p says w (event.Deliver number) v (outcome_answer number outcome) a b

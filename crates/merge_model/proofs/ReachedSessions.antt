@@ -1,5 +1,5 @@
 -- What is reached by a session's parts.
-use Rattle.std.proofs.Common.{◌≡◌, ◌+◌, ◌-◌, ◌<◌, ◌≤◌, ℕ, suc, arith, List, [], Option, Some, None, refl, ap, sym, subst, ◌∙◌, add-one}
+use Rattle.std.proofs.Common.{◌≡◌, ◌+◌, ◌-◌, ◌<◌, ◌≤◌, ℕ, suc, arith, [], Option, Some, None, refl, ap, sym, subst, ◌∙◌}
 use Rattle.merge_types.specs.declared.identifiers.SiteId.{SiteId}
 use Rattle.merge_batch.specs.declared.refusal.Refusal.{Refusal}
 use Rattle.merge_schema.specs.declared.publication.Publication.{Publication}
@@ -14,7 +14,7 @@ use Rattle.merge_model.specs.World.{Saying, World}
 use Rattle.merge_model.specs.Reach.{Acts, Asks, Uploads, at, stepping, with_outcome}
 use Rattle.merge_model.specs.Reach.{Reaches}
 use Rattle.merge_model.specs.Failing.{Slips}
-use Rattle.merge_model.proofs.Reached.{same-start, same-end, stays, then, under}
+use Rattle.merge_model.proofs.Reached.{same-start, same-end, then, under}
 
 module _ (publication : Publication) (says : Saying) (site : SiteId) where
   abbrev Part : Type 0

@@ -1,7 +1,6 @@
 -- Reports change nothing, and a refusal notes nothing.
-use Rattle.std.specs.Prelude.{◌≡◌, ◌==◌, ℕ, List, [], ◌∷◌, Bool, true, false, Option, Some, None, Result, Ok, Err, refl, if◌then◌else◌}
+use Rattle.std.specs.Prelude.{◌≡◌, ℕ, List, Bool, true, false, Result, Ok, Err, refl, if◌then◌else◌}
 use Rattle.std.proofs.Common.{arith, subst, sym}
-use Rattle.std.proofs.lemmas.Bool.Decides.{nat_tests}
 use Rattle.merge_types.specs.declared.identifiers.SiteId.{SiteId}
 use Rattle.merge_batch.specs.declared.refusal.Refusal.{Refusal}
 use Rattle.merge_batch.specs.declared.refusal.Refusal.TheVariants.{UnknownSite, UnknownName}
@@ -13,16 +12,16 @@ use Rattle.merge_model.specs.declared.answer.Answer.{Answer}
 use Rattle.merge_model.specs.declared.answer.Answer.TheVariants.{Conflicts, Counts, Fine, Grants, Held, Refused, Rows}
 use Rattle.merge_model.specs.Entries.{live_rows}
 use Rattle.merge_model.specs.Reports.{counts_of, held_report, partition_report, publisher_generations, shown_rows, sub_live_rows, subscriber_generations}
-use Rattle.merge_model.specs.World.{World, Judges, Saying, subscriber_at}
+use Rattle.merge_model.specs.World.{World, Judges, Saying}
 use Rattle.merge_model.specs.Steps.{Action, Look, step_by}
 use Rattle.merge_model.specs.declared.outcome.Outcome.{Outcome}
 use Rattle.merge_model.specs.declared.outcome.Outcome.TheVariants.{Refuses}
 use Rattle.merge_model.specs.Session.{Stepping}
-use Rattle.merge_model.specs.Events.{is_site, looked, looking, reported, where_site, where_subscriber, reporting, showing, happens, machine}
+use Rattle.merge_model.specs.Events.{is_site, looked, looking, reported, where_site, where_subscriber, reporting, showing, happens}
 use Rattle.merge_schema.specs.Places.{is_subscription}
 use Rattle.merge_model.specs.Naming.{article_by}
 use Rattle.merge_model.specs.ByHistory.{by_history}
-use Rattle.merge_model.specs.Model.{Model, model, model_step, after_step}
+use Rattle.merge_model.specs.Model.{Model, model_step, after_step}
 use Rattle.merge_model.specs.Laws.{is_report}
 use Rattle.merge_model.proofs.Refused.{step_by-leaves}
 

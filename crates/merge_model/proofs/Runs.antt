@@ -1,11 +1,7 @@
 -- From steps to every list of events.
-use Rattle.std.specs.Prelude.{◌≡◌, ◌≤◌, ◌<◌, ◌==◌, ℕ, List, [], ◌∷◌, Bool, true, false, refl, if◌then◌else◌, All, map}
+use Rattle.std.specs.Prelude.{ℕ, List, [], ◌∷◌, All, map}
 use Rattle.std.specs.List.Sorted.{IsStrictlySortedBy}
-use Rattle.std.specs.Map.{keys_of}
-use Rattle.std.specs.Ordering.{nat_cmp}
 use Rattle.std.proofs.Common.{arith}
-use Rattle.std.proofs.lemmas.Bool.Decides.{nat_tests}
-use Rattle.merge_gens.specs.Book.{IsSound}
 use Rattle.merge_ident.specs.declared.grants.Rule.{Rule}
 use Rattle.merge_ident.specs.Grants.{AreDisjoint}
 use Rattle.merge_ident.specs.Books.{IsBook, IsRule}

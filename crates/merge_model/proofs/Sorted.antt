@@ -1,5 +1,5 @@
 -- The publisher's lists of pairs stay in order.
-use Rattle.std.specs.Prelude.{◌≡◌, ◌≤◌, ◌+◌, ◌/◌, ◌%◌, ◌<◌, ◌==◌, ℕ, List, [], ◌∷◌, Bool, true, false, Option, Some, None, Result, Ok, Err, refl, if◌then◌else◌, IfOk, max, map, filter, cond, nat_le}
+use Rattle.std.specs.Prelude.{◌≡◌, ◌≤◌, ◌<◌, ℕ, List, [], ◌∷◌, Bool, true, false, Result, Ok, Err, refl, IfOk, map, filter, cond, nat_le}
 use Rattle.std.specs.List.{fold, zip}
 use Rattle.std.specs.List.Sorted.{IsStrictlySortedBy}
 use Rattle.std.specs.Map.{keys_of}
@@ -21,7 +21,7 @@ use Rattle.merge_gens.specs.declared.filling.Filling.{Filling}
 use Rattle.merge_gens.specs.declared.sites.SiteState.{SiteState}
 use Rattle.merge_gens.specs.Filling as fill
 use Rattle.merge_gens.specs.declared.closings.Closing.{Closing}
-use Rattle.merge_gens.specs.Book.{Book, IsSound, moved_to, entered, closed_now}
+use Rattle.merge_gens.specs.Book.{Book, IsSound, entered, closed_now}
 use Rattle.merge_gens.proofs.ClosedGenerations.{sound_kept, sound_moved}
 use Rattle.std.specs.BTreeMap.{is_at}
 use Rattle.merge_table.proofs.Sorted.{sorted_put, sorted_take}
@@ -36,7 +36,7 @@ use Rattle.merge_types.specs.RowKeys.{key_cmp}
 use Rattle.merge_gens.specs.Moves.{row_site_cmp}
 use Rattle.merge_model.specs.Keys.{drop_row_site, put_row}
 use Rattle.merge_model.specs.Judge.{PublisherJudge}
-use Rattle.merge_model.specs.Entries.{Entries, Changing, changing_entries, entry_count, with_rows, with_move, with_entries, changed_by}
+use Rattle.merge_model.specs.Entries.{Entries, changing_entries, entry_count, with_rows, with_move, with_entries}
 use Rattle.merge_model.specs.Acts.{Act, acts_of}
 use Rattle.merge_model.specs.Publisher.{at_moment, closed}
 use Rattle.merge_model.specs.PublisherLocal.{drawn, Drawn, made_locally, with_draw, changing_locally}

@@ -1,6 +1,5 @@
 -- What the calls of a subscriber keep, every step of the world keeps of all subscribers.
-use Rattle.std.specs.Prelude.{◌≡◌, ◌==◌, ℕ, List, Bool, true, false, Option, Some, None, Result, Ok, Err, refl, if◌then◌else◌, IfOk, [], ◌∷◌, cond, map, ◌+◌}
-use Rattle.std.proofs.Common.{arith, subst, sym}
+use Rattle.std.specs.Prelude.{◌==◌, ℕ, List, Bool, true, false, Option, Some, None, Result, Ok, Err, if◌then◌else◌, IfOk, [], ◌∷◌, cond, map, ◌+◌}
 use Rattle.std.specs.List.{AllByRecursion}
 use Rattle.std.specs.Map.{lookup}
 use Rattle.std.specs.BTreeMap.{is_at, insert_entry}
@@ -11,7 +10,6 @@ use Rattle.merge_types.specs.declared.identifiers.SiteId.{SiteId}
 use Rattle.merge_types.specs.declared.identifiers.Moment.{Moment}
 use Rattle.merge_types.specs.declared.identifiers.RowId.{RowId}
 use Rattle.merge_types.specs.declared.changes.Change.{Change}
-use Rattle.merge_units.specs.declared.result.Decision.{Decision}
 use Rattle.merge_batch.specs.declared.refusal.Refusal.{Refusal}
 use Rattle.merge_batch.specs.declared.refusal.Refusal.TheVariants.{UnknownSite}
 use Rattle.merge_batch.specs.declared.request.Join.{Join}
@@ -36,7 +34,6 @@ use Rattle.merge_model.specs.PublisherJoin.{join}
 use Rattle.merge_model.specs.PublisherUpload.{upload}
 use Rattle.merge_model.specs.PublisherRanges.{ranges}
 use Rattle.merge_model.specs.PublisherDownload.{download}
-use Rattle.merge_model.specs.PublisherPurge.{purge}
 use Rattle.merge_model.specs.Subscriber.{sub_local, close_sub_generation, sub_closed, sub_at_moment, sub_counters}
 use Rattle.merge_batch.specs.declared.request.Outstanding.{Outstanding}
 use Rattle.merge_batch.specs.declared.request.Outstanding.TheVariants as ask

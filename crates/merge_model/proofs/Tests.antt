@@ -1,9 +1,7 @@
 -- What tests say: of one or another, and of numbers.
-use Rattle.std.specs.Prelude.{◌≡◌, ◌==◌, ◌||◌, ℕ, List, ◌∷◌, Bool, true, false, refl, if◌then◌else◌}
-use Rattle.std.proofs.Common.{arith, ap, ◌∙◌}
+use Rattle.std.specs.Prelude.{◌≡◌, ◌==◌, ◌||◌, ℕ, Bool, true, false, refl, if◌then◌else◌}
+use Rattle.std.proofs.Common.{arith}
 use Rattle.std.proofs.lemmas.Bool.Decides.{nat_tests}
-use Rattle.merge_types.specs.declared.identifiers.Dot.{Dot}
-use Rattle.merge_model.specs.History.{has}
 
 -- one or another
 pub or-first : (a b : Bool) → a ≡ true → (a || b) ≡ true

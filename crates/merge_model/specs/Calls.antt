@@ -1,6 +1,6 @@
 -- The calls of a site: what each of them does by the definitions, and in which ways it may fail.
 use Rattle.std.specs.List.{list_any}
-use Rattle.std.specs.Prelude.{Bool, Err, List, None, Ok, Option, Result, Some, [], false, map, nat_lt, not, take, true, ℕ, ◌+◌, ◌||◌, ◌≡◌, ◌≤◌, ◌⊎◌}
+use Rattle.std.specs.Prelude.{Bool, Err, List, None, Ok, Option, Result, Some, [], false, map, nat_lt, take, true, ℕ, ◌+◌, ◌||◌, ◌≡◌, ◌≤◌, ◌⊎◌}
 use Rattle.merge_types.specs.declared.identifiers.Moment.{Moment}
 use Rattle.merge_resolve.specs.declared.case.ConflictCase.{ConflictCase}
 use Rattle.merge_gens.specs.Book.{Book}
@@ -22,7 +22,7 @@ use Rattle.merge_model.specs.PublisherRanges.{plans, ranges}
 use Rattle.merge_model.specs.PublisherUpload.{brings_news, upload}
 use Rattle.merge_model.specs.Steps.{kept_decisions, upload_questions}
 use Rattle.merge_resolve.specs.Questions.{question_of as asked_of}
-use Rattle.merge_model.specs.Tables.{PublisherTables, SubscriberTables}
+use Rattle.merge_model.specs.Tables.{PublisherTables}
 use Rattle.merge_model.specs.World.{Saying}
 use Rattle.merge_model.specs.declared.outcome.Taken.{Taken}
 use Rattle.merge_model.specs.declared.outcome.Taken.TheVariants.{Acted, Missed}

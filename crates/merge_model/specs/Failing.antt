@@ -1,20 +1,19 @@
 -- Worlds in which steps may fail: a step is answered with a fault of the store or with want of memory, and all tables
 -- stay as they were.
 use Rattle.std.specs.Prelude.{Bool, List, None, Option, Some, [], false, if◌then◌else◌, not, take, true, ℕ, ◌==◌, ◌||◌, ◌∷◌}
-use Rattle.merge_types.specs.declared.identifiers.SiteId.{SiteId}
 use Rattle.merge_resolve.specs.declared.case.ConflictCase.{ConflictCase}
 use Rattle.merge_resolve.specs.Asked.{tallies_after}
 use Rattle.merge_schema.specs.declared.publication.Publication.{Publication}
 use Rattle.merge_batch.specs.declared.refusal.Refusal.{Refusal}
 use Rattle.merge_model.specs.Calls.{closing_commits, questions_on, request_commits, taken_commits}
 use Rattle.merge_model.specs.Session.{Stepping}
-use Rattle.merge_model.specs.Steps.{Action, CloseAt, Deliver, Forget, Look, Make, MakeAnew, Pass, Send}
+use Rattle.merge_model.specs.Steps.{Action, CloseAt, Deliver, Pass}
 use Rattle.merge_model.specs.Tables.{SubscriberTables}
 use Rattle.merge_model.specs.World.{World, letter_at, subscriber_at}
 use Rattle.merge_model.specs.declared.letter.Letter.{Letter}
 use Rattle.merge_model.specs.declared.letter.Message.TheVariants.{Asks, Replies}
 use Rattle.merge_model.specs.declared.outcome.Outcome.{Outcome}
-use Rattle.merge_model.specs.declared.outcome.Outcome.TheVariants.{Closes, Discards, Forgot, Made, NoLetter, NoPost, Passed, Posted, Refuses, Took}
+use Rattle.merge_model.specs.declared.outcome.Outcome.TheVariants.{Closes, Discards, Forgot, Made, Posted, Refuses, Took}
 use Rattle.merge_batch.specs.declared.refusal.Refusal.TheVariants as refusal
 
 -- A step fails, by a fault of the store or else for want of memory. Of the questions of an upload the first few were asked already.

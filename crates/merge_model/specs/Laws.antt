@@ -21,7 +21,7 @@ use Rattle.merge_model.specs.History.{History, is_done}
 use Rattle.merge_model.specs.Judge.{PublisherJudge, SubscriberJudge}
 use Rattle.merge_types.specs.RowKeys.{key_cmp}
 use Rattle.merge_gens.specs.Moves.{row_site_cmp}
-use Rattle.merge_model.specs.Model.{Model, empty_model, model, model_step}
+use Rattle.merge_model.specs.Model.{Model, model, model_step}
 use Rattle.merge_model.specs.Promises.{NoneActsTwice, acting_generations}
 use Rattle.merge_model.specs.Publications.{rules_of}
 use Rattle.merge_model.specs.Runs.{model_behind, world_behind}
@@ -34,7 +34,7 @@ use Rattle.merge_model.specs.declared.outcome.Outcome.TheVariants.{Refuses}
 use Rattle.merge_model.specs.Subscriber.{close_sub_generation, sub_at_moment, sub_closed, sub_local}
 use Rattle.merge_model.specs.Tables.{PublisherTables, SubscriberTables}
 use Rattle.merge_model.specs.Taking.{take_reply}
-use Rattle.merge_model.specs.World.{Judges, Saying, World, empty_world}
+use Rattle.merge_model.specs.World.{Judges, Saying, World}
 use Rattle.merge_model.specs.declared.event.Event.{Event}
 use Rattle.merge_model.specs.declared.event.Event.TheVariants as event
 

@@ -1,7 +1,7 @@
 -- What a publication says of an article or a site.
 use Rattle.std.specs.List.{enumerate_from, fold}
 use Rattle.std.specs.Option.{option_and_then}
-use Rattle.std.specs.Prelude.{List, None, Option, Some, [], filter_map, map, option_map, unwrap_or, ℕ}
+use Rattle.std.specs.Prelude.{List, Option, [], filter_map, map, option_map, unwrap_or, ℕ}
 use Rattle.merge_ident.specs.declared.grants.Rule.{Rule}
 use Rattle.merge_schema.specs.declared.publication.Article.{Article}
 use Rattle.merge_schema.specs.declared.publication.Identity.{Identity}

@@ -6,7 +6,7 @@ use Rattle.merge_types.specs.declared.identifiers.SiteId.{SiteId}
 use Rattle.merge_model.specs.declared.answer.Answer.{Answer}
 use Rattle.merge_model.specs.Events.{after, answers, happens, machine}
 use Rattle.merge_model.specs.Failing.{Faulty, Slip, Slips, failing, faulty}
-use Rattle.merge_model.specs.Session.{Session, Stepping, ask, asking_ranges, downloading, uploading}
+use Rattle.merge_model.specs.Session.{Session, Stepping, ask, uploading}
 use Rattle.merge_model.specs.Steps.{Action, Sending}
 use Rattle.merge_model.specs.World.{Saying, World}
 use Rattle.merge_model.specs.declared.event.Event.{Event}

@@ -1,6 +1,6 @@
 -- What reports answer. They change nothing.
 use Rattle.std.specs.List.{range_with_len}
-use Rattle.std.specs.Prelude.{Bool, List, Option, count_by, filter, filter_map, length, map, option_map, unwrap_or, ℕ, ◌==◌}
+use Rattle.std.specs.Prelude.{Bool, List, count_by, filter, filter_map, length, map, option_map, unwrap_or, ℕ, ◌==◌}
 use Rattle.merge_types.specs.declared.identifiers.SiteId.{SiteId}
 use Rattle.merge_gens.specs.declared.sites.Marks.{Marks}
 use Rattle.merge_ident.specs.Holders.{Holder}

@@ -18,7 +18,6 @@ use Rattle.merge_model.specs.Steps.{Deliver}
 use Rattle.merge_model.specs.Tables.{PublisherTables}
 use Rattle.merge_model.specs.World.{Saying, World, letter_at}
 use Rattle.merge_model.specs.declared.event.Event.{Event}
-use Rattle.merge_model.specs.declared.letter.Letter.{Letter}
 use Rattle.merge_model.specs.declared.letter.Message.TheVariants.{Asks}
 use Rattle.merge_batch.specs.declared.refusal.Refusal.TheVariants as refusal
 

@@ -30,7 +30,6 @@ use Rattle.merge_model.specs.PublisherDownload.{download}
 use Rattle.merge_model.specs.PublisherJoin.{join}
 use Rattle.merge_model.specs.PublisherLocal.{local}
 use Rattle.merge_model.specs.PublisherPurge.{purge}
-use Rattle.merge_model.specs.declared.outcome.Forgotten.{Forgotten}
 use Rattle.merge_model.specs.PublisherRanges.{ranges}
 use Rattle.merge_model.specs.PublisherUpload.{upload}
 use Rattle.merge_model.specs.Reinit.{reinitialise}

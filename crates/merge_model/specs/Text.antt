@@ -2,9 +2,6 @@
 use Rattle.std.specs.Prelude.{ℕ, suc, ℤ, List, [], ◌∷◌, ◌++◌, length, map, sum_by, codes, slice_get, Option, Some, None, option_map}
 use Rattle.std.specs.List.{flat_map}
 use Rattle.std.specs.Fmt.{decimal, signed_decimal}
-use Rattle.merge_types.specs.declared.identifiers.SiteId.{SiteId}
-use Rattle.merge_types.specs.declared.identifiers.RowId.{RowId}
-use Rattle.merge_types.specs.declared.values.Value.{Value}
 use Rattle.merge_types.specs.Literal.{printed}
 use Rattle.merge_types.specs.Rows.{row_text}
 use Rattle.merge_units.specs.declared.version.Cell.{Cell}

@@ -6,8 +6,6 @@ use Rattle.merge_units.specs.declared.result.Decision.{Decision}
 use Rattle.merge_resolve.specs.declared.case.ConflictCase.{ConflictCase}
 use Rattle.merge_schema.specs.declared.publication.Publication.{Publication}
 use Rattle.merge_schema.specs.declared.publication.Subscription.{Subscription}
-use Rattle.merge_batch.specs.declared.reply.Reply.{Reply}
-use Rattle.merge_batch.specs.declared.request.Request.{Request}
 use Rattle.merge_model.specs.ByNumbers.{by_numbers, by_rows}
 use Rattle.merge_model.specs.Judge.{PublisherJudge, SubscriberJudge}
 use Rattle.merge_model.specs.Keys.{at_number, put_number}

@@ -2,8 +2,7 @@ use Rattle.std.specs.Prelude.{◌≤◌, ℕ, ℤ, count_by}
 use Rattle.std.proofs.Common.{arith}
 use Rattle.merge_schema.specs.declared.publication.Publication.{Publication}
 use Rattle.merge_model.specs.Runs.{model_behind}
-use Rattle.merge_model.specs.Model.{Model, empty_model, model}
-use Rattle.merge_model.specs.Events.{after}
+use Rattle.merge_model.specs.Model.{Model}
 use Rattle.merge_model.specs.Promises.{IdentitiesApart}
 use Rattle.merge_laws.specs.Identities.{TakenWereGranted, gives_to, holder_in, holders_at, takes_at}
 use Rattle.merge_laws.proofs.IdentityCalls.{held-granted}

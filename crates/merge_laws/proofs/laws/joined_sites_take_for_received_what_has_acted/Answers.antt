@@ -3,8 +3,7 @@ use Rattle.std.proofs.Common.{arith, ◌∙◌}
 use Rattle.std.proofs.lemmas.Bool.Decides.{nat_tests}
 use Rattle.merge_model.specs.Runs.{model_behind}
 use Rattle.merge_model.specs.ByNumbers.{received_by_number}
-use Rattle.merge_model.specs.Events.{after}
-use Rattle.merge_model.specs.Model.{Model, empty_model, model}
+use Rattle.merge_model.specs.Model.{Model}
 use Rattle.merge_laws.specs.Behind.{Behind}
 use Rattle.merge_laws.specs.Laws.{JoinedTakesActed}
 use Rattle.merge_laws.specs.Received.{Received}

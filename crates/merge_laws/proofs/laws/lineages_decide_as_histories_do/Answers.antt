@@ -2,8 +2,7 @@ use Rattle.merge_model.specs.Failing.{Slips}
 use Rattle.std.specs.Prelude.{ℕ, List}
 use Rattle.merge_schema.specs.declared.publication.Publication.{Publication}
 use Rattle.merge_model.specs.Runs.{model_behind}
-use Rattle.merge_model.specs.Events.{after}
-use Rattle.merge_model.specs.Model.{Model, empty_model, model}
+use Rattle.merge_model.specs.Model.{Model}
 use Rattle.merge_model.specs.World.{Saying}
 use Rattle.merge_model.specs.declared.event.Event.{Event}
 use Rattle.merge_laws.proofs.LineagesAlways.{all-stands, alike-step, cases-alike, kept-always, publisher-alike}

@@ -4,8 +4,7 @@ use Rattle.merge_schema.specs.declared.publication.Publication.{Publication}
 use Rattle.merge_model.specs.Runs.{model_behind}
 use Rattle.merge_model.specs.declared.event.Event.{Event}
 use Rattle.merge_model.specs.World.{Saying}
-use Rattle.merge_model.specs.Events.{after}
-use Rattle.merge_model.specs.Model.{Model, empty_model, model}
+use Rattle.merge_model.specs.Model.{Model}
 use Rattle.merge_laws.proofs.LastLineReads.{changes-told, inside-by-line, left-by-line, mappings-told, outside-by-line}
 use Rattle.merge_laws.proofs.LastLineSteps.{last_lines-always}
 use Rattle.merge_laws.proofs.laws.mappings_are_the_last_lines.Goals as goal

@@ -1,6 +1,4 @@
 use Rattle.merge_model.specs.Runs.{model_behind}
-use Rattle.merge_model.specs.Events.{after}
-use Rattle.merge_model.specs.Model.{empty_model, model}
 use Rattle.merge_laws.proofs.PurgeModels.{in_step-always, old-is-past}
 use Rattle.merge_laws.proofs.laws.purges_take_nothing_that_live_sites_need.Goals as goal
 

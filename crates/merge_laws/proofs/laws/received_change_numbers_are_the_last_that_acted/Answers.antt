@@ -4,8 +4,7 @@ use Rattle.std.proofs.Common.{sym, ◌∙◌}
 use Rattle.merge_schema.specs.declared.publication.Publication.{Publication}
 use Rattle.merge_model.specs.Runs.{model_behind}
 use Rattle.merge_model.specs.declared.event.Event.{Event}
-use Rattle.merge_model.specs.Events.{after}
-use Rattle.merge_model.specs.Model.{Model, empty_model, model}
+use Rattle.merge_model.specs.Model.{Model}
 use Rattle.merge_model.specs.World.{Saying}
 use Rattle.merge_laws.specs.Laws.{ClosingsKeepTheLast, ReceivedNumberIsDone, UnmetIsDone, UploadsTellTheLast}
 use Rattle.merge_laws.specs.Numbered.{Numbered}

@@ -1,7 +1,6 @@
 use Rattle.std.proofs.Common.{arith}
 use Rattle.merge_model.specs.Runs.{model_behind}
-use Rattle.merge_model.specs.Events.{after}
-use Rattle.merge_model.specs.Model.{Model, empty_model, model}
+use Rattle.merge_model.specs.Model.{Model}
 use Rattle.merge_laws.specs.Laws.{SubscribersDecideAlike}
 use Rattle.merge_laws.specs.Unsent.{Unsent}
 use Rattle.merge_laws.proofs.UnsentKept.{Base, decides-alike, unsent-always}
