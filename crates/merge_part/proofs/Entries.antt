@@ -1,5 +1,5 @@
 -- How the entries of an index follow a row that changes.
-use Rattle.std.proofs.Common.{◌≡◌, ◌≢◌, inl, inr, ◌<◌, ◌≤◌, ◌+◌, ℕ, zero, suc, Bool, true, false, not, cond, ◌&&◌, ◌||◌, ◌==◌, nat_lt, List, [], ◌∷◌, ◌++◌, length, Option, Some, None, refl, sym, ap, ◌∙◌, subst, arith}
+use Rattle.std.proofs.Common.{◌≡◌, ◌⊎◌, ◌≢◌, inl, inr, ◌<◌, ◌≤◌, ◌+◌, ℕ, zero, suc, Bool, true, false, not, cond, ◌&&◌, ◌||◌, ◌==◌, nat_lt, List, [], ◌∷◌, ◌++◌, length, Option, Some, None, refl, sym, ap, ◌∙◌, subst, arith}
 use Rattle.std.specs.Prelude.{slice_index_or}
 use Rattle.std.specs.List.{list_any}
 use Rattle.std.specs.List.Sorted.{IsStrictlySortedBy}
@@ -88,6 +88,14 @@ or_none : (b : Bool) → (b || false) ≡ b
 or_none true = refl
 or_none false = refl
 
+or_cases : (a b : Bool) → (a || b) ≡ true → (a ≡ true) ⊎ (b ≡ true)
+or_cases true b h = inl refl
+or_cases false b h = inr h
+
+second_part : (a b : Bool) → (a && b) ≡ true → b ≡ true
+second_part true b h = h
+second_part false b h = absurd cc
+
 -- the entry of a row is taken out
 pub left : (old new : DraftIndex) (number : ℕ) (v : Value) (row : RowId) → (v ≡ Null → ⊥) → new.come ≡ old.come → new.changes.items ≡ old.changes.items ++ Take (entry_for number v row) ∷ [] → Leaves old new number v row
 left old new number v row some same is = record {
@@ -96,6 +104,7 @@ left old new number v row some same is = record {
       sym (or_none (list_any (puts e) old.changes.items)) ∙ sym (list_any-append (puts e) old.changes.items (Take (entry_for number v row) ∷ [])) ∙ ap (list_any (puts e)) (sym is) ∙ h in
       ap (λ come. has come.set e) same ∙ all e was;
   stay = λ e h. ap (λ come. has come.set e) same ∙ h;
+  fresh = λ e h. inl (ap (λ come. has come.set e) (sym same) ∙ h);
   entries = λ set sorted e.
       ap (λ changes. has (set_after_all set changes) e) is
       ∙ ap (λ (s : Entries). has s e) (set_after_all-push set old.changes.items (Take (entry_for number v row)))
@@ -115,6 +124,11 @@ came old new number v row some inserted is = record {
   stay = λ e h.
       ap (λ (s : Entries). has s e) inserted ∙ has_room-insert_key entry_cmp entry_total (entry_for number v row) e old.come.set
       ∙ ap (λ (b : Bool). is_at (entry_cmp e) (entry_for number v row) || b) h ∙ or_end (is_at (entry_cmp e) (entry_for number v row));
+  fresh = λ e h.
+      elim (or_cases (is_at (entry_cmp e) (entry_for number v row)) (has old.come.set e) (sym (ap (λ (s : Entries). has s e) inserted ∙ has_room-insert_key entry_cmp entry_total (entry_for number v row) e old.come.set) ∙ h)) [
+        | inl here ↦ inr (second_part (are_joined e.value v) (is_of_row number row e) (sym (entry_is number v row some e) ∙ here))
+        | inr there ↦ inl there
+      ];
   entries = λ set sorted e.
       ap (λ changes. has (set_after_all set changes) e) is
       ∙ ap (λ (s : Entries). has s e) (set_after_all-push set old.changes.items (Put (entry_for number v row) tt))
@@ -131,6 +145,7 @@ pub left_null : (old : DraftIndex) (number : ℕ) (v : Value) (row : RowId) → 
 left_null old number v row null = record {
   come = λ all. all;
   stay = λ e h. h;
+  fresh = λ e h. inl h;
   entries = λ set sorted e. ap (λ (b : Bool). not (b && is_of_row number row e) && has (after set old) e) (sym (ap (are_joined e.value) null ∙ null_joins e.value));
 }
 
@@ -138,6 +153,7 @@ pub came_null : (old : DraftIndex) (number : ℕ) (v : Value) (row : RowId) → 
 came_null old number v row null = record {
   come = λ all. all;
   stay = λ e h. h;
+  fresh = λ e h. inl h;
   entries = λ set sorted e. ap (λ (b : Bool). (b && is_of_row number row e) || has (after set old) e) (sym (ap (are_joined e.value) null ∙ null_joins e.value));
 }
 
@@ -166,6 +182,7 @@ pub replaced_same : (old : DraftIndex) (number : ℕ) (v w : Value) (row : RowId
 replaced_same old number v w row same = record {
   come = λ all. all;
   stay = λ e h. h;
+  fresh = λ e h. inl h;
   entries = λ set sorted e is. same_then (is_of_row number row e) (has (after set old) e) (are_joined e.value w) (λ of. is of ∙ ap (are_joined e.value) same);
 }
 
@@ -174,6 +191,7 @@ pub replaced : (old mid new : DraftIndex) (number : ℕ) (v w : Value) (row : Ro
 replaced old mid new number v w row leaves comes = record {
   come = λ all. comes.come (leaves.come all);
   stay = λ e h. comes.stay e (leaves.stay e h);
+  fresh = λ e h. elim (comes.fresh e h) [ inl was ↦ leaves.fresh e was | inr here ↦ inr here ];
   entries = λ set sorted e is.
       comes.entries set sorted e ∙ ap (λ (b : Bool). (are_joined e.value w && is_of_row number row e) || b) (leaves.entries set sorted e)
       ∙ left_then (is_of_row number row e) (are_joined e.value v) (are_joined e.value w) (has (after set old) e) is;
@@ -254,6 +272,7 @@ module _ (article column : Link → ℕ) (links : List Link) (key : RowKey) (was
   entered_none old = record {
     come = λ all. all;
     stay = λ e h. h;
+    fresh = λ e h. inl h;
     entries = λ set sorted before rows at changed exact e. exact e ∙ none_yet article column links before rows e;
   }
 
@@ -262,6 +281,7 @@ module _ (article column : Link → ℕ) (links : List Link) (key : RowKey) (was
   entered_passed old draft count link at other so_far = record {
     come = so_far.come;
     stay = so_far.stay;
+    fresh = so_far.fresh;
     entries = λ set sorted before rows at_key changed exact e.
         so_far.entries set sorted before rows at_key changed exact e
         ∙ between_next article column links before rows count e
@@ -307,6 +327,15 @@ module _ (article column : Link → ℕ) (links : List Link) (key : RowKey) (was
   entered_next old draft draft' count link at here replaces so_far = record {
     come = λ all. replaces.come (so_far.come all);
     stay = λ e h. replaces.stay e (so_far.stay e h);
+    fresh = λ e h.
+        elim (replaces.fresh e h) [
+          | inl was ↦ so_far.fresh e was
+          | inr of ↦
+              let parts = row_is count key.row e of in
+              let of_number : ℕ → RowId = λ n. record { 0 = n } in
+              let linked : (article link == key.article) ≡ true = grind (arith, nat_tests, here) in
+              inr (at_link-is links e.join link (λ l. article l == key.article) (subst (λ n. IsAt links n link) (sym parts.0) at) ∙ linked, ap of_number parts.1)
+        ];
     entries = λ set sorted before rows at_key changed exact e.
         let so : has (after set draft) e ≡ between article column links count before rows e = so_far.entries set sorted before rows at_key changed exact e in
         replaces.entries set sorted e (λ of.

@@ -14,6 +14,7 @@ use Rattle.merge_join.specs.declared.entry.JoinEntry.{JoinEntry}
 use Rattle.merge_join.specs.Entries.{entry_cmp}
 use Rattle.merge_join.specs.Index.{has, of_value}
 use Rattle.merge_join.proofs.Blocks.{found-value}
+use Rattle.merge_part.proofs.Settled.{is_at-itself}
 use Rattle.merge_part.specs.declared.link.Link.{Link}
 use Rattle.merge_part.specs.Index.{Entries, entry_for, HasEntry}
 use Rattle.merge_part.specs.Waiting.{waits, KeepsWaiting, ChildrenWait, child_of}
@@ -84,6 +85,9 @@ any_step test row holds entry entries ih false is g = or_right (test entry.child
 -- what waits goes on waiting
 pub waits_on : (waiting : List RowKey) (more key : RowKey) → waits waiting key ≡ true → waits (waiting ++ more ∷ []) key ≡ true
 waits_on waiting more key h = list_any-append (is_at (key_cmp key)) waiting (more ∷ []) ∙ or_left (waits waiting key) (waits (more ∷ []) key) h
+
+pub waits_last : (waiting : List RowKey) (key : RowKey) → waits (waiting ++ key ∷ []) key ≡ true
+waits_last waiting key = list_any-append (is_at (key_cmp key)) waiting (key ∷ []) ∙ or_right (waits waiting key) (waits (key ∷ []) key) (or_left (is_at (key_cmp key) key) false (is_at-itself key))
 
 -- what a test says of a row it says of an entry of it
 pub any_of_row : (test : RowId → Bool) (row : RowId) → test row ≡ true → (entries : Entries) → list_any (is_row row) entries ≡ true → list_any (λ (entry : JoinEntry). test entry.child) entries ≡ true

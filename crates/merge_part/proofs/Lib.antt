@@ -10,6 +10,7 @@ pub mod Taken
 pub mod LiveRows
 pub mod Entries
 pub mod Found
+pub mod Values
 pub mod LinkLists
 pub mod InPartition
 pub mod MoveLists

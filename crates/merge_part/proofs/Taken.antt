@@ -80,19 +80,9 @@ module _ (links : List Link) (key : RowKey) (content : Option Content) (rows row
   other q apart = changed q ∙ ap (λ b. cond b content (rows q)) apart
 
   -- what waits after the children were reached
-  module _ (children : Entries) (indexed : AreChildrenIndexed links children rows) (order : List ℕ) (within : LinksAreWithin links order) (among : is_among order key.article ≡ true) (waiting waited : List RowKey) (kept : KeepsWaiting waiting waited) where
-    waits_more : (k : RowKey) → waits waited k ≡ true → waits (waited ++ key ∷ []) k ≡ true
-    waits_more k h = list_any-append (is_at (key_cmp k)) waited (key ∷ []) ∙ ap (λ b. b || waits (key ∷ []) k) h
-
-    or_true : (b : Bool) → (b || true) ≡ true
-    or_true true = refl
-    or_true false = refl
-
-    waits_last : (k : RowKey) → is_at (key_cmp k) key ≡ true → waits (waited ++ key ∷ []) k ≡ true
-    waits_last k h = list_any-append (is_at (key_cmp k)) waited (key ∷ []) ∙ ap (λ b. waits waited k || (b || false)) h ∙ or_true (waits waited k)
-
+  module _ (children : Entries) (indexed : AreChildrenIndexed links children rows) (order : List ℕ) (within : LinksAreWithin links order) (among : is_among order key.article ≡ true) (waiting waited : List RowKey) (kept : KeepsWaiting waiting waited) (itself_waits : waits waited key ≡ true) where
     child_pends : (k : RowKey) (number : ℕ) (link : Link) (x : Content) (held : Option Content) → IsAt links number link → link.child ≡ k.article → rows k ≡ Some x
-        → ChildrenWait children number link (parent_value link held) waited → are_joined (value_at x.values link.column) (parent_value link held) ≡ true → pends order (waited ++ key ∷ []) k ≡ true
+        → ChildrenWait children number link (parent_value link held) waited → are_joined (value_at x.values link.column) (parent_value link held) ≡ true → pends order waited k ≡ true
     child_pends k number link x held at below live wait joined =
         let is = joined_is (value_at x.values link.column) link held joined in
         let value : value_at x.values link.column ≡ parent_value link held = is.2 ∙ ap (parent_value link) (sym is.1) in
@@ -100,9 +90,9 @@ module _ (links : List Link) (key : RowKey) (content : Option Content) (rows row
         let there : waits waited (child_of link k.row) ≡ true = wait k.row entry (λ null. is.3 (value ∙ null)) in
         let here : waits waited k ≡ true = subst (λ q. waits waited q ≡ true) (child_is link k below) there in
         let comes : is_among order k.article ≡ true = subst (λ a. is_among order a ≡ true) below (within number link at) in
-        both_true (is_among order k.article) (waits (waited ++ key ∷ []) k) comes (waits_more k here)
+        both_true (is_among order k.article) (waits waited k) comes here
 
-    row_reaches : ReachedByRow links (length links) children key.article (rows key) content waited → RowReaches links key rows rows' (pends order (waited ++ key ∷ []))
+    row_reaches : ReachedByRow links (length links) children key.article (rows key) content waited → RowReaches links key rows rows' (pends order waited)
     row_reaches reached k number link x at below above live =
         elim (reached number link at.0 at above) [
           | inl same ↦ inl (same ∙ ap (parent_value link) (sym itself))
@@ -121,15 +111,15 @@ module _ (links : List Link) (key : RowKey) (content : Option Content) (rows row
     and_false_by true false c more h = refl
     and_false_by true true c more h = let bad : true ≡ false = sym (more refl) ∙ h in absurd cc
 
-    fewer : (p : RowKey) → pends order (waited ++ key ∷ []) p ≡ false → (is_at (key_cmp key) p ≡ false) × (pends order waiting p ≡ false)
+    fewer : (p : RowKey) → pends order waited p ≡ false → (is_at (key_cmp key) p ≡ false) × (pends order waiting p ≡ false)
     fewer p none = (
       not_true (is_at (key_cmp key) p) (λ is.
           let comes : is_among order p.article ≡ true = subst (λ (q : RowKey). is_among order q.article ≡ true) (same_key key p is) among in
-          sym (both_true (is_among order p.article) (waits (waited ++ key ∷ []) p) comes (waits_last p (is_at-swap p key ∙ is))) ∙ none),
-      and_false_by (is_among order p.article) (waits waiting p) (waits (waited ++ key ∷ []) p) (λ h. waits_more p (kept p h)) none,
+          sym (both_true (is_among order p.article) (waits waited p) comes (subst (λ (q : RowKey). waits waited q ≡ true) (same_key key p is) itself_waits)) ∙ none),
+      and_false_by (is_among order p.article) (waits waiting p) (waits waited p) (kept p) none,
     )
 
     -- each row that does not wait goes on meeting the rule
     pub met_after : (marks : RowKey → Sites) → ReachedByRow links (length links) children key.article (rows key) content waited
-        → AllMeet links rows marks (pends order waiting) → AllMeet links rows' marks (pends order (waited ++ key ∷ []))
-    met_after marks reached all = row_changed links key rows rows' marks (pends order waiting) (pends order (waited ++ key ∷ [])) other fewer (row_reaches reached) all
+        → AllMeet links rows marks (pends order waiting) → AllMeet links rows' marks (pends order waited)
+    met_after marks reached all = row_changed links key rows rows' marks (pends order waiting) (pends order waited) other fewer (row_reaches reached) all

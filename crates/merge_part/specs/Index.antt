@@ -21,6 +21,10 @@ Entries = List JoinEntry
 abbrev pub entry_for : ℕ → Value → RowId → JoinEntry
 entry_for number value row = record { value = value; join = number; child = row }
 
+-- what stands for the value under the number
+abbrev pub first_of : ℕ → Value → JoinEntry
+first_of number value = entry_for number value (record { 0 = 0 })
+
 -- the row is found by the value under the number, if it is not Null
 unfoldable pub HasEntry : Entries → ℕ → Value → RowId → Type 0
 HasEntry entries number value row = (value ≡ Null → ⊥) → has entries (entry_for number value row) ≡ true

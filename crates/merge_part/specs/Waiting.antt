@@ -10,7 +10,8 @@ use Rattle.merge_part.specs.declared.content.Content.{Content}
 use Rattle.merge_part.specs.declared.link.Link.{Link}
 use Rattle.merge_types.specs.RowKeys.{key_cmp}
 use Rattle.merge_part.specs.Rule.{parent_value, IsAt}
-use Rattle.merge_part.specs.Index.{Entries, HasEntry}
+use Rattle.merge_join.specs.Index.{has}
+use Rattle.merge_part.specs.Index.{Entries, HasEntry, first_of}
 
 abbrev pub waits : List RowKey → RowKey → Bool
 waits waiting key = list_any (is_at (key_cmp key)) waiting
@@ -24,6 +25,10 @@ ChildrenWait children number link value waiting = (row : RowId) → HasEntry chi
 
 abbrev pub KeepsWaiting : (old new : List RowKey) → Type 0
 KeepsWaiting old new = (key : RowKey) → waits old key ≡ true → waits new key ≡ true
+
+-- the children of each value that was reached wait
+abbrev pub AreReached : List Link → Entries → Entries → List RowKey → Type 0
+AreReached links children values waiting = (number : ℕ) (value : Value) → has values (first_of number value) ≡ true → (link : Link) → IsAt links number link → ChildrenWait children number link value waiting
 
 -- at each link from the article below this number, the children of a row with this content wait
 abbrev pub ReachedByMarks : List Link → ℕ → Entries → ℕ → Option Content → List RowKey → Type 0

@@ -10,6 +10,7 @@ ghost use Rattle.merge_part.specs.Draft.{rows_in, marks_in, marks_of, edit_to};
 use crate::content::Content;
 use crate::index::DraftIndexes;
 use crate::sites::Sites;
+use crate::waiting::Waiting;
 use merge_table::{Edit, Table};
 use merge_types::{NoMemory, RowKey};
 use std::alloc::Global;
@@ -28,7 +29,7 @@ pub struct Draft {
     pub rows: DraftRows,
     pub index: DraftIndexes,
     pub marks: Table<RowKey, Sites>,
-    pub waiting: Vec<RowKey>,
+    pub waiting: Waiting,
 }
 
 /// A change of what is held of a row.

@@ -75,8 +75,8 @@ pub struct Finder<'a> {
     pub come: &'a JoinIndex,
 }
 
-// The entry of the row by the value.
-fn entry_for(number: usize, value: &Value, row: RowId) -> Result<JoinEntry, NoMemory>
+/// The entry of the row by the value.
+pub fn entry_for(number: usize, value: &Value, row: RowId) -> Result<JoinEntry, NoMemory>
     ensures { IfOk result (λ entry. entry ≡ entry_for number value.now row) }
 {
     Ok(JoinEntry {

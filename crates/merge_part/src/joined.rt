@@ -1,23 +1,25 @@
 //! What a parent gives its children.
-ghost use Rattle.std.specs.Prelude.{◌≡◌, ◌<◌, ◌^◌, ℕ, true, IfOk, option_copied, unwrap_or};
+ghost use Rattle.std.specs.Prelude.{◌≡◌, ◌<◌, ◌^◌, ℕ, true, length, IfOk, OnOk, option_copied, unwrap_or};
 ghost use Rattle.std.specs.List.{list_any};
 ghost use Rattle.std.specs.Map.{keys_of};
-ghost use Rattle.merge_types.specs.declared.identifiers.RowId.{RowId as OneRow};
 ghost use Rattle.merge_types.specs.declared.values.Value.TheVariants.{Null};
 ghost use Rattle.merge_schema.specs.Partition.{are_joined};
 ghost use Rattle.merge_part.specs.Draft.{rows_in, marks_in};
-ghost use Rattle.merge_part.specs.Index.{HasEntry, AreParentsIndexed, parents_found};
-ghost use Rattle.merge_part.specs.Rule.{is_null, content_value, Reason, gives, row_gives, parent_value, value_at};
+ghost use Rattle.merge_part.specs.declared.link.Link.{Link as OneLink};
+ghost use Rattle.merge_part.specs.Index.{AreParentsIndexed, parents_found};
+ghost use Rattle.merge_part.specs.Settling.{AreGiven, AreKnown};
+ghost use Rattle.merge_part.specs.Rule.{IsAt, is_null, content_value, Reason, gives, row_gives, parent_value, value_at};
 ghost use Rattle.merge_part.specs.Sites.{has_site};
 
 use crate::content::Content;
 use crate::draft::{Draft, marks_at};
+use crate::index::entry_for;
 use crate::keeping::Kept;
 use crate::link::Link;
 use crate::sites::Sites;
 use merge_join::JoinEntry;
-use merge_table::Rows;
-use merge_types::{NoMemory, RowKey, Value};
+use merge_table::{Rows, Table};
+use merge_types::{NoMemory, RowId, RowKey, Value};
 
 /// Whether a child row with the one value follows a parent row with the other.
 pub fn are_joined(child: &Value, parent: &Value) -> bool
@@ -114,8 +116,7 @@ fn sites_by_value(
     value: &Value,
 ) -> Result<Sites, NoMemory>
     requires { number < 2 ^ 63 }
-    ensures given { IfOk result (λ sites. (place : ℕ) → has_site sites place ≡ true → (row : OneRow) × (row_gives (rows_in kept.now.held.rows.rows draft.now.rows) (marks_in kept.now.held.marks.rows draft.now.marks.rows) value.now link.now place row ≡ true)) }
-    ensures all { IfOk result (λ sites. (place : ℕ) (row : OneRow) → HasEntry (parents_found kept.now.index draft.now.index) number value.now row → row_gives (rows_in kept.now.held.rows.rows draft.now.rows) (marks_in kept.now.held.marks.rows draft.now.marks.rows) value.now link.now place row ≡ true → has_site sites place ≡ true) }
+    ensures { IfOk result (AreGiven (parents_found kept.now.index draft.now.index) (rows_in kept.now.held.rows.rows draft.now.rows) (marks_in kept.now.held.marks.rows draft.now.marks.rows) number link.now value.now) }
 {
     let held = kept.index.parents.children_of(number, value)?;
     let come = draft.index.parents.come.children_of(number, value)?;
@@ -123,40 +124,68 @@ fn sites_by_value(
     Ok(by_held.union(sites_by_parents(kept, draft, come, link, value)))
 }
 
+/// What was worked out for each value at a link, by the first entry that the value may have.
+pub type Memo = Table<JoinEntry, Sites>;
+
+// The same, worked out once for a value.
+fn known_sites(
+    kept: &Kept,
+    draft: &Draft,
+    memo: &mut Memo,
+    number: usize,
+    value: &Value,
+) -> Result<Sites, NoMemory>
+    requires number { number < length kept.now.rules.links }
+    ensures known { OnOk result ((article : ℕ) → AreKnown kept.now.rules.links (parents_found kept.now.index draft.now.index) (rows_in kept.now.held.rows.rows draft.now.rows) (marks_in kept.now.held.marks.rows draft.now.marks.rows) article memo.old.rows → AreKnown kept.now.rules.links (parents_found kept.now.index draft.now.index) (rows_in kept.now.held.rows.rows draft.now.rows) (marks_in kept.now.held.marks.rows draft.now.marks.rows) article memo.new.rows) }
+    ensures given { IfOk result (λ sites. (article : ℕ) → AreKnown kept.now.rules.links (parents_found kept.now.index draft.now.index) (rows_in kept.now.held.rows.rows draft.now.rows) (marks_in kept.now.held.marks.rows draft.now.marks.rows) article memo.old.rows → (link : OneLink) → IsAt kept.now.rules.links number link → link.child ≡ article → AreGiven (parents_found kept.now.index draft.now.index) (rows_in kept.now.held.rows.rows draft.now.rows) (marks_in kept.now.held.marks.rows draft.now.marks.rows) number link value.now sites) }
+{
+    let first = entry_for(number, value, RowId(0))?;
+    if let Some(sites) = memo.get(&first) {
+        return Ok(*sites);
+    }
+    let link = kept.rules.links.as_slice()[number];
+    let sites = sites_by_value(kept, draft, number, &link, value)?;
+    memo.insert(first, sites)?;
+    Ok(sites)
+}
+
 // The partitions in which a row with this content has a place by its parents at one link.
 fn sites_by_link(
     kept: &Kept,
     draft: &Draft,
+    memo: &mut Memo,
     number: usize,
-    link: &Link,
     content: &Content,
 ) -> Result<Sites, NoMemory>
-    requires { number < 2 ^ 63 }
-    ensures given { IfOk result (λ sites. (place : ℕ) → has_site sites place ≡ true → (row : OneRow) × (row_gives (rows_in kept.now.held.rows.rows draft.now.rows) (marks_in kept.now.held.marks.rows draft.now.marks.rows) (value_at content.now.values link.now.column) link.now place row ≡ true)) }
-    ensures all { IfOk result (λ sites. (place : ℕ) (row : OneRow) → HasEntry (parents_found kept.now.index draft.now.index) number (value_at content.now.values link.now.column) row → row_gives (rows_in kept.now.held.rows.rows draft.now.rows) (marks_in kept.now.held.marks.rows draft.now.marks.rows) (value_at content.now.values link.now.column) link.now place row ≡ true → has_site sites place ≡ true) }
+    requires number { number < length kept.now.rules.links }
+    ensures known { OnOk result ((article : ℕ) → AreKnown kept.now.rules.links (parents_found kept.now.index draft.now.index) (rows_in kept.now.held.rows.rows draft.now.rows) (marks_in kept.now.held.marks.rows draft.now.marks.rows) article memo.old.rows → AreKnown kept.now.rules.links (parents_found kept.now.index draft.now.index) (rows_in kept.now.held.rows.rows draft.now.rows) (marks_in kept.now.held.marks.rows draft.now.marks.rows) article memo.new.rows) }
+    ensures given { IfOk result (λ sites. (article : ℕ) → AreKnown kept.now.rules.links (parents_found kept.now.index draft.now.index) (rows_in kept.now.held.rows.rows draft.now.rows) (marks_in kept.now.held.marks.rows draft.now.marks.rows) article memo.old.rows → (link : OneLink) → IsAt kept.now.rules.links number link → link.child ≡ article → AreGiven (parents_found kept.now.index draft.now.index) (rows_in kept.now.held.rows.rows draft.now.rows) (marks_in kept.now.held.marks.rows draft.now.marks.rows) number link (value_at content.now.values link.column) sites) }
 {
+    let link = kept.rules.links.as_slice()[number];
     match value_of(content.values.as_slice(), link.column) {
-        Some(value) => sites_by_value(kept, draft, number, link, value),
+        Some(value) => known_sites(kept, draft, memo, number, value),
         None => Ok(Sites::none()),
     }
 }
 
 /// The partitions that a row with this content is in, by its filter and its parents.
 pub fn sites_of(
-    links: &[Link],
     kept: &Kept,
     draft: &Draft,
+    memo: &mut Memo,
     key: RowKey,
     content: &Content,
 ) -> Result<Sites, NoMemory>
-    requires { AreParentsIndexed links.now (parents_found kept.now.index draft.now.index) (rows_in kept.now.held.rows.rows draft.now.rows) }
-    ensures reason { IfOk result (λ sites. (place : ℕ) → has_site sites place ≡ true → Reason links.now (rows_in kept.now.held.rows.rows draft.now.rows) (marks_in kept.now.held.marks.rows draft.now.marks.rows) key content.now place) }
-    ensures reached { IfOk result (λ sites. (place : ℕ) → Reason links.now (rows_in kept.now.held.rows.rows draft.now.rows) (marks_in kept.now.held.marks.rows draft.now.marks.rows) key content.now place → has_site sites place ≡ true) }
+    requires parents { AreParentsIndexed kept.now.rules.links (parents_found kept.now.index draft.now.index) (rows_in kept.now.held.rows.rows draft.now.rows) }
+    requires known { AreKnown kept.now.rules.links (parents_found kept.now.index draft.now.index) (rows_in kept.now.held.rows.rows draft.now.rows) (marks_in kept.now.held.marks.rows draft.now.marks.rows) key.article memo.old.rows }
+    ensures known { OnOk result (AreKnown kept.now.rules.links (parents_found kept.now.index draft.now.index) (rows_in kept.now.held.rows.rows draft.now.rows) (marks_in kept.now.held.marks.rows draft.now.marks.rows) key.article memo.new.rows) }
+    ensures reason { IfOk result (λ sites. (place : ℕ) → has_site sites place ≡ true → Reason kept.now.rules.links (rows_in kept.now.held.rows.rows draft.now.rows) (marks_in kept.now.held.marks.rows draft.now.marks.rows) key content.now place) }
+    ensures reached { IfOk result (λ sites. (place : ℕ) → Reason kept.now.rules.links (rows_in kept.now.held.rows.rows draft.now.rows) (marks_in kept.now.held.marks.rows draft.now.marks.rows) key content.now place → has_site sites place ≡ true) }
 {
     let mut found = content.filtered;
-    for (number, link) in links.iter().enumerate() {
+    for (number, link) in kept.rules.links.as_slice().iter().enumerate() {
         if link.child == key.article {
-            let sites = sites_by_link(kept, draft, number, link, content)?;
+            let sites = sites_by_link(kept, draft, memo, number, content)?;
             found = found.union(sites);
         }
     }

@@ -11,7 +11,8 @@ ghost use Rattle.std.specs.Map.{keys_of};
 ghost use Rattle.merge_types.specs.declared.row_key.RowKey.{RowKey as OneKey};
 ghost use Rattle.merge_part.specs.Draft.{rows_in, marks_of, marks_in, mark_edit, mark_edits};
 ghost use Rattle.merge_join.specs.Entries.{entry_cmp};
-ghost use Rattle.merge_part.specs.Index.{AreDrafted};
+ghost use Rattle.merge_part.specs.Index.{AreDrafted, children_found};
+ghost use Rattle.merge_part.specs.Waiting.{AreReached};
 ghost use Rattle.merge_part.specs.Rule.{Meets};
 ghost use Rattle.merge_part.specs.Settling.{AllMeet, pends, ParentsComeFirst, NoneFollowsItself};
 ghost use Rattle.merge_schema.specs.Valid.{IsValid};
@@ -200,7 +201,8 @@ fn settled(alloc: Global, kept: &Kept, taken: Draft) -> Result<Draft, NoMemory>
     requires apart { NoneFollowsItself kept.now.rules.links }
     requires order { ParentsComeFirst kept.now.rules.links kept.now.rules.order }
     requires marks { taken.marks.rows ≡ [] }
-    requires met { AllMeet kept.now.rules.links (rows_in kept.now.held.rows.rows taken.rows) (marks_of kept.now.held.marks.rows) (pends kept.now.rules.order taken.waiting.items) }
+    requires reached { AreReached kept.now.rules.links (children_found kept.now.index taken.index) (keys_of taken.waiting.values.rows) taken.waiting.rows.items }
+    requires met { AllMeet kept.now.rules.links (rows_in kept.now.held.rows.rows taken.rows) (marks_of kept.now.held.marks.rows) (pends kept.now.rules.order taken.waiting.rows.items) }
     ensures rows { IfOk result (λ draft. draft.rows ≡ taken.rows) }
     ensures index { IfOk result (λ draft. draft.index ≡ taken.index) }
     ensures met { IfOk result (λ draft. (key : OneKey) → Meets kept.now.rules.links (rows_in kept.now.held.rows.rows taken.rows) (marks_in kept.now.held.marks.rows draft.marks.rows) key) }

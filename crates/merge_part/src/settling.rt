@@ -1,41 +1,55 @@
 //! Works out the marks of waiting rows anew.
 ghost use Rattle.std.specs.Prelude.{◌≡◌, ◌==◌, ℕ, List, ◌∷◌, All, filter, IfOk, OnOk};
+ghost use Rattle.std.specs.Map.{keys_of};
 ghost use Rattle.merge_types.specs.declared.row_key.RowKey.{RowKey as OneKey};
 ghost use Rattle.merge_part.specs.Draft.{rows_in, marks_in};
 ghost use Rattle.merge_part.specs.Index.{AreChildrenIndexed, AreParentsIndexed, children_found, parents_found};
-ghost use Rattle.merge_part.specs.Settling.{AreMarksOf, IsSettled, AllMeet, pends, ChildrenCome, ParentsComeFirst, NoneFollowsItself};
+ghost use Rattle.merge_part.specs.Settling.{AreKnown, AreMarksOf, IsSettled, AllMeet, pends, ChildrenCome, ParentsComeFirst, NoneFollowsItself};
 ghost use Rattle.merge_part.specs.Rule.{Meets};
-ghost use Rattle.merge_part.specs.Waiting.{KeepsWaiting};
+ghost use Rattle.merge_part.specs.Waiting.{AreReached, KeepsWaiting};
 
 use crate::draft::{Draft, marks_at};
 use crate::index::Finder;
-use crate::joined::sites_of;
+use crate::joined::{Memo, sites_of};
 use crate::keeping::Kept;
 use crate::sites::Sites;
 use crate::waiting::wait_by_marks;
+use merge_table::Table;
 use merge_types::{NoMemory, RowKey};
 use std::alloc::Global;
 
 // The partitions that the row is in, by the rule.
-fn sites_by_rule(kept: &Kept, draft: &Draft, key: RowKey) -> Result<Sites, NoMemory>
-    requires { AreParentsIndexed kept.now.rules.links (parents_found kept.now.index draft.now.index) (rows_in kept.now.held.rows.rows draft.now.rows) }
-    ensures { IfOk result (λ sites. AreMarksOf kept.now.rules.links (rows_in kept.now.held.rows.rows draft.now.rows) (marks_in kept.now.held.marks.rows draft.now.marks.rows) key sites) }
+fn sites_by_rule(
+    kept: &Kept,
+    draft: &Draft,
+    memo: &mut Memo,
+    key: RowKey,
+) -> Result<Sites, NoMemory>
+    requires known { AreKnown kept.now.rules.links (parents_found kept.now.index draft.now.index) (rows_in kept.now.held.rows.rows draft.now.rows) (marks_in kept.now.held.marks.rows draft.now.marks.rows) key.article memo.old.rows }
+    requires parents { AreParentsIndexed kept.now.rules.links (parents_found kept.now.index draft.now.index) (rows_in kept.now.held.rows.rows draft.now.rows) }
+    ensures known { OnOk result (AreKnown kept.now.rules.links (parents_found kept.now.index draft.now.index) (rows_in kept.now.held.rows.rows draft.now.rows) (marks_in kept.now.held.marks.rows draft.now.marks.rows) key.article memo.new.rows) }
+    ensures marks { IfOk result (λ sites. AreMarksOf kept.now.rules.links (rows_in kept.now.held.rows.rows draft.now.rows) (marks_in kept.now.held.marks.rows draft.now.marks.rows) key sites) }
 {
     match draft.rows.get(&kept.held.rows, &key) {
-        Some(content) => sites_of(kept.rules.links.as_slice(), kept, draft, key, content),
+        Some(content) => sites_of(kept, draft, memo, key, content),
         None => Ok(Sites::none()),
     }
 }
 
 // Gives the row the marks that the rule says of it, and lets its children wait where these change.
-fn settle_row(kept: &Kept, draft: &mut Draft, key: RowKey) -> Result<(), NoMemory>
-    requires { AreParentsIndexed kept.now.rules.links (parents_found kept.now.index draft.old.index) (rows_in kept.now.held.rows.rows draft.old.rows) }
+fn settle_row(kept: &Kept, draft: &mut Draft, memo: &mut Memo, key: RowKey) -> Result<(), NoMemory>
+    requires apart { NoneFollowsItself kept.now.rules.links }
+    requires known { AreKnown kept.now.rules.links (parents_found kept.now.index draft.old.index) (rows_in kept.now.held.rows.rows draft.old.rows) (marks_in kept.now.held.marks.rows draft.old.marks.rows) key.article memo.old.rows }
+    requires reached { AreReached kept.now.rules.links (children_found kept.now.index draft.old.index) (keys_of draft.old.waiting.values.rows) draft.old.waiting.rows.items }
+    requires parents { AreParentsIndexed kept.now.rules.links (parents_found kept.now.index draft.old.index) (rows_in kept.now.held.rows.rows draft.old.rows) }
     ensures rows { draft.new.rows ≡ draft.old.rows }
     ensures index { draft.new.index ≡ draft.old.index }
-    ensures kept { KeepsWaiting draft.old.waiting.items draft.new.waiting.items }
-    ensures ok { OnOk result (IsSettled kept.now.rules.links (children_found kept.now.index draft.old.index) (rows_in kept.now.held.rows.rows draft.old.rows) (marks_in kept.now.held.marks.rows draft.old.marks.rows) (marks_in kept.now.held.marks.rows draft.new.marks.rows) key draft.new.waiting.items) }
+    ensures known { OnOk result (AreKnown kept.now.rules.links (parents_found kept.now.index draft.old.index) (rows_in kept.now.held.rows.rows draft.old.rows) (marks_in kept.now.held.marks.rows draft.new.marks.rows) key.article memo.new.rows) }
+    ensures reached { OnOk result (AreReached kept.now.rules.links (children_found kept.now.index draft.old.index) (keys_of draft.new.waiting.values.rows) draft.new.waiting.rows.items) }
+    ensures kept { KeepsWaiting draft.old.waiting.rows.items draft.new.waiting.rows.items }
+    ensures ok { OnOk result (IsSettled kept.now.rules.links (children_found kept.now.index draft.old.index) (rows_in kept.now.held.rows.rows draft.old.rows) (marks_in kept.now.held.marks.rows draft.old.marks.rows) (marks_in kept.now.held.marks.rows draft.new.marks.rows) key draft.new.waiting.rows.items) }
 {
-    let sites = sites_by_rule(kept, draft, key)?;
+    let sites = sites_by_rule(kept, draft, memo, key)?;
     if sites == marks_at(&kept.held.marks, &draft.marks, &key) {
         return Ok(());
     }
@@ -73,16 +87,19 @@ fn settle_article(
 ) -> Result<(), NoMemory>
     requires children { AreChildrenIndexed kept.now.rules.links (children_found kept.now.index draft.old.index) (rows_in kept.now.held.rows.rows draft.old.rows) }
     requires parents { AreParentsIndexed kept.now.rules.links (parents_found kept.now.index draft.old.index) (rows_in kept.now.held.rows.rows draft.old.rows) }
+    requires reached { AreReached kept.now.rules.links (children_found kept.now.index draft.old.index) (keys_of draft.old.waiting.values.rows) draft.old.waiting.rows.items }
     requires apart { NoneFollowsItself kept.now.rules.links }
     ensures rows { draft.new.rows ≡ draft.old.rows }
     ensures index { draft.new.index ≡ draft.old.index }
+    ensures reached { OnOk result (AreReached kept.now.rules.links (children_found kept.now.index draft.old.index) (keys_of draft.new.waiting.values.rows) draft.new.waiting.rows.items) }
     ensures ok { OnOk result ((articles : List ℕ) → ChildrenCome kept.now.rules.links article articles
-        → AllMeet kept.now.rules.links (rows_in kept.now.held.rows.rows draft.old.rows) (marks_in kept.now.held.marks.rows draft.old.marks.rows) (pends (article ∷ articles) draft.old.waiting.items)
-        → AllMeet kept.now.rules.links (rows_in kept.now.held.rows.rows draft.old.rows) (marks_in kept.now.held.marks.rows draft.new.marks.rows) (pends articles draft.new.waiting.items)) }
+        → AllMeet kept.now.rules.links (rows_in kept.now.held.rows.rows draft.old.rows) (marks_in kept.now.held.marks.rows draft.old.marks.rows) (pends (article ∷ articles) draft.old.waiting.rows.items)
+        → AllMeet kept.now.rules.links (rows_in kept.now.held.rows.rows draft.old.rows) (marks_in kept.now.held.marks.rows draft.new.marks.rows) (pends articles draft.new.waiting.rows.items)) }
 {
-    let batch = batch_of(alloc, article, &draft.waiting)?;
+    let batch = batch_of(alloc, article, &draft.waiting.rows)?;
+    let mut memo = Table::new(alloc);
     for key in &batch {
-        settle_row(kept, draft, *key)?;
+        settle_row(kept, draft, &mut memo, *key)?;
     }
     Ok(())
 }
@@ -91,9 +108,10 @@ fn settle_article(
 pub fn settle(alloc: Global, kept: &Kept, draft: &mut Draft) -> Result<(), NoMemory>
     requires children { AreChildrenIndexed kept.now.rules.links (children_found kept.now.index draft.old.index) (rows_in kept.now.held.rows.rows draft.old.rows) }
     requires parents { AreParentsIndexed kept.now.rules.links (parents_found kept.now.index draft.old.index) (rows_in kept.now.held.rows.rows draft.old.rows) }
+    requires reached { AreReached kept.now.rules.links (children_found kept.now.index draft.old.index) (keys_of draft.old.waiting.values.rows) draft.old.waiting.rows.items }
     requires apart { NoneFollowsItself kept.now.rules.links }
     requires order { ParentsComeFirst kept.now.rules.links kept.now.rules.order }
-    requires met { AllMeet kept.now.rules.links (rows_in kept.now.held.rows.rows draft.old.rows) (marks_in kept.now.held.marks.rows draft.old.marks.rows) (pends kept.now.rules.order draft.old.waiting.items) }
+    requires met { AllMeet kept.now.rules.links (rows_in kept.now.held.rows.rows draft.old.rows) (marks_in kept.now.held.marks.rows draft.old.marks.rows) (pends kept.now.rules.order draft.old.waiting.rows.items) }
     ensures rows { draft.new.rows ≡ draft.old.rows }
     ensures index { draft.new.index ≡ draft.old.index }
     ensures ok { OnOk result ((key : OneKey) → Meets kept.now.rules.links (rows_in kept.now.held.rows.rows draft.old.rows) (marks_in kept.now.held.marks.rows draft.new.marks.rows) key) }

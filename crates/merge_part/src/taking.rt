@@ -3,7 +3,9 @@ ghost use Rattle.std.specs.Prelude.{◌≡◌, ◌≤◌, ◌<◌, ◌+◌, ◌*
 ghost use Rattle.merge_part.specs.declared.sites.Sites.{Sites as OneSites};
 ghost use Rattle.merge_types.specs.declared.row_key.RowKey.{RowKey as OneKey};
 ghost use Rattle.merge_part.specs.Draft.{rows_in};
-ghost use Rattle.merge_part.specs.Index.{AreDrafted};
+ghost use Rattle.std.specs.Map.{keys_of};
+ghost use Rattle.merge_part.specs.Index.{AreDrafted, children_found};
+ghost use Rattle.merge_part.specs.Waiting.{AreReached};
 ghost use Rattle.merge_join.specs.Entries.{entry_cmp};
 ghost use Rattle.std.specs.List.Sorted.{IsStrictlySortedBy};
 ghost use Rattle.merge_part.specs.Settling.{AllMeet, pends, is_among, LinksAreWithin};
@@ -18,7 +20,7 @@ use crate::entering::enter_row;
 use crate::filtering::filtered;
 use crate::index::{DraftIndexes, Finder};
 use crate::keeping::Kept;
-use crate::waiting::wait_by_row;
+use crate::waiting::{Waiting, wait_by_row};
 use merge_schema::Publication;
 use merge_table::Table;
 use merge_types::{NoMemory, RowKey, Steps};
@@ -67,19 +69,22 @@ pub fn take_up<L: Ledger>(
     requires children { IsStrictlySortedBy entry_cmp kept.now.index.children.set }
     requires parents { IsStrictlySortedBy entry_cmp kept.now.index.parents.set }
     requires drafted { AreDrafted kept.now.rules.links kept.now.index draft.old.index (rows_in kept.now.held.rows.rows draft.old.rows) }
+    requires reached { AreReached kept.now.rules.links (children_found kept.now.index draft.old.index) (keys_of draft.old.waiting.values.rows) draft.old.waiting.rows.items }
+    ensures reached { OnOk result (AreReached kept.now.rules.links (children_found kept.now.index draft.new.index) (keys_of draft.new.waiting.values.rows) draft.new.waiting.rows.items) }
     ensures edits { OnOk result (TakesUp publication.now change.now draft.old.rows draft.new.rows) }
     ensures marks { draft.new.marks ≡ draft.old.marks }
     ensures cost { steps.new ≤ steps.old + length publication.now.subscriptions * count_if_some change.now.new }
     ensures drafted { OnOk result (AreDrafted kept.now.rules.links kept.now.index draft.new.index (rows_in kept.now.held.rows.rows draft.new.rows)) }
     ensures met { OnOk result ((marks : OneKey → OneSites) → LinksAreWithin kept.now.rules.links kept.now.rules.order → IsTrue (is_among kept.now.rules.order change.now.article)
-        → AllMeet kept.now.rules.links (rows_in kept.now.held.rows.rows draft.old.rows) marks (pends kept.now.rules.order draft.old.waiting.items)
-        → AllMeet kept.now.rules.links (rows_in kept.now.held.rows.rows draft.new.rows) marks (pends kept.now.rules.order draft.new.waiting.items)) }
+        → AllMeet kept.now.rules.links (rows_in kept.now.held.rows.rows draft.old.rows) marks (pends kept.now.rules.order draft.old.waiting.rows.items)
+        → AllMeet kept.now.rules.links (rows_in kept.now.held.rows.rows draft.new.rows) marks (pends kept.now.rules.order draft.new.waiting.rows.items)) }
 {
     let key = change.key();
     let links = kept.rules.links.as_slice();
     let content = content_of(publication, change, steps)?;
     kept.held.rows.is_ordered();
     let old = draft.rows.get(&kept.held.rows, &key);
+    draft.waiting.rows.push(key)?;
     enter_row(links, &mut draft.index, key, old, content.as_ref())?;
     let children = Finder {
         links,
@@ -93,7 +98,6 @@ pub fn take_up<L: Ledger>(
         content.as_ref(),
         &mut draft.waiting,
     )?;
-    draft.waiting.push(key)?;
     draft.rows.push(key, content)?;
     Ok(())
 }
@@ -110,14 +114,18 @@ pub fn take_up_all<L: Ledger>(
     requires fits { All (FitsArticle publication.now) changes.now }
     requires kept { IsKept publication.now kept.now.rules.links kept.now.index.children.set kept.now.index.parents.set kept.now.held.rows.rows kept.now.held.marks.rows }
     ensures marks { IfOk result (λ draft. draft.marks.rows ≡ []) }
-    ensures taken { IfOk result (λ draft. AreTaken publication.now kept.now.rules kept.now.index draft.index kept.now.held.rows.rows kept.now.held.marks.rows changes.now draft.rows draft.waiting.items) }
+    ensures reached { IfOk result (λ draft. AreReached kept.now.rules.links (children_found kept.now.index draft.index) (keys_of draft.waiting.values.rows) draft.waiting.rows.items) }
+    ensures taken { IfOk result (λ draft. AreTaken publication.now kept.now.rules kept.now.index draft.index kept.now.held.rows.rows kept.now.held.marks.rows changes.now draft.rows draft.waiting.rows.items) }
     ensures cost { steps.new ≤ steps.old + length publication.now.subscriptions * living changes.now }
 {
     let mut draft = Draft {
         rows: DraftRows::new(alloc),
         index: DraftIndexes::new(alloc),
         marks: Table::new(alloc),
-        waiting: Vec::new(alloc),
+        waiting: Waiting {
+            rows: Vec::new(alloc),
+            values: Table::new(alloc),
+        },
     };
     kept.held.rows.is_ordered();
     kept.index.children.is_ordered();

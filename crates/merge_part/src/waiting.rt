@@ -7,14 +7,21 @@ ghost use Rattle.merge_types.specs.declared.values.Value.TheVariants.{Null};
 ghost use Rattle.merge_schema.specs.Partition.{are_joined};
 ghost use Rattle.merge_part.specs.declared.link.Link.{Link as OneLink};
 ghost use Rattle.merge_part.specs.Rule.{IsAt};
-ghost use Rattle.merge_part.specs.Waiting.{waits, KeepsWaiting, ChildrenWait, ReachedAt, ReachedByMarks, ReachedByRow};
+ghost use Rattle.merge_part.specs.Waiting.{waits, KeepsWaiting, AreReached, ChildrenWait, ReachedAt, ReachedByMarks, ReachedByRow};
 
 use crate::content::Content;
-use crate::index::Finder;
+use crate::index::{Finder, entry_for};
 use crate::joined::{are_joined, parent_value};
 use merge_join::JoinEntry;
-use merge_table::Rows;
-use merge_types::{NoMemory, RowKey, Value};
+use merge_table::{Rows, Table};
+use merge_types::{NoMemory, RowId, RowKey, Value};
+
+/// Rows that wait, and the values, each by the first entry that it may have, whose children wait.
+#[derive(Drop)]
+pub struct Waiting {
+    pub rows: Vec<RowKey>,
+    pub values: Table<JoinEntry, ()>,
+}
 
 // Lets the rows of the article that have these entries wait.
 fn wait_for(
@@ -34,23 +41,49 @@ fn wait_for(
     Ok(())
 }
 
+// Lets the children at a link wait that have the value, unless they do already.
+fn reach(
+    children: &Finder<'_>,
+    number: usize,
+    value: &Value,
+    waiting: &mut Waiting,
+) -> Result<(), NoMemory>
+    requires number { number < length children.now.links.now }
+    requires reached { AreReached children.now.links.now (children.now.held.now.set ++ children.now.come.now.set) (keys_of waiting.old.values.rows) waiting.old.rows.items }
+    ensures kept { KeepsWaiting waiting.old.rows.items waiting.new.rows.items }
+    ensures reached { OnOk result (AreReached children.now.links.now (children.now.held.now.set ++ children.now.come.now.set) (keys_of waiting.new.values.rows) waiting.new.rows.items) }
+    ensures ok { OnOk result ((link : OneLink) → IsAt children.now.links.now number link → ChildrenWait (children.now.held.now.set ++ children.now.come.now.set) number link value.now waiting.new.rows.items) }
+{
+    let first = entry_for(number, value, RowId(0))?;
+    if let Some(_) = waiting.values.get(&first) {
+        return Ok(());
+    }
+    let article = children.links[number].child;
+    let held = children.held.children_of(number, value)?;
+    wait_for(article, held, &mut waiting.rows)?;
+    let come = children.come.children_of(number, value)?;
+    wait_for(article, come, &mut waiting.rows)?;
+    waiting.values.insert(first, ())?;
+    Ok(())
+}
+
 // Lets the children at a link wait that have the value, if there is one.
 fn wait_for_children(
     children: &Finder<'_>,
     number: usize,
     value: Option<&Value>,
-    waiting: &mut Vec<RowKey>,
+    waiting: &mut Waiting,
 ) -> Result<(), NoMemory>
-    requires { number < length children.now.links.now }
-    ensures kept { KeepsWaiting waiting.old.items waiting.new.items }
-    ensures ok { OnOk result ((link : OneLink) → IsAt children.now.links.now number link → ChildrenWait (children.now.held.now.set ++ children.now.come.now.set) number link (unwrap_or (option_copied value.entry) Null) waiting.new.items) }
+    requires number { number < length children.now.links.now }
+    requires reached { AreReached children.now.links.now (children.now.held.now.set ++ children.now.come.now.set) (keys_of waiting.old.values.rows) waiting.old.rows.items }
+    ensures kept { KeepsWaiting waiting.old.rows.items waiting.new.rows.items }
+    ensures reached { OnOk result (AreReached children.now.links.now (children.now.held.now.set ++ children.now.come.now.set) (keys_of waiting.new.values.rows) waiting.new.rows.items) }
+    ensures ok { OnOk result ((link : OneLink) → IsAt children.now.links.now number link → ChildrenWait (children.now.held.now.set ++ children.now.come.now.set) number link (unwrap_or (option_copied value.entry) Null) waiting.new.rows.items) }
 {
-    let Some(value) = value else {
-        return Ok(());
-    };
-    let article = children.links[number].child;
-    wait_for(article, children.held.children_of(number, value)?, waiting)?;
-    wait_for(article, children.come.children_of(number, value)?, waiting)
+    match value {
+        Some(value) => reach(children, number, value, waiting),
+        None => Ok(()),
+    }
 }
 
 /// Lets the children of a row with this content wait, since its marks have changed.
@@ -58,10 +91,12 @@ pub fn wait_by_marks(
     children: &Finder<'_>,
     article: u8,
     content: Option<&Content>,
-    waiting: &mut Vec<RowKey>,
+    waiting: &mut Waiting,
 ) -> Result<(), NoMemory>
-    ensures kept { KeepsWaiting waiting.old.items waiting.new.items }
-    ensures ok { OnOk result (ReachedByMarks children.now.links.now (length children.now.links.now) (children.now.held.now.set ++ children.now.come.now.set) article (option_copied content.entry) waiting.new.items) }
+    requires reached { AreReached children.now.links.now (children.now.held.now.set ++ children.now.come.now.set) (keys_of waiting.old.values.rows) waiting.old.rows.items }
+    ensures kept { KeepsWaiting waiting.old.rows.items waiting.new.rows.items }
+    ensures reached { OnOk result (AreReached children.now.links.now (children.now.held.now.set ++ children.now.come.now.set) (keys_of waiting.new.values.rows) waiting.new.rows.items) }
+    ensures ok { OnOk result (ReachedByMarks children.now.links.now (length children.now.links.now) (children.now.held.now.set ++ children.now.come.now.set) article (option_copied content.entry) waiting.new.rows.items) }
 {
     for (number, link) in children.links.iter().enumerate() {
         if link.parent == article {
@@ -78,11 +113,13 @@ fn wait_by_link(
     number: usize,
     old: Option<&Content>,
     new: Option<&Content>,
-    waiting: &mut Vec<RowKey>,
+    waiting: &mut Waiting,
 ) -> Result<(), NoMemory>
-    requires { number < length children.now.links.now }
-    ensures kept { KeepsWaiting waiting.old.items waiting.new.items }
-    ensures ok { OnOk result ((link : OneLink) → IsAt children.now.links.now number link → ReachedAt (children.now.held.now.set ++ children.now.come.now.set) number link (option_copied old.entry) (option_copied new.entry) waiting.new.items) }
+    requires number { number < length children.now.links.now }
+    requires reached { AreReached children.now.links.now (children.now.held.now.set ++ children.now.come.now.set) (keys_of waiting.old.values.rows) waiting.old.rows.items }
+    ensures kept { KeepsWaiting waiting.old.rows.items waiting.new.rows.items }
+    ensures reached { OnOk result (AreReached children.now.links.now (children.now.held.now.set ++ children.now.come.now.set) (keys_of waiting.new.values.rows) waiting.new.rows.items) }
+    ensures ok { OnOk result ((link : OneLink) → IsAt children.now.links.now number link → ReachedAt (children.now.held.now.set ++ children.now.come.now.set) number link (option_copied old.entry) (option_copied new.entry) waiting.new.rows.items) }
 {
     let link = &children.links[number];
     let before = parent_value(link, old);
@@ -111,10 +148,12 @@ pub fn wait_by_row(
     article: u8,
     old: Option<&Content>,
     new: Option<&Content>,
-    waiting: &mut Vec<RowKey>,
+    waiting: &mut Waiting,
 ) -> Result<(), NoMemory>
-    ensures kept { KeepsWaiting waiting.old.items waiting.new.items }
-    ensures ok { OnOk result (ReachedByRow children.now.links.now (length children.now.links.now) (children.now.held.now.set ++ children.now.come.now.set) article (option_copied old.entry) (option_copied new.entry) waiting.new.items) }
+    requires reached { AreReached children.now.links.now (children.now.held.now.set ++ children.now.come.now.set) (keys_of waiting.old.values.rows) waiting.old.rows.items }
+    ensures kept { KeepsWaiting waiting.old.rows.items waiting.new.rows.items }
+    ensures reached { OnOk result (AreReached children.now.links.now (children.now.held.now.set ++ children.now.come.now.set) (keys_of waiting.new.values.rows) waiting.new.rows.items) }
+    ensures ok { OnOk result (ReachedByRow children.now.links.now (length children.now.links.now) (children.now.held.now.set ++ children.now.come.now.set) article (option_copied old.entry) (option_copied new.entry) waiting.new.rows.items) }
 {
     for (number, link) in children.links.iter().enumerate() {
         if link.parent == article {

@@ -11,6 +11,7 @@ loop-article-preserved c =
     record {
       rows = c.in_ok-settle_article.ensures.rows ∙ same;
       index = c.in_ok-settle_article.ensures.index ∙ same_index;
+      reached = rw same_index at c.in_ok-settle_article.ensures.reached;
       met = (rw (c.as_slice-article-items.ensures, same) at c.in_ok-settle_article.ensures.ok) (drop (c.loop-article.article-index + 1) c.args.kept.now.rules.order)
           (c.requires.order c.loop-article.article-index less) (rw split at c.loop-article.invariant.met);
     }

@@ -2,6 +2,7 @@ use Rattle.std.proofs.Common.{◌≡◌, ◌∷◌, ◌+◌, refl, sym, ap, ◌�
 use Rattle.merge_types.specs.declared.row_key.RowKey.{RowKey}
 use Rattle.merge_part.specs.Draft.{rows_in, marks_in}
 use Rattle.merge_part.specs.Settling.{ChildrenCome}
+use Rattle.merge_part.proofs.Values.{none_known}
 use Rattle.merge_part.proofs.Settled.{batch_begins, row_settled}
 use Rattle.merge_part.specs.Index.{children_found}
 use Rattle.merge_part.proofs.settling.settle_article.Goals as goal
@@ -10,7 +11,9 @@ pub loop-key-init : goal.loop-key-init
 loop-key-init c = record {
   rows = refl;
   index = refl;
-  met = λ articles come all. rw (c.deref-key-items.ensures.value, c.in_ok-batch.ensures.batch, c.deref.ensures.value) (batch_begins _ _ _ c.args.article articles c.args.draft.now.waiting.items all);
+  reached = c.requires.reached;
+  known = rw c.new-memo.ensures.rows (none_known _ _ _ _ c.args.article);
+  met = λ articles come all. rw (c.deref-key-items.ensures.value, c.in_ok-batch.ensures.batch, c.deref.ensures.value) (batch_begins _ _ _ c.args.article articles c.args.draft.now.waiting.rows.items all);
 }
 
 pub loop-key-preserved : goal.loop-key-preserved
@@ -24,10 +27,12 @@ loop-key-preserved c =
     record {
       rows = c.in_ok-settle_row.ensures.rows ∙ same;
       index = c.in_ok-settle_row.ensures.index ∙ same_index;
+      reached = rw same_index at c.in_ok-settle_row.ensures.reached;
+      known = rw (same, same_index, of_article) at c.in_ok-settle_row.ensures.known;
       met = λ articles come all.
           row_settled c.args.kept.now.rules.links (children_found c.args.kept.now.index c.args.draft.now.index) (rows_in c.args.kept.now.held.rows.rows c.args.draft.now.rows) c.requires.children c.requires.apart key
           (marks_in c.args.kept.now.held.marks.rows c.loop-key.draft.marks.rows) (marks_in c.args.kept.now.held.marks.rows c.settle_row.new.draft.marks.rows)
-          (drop (c.loop-key.key-index + 1) c.deref-key-items.result.now) articles c.loop-key.draft.waiting.items c.settle_row.new.draft.waiting.items
+          (drop (c.loop-key.key-index + 1) c.deref-key-items.result.now) articles c.loop-key.draft.waiting.rows.items c.settle_row.new.draft.waiting.rows.items
           (subst (λ a. ChildrenCome c.args.kept.now.rules.links a articles) (sym of_article) come)
           c.in_ok-settle_row.ensures.kept
           (rw (same, same_index) at c.in_ok-settle_row.ensures.ok)

@@ -11,6 +11,7 @@ use Rattle.merge_part.specs.Draft.{rows_in, marks_of}
 use Rattle.merge_part.specs.Live.{live_after_all}
 use Rattle.merge_part.specs.Taking.{FitsArticle, living, count_if_some, key_of_change}
 use Rattle.merge_part.proofs.LiveRows.{live_step, filtered_step, article_in_range}
+use Rattle.merge_part.proofs.Values.{none_reached}
 use Rattle.merge_part.proofs.Taken.{changed_to}
 use Rattle.merge_part.proofs.Walks.{drop_next}
 use Rattle.merge_part.proofs.taking.take_up_all.Goals as goal
@@ -28,6 +29,7 @@ begun links index draft rows none_child none_parent exact = record {
 
 pub loop-change-init : goal.loop-change-init
 loop-change-init g c = rw (c.new.ensures, c.new-4.ensures.items) record {
+  reached = rw c.new-5.ensures.rows (none_reached _ _ []);
   marks = c.new-3.ensures.rows;
   live = refl;
   filtered = c.requires.kept.filtered;
@@ -46,6 +48,7 @@ loop-change-preserved g c =
     let fits : FitsArticle c.args.publication.now c.change-item.result = subst (FitsArticle c.args.publication.now) (sym c.change-item.is) (c.requires.fits c.loop-change.change-index c.change-item.result c.loop-change-test.true) in
     let taken = c.in_ok-take_up.ensures.edits in
     record {
+      reached = c.in_ok-take_up.ensures.reached;
       marks = ap (λ marks. marks.rows) c.in_ok-take_up.ensures.marks ∙ c.loop-change.invariant.marks;
       live =
           ap (λ live. live_after_all live (drop (c.loop-change.change-index + 1) c.args.changes.now)) (live_step c.args.publication.now c.change-item.result c.args.kept.now.held.rows.rows c.loop-change.draft.rows c.take_up.new.draft.rows taken)
