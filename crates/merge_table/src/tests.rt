@@ -1,5 +1,5 @@
 use crate::{Edit, RowTest, Rows, Table};
-use merge_types::{Octets, Value};
+use merge_types::{Octets, RowId, RowKey, Value};
 use std::alloc::{AllocError, Global};
 use std::test::Fail;
 
@@ -108,6 +108,30 @@ fn rows_that_fail_a_test_are_taken(rt: HostRuntime) -> Result<(), Fail> {
     let rows = listed(rt.alloc(), table.iter())?;
     assert_eq!(rt; rows.as_slice(), [((1, 4), 14)].as_slice());
     assert_eq!(rt; table.spare(), 0);
+    Ok(())
+}
+
+#[test]
+fn a_copy_has_the_same_rows_and_room(rt: HostRuntime) -> Result<(), Fail> {
+    let mut table: Table<RowKey, Value> = Table::new(rt.alloc());
+    table.insert(
+        RowKey {
+            article: 1,
+            row: RowId(5),
+        },
+        Value::Int(7),
+    )?;
+    table.make_room(RowKey {
+        article: 2,
+        row: RowId(1),
+    })?;
+    let copy = table.clone()?;
+    assert_eq!(rt; (copy.len(), copy.spare()), (1, 1));
+    let key = RowKey {
+        article: 1,
+        row: RowId(5),
+    };
+    assert!(rt; copy.get(&key) == Some(&Value::Int(7)));
     Ok(())
 }
 
