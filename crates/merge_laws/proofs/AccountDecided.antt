@@ -19,7 +19,7 @@ use Rattle.merge_model.specs.Cases.{Knowing, bodies_case, side_of, sides_of}
 use Rattle.merge_model.specs.History.{Chains, MadeChange, OfCells, OfDead, has}
 use Rattle.merge_model.specs.Pasts.{chains_by, merged_chain, merged_chains}
 use Rattle.merge_model.specs.Promises.{InCell, descends}
-use Rattle.merge_model.specs.Tables.{Key}
+use Rattle.merge_types.specs.declared.row_key.RowKey.{RowKey as Key}
 use Rattle.merge_laws.specs.Accounts.{Grown}
 use Rattle.merge_laws.proofs.AccountCells.{AreFour, are-four}
 use Rattle.merge_laws.proofs.AccountChains.{chain_at}

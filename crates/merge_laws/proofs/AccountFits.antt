@@ -29,7 +29,7 @@ use Rattle.merge_model.specs.Noting
 use Rattle.merge_model.specs.Pasts.{all_chains, cell_chains, cell_count, past_after, set_cells}
 use Rattle.merge_model.specs.Promises.{InRow}
 use Rattle.merge_model.specs.Publications.{columns_at, identity_column, tracking_at, types_at}
-use Rattle.merge_model.specs.Tables.{Key}
+use Rattle.merge_types.specs.declared.row_key.RowKey.{RowKey as Key}
 use Rattle.merge_laws.specs.Accounts.{CellGrown, Ends, Grown, GrownAlone, Holds, Traced, is_made_at, is_past}
 use Rattle.merge_laws.specs.Knowledge.{KnowsItsPast}
 use Rattle.merge_laws.proofs.AccountChains.{cells-known, chain_at}
@@ -37,8 +37,8 @@ use Rattle.merge_laws.proofs.AccountChanges.{count_by_tracking, deleted-grown, i
 use Rattle.merge_laws.proofs.AccountHolds.{AreCells, deleted-ends, deleted-holds, held-past, inserted-ends, inserted-holds, updated-ends, updated-holds, updated-past}
 use Rattle.merge_laws.proofs.Arrivals.{first-none}
 use Rattle.merge_laws.proofs.ChangeDots.{AreDistinct}
-use Rattle.merge_laws.proofs.Finding.{some_same}
-use Rattle.merge_laws.proofs.KeyLookUps.{key-itself}
+use Rattle.merge_model.proofs.Finding.{some_same}
+use Rattle.merge_model.proofs.KeyLookUps.{key-itself}
 use Rattle.merge_laws.proofs.Knowing.{IsFresh}
 use Rattle.merge_laws.proofs.Telling.{no-refusal}
 

@@ -18,7 +18,9 @@ use Rattle.merge_model.specs.Cases.{is_conflict, new_tops}
 use Rattle.merge_model.specs.Judge.{PublisherJudge}
 use Rattle.merge_model.specs.Keys.{row_at}
 use Rattle.merge_model.specs.Publications.{identity_column, resolver_at, types_at}
-use Rattle.merge_model.specs.Tables.{Key, PublisherRow, PublisherTables}
+use Rattle.merge_types.specs.declared.row_key.RowKey.{RowKey as Key}
+use Rattle.merge_units.specs.declared.site_row.PublisherRow.{PublisherRow}
+use Rattle.merge_model.specs.Tables.{PublisherTables}
 use Rattle.merge_model.specs.Acts
 
 -- What two ways to decide agree on, of an item and the row that it meets.

@@ -30,18 +30,22 @@ use Rattle.merge_model.specs.Cases.{is_conflict}
 use Rattle.merge_model.specs.Changes.{version_after}
 use Rattle.merge_model.specs.Entries.{with_rows}
 use Rattle.merge_model.specs.Judge.{PublisherJudge, SubscriberJudge}
-use Rattle.merge_model.specs.Keys.{key_cmp, put_row, row_at}
+use Rattle.merge_types.specs.RowKeys.{key_cmp}
+use Rattle.merge_model.specs.Keys.{put_row, row_at}
 use Rattle.merge_model.specs.PublisherDownload.{TouchedRow, item_of, order_by}
 use Rattle.merge_model.specs.PublisherLocal.{version_at}
 use Rattle.merge_model.specs.Publications.{tracking_at}
 use Rattle.merge_model.specs.Reinit.{discarded, numbered_from}
 use Rattle.merge_model.specs.Sending.{upload_item}
 use Rattle.merge_model.specs.Subscriber.{sub_version_at, with_version_if}
-use Rattle.merge_model.specs.Tables.{Key, PublisherRow, PublisherTables, SubscriberRow, SubscriberTables}
+use Rattle.merge_types.specs.declared.row_key.RowKey.{RowKey as Key}
+use Rattle.merge_units.specs.declared.site_row.PublisherRow.{PublisherRow}
+use Rattle.merge_units.specs.declared.site_row.SubscriberRow.{SubscriberRow}
+use Rattle.merge_model.specs.Tables.{PublisherTables, SubscriberTables}
 use Rattle.merge_model.specs.Taking.{key_of_download, row_above, with_item, with_order}
 use Rattle.merge_laws.specs.Lineages.{OfLost, OfOrder}
 use Rattle.merge_laws.proofs.LineageLists.{values-dropped, values-found, values-put}
-use Rattle.merge_laws.proofs.Lists.{OfSome, some-map, all-unit, all-map, all-filter_map, all-append}
+use Rattle.merge_model.proofs.Lists.{OfSome, some-map, all-unit, all-map, all-filter_map, all-append}
 
 -- Of a fact of lineages, in general.
 

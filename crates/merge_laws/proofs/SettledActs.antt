@@ -30,7 +30,8 @@ use Rattle.merge_model.specs.PublisherPurge.{purge}
 use Rattle.merge_model.specs.PublisherRanges.{with_grants}
 use Rattle.merge_model.specs.PublisherUpload.{taken_in, upload_refusal}
 use Rattle.merge_model.specs.Refusals.{refused_if}
-use Rattle.merge_model.specs.Tables.{Key, PublisherTables, SubscriberTables}
+use Rattle.merge_types.specs.declared.row_key.RowKey.{RowKey as Key}
+use Rattle.merge_model.specs.Tables.{PublisherTables, SubscriberTables}
 use Rattle.merge_model.specs.World.{Saying, World}
 use Rattle.merge_model.proofs.Sorted.{closed_filling-rises}
 use Rattle.merge_laws.specs.Settled.{SendsChanged, TouchedInOrder, changed_of, has_item, is_expired_by, site_view, touched_at}

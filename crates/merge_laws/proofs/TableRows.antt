@@ -22,7 +22,8 @@ use Rattle.merge_model.specs.Noting
 use Rattle.merge_model.specs.Pasts.{past_by}
 use Rattle.merge_model.specs.Promises.{key_of_conflict}
 use Rattle.merge_model.specs.Reinit.{numbered_from}
-use Rattle.merge_model.specs.Tables.{Key, SubscriberTables}
+use Rattle.merge_types.specs.declared.row_key.RowKey.{RowKey as Key}
+use Rattle.merge_model.specs.Tables.{SubscriberTables}
 use Rattle.merge_laws.specs.TablesAgree.{TableAgrees, keys_lost}
 use Rattle.merge_laws.proofs.NotesLeave.{decided-leaves, fold-leave, reply-leave}
 use Rattle.merge_laws.proofs.ToldHistories.{lost-here, lost-there}

@@ -12,7 +12,7 @@ use Rattle.merge_model.specs.Changes.{key_of, version_after}
 use Rattle.merge_model.specs.History.{History, Past, has}
 use Rattle.merge_model.specs.Model.{empty_model}
 use Rattle.merge_model.specs.Pasts.{past_after}
-use Rattle.merge_model.specs.Tables.{Key}
+use Rattle.merge_types.specs.declared.row_key.RowKey.{RowKey as Key}
 use Rattle.merge_model.specs.World.{Saying, World}
 use Rattle.merge_laws.specs.LineagesStand.{AllTold}
 use Rattle.merge_laws.specs.Standing.{HeldTold, Told}

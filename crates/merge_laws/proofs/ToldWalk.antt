@@ -29,7 +29,8 @@ use Rattle.merge_model.specs.Changes.{change_refusal, key_of, version_after}
 use Rattle.merge_model.specs.Entries.{Changing, Entries}
 use Rattle.merge_model.specs.History.{History, Line, MadeChange, Past, past_at, past_in, pasts_at, pasts_with, no_history}
 use Rattle.merge_model.specs.Judge.{PublisherJudge, SubscriberJudge}
-use Rattle.merge_model.specs.Keys.{key_cmp, put_number}
+use Rattle.merge_types.specs.RowKeys.{key_cmp}
+use Rattle.merge_model.specs.Keys.{put_number}
 use Rattle.merge_model.specs.Laws.{AreSubSorted}
 use Rattle.merge_model.specs.Model.{empty_model}
 use Rattle.merge_model.specs.Noting
@@ -47,15 +48,18 @@ use Rattle.merge_model.specs.Reinit.{reinitialised}
 use Rattle.merge_model.specs.Sending.{join_of, upload_sent, want_of, with_message}
 use Rattle.merge_model.specs.Steps.{Forget, kept_decisions, upload_questions}
 use Rattle.merge_model.specs.Subscriber.{is_joining, sub_at_moment, sub_closed, sub_counters, sub_last_closed, sub_local_refusal, sub_made_locally, sub_next_dot, sub_version_at, with_version_if}
-use Rattle.merge_model.specs.Tables.{Key, PublisherTables, SubscriberRow, SubscriberTables}
+use Rattle.merge_types.specs.declared.row_key.RowKey.{RowKey as Key}
+use Rattle.merge_units.specs.declared.site_row.SubscriberRow.{SubscriberRow}
+use Rattle.merge_model.specs.Tables.{PublisherTables, SubscriberTables}
 use Rattle.merge_model.specs.Taking.{row_above, taken}
-use Rattle.merge_model.specs.World.{Asks, Replies, Saying, World, subscriber_at, with_publisher, with_subscriber}
+use Rattle.merge_model.specs.World.{Saying, World, subscriber_at, with_publisher, with_subscriber}
+use Rattle.merge_model.specs.declared.letter.Message.TheVariants.{Asks, Replies}
 use Rattle.merge_model.proofs.Sorted.{key_total, step-sorted}
 use Rattle.merge_laws.specs.LineagesStand.{EveryVersion}
 use Rattle.merge_laws.proofs.Arrivals.{first-none}
-use Rattle.merge_laws.proofs.Finding.{found-named}
+use Rattle.merge_model.proofs.Finding.{found-named}
 use Rattle.merge_laws.proofs.Ground.{Ground}
-use Rattle.merge_laws.proofs.Lists.{all-filter}
+use Rattle.merge_model.proofs.Lists.{all-filter}
 use Rattle.merge_laws.proofs.Models.{begins-with}
 use Rattle.merge_laws.proofs.Noted.{acts-own}
 use Rattle.merge_laws.proofs.ToldHistories.{Goes, goes-dropped, goes-lines, goes-others, goes-put_if, goes-same}

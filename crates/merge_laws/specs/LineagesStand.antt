@@ -18,9 +18,14 @@ use Rattle.merge_model.specs.ByNumbers.{received_number_by_number}
 use Rattle.merge_model.specs.History.{History, MadeChange, Past, has, is_accepted, is_done, past_at, past_in}
 use Rattle.merge_model.specs.Keys.{at_number, row_at, same_key}
 use Rattle.merge_model.specs.Model.{Model}
-use Rattle.merge_model.specs.Tables.{Key, PublisherRow, PublisherTables, SubscriberRow, SubscriberTables}
+use Rattle.merge_types.specs.declared.row_key.RowKey.{RowKey as Key}
+use Rattle.merge_units.specs.declared.site_row.PublisherRow.{PublisherRow}
+use Rattle.merge_units.specs.declared.site_row.SubscriberRow.{SubscriberRow}
+use Rattle.merge_model.specs.Tables.{PublisherTables, SubscriberTables}
 use Rattle.merge_model.specs.Taking.{key_of_download}
-use Rattle.merge_model.specs.World.{Asks, Letter, Message, Replies}
+use Rattle.merge_model.specs.declared.letter.Message.TheVariants.{Asks, Replies}
+use Rattle.merge_model.specs.declared.letter.Letter.{Letter}
+use Rattle.merge_model.specs.declared.letter.Message.{Message}
 use Rattle.merge_laws.specs.Knowledge.{Knowledge}
 use Rattle.merge_laws.specs.Received.{joined_at}
 use Rattle.merge_laws.specs.Standing.{IsKnownLater, StandsFor, Told}

@@ -15,7 +15,7 @@ use Rattle.merge_model.specs.Changes.{version_after}
 use Rattle.merge_model.specs.History.{MadeChange, Past, has}
 use Rattle.merge_model.specs.Keys.{same_key}
 use Rattle.merge_model.specs.Pasts.{past_after, past_by}
-use Rattle.merge_model.specs.Tables.{Key}
+use Rattle.merge_types.specs.declared.row_key.RowKey.{RowKey as Key}
 use Rattle.merge_laws.specs.Knowledge.{Knows, same_dot}
 
 -- A lineage stands for what is known of a row where each change of the row that counts is known exactly where its number is at

@@ -24,8 +24,15 @@ use Rattle.merge_gens.specs.Book.{Book, IsSound, moved_to, entered, closed_now}
 use Rattle.merge_gens.proofs.ClosedGenerations.{sound_moved, sound_purged}
 use Rattle.merge_gens.proofs.Sets.{sorted_put, sorted_take}
 use Rattle.merge_schema.specs.declared.publication.Publication.{Publication}
-use Rattle.merge_model.specs.Tables.{Key, RowSite, PublisherRow, MoveKind, Mapping, PublisherTables}
-use Rattle.merge_model.specs.Keys.{key_cmp, row_site_cmp, drop_row_site, put_row}
+use Rattle.merge_types.specs.declared.row_key.RowKey.{RowKey as Key}
+use Rattle.merge_gens.specs.declared.moves.RowSite.{RowSite}
+use Rattle.merge_units.specs.declared.site_row.PublisherRow.{PublisherRow}
+use Rattle.merge_gens.specs.declared.moves.MoveKind.{MoveKind}
+use Rattle.merge_gens.specs.declared.moves.Mapping.{Mapping}
+use Rattle.merge_model.specs.Tables.{PublisherTables}
+use Rattle.merge_types.specs.RowKeys.{key_cmp}
+use Rattle.merge_gens.specs.Moves.{row_site_cmp}
+use Rattle.merge_model.specs.Keys.{drop_row_site, put_row}
 use Rattle.merge_model.specs.Judge.{PublisherJudge}
 use Rattle.merge_model.specs.Entries.{Entries, Changing, changing_entries, entry_count, with_rows, with_move, with_entries, changed_by}
 use Rattle.merge_model.specs.Acts.{Act, acts_of}

@@ -28,15 +28,20 @@ use Rattle.merge_batch.specs.declared.reply.DownloadItem.{DownloadItem}
 use Rattle.merge_batch.specs.declared.reply.Act.{Act as Order}
 use Rattle.merge_batch.specs.declared.reply.Act.TheVariants as order
 use Rattle.merge_schema.specs.declared.publication.Publication.{Publication}
-use Rattle.merge_model.specs.Tables.{Key, SubscriberRow, SubscriberTables}
-use Rattle.merge_model.specs.Keys.{key_cmp, put_row, drop_row}
+use Rattle.merge_types.specs.declared.row_key.RowKey.{RowKey as Key}
+use Rattle.merge_units.specs.declared.site_row.SubscriberRow.{SubscriberRow}
+use Rattle.merge_model.specs.Tables.{SubscriberTables}
+use Rattle.merge_types.specs.RowKeys.{key_cmp}
+use Rattle.merge_model.specs.Keys.{put_row, drop_row}
 use Rattle.merge_model.specs.Refusals.{unless, counter_end}
 use Rattle.merge_model.specs.Changes.{key_of, version_after}
 use Rattle.merge_model.specs.Judge.{SubscriberJudge}
 use Rattle.merge_model.specs.Faults.{reply_fault}
 use Rattle.merge_model.specs.Subscriber.{sub_local, sub_local_refusal, sub_drawn, sub_made_locally, sub_version_at, sub_next_dot, with_version_if, with_version, close_sub_generation, sub_closed, sub_at_moment, sub_counters, sub_last_closed}
 use Rattle.merge_model.specs.Sending.{with_message}
-use Rattle.merge_model.specs.Taking.{Taken, Acted, Missed, taken, take_reply, met_by, seq_of, after_reply, row_above, gens_above, with_received, with_item, with_items, with_order, key_of_download}
+use Rattle.merge_model.specs.Taking.{taken, take_reply, met_by, seq_of, after_reply, row_above, gens_above, with_received, with_item, with_items, with_order, key_of_download}
+use Rattle.merge_model.specs.declared.outcome.Taken.{Taken}
+use Rattle.merge_model.specs.declared.outcome.Taken.TheVariants.{Acted, Missed}
 use Rattle.merge_model.specs.Reinit.{reinitialise, reinitialised, made_anew, numbered_from, discarded}
 use Rattle.merge_model.specs.World.{World, Judges, Saying}
 use Rattle.merge_model.specs.Steps.{Action, step_by}

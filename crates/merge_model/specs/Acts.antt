@@ -24,7 +24,9 @@ use Rattle.merge_model.specs.Cases.{case_by, is_conflict, new_tops, result_by}
 use Rattle.merge_model.specs.Judge.{PublisherJudge}
 use Rattle.merge_model.specs.Keys.{row_at}
 use Rattle.merge_model.specs.Publications.{identity_column, priority_at, resolver_at, resolver_column, tracking_at, types_at}
-use Rattle.merge_model.specs.Tables.{Key, PublisherRow, PublisherTables}
+use Rattle.merge_types.specs.declared.row_key.RowKey.{RowKey as Key}
+use Rattle.merge_units.specs.declared.site_row.PublisherRow.{PublisherRow}
+use Rattle.merge_model.specs.Tables.{PublisherTables}
 use Rattle.merge_units.specs.declared.case.Case.TheVariants as case
 use Rattle.merge_types.specs.declared.changes.Tracking.TheVariants as tracking
 use Rattle.merge_conflict.specs.declared.row.Verdict.TheVariants as verdict

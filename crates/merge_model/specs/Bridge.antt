@@ -10,7 +10,8 @@ use Rattle.merge_model.specs.History.{Past, has, past_at, past_in}
 use Rattle.merge_model.specs.Keys.{row_at}
 use Rattle.merge_model.specs.Model.{Model, model_step, tables_of}
 use Rattle.merge_model.specs.Steps.{Action, step}
-use Rattle.merge_model.specs.Tables.{Key, SubscriberTables}
+use Rattle.merge_types.specs.declared.row_key.RowKey.{RowKey as Key}
+use Rattle.merge_model.specs.Tables.{SubscriberTables}
 use Rattle.merge_model.specs.World.{Saying}
 
 -- at the publisher

@@ -9,7 +9,8 @@ use Rattle.merge_model.specs.Cases.{Knowing}
 use Rattle.merge_model.specs.History.{Changed, EnteredFor, GoneFor, History, LeftFor, Line, MadeChange, Past, has, is_done, made_at, past_at, past_in, pasts_with}
 use Rattle.merge_model.specs.Judge.{PublisherJudge, SubscriberJudge}
 use Rattle.merge_model.specs.Keys.{put_row, row_at, same_key}
-use Rattle.merge_model.specs.Tables.{Key, SubscriberTables}
+use Rattle.merge_types.specs.declared.row_key.RowKey.{RowKey as Key}
+use Rattle.merge_model.specs.Tables.{SubscriberTables}
 use Rattle.merge_model.specs.World.{Judges}
 
 -- Of the publisher.

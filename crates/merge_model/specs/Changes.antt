@@ -25,7 +25,7 @@ use Rattle.merge_batch.specs.declared.refusal.Refusal.{Refusal}
 use Rattle.merge_batch.specs.declared.refusal.Refusal.TheVariants.{IdentityColumn, NoRow, RowTooLong, TooManyRows, WrongType}
 use Rattle.merge_model.specs.Publications.{identity_column, tracking_at, types_at}
 use Rattle.merge_model.specs.Refusals.{first_refusal, refused_if}
-use Rattle.merge_model.specs.Tables.{Key}
+use Rattle.merge_types.specs.declared.row_key.RowKey.{RowKey as Key}
 use Rattle.merge_types.specs.declared.changes.Tracking.TheVariants as tracking
 
 -- what a change says

@@ -2,7 +2,7 @@
 use Rattle.std.specs.Prelude.{Bool, List, Option, ℕ}
 use Rattle.merge_units.specs.declared.version.Version.{Version}
 use Rattle.merge_model.specs.Cases.{Knowing}
-use Rattle.merge_model.specs.Tables.{Key}
+use Rattle.merge_types.specs.declared.row_key.RowKey.{RowKey as Key}
 
 -- what the publisher decides by. Sites are named by number
 pub record PublisherJudge : Type 0 where

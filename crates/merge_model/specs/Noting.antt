@@ -34,7 +34,12 @@ use Rattle.merge_model.specs.PublisherPurge.{is_old, is_old_tombstone}
 use Rattle.merge_model.specs.PublisherUpload.{brings_news, changing_by, with_acts}
 use Rattle.merge_model.specs.Reinit.{discarded}
 use Rattle.merge_model.specs.Subscriber.{sub_drawn, sub_last_closed, sub_next_dot}
-use Rattle.merge_model.specs.Tables.{Entered, Key, Left, MoveKind, PublisherRow, PublisherTables, RowSite, SubscriberTables}
+use Rattle.merge_gens.specs.declared.moves.MoveKind.TheVariants.{Entered, Left}
+use Rattle.merge_types.specs.declared.row_key.RowKey.{RowKey as Key}
+use Rattle.merge_gens.specs.declared.moves.MoveKind.{MoveKind}
+use Rattle.merge_units.specs.declared.site_row.PublisherRow.{PublisherRow}
+use Rattle.merge_gens.specs.declared.moves.RowSite.{RowSite}
+use Rattle.merge_model.specs.Tables.{PublisherTables, SubscriberTables}
 use Rattle.merge_model.specs.Taking.{key_of_download}
 use Rattle.merge_batch.specs.declared.reply.Act.TheVariants as order
 use Rattle.merge_batch.specs.declared.reply.Reply.TheVariants as reply

@@ -30,9 +30,15 @@ use Rattle.merge_model.specs.PublisherDownload.{inside_keys, reply_to}
 use Rattle.merge_model.specs.PublisherPurge.{is_old}
 use Rattle.merge_model.specs.Sending.{unsent_rows}
 use Rattle.merge_model.specs.Session.{Session, session}
-use Rattle.merge_model.specs.Tables.{Key, PublisherRow, SubscriberRow, SubscriberTables}
+use Rattle.merge_types.specs.declared.row_key.RowKey.{RowKey as Key}
+use Rattle.merge_units.specs.declared.site_row.PublisherRow.{PublisherRow}
+use Rattle.merge_units.specs.declared.site_row.SubscriberRow.{SubscriberRow}
+use Rattle.merge_model.specs.Tables.{SubscriberTables}
 use Rattle.merge_model.specs.Taking.{key_of_download}
-use Rattle.merge_model.specs.World.{Asks, Letter, Message, Replies, Saying, World, letter_at, subscriber_at}
+use Rattle.merge_model.specs.World.{Saying, World, letter_at, subscriber_at}
+use Rattle.merge_model.specs.declared.letter.Message.TheVariants.{Asks, Replies}
+use Rattle.merge_model.specs.declared.letter.Letter.{Letter}
+use Rattle.merge_model.specs.declared.letter.Message.{Message}
 use Rattle.merge_batch.specs.declared.reply.Act.TheVariants as order
 use Rattle.merge_batch.specs.declared.reply.Reply.TheVariants as reply
 use Rattle.merge_batch.specs.declared.request.Request.TheVariants as request

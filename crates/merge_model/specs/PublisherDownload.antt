@@ -21,7 +21,8 @@ use Rattle.merge_model.specs.Publications.{subscription_at}
 use Rattle.merge_model.specs.Publisher.{at_moment, closed, counters, last_closed, site_refusal, state_of, with_state}
 use Rattle.merge_model.specs.PublisherLocal.{version_at}
 use Rattle.merge_model.specs.Refusals.{counter_end, first_refusal, refused_if, unless}
-use Rattle.merge_model.specs.Tables.{Key, PublisherTables}
+use Rattle.merge_types.specs.declared.row_key.RowKey.{RowKey as Key}
+use Rattle.merge_model.specs.Tables.{PublisherTables}
 use Rattle.merge_batch.specs.declared.reply.Act.TheVariants as order
 
 -- How far a site is in step: now, where it has all; else the moment at which the generation closed up to which it has all, where that is kept.

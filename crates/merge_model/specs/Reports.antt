@@ -16,7 +16,9 @@ use Rattle.merge_model.specs.Entries.{live_row, live_rows}
 use Rattle.merge_model.specs.Keys.{at_number}
 use Rattle.merge_model.specs.Sending.{unsent_rows}
 use Rattle.merge_model.specs.Subscriber.{sub_last_closed}
-use Rattle.merge_model.specs.Tables.{Key, PublisherTables, SubscriberRow, SubscriberTables}
+use Rattle.merge_types.specs.declared.row_key.RowKey.{RowKey as Key}
+use Rattle.merge_units.specs.declared.site_row.SubscriberRow.{SubscriberRow}
+use Rattle.merge_model.specs.Tables.{PublisherTables, SubscriberTables}
 
 -- the live rows of an article at a site, with their values
 abbrev pub is_of_article : ℕ → LiveRow → Bool

@@ -20,7 +20,11 @@ use Rattle.merge_model.specs.Judge.{SubscriberJudge}
 use Rattle.merge_model.specs.Keys.{at_number, drop_row, put_number, put_row}
 use Rattle.merge_model.specs.Refusals.{unless}
 use Rattle.merge_model.specs.Subscriber.{sub_at_moment}
-use Rattle.merge_model.specs.Tables.{Key, SubscriberRow, SubscriberTables}
+use Rattle.merge_types.specs.declared.row_key.RowKey.{RowKey as Key}
+use Rattle.merge_units.specs.declared.site_row.SubscriberRow.{SubscriberRow}
+use Rattle.merge_model.specs.Tables.{SubscriberTables}
+use Rattle.merge_model.specs.declared.outcome.Taken.{Taken}
+use Rattle.merge_model.specs.declared.outcome.Taken.TheVariants.{Acted, Missed}
 use Rattle.merge_batch.specs.declared.reply.Act.TheVariants as order
 use Rattle.merge_batch.specs.declared.reply.Reply.TheVariants as reply
 
@@ -81,10 +85,7 @@ seq_of (reply.Ranged m) = m.seq
 seq_of (reply.Downloaded m) = m.seq
 seq_of (reply.Refused number values) = 0
 
--- what becomes of a reply. One that doesn't act is told with its number and that of the outstanding message, 0 where none is
-pub data Taken : Type 0 where
-  Acted : Taken
-  Missed : (seq outstanding : ℕ) → Taken
+-- One that doesn't act is told with its number and that of the outstanding message, 0 where none is.
 
 abbrev pub taken : SubscriberJudge → Moment → Reply → SubscriberTables → SubscriberTables
 taken judge now m s = after_reply judge m (record (sub_at_moment now s) { outstanding = None })

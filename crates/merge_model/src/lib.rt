@@ -4,7 +4,10 @@
 
 mod event;
 mod laws;
+mod letter;
+mod outcome;
 mod reading;
+mod slips;
 
 pub use event::{Event, Line, NamedValue, NamedValues};
 pub use laws::{
@@ -12,6 +15,9 @@ pub use laws::{
     no_generation_acts_twice, numbers_only_rise, ranges_never_overlap, refusals_change_nothing,
     reports_change_nothing,
 };
+pub use letter::{Letter, Message};
+pub use outcome::{Forgotten, Outcome, Taken};
 pub use reading::{
     events_are_read_exactly, literals_are_read_exactly, reading_stops_at_the_first_fault,
 };
+pub use slips::{calls_are_steps, steps_that_fail_show, steps_without_slips_are_plain};

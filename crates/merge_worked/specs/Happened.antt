@@ -27,8 +27,10 @@ use Rattle.merge_model.specs.Reading.{events_of}
 use Rattle.merge_model.specs.Resolvers.{rules_say}
 use Rattle.merge_model.specs.Sending.{unsent_rows}
 use Rattle.merge_model.specs.Session.{Session, session}
-use Rattle.merge_model.specs.Tables.{Key, SubscriberTables}
-use Rattle.merge_model.specs.World.{Letter, subscriber_at}
+use Rattle.merge_types.specs.declared.row_key.RowKey.{RowKey as Key}
+use Rattle.merge_model.specs.Tables.{SubscriberTables}
+use Rattle.merge_model.specs.World.{subscriber_at}
+use Rattle.merge_model.specs.declared.letter.Letter.{Letter}
 
 -- the model after the events of an input, which begins empty
 abbrev pub model_after : Publication → List ℕ → Model
