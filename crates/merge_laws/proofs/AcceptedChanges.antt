@@ -37,7 +37,8 @@ use Rattle.merge_model.specs.declared.letter.Message.{Message}
 use Rattle.merge_laws.specs.Accepted.{Accepted, IsUpTo, SendsInserts}
 use Rattle.merge_laws.specs.Knowledge.{AllKnow, AreNumbered, Known, changes_of, same_dot, was_made}
 use Rattle.merge_laws.specs.KnownMakers.{Ascend, KnownMakers, KnowsMaker}
-use Rattle.merge_laws.specs.LineagesStand.{OfMessage, is_given_up}
+use Rattle.merge_model.specs.Promises.{is_given_up}
+use Rattle.merge_laws.specs.LineagesStand.{OfMessage}
 use Rattle.merge_laws.specs.Numbered.{Numbered}
 use Rattle.merge_laws.proofs.AcceptedOrder.{was-below}
 use Rattle.merge_laws.proofs.AcceptedParts.{PastFits, SiteFits, all-fit, count-on, lines-accept, nothing-fits, others-accepted, publisher-accepted, send-on}

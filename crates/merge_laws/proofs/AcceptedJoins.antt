@@ -23,7 +23,8 @@ use Rattle.merge_model.specs.declared.letter.Letter.{Letter}
 use Rattle.merge_model.specs.declared.letter.Message.{Message}
 use Rattle.merge_laws.specs.Accepted.{Accepted, SendsAccepted}
 use Rattle.merge_laws.specs.LetterOrder.{JoinIsLater, LetterOrder, last_upload, upload_seq}
-use Rattle.merge_laws.specs.LineagesStand.{UploadCounts, is_given_up, OthersAccepted}
+use Rattle.merge_model.specs.Promises.{is_given_up}
+use Rattle.merge_laws.specs.LineagesStand.{UploadCounts, OthersAccepted}
 use Rattle.merge_laws.specs.Received.{JoinFits, LetterFits, MessageFits, joined_at}
 use Rattle.merge_laws.proofs.AcceptedParts.{CountsGo, PastFits, SiteFits, all-fit, counts-go, lines-accept, nothing-fits, past-among, send-on}
 use Rattle.merge_model.proofs.Finding.{all-at, all-weaker}

@@ -22,7 +22,8 @@ use Rattle.merge_model.specs.World.{Saying, World}
 use Rattle.merge_model.specs.declared.letter.Message.TheVariants.{Asks}
 use Rattle.merge_model.specs.declared.letter.Letter.{Letter}
 use Rattle.merge_laws.specs.Knowledge.{was_made}
-use Rattle.merge_laws.specs.LineagesStand.{OwnKnown, UploadSends, counts_in, is_given_up, is_of, is_sent}
+use Rattle.merge_model.specs.Promises.{is_given_up}
+use Rattle.merge_laws.specs.LineagesStand.{OwnKnown, UploadSends, counts_in, is_of, is_sent}
 use Rattle.merge_laws.specs.Numbered.{last_of}
 use Rattle.merge_laws.proofs.AcceptedOrder.{StandsUpTo, last-within, of-made, of-site, order-numbers, order-up-to}
 use Rattle.merge_model.proofs.Finding.{letter-zip}

@@ -27,7 +27,8 @@ use Rattle.merge_model.specs.declared.letter.Message.TheVariants.{Asks, Replies}
 use Rattle.merge_model.specs.declared.letter.Letter.{Letter}
 use Rattle.merge_model.specs.declared.letter.Message.{Message}
 use Rattle.merge_laws.specs.Accepted.{Accepted, SendsAccepted, SendsInserts}
-use Rattle.merge_laws.specs.LineagesStand.{UploadCounts, can_act, is_given_up, OthersAccepted}
+use Rattle.merge_model.specs.Promises.{is_given_up}
+use Rattle.merge_laws.specs.LineagesStand.{UploadCounts, can_act, OthersAccepted}
 use Rattle.merge_laws.specs.Received.{joined_at}
 use Rattle.merge_model.proofs.Finding.{all-more, all-weaker}
 use Rattle.merge_model.proofs.Lists.{zip-more, zip-weaker}

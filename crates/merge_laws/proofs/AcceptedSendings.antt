@@ -32,7 +32,8 @@ use Rattle.merge_model.specs.declared.letter.Message.TheVariants.{Asks, Replies}
 use Rattle.merge_model.specs.declared.letter.Message.{Message}
 use Rattle.merge_laws.specs.Accepted.{Accepted, IsUpTo}
 use Rattle.merge_laws.specs.KnownMakers.{IsAfterMaker, KnownMakers}
-use Rattle.merge_laws.specs.LineagesStand.{is_given_up, OthersAccepted}
+use Rattle.merge_model.specs.Promises.{is_given_up}
+use Rattle.merge_laws.specs.LineagesStand.{OthersAccepted}
 use Rattle.merge_laws.proofs.AcceptedOrder.{StandsBelow, of-site, order-below}
 use Rattle.merge_laws.proofs.AcceptedParts.{PastFits, all-fit, nothing-fits, past-among, post-accepted, publisher-accepted, put-rows, sent-rows, subscriber-accepted}
 use Rattle.merge_model.proofs.Finding.{all-weaker, found-named}

@@ -31,7 +31,8 @@ use Rattle.merge_model.specs.declared.letter.Message.{Message}
 use Rattle.merge_laws.specs.Accepted.{Accepted, IsUpTo, SendsAccepted, SendsInserts}
 use Rattle.merge_laws.specs.Knowledge.{AllKnow, changes_of, was_made}
 use Rattle.merge_laws.specs.KnownMakers.{KnownMakers, KnowsMaker}
-use Rattle.merge_laws.specs.LineagesStand.{OwnKnown, UploadCounts, is_given_up, OthersAccepted}
+use Rattle.merge_model.specs.Promises.{is_given_up}
+use Rattle.merge_laws.specs.LineagesStand.{OwnKnown, UploadCounts, OthersAccepted}
 use Rattle.merge_laws.proofs.AcceptedChanges.{inserts-on, new-up-to}
 use Rattle.merge_laws.proofs.AcceptedNews.{accepts-items, accepts-more, after, noted, placed, reaches, upload-counts}
 use Rattle.merge_laws.proofs.AcceptedParts.{CountsGo, PastFits, SiteFits, accepted-fits, all-fit, counts-go, past-among, send-on}

@@ -14,7 +14,9 @@ use Rattle.merge_schema.specs.declared.publication.Publication.{Publication}
 use Rattle.merge_batch.specs.declared.request.UploadItem.{UploadItem}
 use Rattle.merge_model.specs.Acts.{Fate, Met, New, Unknown, case_met, decision_for, fate_by, is_new_row, key_of_item, version_by}
 use Rattle.merge_model.specs.ByHistory.{by_past}
-use Rattle.merge_model.specs.Cases.{case_by, is_conflict, result_by, tops_of}
+use Rattle.merge_units.specs.Cases.{case_by, is_conflict}
+use Rattle.merge_units.specs.Results.{result_by}
+use Rattle.merge_units.specs.Version.{tops_of}
 use Rattle.merge_model.specs.History.{Chains, History, MadeChange, Past, has, past_at, past_in}
 use Rattle.merge_model.specs.Keys.{at_number, same_key}
 use Rattle.merge_model.specs.Noting

@@ -26,8 +26,9 @@ use Rattle.merge_types.specs.RowKeys.{key_cmp}
 use Rattle.merge_model.specs.Keys.{has_key, row_at, same_key}
 use Rattle.merge_model.specs.Model.{put_past}
 use Rattle.merge_model.specs.Pasts.{cell_count}
-use Rattle.merge_model.specs.Publications.{subscription_at}
-use Rattle.merge_model.specs.PublisherDownload.{TouchedRow, asked, inside_keys, item_of, order_by, reply_to, touched_row}
+use Rattle.merge_resolve.specs.Priorities.{subscription_at}
+use Rattle.merge_model.specs.PublisherDownload.{TouchedRow, asked, inside_keys, item_of, reply_to, touched_row}
+use Rattle.merge_batch.specs.Orders.{order_by}
 use Rattle.merge_model.specs.PublisherLocal.{version_at}
 use Rattle.merge_types.specs.declared.row_key.RowKey.{RowKey as Key}
 use Rattle.merge_units.specs.declared.site_row.PublisherRow.{PublisherRow}

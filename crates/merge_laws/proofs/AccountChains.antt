@@ -6,7 +6,7 @@ use Rattle.merge_types.specs.declared.identifiers.Dot.{Dot}
 use Rattle.merge_units.specs.declared.version.Body.{Body}
 use Rattle.merge_units.specs.declared.version.Body.TheVariants.{Dead, Live}
 use Rattle.merge_units.specs.declared.version.Cell.{Cell}
-use Rattle.merge_model.specs.Cases.{Knowing, has_news, tops_of}
+use Rattle.merge_units.specs.Version.{Knowing, has_news, tops_of}
 use Rattle.merge_model.specs.History.{Chains, MadeChange, OfCells, OfDead, has}
 use Rattle.merge_model.specs.Promises.{InCell, InRow, Place, descends}
 use Rattle.merge_types.specs.declared.row_key.RowKey.{RowKey as Key}

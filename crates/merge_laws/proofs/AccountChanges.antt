@@ -14,7 +14,7 @@ use Rattle.merge_types.specs.declared.values.Value.{Value}
 use Rattle.merge_units.specs.Changes.{cell_after, cells_after, new_cell, set_value, whole_row_after}
 use Rattle.merge_units.specs.declared.version.Body.TheVariants.{Dead, Live}
 use Rattle.merge_units.specs.declared.version.Cell.{Cell}
-use Rattle.merge_model.specs.Changes.{new_cells}
+use Rattle.merge_units.specs.Changes.{new_cells}
 use Rattle.merge_model.specs.Keys.{same_key}
 use Rattle.merge_model.specs.History.{MadeChange, OfCells, OfDead, has}
 use Rattle.merge_model.specs.Pasts.{chain_after, set_cells}

@@ -7,7 +7,7 @@ use Rattle.std.proofs.Common.{arith, subst, sym, ap}
 use Rattle.std.proofs.lemmas.Bool.Decides.{nat_tests}
 use Rattle.merge_types.specs.declared.identifiers.Dot.{Dot}
 use Rattle.merge_units.specs.declared.version.Body.{Body}
-use Rattle.merge_gens.proofs.Sets.{sorted_put}
+use Rattle.merge_table.proofs.Sorted.{sorted_put}
 use Rattle.merge_model.proofs.Sorted.{key_total}
 use Rattle.merge_model.specs.History.{Chains, History, MadeChange, Past, has, past_at, past_in, pasts_at}
 use Rattle.merge_types.specs.RowKeys.{key_cmp}

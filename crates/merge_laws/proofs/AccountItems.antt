@@ -10,7 +10,7 @@ use Rattle.merge_schema.specs.declared.publication.Publication.{Publication}
 use Rattle.merge_batch.specs.declared.request.UploadItem.{UploadItem}
 use Rattle.merge_model.specs.Acts.{Act, act_of, acts_from, key_of_item, left_by, made_by, version_by, versions_of}
 use Rattle.merge_model.specs.ByHistory.{by_past}
-use Rattle.merge_model.specs.Cases.{tops_of}
+use Rattle.merge_units.specs.Version.{tops_of}
 use Rattle.merge_model.specs.Entries.{Entries}
 use Rattle.merge_model.specs.History.{History, MadeChange, Past, has, past_at, past_in}
 use Rattle.merge_model.specs.Judge.{PublisherJudge}

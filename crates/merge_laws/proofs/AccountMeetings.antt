@@ -11,8 +11,9 @@ use Rattle.merge_units.specs.declared.case.Case.{Case}
 use Rattle.merge_units.specs.declared.result.Decision.{Decision}
 use Rattle.merge_units.specs.declared.result.Decision.TheVariants.{Custom, KeepPublisher, TakeSubscriber}
 use Rattle.merge_units.specs.declared.version.Body.{Body}
-use Rattle.merge_resolve.specs.Losers.{publisher_site}
-use Rattle.merge_model.specs.Cases.{case_by, has_news, is_conflict, tops_of}
+use Rattle.merge_conflict.specs.Losers.{publisher_site}
+use Rattle.merge_units.specs.Cases.{case_by, is_conflict}
+use Rattle.merge_units.specs.Version.{has_news, tops_of}
 use Rattle.merge_model.specs.History.{History, MadeChange, Past, has}
 use Rattle.merge_model.specs.Keys.{has_key, same_key}
 use Rattle.merge_model.specs.Noting

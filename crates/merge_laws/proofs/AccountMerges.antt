@@ -14,7 +14,8 @@ use Rattle.merge_units.specs.declared.result.Decision.TheVariants.{Custom, KeepP
 use Rattle.merge_units.specs.declared.version.Body.{Body}
 use Rattle.merge_units.specs.declared.version.Body.TheVariants.{Dead, Live}
 use Rattle.merge_units.specs.declared.version.Cell.{Cell}
-use Rattle.merge_model.specs.Cases.{Knowing, bodies_case, has_news, is_conflict, side_of, sides_of, tops_of}
+use Rattle.merge_units.specs.Version.{Knowing, has_news, tops_of}
+use Rattle.merge_units.specs.Cases.{bodies_case, is_conflict, side_of, sides_of}
 use Rattle.merge_model.specs.History.{Chains, MadeChange, OfCells, OfDead, has}
 use Rattle.merge_model.specs.Pasts.{chains_by}
 use Rattle.merge_model.specs.Promises.{InCell, InRow, Place, descends}

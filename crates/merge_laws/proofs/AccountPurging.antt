@@ -7,7 +7,8 @@ use Rattle.std.proofs.Common.{arith, subst, sym, ap, ◌∙◌}
 use Rattle.std.proofs.lemmas.Bool.Decides.{nat_tests}
 use Rattle.merge_types.specs.declared.identifiers.Dot.{Dot}
 use Rattle.merge_units.specs.declared.version.Version.{Version}
-use Rattle.merge_gens.proofs.Sets.{sorted_take}
+use Rattle.std.specs.BTreeMap.{is_at}
+use Rattle.merge_table.proofs.Sorted.{sorted_take}
 use Rattle.merge_schema.specs.declared.publication.Publication.{Publication}
 use Rattle.merge_model.proofs.Sorted.{key_total}
 use Rattle.merge_model.specs.History.{History, MadeChange, Past, has, no_past, past_at, past_in, pasts_at}
@@ -79,7 +80,7 @@ module _ (publication : Publication) (found : Key → Option Version) (sites : L
   sorted-left n true is =
       let zero_site : 0 ≡ n = grind (arith, nat_tests, is) in
       subst (λ (k : ℕ). SortedAt after.pasts k) zero_site
-      (subst (λ (o : Option (List (Key × Past))). IsStrictlySortedBy key_cmp (keys_of (unwrap_or o []))) (sym (at_put_same 0 (drop_row (pasts_at h 0) key) h.pasts)) (sorted_take key_cmp key_total key (pasts_at h 0) (a.sorted 0)))
+      (subst (λ (o : Option (List (Key × Past))). IsStrictlySortedBy key_cmp (keys_of (unwrap_or o []))) (sym (at_put_same 0 (drop_row (pasts_at h 0) key) h.pasts)) (sorted_take key_cmp key_total (is_at (key_cmp key)) (pasts_at h 0) (a.sorted 0)))
   sorted-left n false is = subst (λ (es : List (Key × Past)). IsStrictlySortedBy key_cmp (keys_of es)) (sym (put-there h.pasts 0 (drop_row (pasts_at h 0) key) n (λ same. grind (arith, nat_tests, is, same)))) (a.sorted n)
 
   held-own : (q : Key) (b : Bool) → same_key q key ≡ b → IsTraced after q (past_at after 0 q)

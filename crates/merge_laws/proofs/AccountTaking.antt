@@ -10,7 +10,7 @@ use Rattle.std.proofs.lemmas.Bool.Decides.{nat_tests}
 use Rattle.merge_types.specs.declared.identifiers.SiteId.{SiteId}
 use Rattle.merge_units.specs.declared.version.Body.TheVariants.{Live}
 use Rattle.merge_units.specs.declared.version.Version.{Version}
-use Rattle.merge_gens.proofs.Sets.{sorted_put, sorted_take}
+use Rattle.merge_table.proofs.Sorted.{sorted_put, sorted_take}
 use Rattle.merge_schema.specs.declared.publication.Publication.{Publication}
 use Rattle.merge_batch.specs.declared.reply.Act.{Act as Order}
 use Rattle.merge_batch.specs.declared.reply.Act.TheVariants as order
@@ -209,7 +209,7 @@ module _ (publication : Publication) (found : Key → Option Version) (pool : Li
         subst (λ (p : Past). GrownAlone (cell_count publication q.article) h.made q v.body p.chains) (sym (past-left old_pasts key q differs)) (t.accounts.subscribers site.0 s q v t.at found_is)
 
     drop-takes : Takes (put_number sites site.0 (record s { rows = drop_row s.rows key })) (record s { rows = drop_row s.rows key }) (Noting.without_past site.0 key h)
-    drop-takes = item-takes (drop_row old_pasts key) (drop_row s.rows key) (λ q differs. past-left old_pasts key q differs) (sorted_take key_cmp key_total key old_pasts (t.accounts.sorted site.0)) (sorted_take key_cmp key_total key s.rows t.ascends)
+    drop-takes = item-takes (drop_row old_pasts key) (drop_row s.rows key) (λ q differs. past-left old_pasts key q differs) (sorted_take key_cmp key_total (is_at (key_cmp key)) old_pasts (t.accounts.sorted site.0)) (sorted_take key_cmp key_total (is_at (key_cmp key)) s.rows t.ascends)
         (subst (λ (p : Past). IsTraced h key p) (sym dropped-past) (nothing-traced h.made h.lost h.purged (past_at h 0 key) key)) (subst (λ (p : Past). AreMade h.made key p) (sym dropped-past) (λ dot is. absurd cc))
         (λ q v at. drop-grown q v (same_key q key) refl at)
 

@@ -145,5 +145,5 @@ module _ (publication : Publication) (says : Saying) (w : World) (h : History) (
         let k : History = Noting.with_acts_noted publication judge m acts incoming (here w) h in
         let q : PublisherTables = taken_in publication judge m acts (here w) in
         let same : Accounts publication (version_at q) w.subscribers w.pool k = same-accounts publication (fold put_version (version_at w.publisher) (versions_of acts)) w.subscribers w.pool k noted (version_at q)
-        (λ key. changed-versions publication judge (changing_by m acts) (with_acts publication judge m acts (here w)) key) in
+        (λ key. changed-versions publication judge (changing_by m acts) (with_acts publication m acts (here w)) key) in
         post-accounts publication (version_at q) w.subscribers w.pool k same m.site (Replies (reply.Uploaded (told_by judge m))) tt (none-traced publication (version_at q) w.subscribers w.pool k same) tt

@@ -10,7 +10,8 @@ use Rattle.merge_batch.specs.declared.refusal.Refusal.TheVariants.{Gap}
 use Rattle.merge_batch.specs.declared.refusal.Refusal.{Refusal}
 use Rattle.merge_batch.specs.declared.request.Upload.{Upload}
 use Rattle.merge_batch.specs.declared.request.UploadItem.{UploadItem}
-use Rattle.merge_model.specs.Acts.{Act, Question, acts_from, acts_of, question_of}
+use Rattle.merge_model.specs.Acts.{Act, acts_from, acts_of, question_of}
+use Rattle.merge_resolve.specs.declared.asking.Question.{Question}
 use Rattle.merge_model.specs.Faults.{fault_of, known_by, upload_fault}
 use Rattle.merge_model.specs.History.{History, is_done, pasts_with}
 use Rattle.merge_model.specs.Judge.{PublisherJudge}
@@ -19,7 +20,8 @@ use Rattle.merge_model.specs.Noting
 use Rattle.merge_model.specs.Publisher.{counters, site_refusal}
 use Rattle.merge_model.specs.PublisherUpload.{brings_news, taken_in, too_many_new}
 use Rattle.merge_model.specs.Refusals.{counter_end, first_refusal, refused_if}
-use Rattle.merge_model.specs.Steps.{asked_of, kept_decisions}
+use Rattle.merge_model.specs.Steps.{kept_decisions}
+use Rattle.merge_resolve.specs.Questions.{question_of as asked_of}
 use Rattle.merge_model.specs.declared.outcome.Outcome.{Outcome}
 use Rattle.merge_model.specs.Tables.{PublisherTables}
 use Rattle.merge_model.specs.World.{Saying}

@@ -29,7 +29,8 @@ use Rattle.merge_model.specs.Noting
 use Rattle.merge_model.specs.Publisher.{counters, site_refusal}
 use Rattle.merge_model.specs.PublisherUpload.{brings_news, taken_in, too_many_new, upload_refusal, uploaded}
 use Rattle.merge_model.specs.Refusals.{counter_end, refused_if, unless}
-use Rattle.merge_model.specs.Steps.{asked_of, deliver_letter, kept_decisions, post, unless_refused, upload_questions}
+use Rattle.merge_model.specs.Steps.{deliver_letter, kept_decisions, post, unless_refused, upload_questions}
+use Rattle.merge_resolve.specs.Questions.{question_of as asked_of}
 use Rattle.merge_model.specs.declared.outcome.Outcome.TheVariants.{NoLetter, Posted, Refuses}
 use Rattle.merge_model.specs.declared.outcome.Outcome.{Outcome}
 use Rattle.merge_types.specs.declared.row_key.RowKey.{RowKey as Key}

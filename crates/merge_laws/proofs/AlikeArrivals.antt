@@ -17,7 +17,8 @@ use Rattle.merge_batch.specs.declared.reply.Reply.TheVariants as reply
 use Rattle.merge_batch.specs.declared.reply.Uploaded.{Uploaded}
 use Rattle.merge_batch.specs.declared.request.Upload.{Upload}
 use Rattle.merge_batch.specs.declared.request.UploadItem.{UploadItem}
-use Rattle.merge_model.specs.Acts.{Act, Question, acting_items, acts_from, acts_of, changes_by, question_of}
+use Rattle.merge_model.specs.Acts.{Act, acting_items, acts_from, acts_of, changes_by, question_of}
+use Rattle.merge_resolve.specs.declared.asking.Question.{Question}
 use Rattle.merge_model.specs.Entries.{Changing, changed_by}
 use Rattle.merge_model.specs.Faults.{fault_of, judged_state, known_by, upload_fault}
 use Rattle.merge_model.specs.Judge.{PublisherJudge}
@@ -25,13 +26,14 @@ use Rattle.merge_model.specs.Keys.{at_number}
 use Rattle.merge_model.specs.Publisher.{at_moment, counters, site_refusal}
 use Rattle.merge_model.specs.PublisherUpload.{brings_news, changing_by, state_seeing, taken_in, too_many_new, upload_refusal, uploaded, with_acts, with_taken}
 use Rattle.merge_model.specs.Refusals.{counter_end, first_refusal, refused_if, unless}
-use Rattle.merge_model.specs.Steps.{asked_of, deliver_upload, kept_decisions, post, unless_refused, upload_questions}
+use Rattle.merge_model.specs.Steps.{deliver_upload, kept_decisions, post, unless_refused, upload_questions}
+use Rattle.merge_resolve.specs.Questions.{question_of as asked_of}
 use Rattle.merge_model.specs.declared.outcome.Outcome.{Outcome}
 use Rattle.merge_types.specs.declared.row_key.RowKey.{RowKey as Key}
 use Rattle.merge_model.specs.Tables.{PublisherTables}
 use Rattle.merge_model.specs.World.{Saying, World}
 use Rattle.merge_model.specs.declared.letter.Message.TheVariants.{Replies}
-use Rattle.merge_laws.proofs.AlikeUploads.{ItemAgrees, acting-same, acts-from-same, lost-from-same, questions-same}
+use Rattle.merge_laws.proofs.AlikeUploads.{ItemAgrees, acting-same, acts-from-same, questions-same}
 use Rattle.merge_laws.proofs.Arrivals.{first-none}
 use Rattle.merge_model.proofs.Lists.{all-filter}
 
@@ -102,13 +104,7 @@ module _ (publication : Publication) (one other : PublisherJudge) (m : Upload) (
   taken-same now decisions all =
       let q : PublisherTables = at_moment now p in
       let acts : List Act = acts_of other m decisions q in
-      ap (λ (lost : List ConflictRow). changed_by publication one (changing_by m acts) (record q {
-        changes = q.changes + changes_by acts;
-        conflict_count = q.conflict_count + length lost;
-        conflicts = q.conflicts ++ lost;
-        sites = with_taken m (map (state_seeing acts) q.sites);
-      })) (lost-from-same publication one other m.site q q.latest (acting_items other m) (q.conflict_count + 1) (q.changes + 1) decisions (all-filter (ItemAgrees one other m.site p.rows) _ m.items all))
-      ∙ changed-same publication one other (changing_by m acts) (with_acts publication other m acts q) agree.has_left
+      changed-same publication one other (changing_by m acts) (with_acts publication m acts q) agree.has_left
 
   uploaded-same : (now : Moment) (decisions : List Decision) → Items → uploaded publication one m decisions (at_moment now p) ≡ uploaded publication other m decisions (at_moment now p)
   uploaded-same now decisions all =

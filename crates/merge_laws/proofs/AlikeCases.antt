@@ -12,7 +12,8 @@ use Rattle.merge_batch.specs.declared.request.Request.TheVariants as request
 use Rattle.merge_batch.specs.declared.request.Upload.{Upload}
 use Rattle.merge_batch.specs.declared.request.UploadItem.{UploadItem}
 use Rattle.merge_model.specs.Acts.{key_of_item}
-use Rattle.merge_model.specs.Cases.{case_by, new_tops, tops_of}
+use Rattle.merge_units.specs.Cases.{case_by}
+use Rattle.merge_units.specs.Version.{new_tops, tops_of}
 use Rattle.merge_model.specs.History.{History, MadeChange, Past, has, is_accepted, past_at, past_in, pasts_with}
 use Rattle.merge_types.specs.RowKeys.{key_cmp}
 use Rattle.merge_model.specs.Keys.{row_at, same_key}
@@ -25,7 +26,8 @@ use Rattle.merge_model.specs.World.{letter_at}
 use Rattle.merge_model.specs.declared.letter.Message.TheVariants.{Asks}
 use Rattle.merge_model.specs.declared.letter.Letter.{Letter}
 use Rattle.merge_laws.specs.Knowledge.{Knowledge, Knows, is_made, same_dot}
-use Rattle.merge_laws.specs.LineagesStand.{AllTold, LineagesStand, OfMessage, Owns, UploadCounts, can_act, counts_in, is_given_up}
+use Rattle.merge_model.specs.Promises.{is_given_up}
+use Rattle.merge_laws.specs.LineagesStand.{AllTold, LineagesStand, OfMessage, Owns, UploadCounts, can_act, counts_in}
 use Rattle.merge_laws.specs.Standing.{StandsFor, Told, is_counted}
 use Rattle.merge_model.proofs.Finding.{all-weaker, letter-zip, some_same}
 use Rattle.merge_model.proofs.KeyLookUps.{keys-exact}

@@ -2,7 +2,7 @@
 use Rattle.std.specs.Prelude.{◌≡◌, ℕ, List, refl}
 use Rattle.std.proofs.Common.{ap, subst, sym}
 use Rattle.merge_schema.specs.declared.publication.Publication.{Publication}
-use Rattle.merge_model.specs.Answers.{Answer}
+use Rattle.merge_model.specs.declared.answer.Answer.{Answer}
 use Rattle.merge_model.specs.Bridge.{StepsAlike}
 use Rattle.merge_model.specs.Events.{after, answers, machine}
 use Rattle.merge_model.specs.Failing.{Slips, failing, faulty}

@@ -39,7 +39,8 @@ use Rattle.merge_model.specs.declared.outcome.Outcome.{Outcome}
 use Rattle.merge_model.specs.History.{History, Past, Line}
 use Rattle.merge_model.specs.Noting
 use Rattle.merge_model.specs.Model.{noted_if, noted_request, did_something}
-use Rattle.merge_model.specs.Steps.{deliver_upload, asked_of}
+use Rattle.merge_model.specs.Steps.{deliver_upload}
+use Rattle.merge_resolve.specs.Questions.{question_of as asked_of}
 use Rattle.merge_model.proofs.Publishers.{ranges-ok, download-ok}
 use Rattle.merge_model.proofs.DoneOnce.{lines-done, acts-done}
 use Rattle.merge_laws.proofs.Tallied.{received-tallied}

@@ -36,7 +36,8 @@ use Rattle.merge_model.specs.Tables.{PublisherTables, SubscriberTables}
 use Rattle.merge_model.specs.World.{Saying, World}
 use Rattle.merge_model.specs.declared.letter.Message.TheVariants.{Asks}
 use Rattle.merge_model.specs.declared.letter.Letter.{Letter}
-use Rattle.merge_laws.specs.LineagesStand.{UploadCounts, can_act, counts_in, is_given_up}
+use Rattle.merge_model.specs.Promises.{is_given_up}
+use Rattle.merge_laws.specs.LineagesStand.{UploadCounts, can_act, counts_in}
 use Rattle.merge_laws.specs.Numbered.{JoinTells, Numbered, last_of}
 use Rattle.merge_laws.specs.Received.{Received}
 use Rattle.merge_laws.proofs.Arrivals.{first-none, not-refused, upload-known}

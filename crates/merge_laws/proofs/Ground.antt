@@ -14,9 +14,9 @@ use Rattle.merge_laws.proofs.UnsentKept.{Base, reply-site, unsent-always, unsent
 use Rattle.merge_laws.proofs.Walking.{StepsKeep, step-keeps}
 use Rattle.merge_laws.proofs.WatermarkModels.{watermarks-always, watermarks-keep}
 use Rattle.merge_laws.specs.Behind.{Behind}
-use Rattle.merge_laws.specs.Knowledge.{Known, changes_of}
+use Rattle.merge_laws.specs.Knowledge.{Known, changes_of, changes_of as changes_in}
 use Rattle.merge_laws.specs.LastLines.{LastLines}
-use Rattle.merge_laws.specs.Lineages.{IsOfMade, LineagesAreMade, changes_of as changes_in}
+use Rattle.merge_laws.specs.Lineages.{IsOfMade, LineagesAreMade}
 use Rattle.merge_laws.specs.Numbered.{Numbered}
 use Rattle.merge_laws.specs.Purges.{IsInStep}
 use Rattle.merge_laws.specs.Received.{Received}

@@ -14,7 +14,7 @@ use Rattle.merge_batch.specs.declared.request.Join.{Join}
 use Rattle.merge_batch.specs.declared.request.Upload.{Upload}
 use Rattle.merge_schema.specs.declared.publication.Publication.{Publication}
 use Rattle.merge_model.specs.Acts.{Act, Fate, Met, New, Unknown}
-use Rattle.merge_model.specs.Cases.{is_conflict}
+use Rattle.merge_units.specs.Cases.{is_conflict}
 use Rattle.merge_model.specs.Entries.{Entries}
 use Rattle.merge_model.specs.History.{History, Line, MadeChange, Past, past_at, past_in}
 use Rattle.merge_model.specs.Judge.{PublisherJudge}

@@ -15,6 +15,7 @@ use Rattle.merge_ident.specs.declared.grants.Rule.{Rule}
 use Rattle.merge_ident.specs.Answers.{grants_with, grants_with_all, plan_of, plans_of}
 use Rattle.merge_ident.specs.Books.{IsBook, IsRule}
 use Rattle.merge_ident.specs.Holders.{Holder, new_holder}
+use Rattle.merge_ident.proofs.Stored.{no_grants}
 use Rattle.merge_ident.proofs.Plans.{book-with_plan}
 use Rattle.merge_schema.specs.declared.publication.Publication.{Publication}
 use Rattle.merge_schema.specs.declared.publication.Identity.{Identity}
@@ -103,7 +104,7 @@ begins : (publication : Publication) → All IsRule (rules_of publication) → (
 begins publication fit tallies = record {
   book = record {
     rules_fit = fit;
-    grants_fit = record { ranges = λ k d within. absurd (omega arith); disjoint = λ article value. omega arith; numbered = λ article site number. grind (arith, nat_tests) };
+    grants_fit = no_grants;
     in_order = tt;
   };
   held = all-held publication;

@@ -14,7 +14,7 @@ use Rattle.merge_units.specs.declared.result.Decision.TheVariants.{Custom, KeepP
 use Rattle.merge_batch.specs.declared.request.UploadItem.{UploadItem}
 use Rattle.merge_schema.specs.declared.publication.Publication.{Publication}
 use Rattle.merge_model.specs.Acts.{Act, Fate, New, Unknown, act_of, acts_from, changes_by, decided_changes, decision_for, case_met, fate_by, is_new_row, key_of_item, left_by, made_by}
-use Rattle.merge_model.specs.Cases.{is_conflict}
+use Rattle.merge_units.specs.Cases.{is_conflict}
 use Rattle.merge_model.specs.Changes.{key_of}
 use Rattle.merge_model.specs.Entries.{Entries}
 use Rattle.merge_model.specs.History.{History, Line, MadeChange, Past, made_at, past_at, past_in}

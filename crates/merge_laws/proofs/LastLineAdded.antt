@@ -7,7 +7,7 @@ use Rattle.std.proofs.Common.{arith, subst, sym, ap, ◌∙◌}
 use Rattle.std.proofs.lemmas.Bool.Decides.{nat_tests}
 use Rattle.std.proofs.Math.Bool.{and-false}
 use Rattle.merge_table.proofs.LookUps.{lookup-insert_entry}
-use Rattle.merge_gens.proofs.Sets.{sorted_put}
+use Rattle.merge_table.proofs.Sorted.{sorted_put}
 use Rattle.merge_units.specs.declared.version.Version.{Version}
 use Rattle.merge_schema.specs.declared.publication.Publication.{Publication}
 use Rattle.merge_types.specs.declared.row_key.RowKey.{RowKey as Key}

@@ -93,7 +93,7 @@ module _ (publication : Publication) (w : World) (h : History) (sorted : AreSort
       let more : List Line = Noting.lines_of_entries (last_closed (here w) + 1) entries in
       let acted : History = fold (Noting.with_act incoming entries) h acts in
       subst (λ (ls : List Line). Fits publication (taken_in publication judge m acts (here w)) ls) (sym (lines-with more acted ∙ ap (λ (ls : List Line). fold added ls more) (acts-lines incoming entries acts h)))
-      (entries-fit publication judge (changing_by m acts) (with_acts publication judge m acts (here w)) (last_closed (here w) + 1) h.lines sorted.mappings_ascend fits)
+      (entries-fit publication judge (changing_by m acts) (with_acts publication m acts (here w)) (last_closed (here w) + 1) h.lines sorted.mappings_ascend fits)
 
   -- A purge.
 

@@ -13,7 +13,7 @@ use Rattle.merge_units.specs.declared.result.Decision.{Decision}
 use Rattle.merge_units.specs.declared.version.Version.{Version}
 use Rattle.merge_conflict.specs.declared.row.ConflictRow.{ConflictRow}
 use Rattle.merge_ident.specs.Holders.{Holder}
-use Rattle.merge_resolve.specs.Losers.{publisher_site}
+use Rattle.merge_conflict.specs.Losers.{publisher_site}
 use Rattle.merge_schema.specs.declared.publication.Publication.{Publication}
 use Rattle.merge_batch.specs.declared.reply.Act.{Act as Order}
 use Rattle.merge_batch.specs.declared.reply.Act.TheVariants as order
@@ -58,7 +58,8 @@ use Rattle.merge_model.specs.declared.letter.Message.{Message}
 use Rattle.merge_model.specs.declared.event.Event.{Event}
 use Rattle.merge_model.proofs.KeptFailing.{runs-keep}
 use Rattle.merge_laws.proofs.Tallied.{lineages-tallied, received-tallied}
-use Rattle.merge_laws.specs.Lineages.{IsOfMade, LineagesAreMade, OfLineages, OfLost, OfMessage, OfOrder, OfPublisher, OfSubscriber, changes_of}
+use Rattle.merge_laws.specs.Lineages.{IsOfMade, LineagesAreMade, OfLineages, OfLost, OfMessage, OfOrder, OfPublisher, OfSubscriber}
+use Rattle.merge_laws.specs.Knowledge.{changes_of}
 use Rattle.merge_laws.specs.Received.{Received}
 use Rattle.merge_model.proofs.Finding.{all-at, all-more, all-weaker, at_put_other, at_put_same}
 use Rattle.merge_laws.proofs.LineageLists.{made-dot, made-joined, made-none}
@@ -132,7 +133,7 @@ module _ (Q : List Dot → Type 0) where
   upload-taken : (publication : Publication) (judge : PublisherJudge) (m : Upload) (acts : List Act) (p : PublisherTables) → ((a b : List Dot) → Q a → Q b → Q (joined a b)) → AllByRecursion (ActFits Q) acts → OfPublisher Q p → OfPublisher Q (taken_in publication judge m acts p)
   upload-taken publication judge m acts p join fits f = record {
     rows = rows-changed Q _ _ p.rows (versions-fit Q join acts fits) f.rows;
-    lost = all-append (λ (row : ConflictRow). Q row.losing.lineage) p.conflicts _ f.lost (all-lost Q publication judge m.site p.latest (p.conflict_count + 1) acts fits);
+    lost = all-append (λ (row : ConflictRow). Q row.losing.lineage) p.conflicts _ f.lost (all-lost Q publication m.site p.latest (p.conflict_count + 1) acts fits);
   }
 
   change-made : (publication : Publication) (change : Change) (d : Value × List (ℕ × Holder)) (s : SubscriberTables) (w : World) → ((l : List Dot) → Q l → Q (with_dot (sub_next_dot s) l)) → Q [] → OfSubscriber Q s → OfSubscriber Q (sub_made_locally publication change d (sub_at_moment w.moment s)).0

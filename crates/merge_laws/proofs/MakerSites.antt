@@ -11,14 +11,15 @@ use Rattle.merge_batch.specs.declared.reply.Act.{Act as Order}
 use Rattle.merge_batch.specs.declared.reply.Act.TheVariants as order
 use Rattle.merge_batch.specs.declared.reply.DownloadItem.{DownloadItem}
 use Rattle.merge_batch.specs.declared.request.UploadItem.{UploadItem}
-use Rattle.merge_gens.proofs.Sets.{sorted_put, sorted_take}
+use Rattle.merge_table.proofs.Sorted.{sorted_put, sorted_take}
 use Rattle.merge_model.specs.Acts.{key_of_item}
 use Rattle.merge_model.specs.History.{History, Past, past_in, pasts_at}
 use Rattle.merge_model.specs.Judge.{SubscriberJudge}
 use Rattle.merge_types.specs.RowKeys.{key_cmp}
 use Rattle.merge_model.specs.Keys.{drop_row, has_key, put_row, row_at, same_key}
 use Rattle.merge_model.specs.Noting
-use Rattle.merge_model.specs.PublisherDownload.{TouchedRow, item_of, order_by}
+use Rattle.merge_model.specs.PublisherDownload.{TouchedRow, item_of}
+use Rattle.merge_batch.specs.Orders.{order_by}
 use Rattle.merge_model.specs.Sending.{upload_item}
 use Rattle.merge_types.specs.declared.row_key.RowKey.{RowKey as Key}
 use Rattle.merge_units.specs.declared.site_row.PublisherRow.{PublisherRow}
@@ -72,15 +73,15 @@ module _ (judge : SubscriberJudge) (received n : ℕ) (incoming : List (Key × P
   order-beside key order.RemoveDeleted rows h new b =
       let here : pasts_at (Noting.without_past n key h) n ≡ drop_row (pasts_at h n) key = put-here h.pasts n (drop_row (pasts_at h n) key) in
       record {
-        rows_sorted = sorted_take key_cmp key_total key rows b.rows_sorted;
-        sorted = subst (λ (x : List (Key × Past)). Ascend x) (sym here) (sorted_take key_cmp key_total key (pasts_at h n) b.sorted);
+        rows_sorted = sorted_take key_cmp key_total (is_at (key_cmp key)) rows b.rows_sorted;
+        sorted = subst (λ (x : List (Key × Past)). Ascend x) (sym here) (sorted_take key_cmp key_total (is_at (key_cmp key)) (pasts_at h n) b.sorted);
         know = subst (λ (x : List (Key × Past)). HeldKnow (drop_row rows key) x) (sym here) (know-dropped rows (pasts_at h n) key b.rows_sorted b.sorted b.know);
       }
   order-beside key order.RemoveLeft rows h new b =
       let here : pasts_at (Noting.without_past n key h) n ≡ drop_row (pasts_at h n) key = put-here h.pasts n (drop_row (pasts_at h n) key) in
       record {
-        rows_sorted = sorted_take key_cmp key_total key rows b.rows_sorted;
-        sorted = subst (λ (x : List (Key × Past)). Ascend x) (sym here) (sorted_take key_cmp key_total key (pasts_at h n) b.sorted);
+        rows_sorted = sorted_take key_cmp key_total (is_at (key_cmp key)) rows b.rows_sorted;
+        sorted = subst (λ (x : List (Key × Past)). Ascend x) (sym here) (sorted_take key_cmp key_total (is_at (key_cmp key)) (pasts_at h n) b.sorted);
         know = subst (λ (x : List (Key × Past)). HeldKnow (drop_row rows key) x) (sym here) (know-dropped rows (pasts_at h n) key b.rows_sorted b.sorted b.know);
       }
 

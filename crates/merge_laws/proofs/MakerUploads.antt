@@ -17,7 +17,7 @@ use Rattle.merge_batch.specs.declared.request.Upload.{Upload}
 use Rattle.merge_batch.specs.declared.request.UploadItem.{UploadItem}
 use Rattle.merge_model.specs.Acts.{Act, Fate, Met, New, Unknown, act_of, acting_items, acts_from, fate_by, is_new_row, key_of_item, left_by, made_by}
 use Rattle.merge_model.specs.ByHistory.{by_made, by_past}
-use Rattle.merge_model.specs.Cases.{is_conflict}
+use Rattle.merge_units.specs.Cases.{is_conflict}
 use Rattle.merge_model.specs.Entries.{Entries}
 use Rattle.merge_model.specs.History.{History, Line, MadeChange, Past, has, past_at, past_in, pasts_at, pasts_with}
 use Rattle.merge_model.specs.Judge.{PublisherJudge, SubscriberJudge}
@@ -172,7 +172,7 @@ upload-makers publication says w h number m g i at =
           (all-both (λ (act : Act). KnowsMaker act.key (past_in incoming act.key).known) (λ (act : Act). FateAbove w.publisher.changes act.fate) (λ (act : Act). FateMakes IsAfterMaker act.key (past_in incoming act.key) act.fate)
           (λ act knows up. later-makes w act.key (past_in incoming act.key) act.fate knows (below act.key) up) acts came above) i.firsts;
       here = λ q is. acts-know q incoming entries (is_some (row_at w.publisher.rows q)) acts h own came (i.here q)
-          (ap (λ (b : Bool). is_some (row_at w.publisher.rows q) || b) (sym (versions-any q acts)) ∙ changed-held publication judge (changing_by m acts) (with_acts publication judge m acts p) q is);
+          (ap (λ (b : Bool). is_some (row_at w.publisher.rows q) || b) (sym (versions-any q acts)) ∙ changed-held publication judge (changing_by m acts) (with_acts publication m acts p) q is);
       there = λ n s found. subst (λ (x : List (Key × Past)). HeldKnow s.rows x)
           (sym (acts-pasts (λ (k : ℕ) (x : List (Key × Past)). (k ≡ 0 → ⊥) → x ≡ pasts_at h k) incoming entries acts h own
           (all-of (ActKeeps (λ (k : ℕ) (x : List (Key × Past)). (k ≡ 0 → ⊥) → x ≡ pasts_at h k) incoming entries) (λ act rows old named. absurd (named refl)) acts) (λ k named. refl) n (found-named w.subscribers n s g.none found))) (i.there n s found);

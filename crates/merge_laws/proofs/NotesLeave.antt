@@ -14,7 +14,7 @@ use Rattle.merge_batch.specs.declared.reply.DownloadItem.{DownloadItem}
 use Rattle.merge_batch.specs.declared.reply.Reply.{Reply}
 use Rattle.merge_batch.specs.declared.reply.Reply.TheVariants as reply
 use Rattle.merge_model.specs.Acts.{Act, Fate, Met, New, Unknown}
-use Rattle.merge_model.specs.Cases.{is_conflict}
+use Rattle.merge_units.specs.Cases.{is_conflict}
 use Rattle.merge_model.specs.Entries.{Entries}
 use Rattle.merge_model.specs.History.{History, Line, MadeChange, Past, past_at, past_in}
 use Rattle.merge_model.specs.Judge.{SubscriberJudge}

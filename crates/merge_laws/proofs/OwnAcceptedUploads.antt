@@ -182,7 +182,7 @@ module _ (publication : Publication) (says : Saying) (w : World) (h : History) (
 
   held-new : (q : Key) → is_some (row_at (taken_in publication judge m acts (here w)).rows q) ≡ true → is_some (row_at w.publisher.rows q) ≡ false → is_new_row judge m.site q ≡ true
   held-new q there none =
-      let both = changed-held publication judge (changing_by m acts) (with_acts publication judge m acts (here w)) q there in
+      let both = changed-held publication judge (changing_by m acts) (with_acts publication m acts (here w)) q there in
       versions-new judge m.site (here w) (w.publisher.changes + 1) decisions items q none (grind (arith, both, none))
 
   pub upload-accepting : (v : World) → v.publisher.rows ≡ (taken_in publication judge m acts (here w)).rows → AcceptsWell v (Noting.with_acts_noted publication judge m acts incoming (here w) h)

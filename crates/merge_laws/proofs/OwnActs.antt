@@ -12,7 +12,7 @@ use Rattle.merge_units.specs.declared.result.Decision.TheVariants.{Custom, KeepP
 use Rattle.merge_units.specs.declared.version.Version.{Version}
 use Rattle.merge_batch.specs.declared.request.UploadItem.{UploadItem}
 use Rattle.merge_model.specs.Acts.{Act, Fate, Met, New, Unknown, act_of, acts_from, case_met, changes_by, decided_changes, decision_for, fate_by, is_new_row, key_of_item, left_by, made_by}
-use Rattle.merge_model.specs.Cases.{is_conflict}
+use Rattle.merge_units.specs.Cases.{is_conflict}
 use Rattle.merge_model.specs.Entries.{Entries}
 use Rattle.merge_model.specs.History.{History, MadeChange, Past, has, past_at, past_in}
 use Rattle.merge_model.specs.Judge.{PublisherJudge}

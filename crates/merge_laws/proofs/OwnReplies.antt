@@ -13,7 +13,8 @@ use Rattle.merge_batch.specs.declared.reply.Act.TheVariants as order
 use Rattle.merge_batch.specs.declared.reply.DownloadItem.{DownloadItem}
 use Rattle.merge_batch.specs.declared.reply.Reply.{Reply}
 use Rattle.merge_batch.specs.declared.reply.Reply.TheVariants as reply
-use Rattle.merge_gens.proofs.Sets.{sorted_put, sorted_take}
+use Rattle.std.specs.BTreeMap.{is_at}
+use Rattle.merge_table.proofs.Sorted.{sorted_put, sorted_take}
 use Rattle.merge_model.specs.ByHistory.{by_made}
 use Rattle.merge_model.specs.History.{History, MadeChange, Past, has, past_at, past_in, pasts_with}
 use Rattle.merge_model.specs.Judge.{SubscriberJudge}
@@ -86,7 +87,7 @@ module _ (made : List MadeChange) (counts : MadeChange → Bool) (site received 
 
     drop-owned : (rows : List (Key × SubscriberRow)) (h : History) (key : Key) → Owned rows h → Owned (drop_row rows key) (Noting.without_past site key h)
     drop-owned rows h key o = (
-      sorted_take key_cmp key_total key rows o.0,
+      sorted_take key_cmp key_total (is_at (key_cmp key)) rows o.0,
       λ q there. (let left = some-none (same_key q key) (row_at rows q) (sym (ap (λ (found : Option SubscriberRow). is_some found) (row-dropped rows key q o.0)) ∙ there) in
           subst (λ (x : Past). KnowsOf made counts q (is_of site) x.known) (sym (without-past-other h site key q left.0)) (o.1 q left.1)),
     )

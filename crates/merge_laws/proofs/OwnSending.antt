@@ -25,7 +25,8 @@ use Rattle.merge_model.specs.Judge.{PublisherJudge}
 use Rattle.merge_types.specs.RowKeys.{key_cmp}
 use Rattle.merge_model.specs.Keys.{row_at, same_key}
 use Rattle.merge_model.specs.Model.{past_of_item, put_past}
-use Rattle.merge_model.specs.PublisherDownload.{asked, item_of, order_by, reply_to}
+use Rattle.merge_model.specs.PublisherDownload.{asked, item_of, reply_to}
+use Rattle.merge_batch.specs.Orders.{order_by}
 use Rattle.merge_model.specs.Sending.{upload_item, upload_sent}
 use Rattle.merge_model.specs.Subscriber.{sub_at_moment, sub_closed, sub_version_at}
 use Rattle.merge_types.specs.declared.row_key.RowKey.{RowKey as Key}

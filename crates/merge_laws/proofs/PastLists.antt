@@ -3,7 +3,8 @@ use Rattle.std.specs.Prelude.{List}
 use Rattle.std.specs.List.Sorted.{IsStrictlySortedBy}
 use Rattle.std.specs.Map.{keys_of}
 use Rattle.std.proofs.Common.{arith, subst, sym}
-use Rattle.merge_gens.proofs.Sets.{sorted_put, sorted_take}
+use Rattle.std.specs.BTreeMap.{is_at}
+use Rattle.merge_table.proofs.Sorted.{sorted_put, sorted_take}
 use Rattle.merge_model.specs.History.{Past, no_past, past_in}
 use Rattle.merge_types.specs.RowKeys.{key_cmp}
 use Rattle.merge_model.specs.Keys.{drop_row, put_row, same_key}
@@ -19,7 +20,7 @@ pub put-ascends : (rows : List (Key × Past)) (key : Key) (past : Past) → Asce
 put-ascends rows key past sorted = sorted_put key_cmp key_total key past rows sorted
 
 pub drop-ascends : (rows : List (Key × Past)) (key : Key) → Ascend rows → Ascend (drop_row rows key)
-drop-ascends rows key sorted = sorted_take key_cmp key_total key rows sorted
+drop-ascends rows key sorted = sorted_take key_cmp key_total (is_at (key_cmp key)) rows sorted
 
 -- of each row's past
 pub each-put : (P : Key → Past → Type 0) (rows : List (Key × Past)) (key : Key) (past : Past) → P key past → ((q : Key) → P q (past_in rows q)) → (q : Key) → P q (past_in (put_row rows key past) q)

@@ -14,7 +14,7 @@ use Rattle.merge_batch.specs.declared.reply.Act.TheVariants as order
 use Rattle.merge_batch.specs.declared.reply.DownloadItem.{DownloadItem}
 use Rattle.merge_batch.specs.declared.request.UploadItem.{UploadItem}
 use Rattle.merge_model.specs.Acts.{Act, Fate, Met, New, Unknown, act_of, acts_from, key_of_item, left_by, made_by, version_by, versions_of}
-use Rattle.merge_model.specs.Cases.{is_conflict}
+use Rattle.merge_units.specs.Cases.{is_conflict}
 use Rattle.merge_model.specs.Entries.{Entries}
 use Rattle.merge_model.specs.History.{History, Past, has, past_at, past_in, pasts_at}
 use Rattle.merge_model.specs.Judge.{PublisherJudge, SubscriberJudge}

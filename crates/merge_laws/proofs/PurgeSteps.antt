@@ -88,7 +88,7 @@ taken-sites latest book m acts sites bases all n =
 
 pub taken-in-step : (moment : ℕ) (publication : Publication) (judge : PublisherJudge) (m : Upload) (acts : List Act) (p : PublisherTables) (bases : List (ℕ × ℕ)) → IsInStep moment p bases → IsInStep moment (taken_in publication judge m acts p) bases
 taken-in-step moment publication judge m acts p bases s =
-    let q : PublisherTables = with_acts publication judge m acts p in
+    let q : PublisherTables = with_acts publication m acts p in
     entered-in-step moment _ p.latest p.gens q.sites bases (record { been = s.been; closings = s.closings; sites = taken-sites p.latest.0 p.gens m acts p.sites bases s.sites })
 
 -- A site asks: it is in step now where it has all, else up to the generation from which it asks.

@@ -22,7 +22,8 @@ use Rattle.merge_model.specs.Refusals.{unless, counter_end}
 use Rattle.merge_model.specs.Judge.{SubscriberJudge}
 use Rattle.merge_model.specs.ByNumbers.{received_by_number}
 use Rattle.merge_model.specs.PublisherJoin.{joined}
-use Rattle.merge_model.specs.PublisherDownload.{batch_end, item_limit, generation_limit}
+use Rattle.merge_types.specs.Limits.{item_limit, generation_limit}
+use Rattle.merge_model.specs.PublisherDownload.{batch_end}
 use Rattle.merge_model.specs.Subscriber.{sub_closed, sub_at_moment, sub_counters, sub_last_closed}
 use Rattle.merge_model.specs.Sending.{join_made, join_of, upload_made, upload_sent, upload_to, upload_end, unsent_rows, ranges_made, want_of, sending_refusal, with_message}
 use Rattle.merge_model.specs.Taking.{take_reply}

@@ -21,7 +21,8 @@ use Rattle.merge_model.specs.Judge.{PublisherJudge}
 use Rattle.merge_model.specs.Keys.{has_key, row_at, same_key}
 use Rattle.merge_model.specs.Model.{Model}
 use Rattle.merge_model.specs.Publisher.{last_closed}
-use Rattle.merge_model.specs.PublisherDownload.{TouchedRow, asked, inside_keys, is_between, item_of, order_by, reply_to, touched_row}
+use Rattle.merge_model.specs.PublisherDownload.{TouchedRow, asked, inside_keys, is_between, item_of, reply_to, touched_row}
+use Rattle.merge_batch.specs.Orders.{order_by}
 use Rattle.merge_model.specs.PublisherLocal.{version_at}
 use Rattle.merge_types.specs.declared.row_key.RowKey.{RowKey as Key}
 use Rattle.merge_units.specs.declared.site_row.PublisherRow.{PublisherRow}

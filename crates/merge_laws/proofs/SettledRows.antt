@@ -25,7 +25,7 @@ use Rattle.merge_model.specs.Judge.{SubscriberJudge}
 use Rattle.merge_types.specs.RowKeys.{key_cmp}
 use Rattle.merge_model.specs.Keys.{has_key, row_at, same_key}
 use Rattle.merge_model.specs.Laws.{AreSorted}
-use Rattle.merge_model.specs.Publications.{subscription_at}
+use Rattle.merge_resolve.specs.Priorities.{subscription_at}
 use Rattle.merge_model.specs.PublisherDownload.{inside_keys}
 use Rattle.merge_types.specs.declared.row_key.RowKey.{RowKey as Key}
 use Rattle.merge_units.specs.declared.site_row.PublisherRow.{PublisherRow}

@@ -11,7 +11,8 @@ use Rattle.merge_units.specs.declared.case.Side.{Side}
 use Rattle.merge_units.specs.declared.version.Body.{Body}
 use Rattle.merge_units.specs.declared.version.Body.TheVariants.{Dead, Live}
 use Rattle.merge_units.specs.declared.version.Cell.{Cell}
-use Rattle.merge_model.specs.Cases.{Knowing, bodies_case, case_by, has_news, new_tops, side_of, tops_of}
+use Rattle.merge_units.specs.Version.{Knowing, has_news, new_tops, tops_of}
+use Rattle.merge_units.specs.Cases.{bodies_case, case_by, side_of}
 use Rattle.merge_model.specs.History.{MadeChange, has}
 use Rattle.merge_model.specs.Keys.{same_key}
 use Rattle.merge_types.specs.declared.row_key.RowKey.{RowKey as Key}

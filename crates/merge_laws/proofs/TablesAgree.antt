@@ -140,9 +140,9 @@ module _ (publication : Publication) (says : Saying) (w : World) (h : History) (
       let entries : Entries = Noting.acts_entries publication judge m acts p in
       let k : History = fold (Noting.with_act incoming entries) h acts in
       let after : History = Noting.with_acts_noted publication judge m acts incoming p h in
-      let loses = acts-lose publication judge m.site p.latest incoming entries (p.conflict_count + 1) acts h in
+      let loses = acts-lose publication m.site p.latest incoming entries (p.conflict_count + 1) acts h in
       let lost : after.lost ≡ k.lost = lines-lost (Noting.lines_of_entries (last_closed p + 1) entries) k in
-      publisher-goes w h after q b.none (agrees-more 0 h k p.conflicts (lost_from publication judge m.site p.latest (p.conflict_count + 1) acts) loses t.publisher ∙ sym (same-lost after k 0 lost)) (λ m differs. same-lost after k m lost ∙ loses.others m differs) t
+      publisher-goes w h after q b.none (agrees-more 0 h k p.conflicts (lost_from publication m.site p.latest (p.conflict_count + 1) acts) loses t.publisher ∙ sym (same-lost after k 0 lost)) (λ m differs. same-lost after k m lost ∙ loses.others m differs) t
 
   -- A subscriber.
   module _ (s : SubscriberTables) (at : subscriber_at w s.site ≡ Some s) where

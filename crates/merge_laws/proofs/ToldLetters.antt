@@ -9,7 +9,8 @@ use Rattle.merge_batch.specs.declared.request.UploadItem.{UploadItem}
 use Rattle.merge_model.specs.Acts.{key_of_item}
 use Rattle.merge_model.specs.History.{History, Past, past_in, pasts_with}
 use Rattle.merge_model.specs.Model.{past_of_item, put_past}
-use Rattle.merge_model.specs.PublisherDownload.{TouchedRow, item_of, order_by}
+use Rattle.merge_model.specs.PublisherDownload.{TouchedRow, item_of}
+use Rattle.merge_batch.specs.Orders.{order_by}
 use Rattle.merge_model.specs.PublisherLocal.{version_at}
 use Rattle.merge_model.specs.Sending.{upload_item}
 use Rattle.merge_model.specs.Subscriber.{sub_version_at}

@@ -6,7 +6,7 @@ use Rattle.std.specs.List.Sorted.{IsStrictlySortedBy}
 use Rattle.std.specs.Map.{keys_of}
 use Rattle.std.proofs.Common.{subst, sym}
 use Rattle.std.proofs.lemmas.List.{append-nil, append_assoc}
-use Rattle.merge_gens.proofs.Sets.{sorted_put, sorted_take}
+use Rattle.merge_table.proofs.Sorted.{sorted_put, sorted_take}
 use Rattle.merge_units.specs.declared.version.Body.TheVariants.{Live}
 use Rattle.merge_units.specs.declared.version.Version.{Version}
 use Rattle.merge_conflict.specs.declared.row.ConflictRow.{ConflictRow}
@@ -48,7 +48,7 @@ module _ (P : Key → Version → Past → Type 0) (n : ℕ) (before : History) 
   module _ (incoming : List (Key × Past)) where
     dropped-goes : (key : Key) (rows : List (Key × SubscriberRow)) (h : History) → OwnGo rows h → OwnGo (drop_row rows key) (Noting.without_past n key h)
     dropped-goes key rows h g = (
-      sorted_take key_cmp key_total key rows g.0,
+      sorted_take key_cmp key_total (is_at (key_cmp key)) rows g.0,
       goes-same P n before conflicts (drop_version (found_in own_version rows) key) (found_in own_version (drop_row rows key)) (Noting.without_past n key h) (λ q. found-dropped own_version rows key q g.0)
           (goes-dropped P n before conflicts (found_in own_version rows) h g.1 key),
     )

@@ -7,7 +7,7 @@ use Rattle.merge_units.specs.declared.version.Body.{Body}
 use Rattle.merge_units.specs.declared.version.Body.TheVariants.{Dead, Live}
 use Rattle.merge_units.specs.declared.version.Version.{Version}
 use Rattle.merge_schema.specs.declared.publication.Publication.{Publication}
-use Rattle.merge_model.specs.Cases.{tops_of}
+use Rattle.merge_units.specs.Version.{tops_of}
 use Rattle.merge_model.specs.Changes.{key_of, version_after}
 use Rattle.merge_model.specs.History.{History, Past, has}
 use Rattle.merge_model.specs.Model.{empty_model}

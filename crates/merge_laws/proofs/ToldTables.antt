@@ -9,7 +9,7 @@ use Rattle.std.proofs.Common.{arith, sym, ap, ◌∙◌}
 use Rattle.std.proofs.lemmas.List.{length-map, length-take}
 use Rattle.std.proofs.lemmas.List.FromFn.{length-map-range_with_len}
 use Rattle.std.proofs.lemmas.Slice.Zip.{length-zip}
-use Rattle.merge_gens.proofs.Sets.{sorted_put}
+use Rattle.merge_table.proofs.Sorted.{sorted_put}
 use Rattle.merge_gens.specs.Filling.{generation_of, generations_of}
 use Rattle.merge_gens.specs.declared.filling.Filling.{Filling}
 use Rattle.merge_units.specs.declared.version.Version.{Version}

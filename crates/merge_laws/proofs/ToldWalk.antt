@@ -4,7 +4,7 @@ use Rattle.std.specs.List.{AllByRecursion, fold}
 use Rattle.std.specs.List.Sorted.{IsStrictlySortedBy}
 use Rattle.std.specs.Map.{keys_of}
 use Rattle.std.proofs.Common.{subst, sym, ◌∙◌}
-use Rattle.merge_gens.proofs.Sets.{sorted_put}
+use Rattle.merge_table.proofs.Sorted.{sorted_put}
 use Rattle.merge_types.specs.declared.changes.Change.{Change}
 use Rattle.merge_types.specs.declared.changes.Change.TheVariants.{Delete, Insert, Update}
 use Rattle.merge_types.specs.declared.identifiers.Dot.{Dot}
@@ -180,8 +180,8 @@ module _ (publication : Publication) (says : Saying) (P : Key → Version → Pa
       let lines : List Line = Noting.lines_of_entries (last_closed p + 1) entries in
       let lined : History = Noting.with_lines lines k in
       let told : Goes P 0 h (version_at q) q.conflicts lined = goes-lines P 0 h q.conflicts lines (version_at q) k
-      (goes-same P 0 h q.conflicts _ (version_at q) k (λ key. changed-versions publication judge (changing_by m acts) (with_acts publication judge m acts p) key) gone) in
-      on-publisher q (Noting.with_done m.site.0 m.from m.to lined) (changed-ascends publication judge (changing_by m acts) (with_acts publication judge m acts p) b.sorted.rows_ascend)
+      (goes-same P 0 h q.conflicts _ (version_at q) k (λ key. changed-versions publication judge (changing_by m acts) (with_acts publication m acts p) key) gone) in
+      on-publisher q (Noting.with_done m.site.0 m.from m.to lined) (changed-ascends publication judge (changing_by m acts) (with_acts publication m acts p) b.sorted.rows_ascend)
       (goes-others P 0 h q.conflicts (version_at q) lined told lined.made lined.lines (Noting.with_done m.site.0 m.from m.to lined).done lined.accepted lined.purged lined.bases)
 
   -- A subscriber.

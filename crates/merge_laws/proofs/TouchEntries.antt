@@ -19,7 +19,7 @@ use Rattle.merge_model.specs.Judge.{PublisherJudge}
 use Rattle.merge_types.specs.RowKeys.{key_cmp}
 use Rattle.merge_gens.specs.Moves.{row_site_cmp}
 use Rattle.merge_model.specs.Keys.{at_row_site, has_key, row_at, same_key}
-use Rattle.merge_model.specs.Publications.{subscription_at}
+use Rattle.merge_resolve.specs.Priorities.{subscription_at}
 use Rattle.merge_model.specs.PublisherDownload.{inside_keys}
 use Rattle.merge_types.specs.declared.row_key.RowKey.{RowKey as Key}
 use Rattle.merge_gens.specs.declared.moves.Mapping.{Mapping}

@@ -290,7 +290,7 @@ module _ (publication : Publication) where
         (λ site f. same-lists p (join_taken m (here w)) (base_of k site) site (joined-order w.publisher h k m g.sorted bases site (site.0 == m.site.0) (number-decided site.0 m.site.0) f)) o);
     joins_again = λ w h number m g o at acts. lists-on w h (here w) o;
     uploads = λ w h number m g o at fine news. (let judge : PublisherJudge = by_past h (pasts_with h number) in let acts : List Act = acts_in publication says judge m w in
-        entered-on w h (Noting.with_acts_noted publication judge m acts (pasts_with h number) (here w) h) (with_acts publication judge m acts (here w)) judge (changing_by m acts) g (upload-bases publication judge m acts (pasts_with h number) (here w) h) o);
+        entered-on w h (Noting.with_acts_noted publication judge m acts (pasts_with h number) (here w) h) (with_acts publication m acts (here w)) judge (changing_by m acts) g (upload-bases publication judge m acts (pasts_with h number) (here w) h) o);
     uploads_again = λ w h number m g o at none. lists-on w h (here w) o;
     answers_ranges = λ w h site m g o. lists-on w h (with_grants (plans publication m w.publisher) (here w)) o;
     answers_ask = λ w h number site m g o at fine. publisher-on w h h (asked m (here w)) (λ x f. asked-order publication (here w) (base_of h x) x (same-lists w.publisher (here w) (base_of h x) x f) m) o;

@@ -7,7 +7,7 @@ use Rattle.std.specs.Map.{keys_of}
 use Rattle.std.proofs.Common.{arith, subst, sym, ap, ◌∙◌}
 use Rattle.std.proofs.lemmas.Bool.Decides.{nat_tests}
 use Rattle.merge_units.specs.declared.version.Version.{Version}
-use Rattle.merge_gens.proofs.Sets.{sorted_put, sorted_take}
+use Rattle.merge_table.proofs.Sorted.{sorted_put, sorted_take}
 use Rattle.merge_batch.specs.declared.reply.Act.{Act as Order}
 use Rattle.merge_batch.specs.declared.reply.Act.TheVariants as order
 use Rattle.merge_batch.specs.declared.reply.DownloadItem.{DownloadItem}
@@ -110,8 +110,8 @@ order-rows made received rows key order.RemoveLeft sorted none f = emptied-rows 
 
 pub order-sorted : (key : Key) (o : Order) (rows : List (Key × SubscriberRow)) → IsStrictlySortedBy key_cmp (keys_of rows) → IsStrictlySortedBy key_cmp (keys_of (with_order key o rows))
 order-sorted key (order.Put lineage live) rows sorted = sorted_put key_cmp key_total key _ rows sorted
-order-sorted key order.RemoveDeleted rows sorted = sorted_take key_cmp key_total key rows sorted
-order-sorted key order.RemoveLeft rows sorted = sorted_take key_cmp key_total key rows sorted
+order-sorted key order.RemoveDeleted rows sorted = sorted_take key_cmp key_total (is_at (key_cmp key)) rows sorted
+order-sorted key order.RemoveLeft rows sorted = sorted_take key_cmp key_total (is_at (key_cmp key)) rows sorted
 
 -- the rows with what they say, in order
 abbrev Told : List MadeChange → ℕ → List (Key × SubscriberRow) → Type 0

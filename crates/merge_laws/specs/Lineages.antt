@@ -15,14 +15,11 @@ use Rattle.merge_types.specs.declared.row_key.RowKey.{RowKey as Key}
 use Rattle.merge_units.specs.declared.site_row.PublisherRow.{PublisherRow}
 use Rattle.merge_units.specs.declared.site_row.SubscriberRow.{SubscriberRow}
 use Rattle.merge_model.specs.Tables.{PublisherTables, SubscriberTables}
+use Rattle.merge_laws.specs.Knowledge.{changes_of}
 use Rattle.merge_model.specs.World.{World}
 use Rattle.merge_model.specs.declared.letter.Message.TheVariants.{Asks, Replies}
 use Rattle.merge_model.specs.declared.letter.Letter.{Letter}
 use Rattle.merge_model.specs.declared.letter.Message.{Message}
-
--- how many changes a site made, 0 of one that there is not
-abbrev pub changes_of : World → ℕ → ℕ
-changes_of w n = if n == 0 then w.publisher.changes else unwrap_or (option_map (λ (s : SubscriberTables). s.changes) (at_number w.subscribers n)) 0
 
 -- the sites ascend, and of none is a change known that it did not make
 pub record IsOfMade (made : ℕ → ℕ) (lineage : List Dot) : Type 0 where

@@ -10,7 +10,9 @@ use Rattle.merge_units.specs.declared.result.Decision.{Decision}
 use Rattle.merge_units.specs.declared.version.Body.{Body}
 use Rattle.merge_units.specs.declared.version.Version.{Version}
 use Rattle.merge_schema.specs.declared.publication.Publication.{Publication}
-use Rattle.merge_model.specs.Cases.{Knowing, case_by, new_tops, result_by, tops_of}
+use Rattle.merge_units.specs.Version.{Knowing, new_tops, tops_of}
+use Rattle.merge_units.specs.Cases.{case_by}
+use Rattle.merge_units.specs.Results.{result_by}
 use Rattle.merge_model.specs.Changes.{version_after}
 use Rattle.merge_model.specs.History.{MadeChange, Past, has}
 use Rattle.merge_model.specs.Keys.{same_key}

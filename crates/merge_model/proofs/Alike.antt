@@ -5,16 +5,17 @@ use Rattle.std.specs.Prelude.{nat_le, nat_lt}
 use Rattle.merge_types.specs.declared.changes.Change.{Change}
 use Rattle.merge_types.specs.declared.identifiers.SiteId.{SiteId}
 use Rattle.merge_schema.specs.declared.publication.Publication.{Publication}
-use Rattle.merge_batch.specs.Lineages.{is_subscription}
+use Rattle.merge_schema.specs.Places.{is_subscription}
 use Rattle.merge_batch.specs.declared.refusal.Refusal.{Refusal}
 use Rattle.merge_batch.specs.declared.refusal.Refusal.TheVariants.{NoMemory, UnknownName, UnknownSite}
 use Rattle.merge_batch.specs.declared.reply.Downloaded.{Downloaded}
 use Rattle.merge_model.specs.declared.letter.Message.{Message}
-use Rattle.merge_model.specs.Answers.{Answer, Conflicts, Counts, Done, Fine, Grants, Held, Now, Refused, RefusedIn, Rows, Stopped}
+use Rattle.merge_model.specs.declared.answer.Answer.{Answer}
+use Rattle.merge_model.specs.declared.answer.Answer.TheVariants.{Conflicts, Counts, Done, Fine, Grants, Held, Now, Refused, RefusedIn, Rows, Stopped}
 use Rattle.merge_model.specs.Events.{after, answers as answers_to, acting, refused_change, answered_by, change_answer, changing, looked, looking, is_site, where_site, where_subscriber, syncing, session_answer, outcome_answer, happens, reported, reporting, showing, watermark_in}
 use Rattle.merge_model.specs.Entries.{live_rows}
 use Rattle.merge_model.specs.Naming.{article_by, delete_by, insert_by, update_by}
-use Rattle.merge_model.specs.Reports.{counts_of, partition_report, publisher_generations, shown_rows, sub_live_rows, subscriber_generations}
+use Rattle.merge_model.specs.Reports.{counts_of, held_report, partition_report, publisher_generations, shown_rows, sub_live_rows, subscriber_generations}
 use Rattle.merge_model.specs.Tables.{PublisherTables, SubscriberTables}
 use Rattle.merge_model.specs.declared.event.Event.{Event}
 use Rattle.merge_model.specs.declared.event.Event.TheVariants as event
@@ -315,7 +316,7 @@ module _ {V W : Type 0} (one : Stepping V) (other : Stepping W) (R : V → W →
     happens-or v w (event.Partition site) r = where-subscriber site (looking publication one (λ (u : V). partition_report publication site (one.look u).publisher)) (looking publication other (λ (u : W). partition_report publication site (other.look u).publisher))
         (looking-alike (λ (u : V). partition_report publication site (one.look u).publisher) (λ (u : W). partition_report publication site (other.look u).publisher) (by-look (λ (x : World). partition_report publication site x.publisher))) v w r
     happens-or v w (event.Conflicts site) r = reports-alike site (λ (p : PublisherTables). Conflicts p.conflicts) (λ (s : SubscriberTables). Conflicts s.conflicts) v w r
-    happens-or v w (event.Ranges site) r = reports-alike site (λ (p : PublisherTables). Grants p.grants) (λ (s : SubscriberTables). Held s.held) v w r
+    happens-or v w (event.Ranges site) r = reports-alike site (λ (p : PublisherTables). Grants p.grants) (λ (s : SubscriberTables). Held (held_report s)) v w r
     happens-or v w (event.Generations site) r = reports-alike site (publisher_generations publication) subscriber_generations v w r
     happens-or v w (event.Count site) r = reports-alike site (λ (p : PublisherTables). Counts (counts_of publication (live_rows p.rows))) (λ (s : SubscriberTables). Counts (counts_of publication (sub_live_rows s))) v w r
 

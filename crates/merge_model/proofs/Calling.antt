@@ -12,7 +12,8 @@ use Rattle.merge_batch.specs.declared.request.Request.{Request}
 use Rattle.merge_batch.specs.declared.request.Request.TheVariants as request
 use Rattle.merge_model.specs.Failing.{Faulty, Slip, acting_with, commits, failing, fails, faulty, is_made, made_with, posting_by, questions_by, questions_in}
 use Rattle.merge_model.specs.Events.{machine}
-use Rattle.merge_model.specs.Steps.{Action, CloseAt, Deliver, Forget, Look, Make, MakeAnew, Pass, Send, after_upload, answered, asked_of, deliver_letter, deliver_reply, deliver_request, kept_decisions, posted, send_from, SendDownload, Sending, step, unless_refused, upload_questions}
+use Rattle.merge_model.specs.Steps.{Action, CloseAt, Deliver, Forget, Look, Make, MakeAnew, Pass, Send, after_upload, answered, deliver_letter, deliver_reply, deliver_request, kept_decisions, posted, send_from, SendDownload, Sending, step, unless_refused, upload_questions}
+use Rattle.merge_resolve.specs.Questions.{question_of as asked_of}
 use Rattle.merge_model.specs.declared.outcome.Outcome.TheVariants.{Closes, NoLetter, NoPost, Posted, Refuses, Took}
 use Rattle.merge_model.specs.declared.outcome.Outcome.{Outcome}
 use Rattle.merge_model.specs.declared.outcome.Taken.{Taken}
@@ -37,7 +38,7 @@ use Rattle.merge_model.specs.declared.letter.Message.TheVariants.{Asks, Replies}
 use Rattle.merge_model.specs.Reach.{Acts, stepping}
 use Rattle.merge_model.specs.Calls.{Called, Counted, always_commits, as_reply, closing_commits, handled, message_commits, message_or_none, questions_on, reply_commits, request_commits, taken_commits}
 use Rattle.merge_model.specs.Parts.{after_result, pooled, world_of}
-use Rattle.merge_conflict.specs.declared.case.ConflictCase.{ConflictCase}
+use Rattle.merge_resolve.specs.declared.case.ConflictCase.{ConflictCase}
 use Rattle.merge_model.specs.declared.letter.Message.{Message}
 use Rattle.merge_model.specs.Reach.{Reaches, is_store_fault}
 use Rattle.merge_model.specs.Failing.{Slips}

@@ -21,7 +21,7 @@ use Rattle.merge_types.specs.RowKeys.{key_cmp}
 use Rattle.merge_model.specs.Keys.{has_key, row_at, same_key}
 use Rattle.merge_model.specs.Model.{Model}
 use Rattle.merge_model.specs.Promises.{RepliesStayInside, stays_inside}
-use Rattle.merge_model.specs.Publications.{subscription_at}
+use Rattle.merge_resolve.specs.Priorities.{subscription_at}
 use Rattle.merge_model.specs.PublisherDownload.{TouchedRow, inside_keys, item_of, touched_row}
 use Rattle.merge_types.specs.declared.row_key.RowKey.{RowKey as Key}
 use Rattle.merge_units.specs.declared.site_row.PublisherRow.{PublisherRow}

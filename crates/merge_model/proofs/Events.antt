@@ -14,7 +14,8 @@ use Rattle.merge_model.specs.declared.event.Event.{Event}
 use Rattle.merge_model.specs.declared.event.Event.TheVariants as event
 use Rattle.merge_model.specs.Tables.{PublisherTables}
 use Rattle.merge_model.specs.Judge.{PublisherJudge}
-use Rattle.merge_model.specs.Answers.{Answer, Refused}
+use Rattle.merge_model.specs.declared.answer.Answer.{Answer}
+use Rattle.merge_model.specs.declared.answer.Answer.TheVariants.{Refused}
 use Rattle.merge_model.specs.Publisher.{at_moment}
 use Rattle.merge_model.specs.PublisherUpload.{upload, brings_news}
 use Rattle.merge_model.specs.World.{World, Judges, Saying, subscriber_at}
@@ -24,7 +25,7 @@ use Rattle.merge_model.specs.declared.outcome.Outcome.TheVariants.{Refuses}
 use Rattle.merge_model.specs.Session.{Stepping}
 use Rattle.merge_model.specs.Naming.{insert_by, update_by, delete_by}
 use Rattle.merge_model.specs.Events.{is_site, looking, where_site, where_subscriber, acting, changing, syncing, happens, after}
-use Rattle.merge_batch.specs.Lineages.{is_subscription}
+use Rattle.merge_schema.specs.Places.{is_subscription}
 use Rattle.merge_model.specs.Laws.{is_report}
 use Rattle.merge_model.proofs.Kept.{session-keeps}
 use Rattle.merge_model.proofs.Reports.{looking-leaves, report-looks}

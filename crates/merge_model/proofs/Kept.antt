@@ -9,7 +9,7 @@ use Rattle.merge_schema.specs.declared.publication.Publication.{Publication}
 use Rattle.merge_model.specs.declared.event.Event.{Event}
 use Rattle.merge_model.specs.declared.event.Event.TheVariants as event
 use Rattle.merge_model.specs.declared.outcome.Taken.{Taken}
-use Rattle.merge_model.specs.Answers.{Answer}
+use Rattle.merge_model.specs.declared.answer.Answer.{Answer}
 use Rattle.merge_model.specs.Steps.{Action, Deliver, Send, Sending, SendJoin, SendUpload, SendRanges, SendDownload}
 use Rattle.merge_model.specs.declared.outcome.Outcome.{Outcome}
 use Rattle.merge_model.specs.declared.outcome.Outcome.TheVariants.{Posted, Took, Refuses}

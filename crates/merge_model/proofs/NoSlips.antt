@@ -3,7 +3,7 @@ use Rattle.std.proofs.Common.{◌≡◌, ℕ, List, [], ◌∷◌, Bool, true, f
 use Rattle.std.specs.List.{list_any}
 use Rattle.merge_batch.specs.declared.refusal.Refusal.TheVariants as refusal
 use Rattle.merge_schema.specs.declared.publication.Publication.{Publication}
-use Rattle.merge_model.specs.Answers.{Answer}
+use Rattle.merge_model.specs.declared.answer.Answer.{Answer}
 use Rattle.merge_model.specs.Events.{after, answers}
 use Rattle.merge_model.specs.Failing.{Faulty, Slip, Slips, acting_with, failing, faulty, is_allowed, slip_if}
 use Rattle.merge_model.specs.Session.{Stepping}

@@ -12,7 +12,7 @@ use Rattle.std.proofs.lemmas.Map.Keys.{sorted_tail}
 use Rattle.merge_table.proofs.Room.{rest_above}
 use Rattle.merge_table.proofs.Slots.{lookup_above}
 use Rattle.merge_table.proofs.LookUps.{lookup-remove_entry}
-use Rattle.merge_gens.proofs.Sets.{sorted_take}
+use Rattle.merge_table.proofs.Sorted.{sorted_take}
 use Rattle.merge_types.specs.declared.row_key.RowKey.{RowKey as Key}
 use Rattle.merge_gens.specs.declared.moves.RowSite.{RowSite}
 use Rattle.merge_gens.specs.declared.moves.Mapping.{Mapping}
@@ -92,7 +92,7 @@ pub at-dropped : (places : List RowSite) (mappings : List (RowSite × Mapping)) 
 at-dropped [] mappings key site sorted = refl
 at-dropped (place ∷ places) mappings key site sorted =
     let found : Option Mapping = at_row_site mappings (record { key = key; site = site }) in
-    at-dropped places (drop_row_site mappings place) key site (sorted_take row_site_cmp row_site_total place mappings sorted)
+    at-dropped places (drop_row_site mappings place) key site (sorted_take row_site_cmp row_site_total (is_at (row_site_cmp place)) mappings sorted)
     ∙ ap (λ (o : Option Mapping). (let left : Option Mapping = cond (has_place places key site) None o in left))
     (lookup-remove_entry row_site_cmp row_site_total place (record { key = key; site = site }) mappings sorted
     ∙ ap (λ (b : Bool). (let left : Option Mapping = cond b None found in left)) (place-is key site place))

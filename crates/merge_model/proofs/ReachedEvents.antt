@@ -4,8 +4,9 @@ use Rattle.merge_types.specs.declared.changes.Change.{Change}
 use Rattle.merge_types.specs.declared.identifiers.SiteId.{SiteId}
 use Rattle.merge_batch.specs.declared.refusal.Refusal.{Refusal}
 use Rattle.merge_schema.specs.declared.publication.Publication.{Publication}
-use Rattle.merge_batch.specs.Lineages.{is_subscription}
-use Rattle.merge_model.specs.Answers.{Answer, Counts, Now, Refused}
+use Rattle.merge_schema.specs.Places.{is_subscription}
+use Rattle.merge_model.specs.declared.answer.Answer.{Answer}
+use Rattle.merge_model.specs.declared.answer.Answer.TheVariants.{Counts, Now, Refused}
 use Rattle.merge_model.specs.Entries.{live_rows}
 use Rattle.merge_model.specs.Reports.{counts_of, sub_live_rows}
 use Rattle.merge_model.specs.Tables.{PublisherTables, SubscriberTables}

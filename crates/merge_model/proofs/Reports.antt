@@ -9,16 +9,17 @@ use Rattle.merge_schema.specs.declared.publication.Publication.{Publication}
 use Rattle.merge_model.specs.declared.event.Event.{Event}
 use Rattle.merge_model.specs.declared.event.Event.TheVariants as event
 use Rattle.merge_model.specs.Tables.{PublisherTables, SubscriberTables}
-use Rattle.merge_model.specs.Answers.{Answer, Conflicts, Counts, Fine, Grants, Held, Refused, Rows}
+use Rattle.merge_model.specs.declared.answer.Answer.{Answer}
+use Rattle.merge_model.specs.declared.answer.Answer.TheVariants.{Conflicts, Counts, Fine, Grants, Held, Refused, Rows}
 use Rattle.merge_model.specs.Entries.{live_rows}
-use Rattle.merge_model.specs.Reports.{counts_of, partition_report, publisher_generations, shown_rows, sub_live_rows, subscriber_generations}
+use Rattle.merge_model.specs.Reports.{counts_of, held_report, partition_report, publisher_generations, shown_rows, sub_live_rows, subscriber_generations}
 use Rattle.merge_model.specs.World.{World, Judges, Saying, subscriber_at}
 use Rattle.merge_model.specs.Steps.{Action, Look, step_by}
 use Rattle.merge_model.specs.declared.outcome.Outcome.{Outcome}
 use Rattle.merge_model.specs.declared.outcome.Outcome.TheVariants.{Refuses}
 use Rattle.merge_model.specs.Session.{Stepping}
 use Rattle.merge_model.specs.Events.{is_site, looked, looking, reported, where_site, where_subscriber, reporting, showing, happens, machine}
-use Rattle.merge_batch.specs.Lineages.{is_subscription}
+use Rattle.merge_schema.specs.Places.{is_subscription}
 use Rattle.merge_model.specs.Naming.{article_by}
 use Rattle.merge_model.specs.ByHistory.{by_history}
 use Rattle.merge_model.specs.Model.{Model, model, model_step, after_step}
@@ -60,7 +61,7 @@ module _ {W : Type 0} (publication : Publication) (stepping : Stepping W) where
   report-looks w (event.Show site article) is = site-leaves site w (λ (v : W). showing publication stepping site v (article_by publication article)) (showing-leaves site w (article_by publication article))
   report-looks w (event.Partition site) is = subscriber-leaves site w (looking publication stepping (λ (v : W). partition_report publication site (stepping.look v).publisher)) (looking-leaves (λ (v : W). partition_report publication site (stepping.look v).publisher) w)
   report-looks w (event.Conflicts site) is = site-leaves site w (reporting publication stepping site (λ (p : PublisherTables). Conflicts p.conflicts) (λ (s : SubscriberTables). Conflicts s.conflicts)) (reporting-leaves site (λ (p : PublisherTables). Conflicts p.conflicts) (λ (s : SubscriberTables). Conflicts s.conflicts) w)
-  report-looks w (event.Ranges site) is = site-leaves site w (reporting publication stepping site (λ (p : PublisherTables). Grants p.grants) (λ (s : SubscriberTables). Held s.held)) (reporting-leaves site (λ (p : PublisherTables). Grants p.grants) (λ (s : SubscriberTables). Held s.held) w)
+  report-looks w (event.Ranges site) is = site-leaves site w (reporting publication stepping site (λ (p : PublisherTables). Grants p.grants) (λ (s : SubscriberTables). Held (held_report s))) (reporting-leaves site (λ (p : PublisherTables). Grants p.grants) (λ (s : SubscriberTables). Held (held_report s)) w)
   report-looks w (event.Generations site) is = site-leaves site w (reporting publication stepping site (publisher_generations publication) subscriber_generations) (reporting-leaves site (publisher_generations publication) subscriber_generations w)
   report-looks w (event.Count site) is = site-leaves site w (reporting publication stepping site (λ (p : PublisherTables). Counts (counts_of publication (live_rows p.rows))) (λ (s : SubscriberTables). Counts (counts_of publication (sub_live_rows s))))
       (reporting-leaves site (λ (p : PublisherTables). Counts (counts_of publication (live_rows p.rows))) (λ (s : SubscriberTables). Counts (counts_of publication (sub_live_rows s))) w)

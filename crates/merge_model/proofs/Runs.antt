@@ -7,8 +7,9 @@ use Rattle.std.proofs.Common.{arith}
 use Rattle.std.proofs.lemmas.Bool.Decides.{nat_tests}
 use Rattle.merge_gens.specs.Book.{IsSound}
 use Rattle.merge_ident.specs.declared.grants.Rule.{Rule}
-use Rattle.merge_ident.specs.Grants.{AreGrants, AreDisjoint}
+use Rattle.merge_ident.specs.Grants.{AreDisjoint}
 use Rattle.merge_ident.specs.Books.{IsBook, IsRule}
+use Rattle.merge_ident.proofs.Stored.{no_grants}
 use Rattle.merge_schema.specs.declared.publication.Publication.{Publication}
 use Rattle.merge_model.specs.declared.event.Event.{Event}
 use Rattle.merge_types.specs.declared.identifiers.SiteId.{SiteId}
@@ -28,13 +29,6 @@ use Rattle.merge_model.proofs.Publishers.{step-book}
 use Rattle.merge_model.proofs.Sorted.{step-sorted}
 use Rattle.merge_model.proofs.SubscriberSteps.{AllHold}
 use Rattle.merge_model.proofs.Subscribers.{step-sub-sorted}
-
-no_grants : AreGrants []
-no_grants = record {
-  ranges = λ k d within. absurd (omega arith);
-  disjoint = λ article value. omega arith;
-  numbered = λ article site number. grind (arith, nat_tests);
-}
 
 no_book : (rules : List Rule) → All IsRule rules → IsBook rules []
 no_book rules fit = record { rules_fit = fit; grants_fit = no_grants; in_order = tt }

@@ -22,7 +22,8 @@ use Rattle.merge_model.specs.Entries as entry
 use Rattle.merge_model.specs.Entries.{Parts, key_of_live, live_row, live_rows, parts_of, partition_keys, with_rows}
 use Rattle.merge_types.specs.RowKeys.{key_cmp}
 use Rattle.merge_model.specs.Keys.{at_number, has_key, put_number, put_row, row_at}
-use Rattle.merge_model.specs.Publications.{by_site, subscription_at}
+use Rattle.merge_model.specs.Publications.{by_site}
+use Rattle.merge_resolve.specs.Priorities.{subscription_at}
 use Rattle.merge_types.specs.declared.row_key.RowKey.{RowKey as Key}
 use Rattle.merge_units.specs.declared.site_row.PublisherRow.{PublisherRow}
 use Rattle.merge_model.proofs.EntryLists.{all-put}

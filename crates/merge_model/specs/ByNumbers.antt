@@ -4,7 +4,7 @@ use Rattle.std.specs.Prelude.{Bool, List, None, Option, Some, false, filter, fil
 use Rattle.merge_lineage.specs.Lineage.{knows}
 use Rattle.merge_units.specs.declared.version.Version.{Version}
 use Rattle.merge_gens.specs.declared.sites.SiteState.{SiteState}
-use Rattle.merge_model.specs.Cases.{Knowing}
+use Rattle.merge_units.specs.Version.{Knowing}
 use Rattle.merge_model.specs.Judge.{PublisherJudge, SubscriberJudge}
 use Rattle.merge_model.specs.Keys.{at_number, at_row_site, row_at}
 use Rattle.merge_model.specs.Subscriber.{generations_at}

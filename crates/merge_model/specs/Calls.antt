@@ -2,12 +2,12 @@
 use Rattle.std.specs.List.{list_any}
 use Rattle.std.specs.Prelude.{Bool, Err, List, None, Ok, Option, Result, Some, [], false, map, nat_lt, not, take, true, ℕ, ◌+◌, ◌||◌, ◌≡◌, ◌≤◌, ◌⊎◌}
 use Rattle.merge_types.specs.declared.identifiers.Moment.{Moment}
-use Rattle.merge_conflict.specs.declared.case.ConflictCase.{ConflictCase}
+use Rattle.merge_resolve.specs.declared.case.ConflictCase.{ConflictCase}
 use Rattle.merge_gens.specs.Book.{Book}
 use Rattle.merge_gens.specs.declared.sites.SiteState.{SiteState}
 use Rattle.merge_ident.specs.Answers.{Answer}
 use Rattle.merge_ident.specs.declared.grants.GrantAnswer.TheVariants.{Granted}
-use Rattle.merge_ident.specs.declared.grants.Planned.{Planned}
+use Rattle.merge_ident.specs.declared.grants.GrantPlan.{GrantPlan}
 use Rattle.merge_resolve.specs.Asked.{tallies_after}
 use Rattle.merge_schema.specs.declared.publication.Publication.{Publication}
 use Rattle.merge_batch.specs.declared.refusal.Refusal.{Refusal}
@@ -20,7 +20,8 @@ use Rattle.merge_model.specs.PublisherDownload.{download, in_step}
 use Rattle.merge_model.specs.PublisherJoin.{join, join_acts}
 use Rattle.merge_model.specs.PublisherRanges.{plans, ranges}
 use Rattle.merge_model.specs.PublisherUpload.{brings_news, upload}
-use Rattle.merge_model.specs.Steps.{asked_of, kept_decisions, upload_questions}
+use Rattle.merge_model.specs.Steps.{kept_decisions, upload_questions}
+use Rattle.merge_resolve.specs.Questions.{question_of as asked_of}
 use Rattle.merge_model.specs.Tables.{PublisherTables, SubscriberTables}
 use Rattle.merge_model.specs.World.{Saying}
 use Rattle.merge_model.specs.declared.outcome.Taken.{Taken}
@@ -82,7 +83,7 @@ is_new_grant answer = false
 abbrev pub changes_records : Publication → Request → PublisherTables → Bool
 changes_records publication (request.Join m) p = join_acts m p
 changes_records publication (request.Upload m) p = brings_news (by_numbers p) m
-changes_records publication (request.Ranges m) p = list_any (λ (plan : Planned). is_new_grant plan.answer) (plans publication m p)
+changes_records publication (request.Ranges m) p = list_any (λ (plan : GrantPlan). is_new_grant plan.answer) (plans publication m p)
 changes_records publication (request.Download m) p = is_behind m p (state_of p m.site) || nat_lt 0 p.gens.filling.filled
 
 abbrev pub request_commits : {A : Type 0} → Publication → Moment → Request → PublisherTables → A → Bool

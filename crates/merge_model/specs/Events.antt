@@ -3,14 +3,15 @@ use Rattle.std.specs.Prelude.{Bool, Err, List, None, Ok, Result, Some, [], if◌
 use Rattle.merge_types.specs.declared.changes.Change.{Change}
 use Rattle.merge_types.specs.declared.identifiers.SiteId.{SiteId}
 use Rattle.merge_schema.specs.declared.publication.Publication.{Publication}
-use Rattle.merge_batch.specs.Lineages.{is_subscription}
+use Rattle.merge_schema.specs.Places.{is_subscription}
 use Rattle.merge_batch.specs.declared.refusal.Refusal.{Refusal}
 use Rattle.merge_batch.specs.declared.refusal.Refusal.TheVariants.{NoMemory, UnknownName, UnknownSite}
-use Rattle.merge_model.specs.Answers.{Answer, Applied, ClosedAt, Conflicts, Counts, Discarded, Done, Fine, Grants, Held, Ignored, NoMessage, Nothing, Now, Purged, Refused, RefusedIn, RowMade, Rows, Sent, Stopped}
+use Rattle.merge_model.specs.declared.answer.Answer.{Answer}
+use Rattle.merge_model.specs.declared.answer.Answer.TheVariants.{Applied, ClosedAt, Conflicts, Counts, Discarded, Done, Fine, Grants, Held, Ignored, NoMessage, Nothing, Now, Purged, Refused, RefusedIn, RowMade, Rows, Sent, Stopped}
 use Rattle.merge_model.specs.Changes.{article_of, is_insert}
 use Rattle.merge_model.specs.Entries.{live_rows}
 use Rattle.merge_model.specs.Naming.{article_by, delete_by, insert_by, update_by}
-use Rattle.merge_model.specs.Reports.{counts_of, partition_report, publisher_generations, shown_rows, sub_live_rows, subscriber_generations}
+use Rattle.merge_model.specs.Reports.{counts_of, held_report, partition_report, publisher_generations, shown_rows, sub_live_rows, subscriber_generations}
 use Rattle.merge_model.specs.Session.{Session, Stepping, session}
 use Rattle.merge_model.specs.Steps.{Action, CloseAt, Deliver, Forget, Look, Make, MakeAnew, Pass, Send, SendDownload, SendJoin, SendRanges, SendUpload, step}
 use Rattle.merge_model.specs.declared.outcome.Outcome.TheVariants.{Closes, Discards, Forgot, Made, NoLetter, NoPost, Passed, Posted, Refuses, Took}
@@ -136,7 +137,7 @@ module _ {W : Type 0} (publication : Publication) (stepping : Stepping W) where
       (λ (s : SubscriberTables). Conflicts s.conflicts))
   happens w (event.Ranges site) = where_site site w (reporting site
       (λ (p : PublisherTables). Grants p.grants)
-      (λ (s : SubscriberTables). Held s.held))
+      (λ (s : SubscriberTables). Held (held_report s)))
   happens w (event.Generations site) = where_site site w (reporting site (publisher_generations publication) subscriber_generations)
   happens w (event.Count site) = where_site site w (reporting site
       (λ (p : PublisherTables). Counts (counts_of publication (live_rows p.rows)))

@@ -7,7 +7,7 @@ use Rattle.merge_batch.specs.declared.reply.DownloadItem.{DownloadItem}
 use Rattle.merge_batch.specs.declared.request.Request.{Request}
 use Rattle.merge_batch.specs.declared.request.UploadItem.{UploadItem}
 use Rattle.merge_model.specs.Acts.{key_of_item}
-use Rattle.merge_model.specs.Answers.{Answer}
+use Rattle.merge_model.specs.declared.answer.Answer.{Answer}
 use Rattle.merge_model.specs.ByHistory.{by_history}
 use Rattle.merge_model.specs.Events.{answers}
 use Rattle.merge_model.specs.History.{History, Past, no_history, past_in, pasts_at, pasts_with}

@@ -18,8 +18,9 @@ use Rattle.merge_batch.specs.declared.reply.DownloadItem.{DownloadItem}
 use Rattle.merge_batch.specs.declared.reply.Reply.{Reply}
 use Rattle.merge_batch.specs.declared.request.Join.{Join}
 use Rattle.merge_batch.specs.declared.request.Upload.{Upload}
-use Rattle.merge_model.specs.Acts.{Act, Fate, Met, New, Unknown, acts_of, conflicting_places}
-use Rattle.merge_model.specs.Cases.{is_conflict}
+use Rattle.merge_model.specs.Acts.{Act, Fate, Met, New, Unknown, acts_of}
+use Rattle.merge_resolve.specs.Questions.{conflicting_places}
+use Rattle.merge_units.specs.Cases.{is_conflict}
 use Rattle.merge_model.specs.Changes.{key_of}
 use Rattle.merge_model.specs.Entries.{Entries, changing_entries, keys_of}
 use Rattle.merge_model.specs.History.{Changed, EnteredFor, GoneFor, History, LeftFor, Line, LineKind, MadeChange, Past, is_done, past_at, past_in, pasts_at}
@@ -180,7 +181,7 @@ with_act incoming entries h act = let past = past_in incoming act.key in
     with_accepted past (with_fate act.fate (entry_generation entries act.key) act.key past h)
 
 abbrev pub acts_entries : Publication → PublisherJudge → Upload → List Act → PublisherTables → Entries
-acts_entries publication judge m acts p = changing_entries publication judge (changing_by m acts) (with_acts publication judge m acts p)
+acts_entries publication judge m acts p = changing_entries publication judge (changing_by m acts) (with_acts publication m acts p)
 
 abbrev pub with_acts_noted : Publication → PublisherJudge → Upload → List Act → List (Key × Past) → PublisherTables → History → History
 with_acts_noted publication judge m acts incoming p h = let entries = acts_entries publication judge m acts p in

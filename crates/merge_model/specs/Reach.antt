@@ -3,7 +3,7 @@ use Rattle.std.specs.Prelude.{Bool, List, None, Option, Some, [], count_by, fals
 use Rattle.merge_schema.specs.declared.publication.Publication.{Publication}
 use Rattle.merge_batch.specs.declared.refusal.Refusal.{Refusal}
 use Rattle.merge_types.specs.declared.identifiers.SiteId.{SiteId}
-use Rattle.merge_model.specs.Answers.{Answer}
+use Rattle.merge_model.specs.declared.answer.Answer.{Answer}
 use Rattle.merge_model.specs.Events.{after, answers, happens, machine}
 use Rattle.merge_model.specs.Failing.{Faulty, Slip, Slips, failing, faulty}
 use Rattle.merge_model.specs.Session.{Session, Stepping, ask, asking_ranges, downloading, uploading}

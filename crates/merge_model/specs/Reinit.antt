@@ -2,6 +2,7 @@
 use Rattle.std.specs.Prelude.{List, None, Result, Some, [], false, filter_map, if◌then◌else◌, length, ℕ, ◌++◌, ◌+◌, ◌∷◌}
 use Rattle.merge_types.specs.declared.identifiers.Moment.{Moment}
 use Rattle.merge_units.specs.declared.version.Version.{Version}
+use Rattle.merge_conflict.specs.declared.kind.ConflictKind.TheVariants as kind
 use Rattle.merge_conflict.specs.declared.row.ConflictRow.{ConflictRow}
 use Rattle.merge_batch.specs.declared.refusal.Refusal.{Refusal}
 use Rattle.merge_model.specs.Judge.{SubscriberJudge}
@@ -17,7 +18,7 @@ discarded_row s number key version = record {
   number = number;
   article = key.article;
   row = key.row;
-  kind = 0;
+  kind = kind.Discarded;
   losing = version;
   from = s.site;
   verdict = verdict.Discarded;

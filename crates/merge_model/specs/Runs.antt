@@ -1,7 +1,7 @@
 -- Runs: lists of events from nothing, in which steps may fail.
 use Rattle.std.specs.Prelude.{List, ℕ}
 use Rattle.merge_schema.specs.declared.publication.Publication.{Publication}
-use Rattle.merge_model.specs.Answers.{Answer}
+use Rattle.merge_model.specs.declared.answer.Answer.{Answer}
 use Rattle.merge_model.specs.Events.{after, answers, machine}
 use Rattle.merge_model.specs.Failing.{Slips, failing, faulty}
 use Rattle.merge_model.specs.Model.{Model, empty_model, model}

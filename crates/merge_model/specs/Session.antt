@@ -22,7 +22,7 @@ pub record Stepping (W : Type 0) : Type 0 where
   -- with other tallies
   pub retally : List ℕ → W → W
 
--- a session under way: how many uploads were answered, how many replies brought generations, and the refusal that ended it
+-- a session under way: how many uploads were answered, how many download replies came that bring generations, whether they acted or not, and the refusal that ended it
 pub record Session (W : Type 0) : Type 0 where
   pub world : W
   pub uploads : ℕ

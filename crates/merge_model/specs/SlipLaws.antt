@@ -6,7 +6,8 @@ use Rattle.merge_schema.specs.declared.publication.Publication.{Publication}
 use Rattle.merge_batch.specs.declared.refusal.Refusal.{Refusal}
 use Rattle.merge_batch.specs.declared.reply.Reply.{Reply}
 use Rattle.merge_batch.specs.declared.request.Request.{Request}
-use Rattle.merge_model.specs.Answers.{Answer, Refused, RefusedIn, Stopped}
+use Rattle.merge_model.specs.declared.answer.Answer.{Answer}
+use Rattle.merge_model.specs.declared.answer.Answer.TheVariants.{Refused, RefusedIn, Stopped}
 use Rattle.merge_model.specs.Calls.{Called, Counted, handled, questions_on, request_commits}
 use Rattle.merge_model.specs.Events.{after, answers, machine}
 use Rattle.merge_model.specs.Failing.{Slips, failing, faulty}

@@ -7,7 +7,6 @@ use Rattle.merge_types.specs.declared.identifiers.RowId.{RowId}
 use Rattle.merge_types.specs.declared.identifiers.SiteId.{SiteId}
 use Rattle.merge_units.specs.declared.result.Decision.{Decision}
 use Rattle.merge_units.specs.declared.result.Decision.TheVariants.{KeepPublisher}
-use Rattle.merge_conflict.specs.declared.case.ConflictCase.{ConflictCase}
 use Rattle.merge_resolve.specs.Asked.{decisions_of, tallies_after}
 use Rattle.merge_schema.specs.declared.publication.Publication.{Publication}
 use Rattle.merge_batch.specs.declared.refusal.Refusal.{Refusal}
@@ -22,7 +21,9 @@ use Rattle.merge_batch.specs.declared.request.Join.{Join}
 use Rattle.merge_batch.specs.declared.request.RangeAsk.{RangeAsk}
 use Rattle.merge_batch.specs.declared.request.Request.{Request}
 use Rattle.merge_batch.specs.declared.request.Upload.{Upload}
-use Rattle.merge_model.specs.Acts.{Question, counted, questions_of}
+use Rattle.merge_model.specs.Acts.{questions_of}
+use Rattle.merge_resolve.specs.Questions.{counted, question_of as asked_of}
+use Rattle.merge_resolve.specs.declared.asking.Question.{Question}
 use Rattle.merge_model.specs.Judge.{PublisherJudge}
 use Rattle.merge_model.specs.Publisher.{at_moment, close_generation}
 use Rattle.merge_model.specs.PublisherDownload.{download}
@@ -128,9 +129,6 @@ abbrev pub send : Judges → SiteId → Sending → World → World × Outcome
 send judges site sending w = at_subscriber site w (send_from judges sending w)
 
 -- The questions of an upload that is not refused are asked one after the other.
-
-abbrev pub asked_of : Question → ℕ × ConflictCase
-asked_of question = (question.place, question.case)
 
 abbrev pub kept_decision : Question × Option Decision → Decision
 kept_decision pair = counted pair.0 (unwrap_or pair.1 KeepPublisher)

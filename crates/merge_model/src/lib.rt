@@ -2,6 +2,7 @@
 //! history that the promises speak of.
 #![tactic(auto)]
 
+mod answer;
 mod event;
 mod laws;
 mod letter;
@@ -9,6 +10,7 @@ mod outcome;
 mod reading;
 mod slips;
 
+pub use answer::{Answer, HeldRanges, ShownRow, SiteStanding};
 pub use event::{Event, Line, NamedValue, NamedValues};
 pub use laws::{
     answered_uploads_change_nothing, events_keep_what_steps_keep, lists_stay_sorted,

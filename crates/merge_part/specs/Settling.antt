@@ -2,11 +2,11 @@
 use Rattle.std.specs.Prelude.{◌≡◌, ◌<◌, ◌+◌, ◌⊎◌, ℕ, Bool, true, false, ◌&&◌, ◌==◌, List, length, drop, slice_index, Option, Some}
 use Rattle.std.specs.List.{list_any}
 use Rattle.std.specs.BTreeMap.{is_at}
-use Rattle.merge_part.specs.declared.key.RowKey.{RowKey}
+use Rattle.merge_types.specs.declared.row_key.RowKey.{RowKey}
 use Rattle.merge_part.specs.declared.sites.Sites.{Sites}
 use Rattle.merge_part.specs.declared.content.Content.{Content}
 use Rattle.merge_part.specs.declared.link.Link.{Link}
-use Rattle.merge_part.specs.Keys.{key_cmp}
+use Rattle.merge_types.specs.RowKeys.{key_cmp}
 use Rattle.merge_part.specs.Sites.{has_site}
 use Rattle.merge_part.specs.Rule.{IsAt, Reason, Meets}
 use Rattle.merge_part.specs.Index.{Entries}

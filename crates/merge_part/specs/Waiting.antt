@@ -5,10 +5,10 @@ use Rattle.std.specs.BTreeMap.{is_at}
 use Rattle.merge_types.specs.declared.identifiers.RowId.{RowId}
 use Rattle.merge_types.specs.declared.values.Value.{Value}
 use Rattle.merge_types.specs.declared.values.Value.TheVariants.{Null}
-use Rattle.merge_part.specs.declared.key.RowKey.{RowKey}
+use Rattle.merge_types.specs.declared.row_key.RowKey.{RowKey}
 use Rattle.merge_part.specs.declared.content.Content.{Content}
 use Rattle.merge_part.specs.declared.link.Link.{Link}
-use Rattle.merge_part.specs.Keys.{key_cmp}
+use Rattle.merge_types.specs.RowKeys.{key_cmp}
 use Rattle.merge_part.specs.Rule.{parent_value, IsAt}
 use Rattle.merge_part.specs.Index.{Entries, HasEntry}
 
@@ -30,8 +30,12 @@ abbrev pub ReachedByMarks : List Link → ℕ → Entries → ℕ → Option Con
 ReachedByMarks links count children article content waiting =
     (number : ℕ) (link : Link) → number < count → IsAt links number link → link.parent ≡ article → ChildrenWait children number link (parent_value link content) waiting
 
--- at each link from the article below this number, the parent value stays or the children of both wait
+-- the parent value stays, or the children of the one before and of the one after wait
+abbrev pub ReachedAt : Entries → ℕ → Link → (old new : Option Content) → List RowKey → Type 0
+ReachedAt children number link old new waiting =
+    (parent_value link old ≡ parent_value link new) ⊎ (ChildrenWait children number link (parent_value link old) waiting × ChildrenWait children number link (parent_value link new) waiting)
+
+-- so it is at each link from the article below this number
 abbrev pub ReachedByRow : List Link → ℕ → Entries → ℕ → (old new : Option Content) → List RowKey → Type 0
 ReachedByRow links count children article old new waiting =
-    (number : ℕ) (link : Link) → number < count → IsAt links number link → link.parent ≡ article
-    → (parent_value link old ≡ parent_value link new) ⊎ (ChildrenWait children number link (parent_value link old) waiting × ChildrenWait children number link (parent_value link new) waiting)
+    (number : ℕ) (link : Link) → number < count → IsAt links number link → link.parent ≡ article → ReachedAt children number link old new waiting

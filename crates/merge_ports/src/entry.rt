@@ -1,5 +1,5 @@
 //! Entries of a store, and edits of them.
-ghost use Rattle.std.specs.Prelude.{◌≡◌, [], OnOk, OnErr, length};
+ghost use Rattle.std.specs.Prelude.{◌≡◌, ◌<◌, ◌^◌, [], OnOk, OnErr, length};
 ghost use Rattle.std.specs.List.Sorted.{IsStrictlySortedBy};
 ghost use Rattle.std.specs.Map.{keys_of};
 ghost use Rattle.std.specs.BTreeMap.{insert_entry};
@@ -162,6 +162,7 @@ impl Entries {
     pub fn iter(&self) -> Rows<'_, EntryKey, Octets>
         ensures entries { result ≡ self.now }
         ensures ordered { IsStrictlySortedBy entry_cmp (keys_of self.now) }
+        ensures fits { length result < 2 ^ 63 }
     {
         self.table.iter()
     }

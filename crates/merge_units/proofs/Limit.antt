@@ -18,8 +18,8 @@ use Rattle.merge_units.specs.declared.result.Decision.{Decision}
 use Rattle.merge_units.specs.declared.result.Decision.TheVariants.{KeepPublisher, TakeSubscriber, Custom}
 use Rattle.merge_types.specs.Length.{stored_length as value_length, weight}
 use Rattle.merge_units.specs.Length.{stored_length, cell_weight, value_count}
-use Rattle.merge_units.specs.Version.{Knowing, has_news_over, cells_of}
-use Rattle.merge_units.specs.Cases.{united_weight, are_long, side_by, side_of, sides_of, is_both, bodies_case, news_case}
+use Rattle.merge_units.specs.Version.{Knowing, has_news, cells_of}
+use Rattle.merge_units.specs.Cases.{united_weight, are_long, side_by, side_of, sides_of, is_both, bodies_case, news_case, case_by}
 use Rattle.merge_units.specs.Results.{decided, taken, result_cell, result_cells, case_body, winner_body}
 use Rattle.merge_units.specs.Laws.{HaveSameShape, PicksSide, RowsStayInLimit}
 use Rattle.merge_units.proofs.Merged.{live_body}
@@ -130,5 +130,10 @@ module _ (dot : Dot) (here there : Knowing) (d : Decision) (side : PicksSide d) 
   by_news true false p i shape columns our_row their_row = our_row
   by_news false false p i shape columns our_row their_row = our_row
 
+  -- by what each version knows
+  pub rows_stay_by : (p i : Body) → HaveSameShape p i → value_count (cells_of p) ≤ 64 → stored_length (cells_of p) ≤ row_limit → stored_length (cells_of i) ≤ row_limit
+      → stored_length (cells_of (case_body dot d (case_by here there p i) p i)) ≤ row_limit
+  rows_stay_by p i shape columns ours theirs = by_news (has_news there p) (has_news here i) p i shape columns ours theirs
+
 pub rows_stay_in_limit : RowsStayInLimit
-rows_stay_in_limit p i d dot side shape columns ours theirs = by_news dot (knows p.lineage) (knows i.lineage) d side (has_news_over p i) (has_news_over i p) p.body i.body shape columns ours theirs
+rows_stay_in_limit p i d dot side shape columns ours theirs = rows_stay_by dot (knows p.lineage) (knows i.lineage) d side p.body i.body shape columns ours theirs

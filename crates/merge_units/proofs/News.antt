@@ -5,9 +5,7 @@ use Rattle.std.proofs.lemmas.Bool.Decides.{nat_tests}
 use Rattle.merge_types.specs.declared.Dot.{Dot}
 use Rattle.merge_lineage.specs.Lineage.{knows, Covers}
 use Rattle.merge_lineage.proofs.Covers.{covers_by_knowing}
-use Rattle.merge_units.specs.declared.version.Cell.{Cell}
 use Rattle.merge_units.specs.declared.version.Body.{Body}
-use Rattle.merge_units.specs.declared.version.Body.TheVariants.{Live, Dead}
 use Rattle.merge_units.specs.declared.case.Case.{Case}
 use Rattle.merge_units.specs.declared.case.Case.TheVariants as case
 use Rattle.merge_units.specs.Version.{Knowing, is_new, tops_of, has_news, has_news_over}

@@ -3,4 +3,4 @@ use Rattle.merge_part.proofs.Reasons.{Reaching}
 use Rattle.merge_part.proofs.joined.sites_of.Given as goal
 
 abbrev pub invariant-loop-number : goal.invariant-loop-number
-invariant-loop-number l = Reaching l.links (rows_in l.held.rows.rows l.draft.rows) (marks_in l.held.marks.rows l.draft.marks.rows) l.key l.content l.found l.number
+invariant-loop-number l = Reaching l.links (rows_in l.kept.held.rows.rows l.draft.rows) (marks_in l.kept.held.marks.rows l.draft.marks.rows) l.key l.content l.found l.number

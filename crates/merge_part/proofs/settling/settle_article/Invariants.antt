@@ -7,7 +7,8 @@ use Rattle.merge_part.proofs.settling.settle_article.Given as goal
 abbrev pub invariant-loop-key : goal.invariant-loop-key
 invariant-loop-key l = record {
   rows : l.draft.rows ≡ l.fn.draft.rows;
-  met : (articles : List ℕ) → ChildrenCome l.rules.links l.article articles
-      → AllMeet l.rules.links (rows_in l.held.rows.rows l.fn.draft.rows) (marks_in l.held.marks.rows l.fn.draft.marks.rows) (pends (l.article ∷ articles) l.fn.waiting.items)
-      → AllMeet l.rules.links (rows_in l.held.rows.rows l.fn.draft.rows) (marks_in l.held.marks.rows l.draft.marks.rows) (pends_within (drop l.key-index l.key-items) articles l.waiting.items);
+  index : l.draft.index ≡ l.fn.draft.index;
+  met : (articles : List ℕ) → ChildrenCome l.kept.rules.links l.article articles
+      → AllMeet l.kept.rules.links (rows_in l.kept.held.rows.rows l.fn.draft.rows) (marks_in l.kept.held.marks.rows l.fn.draft.marks.rows) (pends (l.article ∷ articles) l.fn.draft.waiting.items)
+      → AllMeet l.kept.rules.links (rows_in l.kept.held.rows.rows l.fn.draft.rows) (marks_in l.kept.held.marks.rows l.draft.marks.rows) (pends_within (drop l.key-index l.key-items) articles l.draft.waiting.items);
 }

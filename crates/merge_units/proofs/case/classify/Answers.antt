@@ -1,7 +1,6 @@
-use Rattle.std.proofs.Common.{◌≡◌, true, rules, ap, sym, ◌∙◌}
+use Rattle.std.proofs.Common.{◌≡◌, true, rules, sym}
 use Rattle.merge_units.specs.declared.version.Body.TheVariants.{Live}
 use Rattle.merge_units.specs.Version.{has_news_over}
-use Rattle.merge_units.specs.Cases.{live_case}
 use Rattle.merge_units.proofs.Fits.{live_case_of}
 use Rattle.merge_units.proofs.case.classify.Goals as goal
 
