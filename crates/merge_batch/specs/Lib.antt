@@ -7,5 +7,7 @@ pub mod Lineages
 pub mod Uploads
 pub mod Asks
 pub mod Replies
+pub mod Heads
+pub mod Orders
 pub mod Opened
 pub mod Laws

@@ -1,2 +1,4 @@
+pub mod Kinds
 pub mod Rising
 pub mod Table
+pub mod Losers

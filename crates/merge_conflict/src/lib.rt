@@ -1,15 +1,17 @@
-//! Conflicts: what a resolver is asked, and the table of the versions that lost.
+//! What lost in conflicts: the rows of a decision, and the table that keeps them.
 #![tactic(auto)]
 
-mod case;
+mod kind;
 mod laws;
+mod losers;
 mod row;
 mod table;
 
-pub use case::{ConflictCase, Places};
-pub use laws::numbering_law;
+pub use kind::ConflictKind;
+pub use laws::{kind_law, numbering_law};
+pub use losers::{Conflict, losing_rows};
 pub use row::{ConflictRow, ConflictRows, Verdict};
-pub use table::{AddPlan, ConflictTable, are_rising};
+pub use table::{ConflictPlan, ConflictTable, are_rising};
 
 #[cfg(test)]
 mod tests;

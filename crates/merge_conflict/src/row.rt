@@ -1,4 +1,5 @@
 //! A version that lost, and why.
+use crate::ConflictKind;
 use merge_types::{Exact, Listing, Moment, RowId, SiteId};
 use merge_units::Version;
 use std::alloc::AllocError;
@@ -18,15 +19,13 @@ pub enum Verdict {
     Discarded,
 }
 
-/// A version that lost. As in SQL Server's conflict tables the kind is 1 for updates of one row and
-/// 2 for updates of one column. It is 3 for an update against a delete where the delete wins, and 4
-/// where the update wins. An article is named by its place.
+/// A version that lost. An article is named by its place.
 #[derive(Debug, Drop)]
 pub struct ConflictRow {
     pub number: u64,
     pub article: u8,
     pub row: RowId,
-    pub kind: u8,
+    pub kind: ConflictKind,
     pub losing: Version,
     /// The site whose version lost.
     pub from: SiteId,

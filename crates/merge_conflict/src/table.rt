@@ -31,7 +31,7 @@ impl Model for ConflictTable {
 
 /// Rows for which a table has made room.
 #[derive(Debug, Drop)]
-pub struct AddPlan {
+pub struct ConflictPlan {
     pub rows: ConflictRows,
 }
 
@@ -92,7 +92,7 @@ impl ConflictTable {
     }
 
     /// Takes the memory for adding these rows, and gives the plan that adds them.
-    pub fn prepare(&mut self, rows: ConflictRows) -> Result<AddPlan, NoMemory>
+    pub fn prepare(&mut self, rows: ConflictRows) -> Result<ConflictPlan, NoMemory>
         requires { AreRising (self.old.rows ++ rows) }
         ensures plan { IfOk result (λ plan. plan.rows ≡ rows) }
         ensures ready { IfOk result (λ plan. IsReady self.new plan) }
@@ -103,11 +103,11 @@ impl ConflictTable {
         ensures succeeds { length rows ≤ self.old.room → IsOk result }
     {
         self.rows.reserve(rows.len())?;
-        Ok(AddPlan { rows })
+        Ok(ConflictPlan { rows })
     }
 
     /// Adds the rows of a plan. No memory is taken.
-    pub fn settle(&mut self, plan: AddPlan)
+    pub fn settle(&mut self, plan: ConflictPlan)
         requires { IsReady self.old plan }
         ensures rows { self.new.rows ≡ self.old.rows ++ plan.rows }
         ensures room { self.new.room + length plan.rows ≡ self.old.room }

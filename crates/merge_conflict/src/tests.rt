@@ -1,10 +1,13 @@
 //! A table with rows of rising numbers and moments.
 ghost use Rattle.std.specs.Prelude.{◌≡◌};
 
-use crate::{ConflictRow, ConflictRows, ConflictTable, Verdict, are_rising};
+use crate::{
+    Conflict, ConflictKind, ConflictRow, ConflictRows, ConflictTable, Verdict, are_rising,
+    losing_rows,
+};
 use merge_lineage::Lineage;
-use merge_types::{Dot, Moment, RowId, SiteId};
-use merge_units::{Body, Version};
+use merge_types::{Dot, Moment, RowId, SiteId, Tracking, Values};
+use merge_units::{Body, Cells, Decision, Version};
 use std::alloc::Global;
 use std::process::Abort;
 use std::test::Fail;
@@ -16,7 +19,7 @@ fn row(alloc: Global, number: u64, moment: u64) -> ConflictRow
         number,
         article: 0,
         row: RowId(1),
-        kind: 3,
+        kind: ConflictKind::DeleteWins,
         losing: Version {
             lineage: Lineage::new(alloc),
             body: Body::Dead(Dot {
@@ -74,6 +77,57 @@ fn adds(rt: HostRuntime) -> Result<(), Fail> {
     );
     for row in table.rows() {
         assert_eq!(rt; row.clone()?.verdict, Verdict::Publisher);
+    }
+    Ok(())
+}
+
+#[test]
+fn losers_are_kept(rt: HostRuntime) -> Result<(), Fail> {
+    let ours = Version {
+        lineage: Lineage::new(rt.alloc()),
+        body: Body::Live(Cells::empty(rt.alloc())),
+    };
+    let theirs = row(rt.alloc(), 1, 10).losing;
+    let conflict = Conflict {
+        number: 5,
+        article: 0,
+        row: RowId(1),
+        tracking: Tracking::Row,
+        site: SiteId(7),
+        moment: Moment(9),
+    };
+    let cases = [
+        (
+            Decision::KeepPublisher,
+            ConflictKind::UpdateWins,
+            SiteId(7),
+            Verdict::Publisher,
+        ),
+        (
+            Decision::TakeSubscriber,
+            ConflictKind::DeleteWins,
+            SiteId(0),
+            Verdict::Subscriber,
+        ),
+    ];
+    for (decision, kind, from, verdict) in &cases {
+        let rows = losing_rows(rt.alloc(), &conflict, &ours, &theirs, decision)?;
+        assert_eq!(rt; rows.len(), 1);
+        for row in rows.as_slice() {
+            assert_eq!(rt; (row.kind, row.from, row.verdict), (*kind, *from, *verdict));
+        }
+    }
+    // Where other values are decided both lose, the publisher's first.
+    let custom = Decision::Custom(Values::empty(rt.alloc()));
+    let rows = losing_rows(rt.alloc(), &conflict, &ours, &ours, &custom)?;
+    assert_eq!(rt; rows.len(), 2);
+    let told = [(5, SiteId(0)), (6, SiteId(7))];
+    for (row, (number, from)) in rows.as_slice().iter().zip(&told) {
+        assert_eq!(rt; (row.number, row.from), (*number, *from));
+        assert_eq!(rt;
+            ConflictKind::of_number(row.kind.number()),
+            Some(ConflictKind::RowUpdate)
+        );
     }
     Ok(())
 }

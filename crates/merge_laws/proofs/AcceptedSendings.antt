@@ -27,17 +27,20 @@ use Rattle.merge_model.specs.Subscriber.{sub_at_moment, sub_closed}
 use Rattle.merge_types.specs.declared.row_key.RowKey.{RowKey as Key}
 use Rattle.merge_units.specs.declared.site_row.SubscriberRow.{SubscriberRow}
 use Rattle.merge_model.specs.Tables.{PublisherTables, SubscriberTables}
-use Rattle.merge_model.specs.World.{Asks, Message, Replies, World, subscriber_at, with_publisher, with_subscriber}
+use Rattle.merge_model.specs.World.{World, subscriber_at, with_publisher, with_subscriber}
+use Rattle.merge_model.specs.declared.letter.Message.TheVariants.{Asks, Replies}
+use Rattle.merge_model.specs.declared.letter.Message.{Message}
 use Rattle.merge_laws.specs.Accepted.{Accepted, IsUpTo}
 use Rattle.merge_laws.specs.KnownMakers.{IsAfterMaker, KnownMakers}
-use Rattle.merge_laws.specs.LineagesStand.{is_given_up, OthersAccepted}
+use Rattle.merge_model.specs.Promises.{is_given_up}
+use Rattle.merge_laws.specs.LineagesStand.{OthersAccepted}
 use Rattle.merge_laws.proofs.AcceptedOrder.{StandsBelow, of-site, order-below}
 use Rattle.merge_laws.proofs.AcceptedParts.{PastFits, all-fit, nothing-fits, past-among, post-accepted, publisher-accepted, put-rows, sent-rows, subscriber-accepted}
-use Rattle.merge_laws.proofs.Finding.{all-weaker, found-named}
+use Rattle.merge_model.proofs.Finding.{all-weaker, found-named}
 use Rattle.merge_laws.proofs.Ground.{Ground}
-use Rattle.merge_laws.proofs.KeyLookUps.{key-itself, keys-same, keys-tied}
-use Rattle.merge_laws.proofs.KnownRows.{all-put}
-use Rattle.merge_laws.proofs.Lists.{all-filter, all-of, all-three, any-leads}
+use Rattle.merge_model.proofs.KeyLookUps.{key-itself, keys-same, keys-tied}
+use Rattle.merge_model.proofs.EntryLists.{all-put}
+use Rattle.merge_model.proofs.Lists.{all-filter, all-of, all-three, any-leads}
 use Rattle.merge_laws.proofs.Publishing.{asked-same}
 use Rattle.merge_laws.proofs.Walking.{here}
 

@@ -23,7 +23,7 @@ use Rattle.merge_model.specs.Promises.{InRow, Place}
 use Rattle.merge_types.specs.declared.row_key.RowKey.{RowKey as Key}
 use Rattle.merge_units.specs.declared.site_row.PublisherRow.{PublisherRow}
 use Rattle.merge_model.specs.Tables.{SubscriberTables}
-use Rattle.merge_model.specs.World.{Letter}
+use Rattle.merge_model.specs.declared.letter.Letter.{Letter}
 use Rattle.merge_laws.specs.Accounts.{Accounts, GrownAlone, IsSafe, IsTraced, is_kept_elsewhere, is_made_at, is_past, is_settled, makes}
 use Rattle.merge_laws.specs.Knowledge.{Knows, is_made}
 use Rattle.merge_laws.proofs.AccountElements.{IsIn}
@@ -32,7 +32,7 @@ use Rattle.merge_laws.proofs.AccountLetters.{IsOfSite}
 use Rattle.merge_laws.proofs.AccountMeetings.{IsNew, decided_new, knows-either, lost-keeps, lost-last, lost_after, meeting-is, met-grown, met-holds, own_dot, past-stays}
 use Rattle.merge_laws.proofs.AccountRows.{KeepsLost, at-key, at-other, gone_on, in-new, lost-accounts, lost-goes, more-elsewhere, row-accounts, row-goes}
 use Rattle.merge_laws.proofs.ChangeDots.{AreDistinct, made-distinct}
-use Rattle.merge_laws.proofs.KeyLookUps.{keys-same}
+use Rattle.merge_model.proofs.KeyLookUps.{keys-same}
 use Rattle.merge_laws.proofs.Knowing.{IsFresh, fresh-above}
 use Rattle.merge_laws.proofs.KnownNotes.{Reached}
 use Rattle.merge_laws.proofs.KnownRows.{held-knows, past-knows}

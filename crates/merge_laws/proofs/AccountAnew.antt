@@ -35,12 +35,12 @@ use Rattle.merge_laws.proofs.AccountSending.{received-safe, site-away}
 use Rattle.merge_laws.proofs.AccountSites.{held-made, nothing-traced, sent-made, sub-accounts}
 use Rattle.merge_laws.proofs.Generations.{order-closed}
 use Rattle.merge_laws.proofs.Ground.{Ground}
-use Rattle.merge_laws.proofs.KeyLookUps.{key-itself, key-test, keys-same}
+use Rattle.merge_model.proofs.KeyLookUps.{key-itself, key-test, keys-same}
 use Rattle.merge_laws.proofs.KnownMakers.{none-ascends}
 use Rattle.merge_laws.proofs.OwnSending.{gens-some}
 use Rattle.merge_laws.proofs.Subscribing.{filling-closed}
 use Rattle.merge_laws.proofs.Telling.{closing-tells}
-use Rattle.merge_laws.proofs.Tests.{either, or-second}
+use Rattle.merge_model.proofs.Tests.{either, or-second}
 use Rattle.merge_laws.proofs.Unsending.{anew-rows}
 
 -- What is discarded, in the order of the rows.

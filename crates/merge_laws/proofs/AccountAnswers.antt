@@ -33,16 +33,17 @@ use Rattle.merge_types.specs.declared.row_key.RowKey.{RowKey as Key}
 use Rattle.merge_units.specs.declared.site_row.PublisherRow.{PublisherRow}
 use Rattle.merge_model.specs.Tables.{PublisherTables}
 use Rattle.merge_model.specs.Taking.{key_of_download}
-use Rattle.merge_model.specs.World.{Replies, World, with_publisher}
+use Rattle.merge_model.specs.World.{World, with_publisher}
+use Rattle.merge_model.specs.declared.letter.Message.TheVariants.{Replies}
 use Rattle.merge_laws.specs.Accounts.{Grown, GrownAlone, IsTraced, OfAccounts}
 use Rattle.merge_laws.specs.LineagesStand.{OfOrder}
 use Rattle.merge_laws.proofs.AccountBase.{Base}
 use Rattle.merge_laws.proofs.AccountNotes.{none-traced, post-accounts}
-use Rattle.merge_laws.proofs.Downloads.{any-map, inside-live, live-held}
-use Rattle.merge_laws.proofs.Finding.{some_same}
-use Rattle.merge_laws.proofs.KeyLookUps.{key-test, none-behind}
+use Rattle.merge_model.proofs.Downloads.{any-map, inside-live, live-held}
+use Rattle.merge_model.proofs.Finding.{some_same}
+use Rattle.merge_model.proofs.KeyLookUps.{key-test, none-behind}
 use Rattle.merge_laws.proofs.LetterPasts.{orders-past, orders-sent, removed-order}
-use Rattle.merge_laws.proofs.Lists.{OfSome, all-filter, all-filter_map, all-map, all-unit}
+use Rattle.merge_model.proofs.Lists.{OfSome, all-filter, all-filter_map, all-map, all-unit}
 use Rattle.merge_laws.proofs.Walking.{Sends, here}
 
 -- A row in a partition lives.

@@ -14,7 +14,7 @@ use Rattle.merge_laws.specs.Accounts.{CellGrown, Grown, GrownAlone, IsNotUnited,
 use Rattle.merge_laws.specs.Knowledge.{KnowsItsPast, same_dot}
 use Rattle.merge_laws.proofs.ChangeDots.{AreDistinct}
 use Rattle.merge_laws.proofs.Knowing.{IsFresh}
-use Rattle.merge_laws.proofs.Tests.{dots-same}
+use Rattle.merge_laws.proofs.DotTests.{dots-same}
 
 -- The dots of changes.
 

@@ -22,7 +22,7 @@ use Rattle.merge_types.specs.declared.row_key.RowKey.{RowKey as Key}
 use Rattle.merge_laws.specs.Accounts.{CellGrown, Grown, GrownAlone, is_set}
 use Rattle.merge_laws.specs.Knowledge.{KnowsItsPast, same_dot}
 use Rattle.merge_laws.proofs.AccountChains.{chain_at, rooted-known, rooted-later, set-later}
-use Rattle.merge_laws.proofs.Tests.{dots-same, dot-itself}
+use Rattle.merge_laws.proofs.DotTests.{dots-same, dot-itself}
 
 -- how many cells a row of an article has
 abbrev pub count_by_tracking : Tracking → List Column → ℕ

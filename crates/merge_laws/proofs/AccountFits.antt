@@ -37,8 +37,8 @@ use Rattle.merge_laws.proofs.AccountChanges.{count_by_tracking, deleted-grown, i
 use Rattle.merge_laws.proofs.AccountHolds.{AreCells, deleted-ends, deleted-holds, held-past, inserted-ends, inserted-holds, updated-ends, updated-holds, updated-past}
 use Rattle.merge_laws.proofs.Arrivals.{first-none}
 use Rattle.merge_laws.proofs.ChangeDots.{AreDistinct}
-use Rattle.merge_laws.proofs.Finding.{some_same}
-use Rattle.merge_laws.proofs.KeyLookUps.{key-itself}
+use Rattle.merge_model.proofs.Finding.{some_same}
+use Rattle.merge_model.proofs.KeyLookUps.{key-itself}
 use Rattle.merge_laws.proofs.Knowing.{IsFresh}
 use Rattle.merge_laws.proofs.Telling.{no-refusal}
 

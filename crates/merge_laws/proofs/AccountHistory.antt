@@ -20,7 +20,7 @@ use Rattle.merge_laws.specs.LineagesStand.{is_of}
 use Rattle.merge_laws.proofs.AccountChains.{alone-later, grown-later}
 use Rattle.merge_laws.proofs.Knowing.{IsFresh, fresh-any}
 use Rattle.merge_laws.proofs.PastLookUps.{put-here, put-there}
-use Rattle.merge_laws.proofs.Tests.{dots-same}
+use Rattle.merge_laws.proofs.DotTests.{dots-same}
 
 -- How a history goes on: what is kept elsewhere stays so, and what the publisher knows, and which deletes are past there, stay so too, unless
 -- the row is purged.

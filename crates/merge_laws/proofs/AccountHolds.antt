@@ -16,7 +16,7 @@ use Rattle.merge_laws.proofs.AccountChains.{fresh-at, set-kept}
 use Rattle.merge_laws.proofs.AccountChanges.{all-set, chain-in-all, changed-has, changed-keeps, new-at}
 use Rattle.merge_laws.proofs.ChangeDots.{AreDistinct}
 use Rattle.merge_laws.proofs.Knowing.{IsFresh}
-use Rattle.merge_laws.proofs.Tests.{dots-same}
+use Rattle.merge_laws.proofs.DotTests.{dots-same}
 
 -- a row that lives
 abbrev pub AreCells : Chains → Type 0

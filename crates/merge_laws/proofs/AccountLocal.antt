@@ -25,7 +25,10 @@ use Rattle.merge_model.specs.Subscriber.{generations_at, is_joining, sub_at_mome
 use Rattle.merge_types.specs.declared.row_key.RowKey.{RowKey as Key}
 use Rattle.merge_units.specs.declared.site_row.SubscriberRow.{SubscriberRow}
 use Rattle.merge_model.specs.Tables.{SubscriberTables}
-use Rattle.merge_model.specs.World.{Asks, Letter, Message, Replies, World, subscriber_at, with_subscriber}
+use Rattle.merge_model.specs.World.{World, subscriber_at, with_subscriber}
+use Rattle.merge_model.specs.declared.letter.Message.TheVariants.{Asks, Replies}
+use Rattle.merge_model.specs.declared.letter.Letter.{Letter}
+use Rattle.merge_model.specs.declared.letter.Message.{Message}
 use Rattle.merge_laws.specs.Accounts.{Accounts, GrownAlone, OfAccounts, SendsAll, Traced, is_settled}
 use Rattle.merge_laws.specs.Knowledge.{is_made}
 use Rattle.merge_laws.specs.LineagesStand.{is_of}
@@ -38,12 +41,12 @@ use Rattle.merge_laws.proofs.AccountHistory.{traced-new}
 use Rattle.merge_laws.proofs.AccountSending.{received-safe, site-away}
 use Rattle.merge_laws.proofs.AccountSites.{held-made, received-own, sent-made, sub-accounts}
 use Rattle.merge_laws.proofs.Arrivals.{first-none}
-use Rattle.merge_laws.proofs.Finding.{all-weaker, some_same}
+use Rattle.merge_model.proofs.Finding.{all-weaker, some_same}
 use Rattle.merge_laws.proofs.Ground.{Ground}
-use Rattle.merge_laws.proofs.KeyLookUps.{key-itself, keys-same}
+use Rattle.merge_model.proofs.KeyLookUps.{key-itself, keys-same}
 use Rattle.merge_laws.proofs.Knowing.{IsFresh}
 use Rattle.merge_laws.proofs.KnownRows.{held-knows}
-use Rattle.merge_laws.proofs.Lists.{zip-first}
+use Rattle.merge_model.proofs.Lists.{zip-first}
 use Rattle.merge_laws.proofs.OwnKnowing.{NoneOf}
 use Rattle.merge_laws.proofs.OwnLocal.{sub-fresh, sub-none}
 use Rattle.merge_laws.proofs.PastLookUps.{past-put}

@@ -30,7 +30,7 @@ use Rattle.merge_laws.proofs.AccountMerges.{case-grown, case-holds, case-stays}
 use Rattle.merge_laws.proofs.AccountRows.{KeepsLost, gone_on}
 use Rattle.merge_laws.proofs.ChangeDots.{AreDistinct}
 use Rattle.merge_laws.proofs.Knowing.{IsFresh}
-use Rattle.merge_laws.proofs.Tests.{dot-itself, dots-same}
+use Rattle.merge_laws.proofs.DotTests.{dot-itself, dots-same}
 
 -- what a meeting adds to the publisher's conflict table
 abbrev pub lost_after : Bool → Decision → Key → Past → Past → List (ℕ × (Key × Past)) → List (ℕ × (Key × Past))

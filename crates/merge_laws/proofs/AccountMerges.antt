@@ -24,7 +24,7 @@ use Rattle.merge_laws.specs.Knowledge.{KnowsItsPast, same_dot}
 use Rattle.merge_laws.proofs.AccountCells.{AreFour, Follows, OwnGrown, are-four, cells-hold, loses, results-grown}
 use Rattle.merge_laws.proofs.AccountChains.{body-known, rooted-known, set-kept, tops-known}
 use Rattle.merge_laws.proofs.ChangeDots.{AreDistinct}
-use Rattle.merge_laws.proofs.Tests.{dots-same}
+use Rattle.merge_laws.proofs.DotTests.{dots-same}
 
 -- a version with no news, of a row that lives
 follows-known : (made : List MadeChange) (there : List Dot) (cells : List Cell) (chains : List (List Dot)) (d : Dot) → AllZip (CellGrown made) cells chains → AllByRecursion (KnowsItsPast there) made → Follows (has there) cells chains d (has there d)

@@ -28,7 +28,7 @@ use Rattle.merge_laws.proofs.AccountSites.{held-made}
 use Rattle.merge_laws.proofs.Arrivals.{first-none}
 use Rattle.merge_laws.proofs.ChangeDots.{made-distinct}
 use Rattle.merge_laws.proofs.Ground.{Ground}
-use Rattle.merge_laws.proofs.KeyLookUps.{key-itself}
+use Rattle.merge_model.proofs.KeyLookUps.{key-itself}
 use Rattle.merge_laws.proofs.Knowing.{IsFresh}
 use Rattle.merge_laws.proofs.KnownRows.{held-knows}
 use Rattle.merge_laws.proofs.OwnLocal.{own-fresh, own-none}

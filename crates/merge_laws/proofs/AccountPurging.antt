@@ -17,13 +17,13 @@ use Rattle.merge_model.specs.Noting
 use Rattle.merge_model.specs.Pasts.{cell_count}
 use Rattle.merge_types.specs.declared.row_key.RowKey.{RowKey as Key}
 use Rattle.merge_model.specs.Tables.{SubscriberTables}
-use Rattle.merge_model.specs.World.{Letter}
+use Rattle.merge_model.specs.declared.letter.Letter.{Letter}
 use Rattle.merge_laws.specs.Accounts.{Accounts, Grown, GrownAlone, IsSafe, IsTraced, is_past, is_settled}
 use Rattle.merge_laws.specs.LineagesStand.{is_of}
 use Rattle.merge_laws.proofs.AccountHistory.{Goes, SortedAt, goes-safe, goes-traced}
 use Rattle.merge_laws.proofs.AccountSites.{nothing-traced}
-use Rattle.merge_laws.proofs.Finding.{all-weaker, at_put_same, found-named}
-use Rattle.merge_laws.proofs.KeyLookUps.{key-itself, keys-same, row-dropped}
+use Rattle.merge_model.proofs.Finding.{all-weaker, at_put_same, found-named}
+use Rattle.merge_model.proofs.KeyLookUps.{key-itself, keys-same, row-dropped}
 use Rattle.merge_laws.proofs.PastLookUps.{past-left, put-there}
 use Rattle.merge_laws.proofs.ToldRows.{drop_version}
 

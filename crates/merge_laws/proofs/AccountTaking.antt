@@ -26,15 +26,15 @@ use Rattle.merge_types.specs.declared.row_key.RowKey.{RowKey as Key}
 use Rattle.merge_units.specs.declared.site_row.SubscriberRow.{SubscriberRow}
 use Rattle.merge_model.specs.Tables.{SubscriberTables}
 use Rattle.merge_model.specs.Taking.{with_order}
-use Rattle.merge_model.specs.World.{Letter}
+use Rattle.merge_model.specs.declared.letter.Letter.{Letter}
 use Rattle.merge_laws.specs.Accounts.{Accounts, GrownAlone, IsSafe, IsTraced, is_settled, received_of}
 use Rattle.merge_laws.specs.LineagesStand.{OfOrder, is_of}
 use Rattle.merge_laws.proofs.AccountElements.{IsIn, any-in, each-in}
 use Rattle.merge_laws.proofs.AccountHistory.{goes-traced}
 use Rattle.merge_laws.proofs.AccountSites.{AreMade, HeldMade, SentMade, nothing-traced, site-goes, sub-accounts}
-use Rattle.merge_laws.proofs.Finding.{all-weaker, at_put, at_put_same, some_same}
-use Rattle.merge_laws.proofs.KeyLookUps.{key-itself, keys-same, row-dropped}
-use Rattle.merge_laws.proofs.Lists.{all-both}
+use Rattle.merge_model.proofs.Finding.{all-weaker, at_put, at_put_same, some_same}
+use Rattle.merge_model.proofs.KeyLookUps.{key-itself, keys-same, row-dropped}
+use Rattle.merge_model.proofs.Lists.{all-both}
 use Rattle.merge_laws.proofs.PastLookUps.{past-left, past-put, put-there}
 use Rattle.merge_laws.proofs.ToldRows.{found-dropped, found-put, found_in}
 use Rattle.merge_laws.proofs.ToldSites.{own_version}

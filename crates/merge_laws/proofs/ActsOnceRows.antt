@@ -32,9 +32,9 @@ use Rattle.merge_types.specs.declared.row_key.RowKey.{RowKey as Key}
 use Rattle.merge_units.specs.declared.site_row.PublisherRow.{PublisherRow}
 use Rattle.merge_model.specs.Tables.{PublisherTables}
 use Rattle.merge_laws.specs.ActsOnce.{OfRow, of_row}
-use Rattle.merge_laws.proofs.Finding.{at_put_same}
-use Rattle.merge_laws.proofs.KeyLookUps.{row-put}
-use Rattle.merge_laws.proofs.Lists.{OfSome, all-append, all-filter_map}
+use Rattle.merge_model.proofs.Finding.{at_put_same}
+use Rattle.merge_model.proofs.KeyLookUps.{row-put}
+use Rattle.merge_model.proofs.Lists.{OfSome, all-append, all-filter_map}
 use Rattle.merge_laws.proofs.Noted.{DecidesAsOwn}
 
 -- What passes no test is filtered away.

@@ -3,6 +3,7 @@ use Rattle.std.specs.Prelude.{◌≡◌, ◌+◌, ◌++◌, ℕ, List, [], ◌�
 use Rattle.std.specs.List.{AllByRecursion}
 use Rattle.std.proofs.Common.{ap, ◌∙◌}
 use Rattle.merge_types.specs.declared.identifiers.Moment.{Moment}
+use Rattle.merge_types.specs.declared.identifiers.SiteId.{SiteId}
 use Rattle.merge_units.specs.declared.result.Decision.{Decision}
 use Rattle.merge_conflict.specs.declared.row.ConflictRow.{ConflictRow}
 use Rattle.merge_gens.specs.declared.sites.SiteState.{SiteState}
@@ -24,13 +25,15 @@ use Rattle.merge_model.specs.Keys.{at_number}
 use Rattle.merge_model.specs.Publisher.{at_moment, counters, site_refusal}
 use Rattle.merge_model.specs.PublisherUpload.{brings_news, changing_by, state_seeing, taken_in, too_many_new, upload_refusal, uploaded, with_acts, with_taken}
 use Rattle.merge_model.specs.Refusals.{counter_end, first_refusal, refused_if, unless}
-use Rattle.merge_model.specs.Steps.{Outcome, asked_of, deliver_upload, kept_decisions, post, unless_refused, upload_questions}
+use Rattle.merge_model.specs.Steps.{asked_of, deliver_upload, kept_decisions, post, unless_refused, upload_questions}
+use Rattle.merge_model.specs.declared.outcome.Outcome.{Outcome}
 use Rattle.merge_types.specs.declared.row_key.RowKey.{RowKey as Key}
 use Rattle.merge_model.specs.Tables.{PublisherTables}
-use Rattle.merge_model.specs.World.{Replies, Saying, World}
+use Rattle.merge_model.specs.World.{Saying, World}
+use Rattle.merge_model.specs.declared.letter.Message.TheVariants.{Replies}
 use Rattle.merge_laws.proofs.AlikeUploads.{ItemAgrees, acting-same, acts-from-same, lost-from-same, questions-same}
 use Rattle.merge_laws.proofs.Arrivals.{first-none}
-use Rattle.merge_laws.proofs.Lists.{all-filter}
+use Rattle.merge_model.proofs.Lists.{all-filter}
 
 -- What two ways to decide agree on, of the sites that have joined and of moves.
 pub record SitesAgree (sites : List (ℕ × SiteState)) (one other : PublisherJudge) : Type 0 where
@@ -128,7 +131,7 @@ module _ (publication : Publication) (one other : PublisherJudge) (m : Upload) (
       (λ sound. ap (λ (acts : List Act). first_refusal (too_many_new acts p ∷ counter_end (counters p) ∷ [])) (first-acts-same (items fine sound)))))
 
 -- The whole step.
-module _ (publication : Publication) (says : Saying) (one other : PublisherJudge) (m : Upload) (w : World) (agree : SitesAgree w.publisher.sites one other) where
+module _ (publication : Publication) (says : Saying) (one other : PublisherJudge) (site : SiteId) (m : Upload) (w : World) (agree : SitesAgree w.publisher.sites one other) where
   abbrev p : PublisherTables
   p = w.publisher
 
@@ -137,7 +140,7 @@ module _ (publication : Publication) (says : Saying) (one other : PublisherJudge
 
   abbrev answer : Option Refusal → List Question → PublisherTables → ℕ → World × Outcome
   answer refusal questions taken received = (let done : Result (PublisherTables × Uploaded) Refusal = unless refusal (taken, record { seq = m.seq; received = max m.to received }) in
-      unless_refused w done (λ (made : PublisherTables × Uploaded). post m.site (Replies (reply.Uploaded made.1)) (record w { publisher = made.0; tallies = tallies_after w.tallies (map asked_of questions) })))
+      unless_refused w done (λ (made : PublisherTables × Uploaded). post site (Replies (reply.Uploaded made.1)) (record w { publisher = made.0; tallies = tallies_after w.tallies (map asked_of questions) })))
 
   answer-same : (refusal : Option Refusal) (questions others : List Question) (taken after : PublisherTables) (received : ℕ) → (refusal ≡ None → questions ≡ others) → (refusal ≡ None → taken ≡ after)
       → answer refusal questions taken received ≡ answer refusal others after received
@@ -145,7 +148,7 @@ module _ (publication : Publication) (says : Saying) (one other : PublisherJudge
   answer-same None questions others taken after received asked did = ap (λ (qs : List Question). answer None qs taken received) (asked refl) ∙ ap (λ (q : PublisherTables). answer None others q received) (did refl)
 
   pub deliver-same : (site_refusal publication m.site m.seq w.moment p ≡ None → upload_fault publication other m p ≡ None → AllByRecursion (ItemAgrees one other m.site p.rows) m.items)
-      → deliver_upload publication says one m w ≡ deliver_upload publication says other m w
+      → deliver_upload publication says one site m w ≡ deliver_upload publication says other site m w
   deliver-same items =
       let asked : List Question = upload_questions publication one w.moment m p in
       let others : List Question = upload_questions publication other w.moment m p in

@@ -16,8 +16,8 @@ use Rattle.merge_model.specs.Keys.{has_key, put_row, row_at}
 use Rattle.merge_types.specs.declared.row_key.RowKey.{RowKey as Key}
 use Rattle.merge_units.specs.declared.site_row.PublisherRow.{PublisherRow}
 use Rattle.merge_model.proofs.Sorted.{key_total}
-use Rattle.merge_laws.proofs.KeyLookUps.{keys-exact, keys-tied, none-behind}
-use Rattle.merge_laws.proofs.LastLineGone.{put-keys}
+use Rattle.merge_model.proofs.KeyLookUps.{keys-exact, keys-tied, none-behind}
+use Rattle.merge_model.proofs.KeyLists.{put-keys}
 
 -- Picking from keys in order: what is found is what is picked of a key that is there.
 

@@ -26,11 +26,12 @@ use Rattle.merge_model.specs.Tables.{PublisherTables}
 use Rattle.merge_model.specs.World.{Saying, World}
 use Rattle.merge_laws.proofs.AlikeDownloads.{told-same}
 use Rattle.merge_laws.proofs.AlikeFields.{received-alike, touch-alike}
-use Rattle.merge_laws.proofs.Downloads.{inside-held}
+use Rattle.merge_model.proofs.Downloads.{inside-held}
 use Rattle.merge_laws.proofs.Ground.{Ground}
-use Rattle.merge_laws.proofs.LastLineGone.{keys-once, some-head, told-of}
-use Rattle.merge_laws.proofs.LastLineKeys.{place-is}
-use Rattle.merge_laws.proofs.Tests.{or-first, or-second}
+use Rattle.merge_model.proofs.KeyLists.{keys-once, some-head}
+use Rattle.merge_laws.proofs.LastLineGone.{told-of}
+use Rattle.merge_model.proofs.PlaceLookUps.{place-is}
+use Rattle.merge_model.proofs.Tests.{or-first, or-second}
 use Rattle.merge_laws.proofs.Walking.{here}
 
 -- A row that has a mapping or a line for a site is among the moved ones.

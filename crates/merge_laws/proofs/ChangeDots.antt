@@ -8,7 +8,7 @@ use Rattle.merge_model.specs.Keys.{same_key}
 use Rattle.merge_types.specs.declared.row_key.RowKey.{RowKey as Key}
 use Rattle.merge_laws.specs.Knowledge.{AreNumbered, counts_down, is_made, number_of_change, same_dot}
 use Rattle.merge_laws.proofs.Knowing.{IsFresh, down-parts, fresh-above, fresh-any}
-use Rattle.merge_laws.proofs.Lists.{all-both}
+use Rattle.merge_model.proofs.Lists.{all-both}
 
 abbrev pub AreDistinct : List MadeChange → Type 0
 AreDistinct [] = Unit {0}

@@ -21,7 +21,7 @@ use Rattle.merge_units.specs.declared.site_row.SubscriberRow.{SubscriberRow}
 use Rattle.merge_model.proofs.Sorted.{key_total}
 use Rattle.merge_laws.specs.Numbered.{InOrder}
 use Rattle.merge_laws.specs.Unsent.{RowsTell, gens_in, last_made}
-use Rattle.merge_laws.proofs.KeyLookUps.{keys-same, keys-tied, none-behind, row-put}
+use Rattle.merge_model.proofs.KeyLookUps.{keys-same, keys-tied, none-behind, row-put}
 
 -- By rows: what is found of a row is its last generation in the interval.
 

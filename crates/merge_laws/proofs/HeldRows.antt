@@ -17,7 +17,7 @@ use Rattle.merge_units.specs.declared.site_row.PublisherRow.{PublisherRow}
 use Rattle.merge_units.specs.declared.site_row.SubscriberRow.{SubscriberRow}
 use Rattle.merge_model.specs.Tables.{PublisherTables}
 use Rattle.merge_model.specs.Taking.{row_above}
-use Rattle.merge_laws.proofs.KeyLookUps.{row-dropped, row-put}
+use Rattle.merge_model.proofs.KeyLookUps.{row-dropped, row-put}
 
 some-if : {A : Type 0} (b : Bool) (x : A) (rest : Option A) → is_some (let found : Option A = if b then Some x else rest in found) ≡ (b || is_some rest)
 some-if true x rest = refl

@@ -22,7 +22,7 @@ use Rattle.merge_batch.specs.declared.reply.RangeGrant.{RangeGrant}
 use Rattle.merge_batch.specs.declared.request.Want.{Want}
 use Rattle.merge_model.specs.PublisherRanges.{ask_by, grant_of, granted_by}
 use Rattle.merge_laws.specs.Identities.{gives_numbered, IsTold}
-use Rattle.merge_laws.proofs.Finding.{all-weaker, some_same}
+use Rattle.merge_model.proofs.Finding.{all-weaker, some_same}
 use Rattle.merge_laws.proofs.IdentityCalls.{counts-cons}
 
 -- the counts of grants only rise

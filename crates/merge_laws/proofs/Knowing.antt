@@ -12,7 +12,7 @@ use Rattle.merge_model.specs.History.{History, MadeChange, Past, has}
 use Rattle.merge_model.specs.Pasts.{past_after}
 use Rattle.merge_types.specs.declared.row_key.RowKey.{RowKey as Key}
 use Rattle.merge_laws.specs.Knowledge.{AreNumbered, KnowsItsPast, Knows, counts_down, is_made, number_of_change, same_dot, was_made}
-use Rattle.merge_laws.proofs.Lists.{all-of}
+use Rattle.merge_model.proofs.Lists.{all-of}
 
 -- A new change.
 

@@ -20,7 +20,7 @@ use Rattle.merge_model.specs.Tables.{PublisherTables, SubscriberTables}
 use Rattle.merge_model.specs.Taking.{taken}
 use Rattle.merge_model.specs.World.{World, with_publisher, with_subscriber}
 use Rattle.merge_laws.specs.Knowledge.{changes_of}
-use Rattle.merge_laws.proofs.Finding.{at_put_other, at_put_same}
+use Rattle.merge_model.proofs.Finding.{at_put_other, at_put_same}
 use Rattle.merge_laws.proofs.Subscribing.{number-decided, same_number}
 use Rattle.merge_laws.proofs.KnownNotes.{raised}
 

@@ -26,10 +26,10 @@ use Rattle.merge_units.specs.declared.site_row.PublisherRow.{PublisherRow}
 use Rattle.merge_model.specs.Tables.{PublisherTables}
 use Rattle.merge_model.specs.Noting
 use Rattle.merge_laws.specs.Knowledge.{AllKnow, Knowledge, Known, Knows, RowKnows, counts_down, number_of_change}
-use Rattle.merge_laws.proofs.Finding.{all-more, all-weaker}
+use Rattle.merge_model.proofs.Finding.{all-more, all-weaker}
 use Rattle.merge_laws.proofs.Knowing.{IsFresh, fresh-above, knows-both, knows-later, knows-new, knows-nothing}
 use Rattle.merge_laws.proofs.KnownRows.{drop-know, held-knows, past-knows, put-know, put-sites, site-know}
-use Rattle.merge_laws.proofs.Tests.{numbers-same, if-both}
+use Rattle.merge_model.proofs.Tests.{numbers-same, if-both}
 
 -- A site's count with so many more.
 abbrev pub raised : (ℕ → ℕ) → ℕ → ℕ → ℕ → ℕ

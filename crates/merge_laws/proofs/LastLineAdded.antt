@@ -25,8 +25,8 @@ use Rattle.merge_model.specs.ByHistory.{is_line_for, is_change_of}
 use Rattle.merge_model.specs.Noting.{with_line, with_lines, changed_line, moved_line, gone_line}
 use Rattle.merge_model.proofs.Sorted.{key_total, row_site_total}
 use Rattle.merge_laws.specs.LastLines.{move_told, move_in, change_in, MappingsFit, RowsFit, subscribes, MovedForSubscribers}
-use Rattle.merge_laws.proofs.KeyLookUps.{key-test}
-use Rattle.merge_laws.proofs.LastLineKeys.{is_place, place-is, has_place, drop-head, at-dropped}
+use Rattle.merge_model.proofs.KeyLookUps.{key-test}
+use Rattle.merge_model.proofs.PlaceLookUps.{is_place, place-is, has_place, drop-head, at-dropped}
 
 abbrev pub added : List Line → Line → List Line
 added lines line = line ∷ lines

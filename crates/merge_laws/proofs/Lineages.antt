@@ -45,7 +45,7 @@ use Rattle.merge_model.specs.Tables.{PublisherTables, SubscriberTables}
 use Rattle.merge_model.specs.Taking.{key_of_download, row_above, with_item, with_order}
 use Rattle.merge_laws.specs.Lineages.{OfLost, OfOrder}
 use Rattle.merge_laws.proofs.LineageLists.{values-dropped, values-found, values-put}
-use Rattle.merge_laws.proofs.Lists.{OfSome, some-map, all-unit, all-map, all-filter_map, all-append}
+use Rattle.merge_model.proofs.Lists.{OfSome, some-map, all-unit, all-map, all-filter_map, all-append}
 
 -- Of a fact of lineages, in general.
 

@@ -29,13 +29,13 @@ use Rattle.merge_model.proofs.Sorted.{key_total}
 use Rattle.merge_laws.specs.KnownMakers.{Ascend, HeldKnow, KnowsMaker}
 use Rattle.merge_laws.specs.LineagesStand.{OfOrder}
 use Rattle.merge_laws.proofs.HeldRows.{above-held}
-use Rattle.merge_laws.proofs.KeyLookUps.{key-test, keys-exact, keys-same}
-use Rattle.merge_laws.proofs.LastLineKeys.{kept, lookup-filter}
+use Rattle.merge_model.proofs.KeyLookUps.{key-test, keys-exact, keys-same}
+use Rattle.merge_model.proofs.PlaceLookUps.{kept, lookup-filter}
 use Rattle.merge_laws.proofs.LetterPasts.{removed-order}
 use Rattle.merge_laws.proofs.PastLists.{know-dropped, know-put}
 use Rattle.merge_laws.proofs.PastLookUps.{past-put, put-here, rows_in}
 use Rattle.merge_laws.proofs.PastNotes.{Purged}
-use Rattle.merge_laws.proofs.Tests.{if-false, if-true}
+use Rattle.merge_model.proofs.Tests.{if-false, if-true}
 
 -- A row more is held, and its past is put.
 more-either : {A : Type 0} (rows : List (Key × A)) (pasts : List (Key × Past)) (key q : Key) (past : Past) (same : Bool) → same_key q key ≡ same → KnowsMaker key past.known → HeldKnow rows pasts → (is_some (row_at rows q) || same_key q key) ≡ true

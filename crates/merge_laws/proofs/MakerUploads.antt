@@ -32,24 +32,26 @@ use Rattle.merge_types.specs.declared.row_key.RowKey.{RowKey as Key}
 use Rattle.merge_units.specs.declared.site_row.PublisherRow.{PublisherRow}
 use Rattle.merge_model.specs.Tables.{PublisherTables, SubscriberTables}
 use Rattle.merge_model.specs.Taking.{row_above, taken}
-use Rattle.merge_model.specs.World.{Asks, Letter, Replies, Saying, World, subscriber_at, with_publisher, with_subscriber}
+use Rattle.merge_model.specs.World.{Saying, World, subscriber_at, with_publisher, with_subscriber}
+use Rattle.merge_model.specs.declared.letter.Message.TheVariants.{Asks, Replies}
+use Rattle.merge_model.specs.declared.letter.Letter.{Letter}
 use Rattle.merge_model.specs.Laws.{AreSubSorted}
 use Rattle.merge_laws.specs.Knowledge.{changes_of}
 use Rattle.merge_laws.specs.KnownMakers.{Ascend, HeldKnow, IsAfterMaker, KnownMakers, KnowsMaker}
 use Rattle.merge_laws.specs.LineagesStand.{OfMessage}
-use Rattle.merge_laws.proofs.Finding.{found-named, letter-zip}
+use Rattle.merge_model.proofs.Finding.{found-named, letter-zip}
 use Rattle.merge_laws.proofs.Ground.{Ground}
 use Rattle.merge_laws.proofs.HeldRows.{changed-held}
 use Rattle.merge_laws.proofs.KnownMakers.{makers-of-parts, publisher-makers}
 use Rattle.merge_laws.proofs.KnownRows.{letter-knows, past-knows}
-use Rattle.merge_laws.proofs.Lists.{all-both, all-filter, all-of}
+use Rattle.merge_model.proofs.Lists.{all-both, all-filter, all-of}
 use Rattle.merge_laws.proofs.MakerChanges.{made-below}
 use Rattle.merge_laws.proofs.MakerSites.{Beside, above-know, reply-beside}
 use Rattle.merge_laws.proofs.Noted.{DecidesAsOwn, NotesKeep, acts-keep, acts-own}
 use Rattle.merge_laws.proofs.NotesLeave.{fold-leave, items-leave}
 use Rattle.merge_laws.proofs.PastLists.{drop-ascends, put-ascends}
 use Rattle.merge_laws.proofs.PastNotes.{ActKeeps, acts-items, acts-know, acts-pasts, by-maker, fate_past, put_by, reply-pasts, versions-any}
-use Rattle.merge_laws.proofs.Tests.{if-both}
+use Rattle.merge_model.proofs.Tests.{if-both}
 use Rattle.merge_laws.proofs.Unsending.{received-sorted}
 use Rattle.merge_laws.proofs.UnsentKept.{all-found}
 use Rattle.merge_laws.proofs.Walking.{acts_in, comes, here, join_noted}

@@ -32,7 +32,7 @@ use Rattle.merge_types.specs.declared.row_key.RowKey.{RowKey as Key}
 use Rattle.merge_units.specs.declared.site_row.PublisherRow.{PublisherRow}
 use Rattle.merge_model.specs.Tables.{PublisherTables, SubscriberTables}
 use Rattle.merge_model.specs.Taking.{key_of_download}
-use Rattle.merge_laws.proofs.Tests.{if-both}
+use Rattle.merge_model.proofs.Tests.{if-both}
 use Rattle.merge_laws.proofs.Walking.{own_noted}
 
 -- of the changes only the publisher's own come in

@@ -20,17 +20,18 @@ use Rattle.merge_model.specs.PublisherUpload.{changing_by, taken_in, with_acts}
 use Rattle.merge_model.specs.Steps.{kept_decisions, upload_questions}
 use Rattle.merge_types.specs.declared.row_key.RowKey.{RowKey as Key}
 use Rattle.merge_units.specs.declared.site_row.PublisherRow.{PublisherRow}
-use Rattle.merge_model.specs.World.{Asks, Saying, World}
+use Rattle.merge_model.specs.World.{Saying, World}
+use Rattle.merge_model.specs.declared.letter.Message.TheVariants.{Asks}
 use Rattle.merge_laws.specs.Accepting.{AcceptsWell, Accepting, IsFine, KnowsAccepted, accepts}
 use Rattle.merge_laws.specs.Knowledge.{AllKnow, changes_of, same_dot}
 use Rattle.merge_laws.specs.Standing.{IsKnownLater}
 use Rattle.merge_laws.proofs.ChangeDots.{are-alone}
-use Rattle.merge_laws.proofs.Finding.{all-weaker}
+use Rattle.merge_model.proofs.Finding.{all-weaker}
 use Rattle.merge_laws.proofs.GivenUp.{knows_of, upload-accepts}
 use Rattle.merge_laws.proofs.HeldRows.{changed-held}
-use Rattle.merge_laws.proofs.KeyLookUps.{keys-same}
+use Rattle.merge_model.proofs.KeyLookUps.{keys-same}
 use Rattle.merge_laws.proofs.KnownRows.{letter-knows}
-use Rattle.merge_laws.proofs.Lists.{all-both, each-found}
+use Rattle.merge_model.proofs.Lists.{all-both, each-found}
 use Rattle.merge_laws.proofs.MessageFacts.{letter-fits, upload-sent}
 use Rattle.merge_laws.proofs.Noted.{NotesKeep, acts-keep, acts-own}
 use Rattle.merge_laws.proofs.NotesLeave.{lines-accepted}

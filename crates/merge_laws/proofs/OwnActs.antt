@@ -26,12 +26,12 @@ use Rattle.merge_laws.specs.Accepting.{IsFine, KnowsAccepted, accepts}
 use Rattle.merge_laws.specs.Knowledge.{same_dot}
 use Rattle.merge_laws.specs.LineagesStand.{is_of}
 use Rattle.merge_laws.specs.Standing.{IsKnownLater}
-use Rattle.merge_laws.proofs.Finding.{all-weaker}
-use Rattle.merge_laws.proofs.KeyLookUps.{keys-same}
+use Rattle.merge_model.proofs.Finding.{all-weaker}
+use Rattle.merge_model.proofs.KeyLookUps.{keys-same}
 use Rattle.merge_laws.proofs.OwnKnowing.{IsBelow, making-more}
 use Rattle.merge_laws.proofs.OwnPasts.{SameBut, put-but}
 use Rattle.merge_laws.proofs.PastLookUps.{with-past-same}
-use Rattle.merge_laws.proofs.Tests.{if-either, or-onward, if-both}
+use Rattle.merge_model.proofs.Tests.{if-either, or-onward, if-both}
 
 -- What is known of the rows that the publisher held, with what it accepted before and what it accepts in the end.
 pub record ActsKnow (rows : List (Key × PublisherRow)) (before accepted : List Dot) (counts : MadeChange → Bool) (base : List (ℕ × List (Key × Past))) (Q : MadeChange → Type 0) (number : ℕ) (h : History) : Type 0 where

@@ -27,9 +27,9 @@ use Rattle.merge_model.specs.World.{World, subscriber_at, with_publisher, with_s
 use Rattle.merge_laws.specs.Knowledge.{changes_of}
 use Rattle.merge_laws.specs.LineagesStand.{KnowsAll, counts_in, is_of}
 use Rattle.merge_laws.specs.Accepting.{accepts}
-use Rattle.merge_laws.proofs.Finding.{all-weaker}
+use Rattle.merge_model.proofs.Finding.{all-weaker}
 use Rattle.merge_laws.proofs.HeldRows.{held-put}
-use Rattle.merge_laws.proofs.KeyLookUps.{keys-same}
+use Rattle.merge_model.proofs.KeyLookUps.{keys-same}
 use Rattle.merge_laws.proofs.OwnAccepted.{own-knows, own_key, own_made}
 use Rattle.merge_laws.proofs.OwnActs.{own-accepts}
 use Rattle.merge_laws.proofs.OwnBase.{Base, LetterFacts, letter-facts, open-behind, own-behind, own-later}
@@ -39,7 +39,7 @@ use Rattle.merge_laws.proofs.OwnParts.{Rest, at_model, knows-on, one-grows, repl
 use Rattle.merge_laws.proofs.OwnPasts.{lines-on, past-but, put-but}
 use Rattle.merge_laws.proofs.OwnQuiet.{OwnsRows, on-each, quiet}
 use Rattle.merge_laws.proofs.PastLookUps.{with-past-same}
-use Rattle.merge_laws.proofs.Tests.{if-either}
+use Rattle.merge_model.proofs.Tests.{if-either}
 use Rattle.merge_laws.proofs.UnsentKept.{version-site}
 use Rattle.merge_laws.proofs.Walking.{here, own_noted}
 

@@ -13,9 +13,9 @@ use Rattle.merge_model.specs.World.{World}
 use Rattle.merge_laws.specs.Accepting.{AcceptsWell, accepts}
 use Rattle.merge_laws.specs.LineagesStand.{KnowsAll, OwnKnown, counts_in, is_of}
 use Rattle.merge_laws.specs.Numbered.{InOrder, Numbered, is_up_to, last_of}
-use Rattle.merge_laws.proofs.Finding.{all-weaker}
+use Rattle.merge_model.proofs.Finding.{all-weaker}
 use Rattle.merge_laws.proofs.Ground.{Ground}
-use Rattle.merge_laws.proofs.Lists.{all-both, all-passing}
+use Rattle.merge_model.proofs.Lists.{all-both, all-passing}
 use Rattle.merge_laws.proofs.OwnActs.{own-accepts}
 use Rattle.merge_laws.proofs.OwnKnowing.{every-site}
 use Rattle.merge_laws.proofs.OwnParts.{OwnRest, at_model}

@@ -28,21 +28,23 @@ use Rattle.merge_types.specs.declared.row_key.RowKey.{RowKey as Key}
 use Rattle.merge_units.specs.declared.site_row.SubscriberRow.{SubscriberRow}
 use Rattle.merge_model.specs.Tables.{SubscriberTables}
 use Rattle.merge_model.specs.Taking.{key_of_download, row_above, taken, with_item, with_order}
-use Rattle.merge_model.specs.World.{Letter, Replies, World, subscriber_at, with_subscriber}
+use Rattle.merge_model.specs.World.{World, subscriber_at, with_subscriber}
+use Rattle.merge_model.specs.declared.letter.Letter.{Letter}
+use Rattle.merge_model.specs.declared.letter.Message.TheVariants.{Replies}
 use Rattle.merge_model.proofs.Sorted.{key_total}
 use Rattle.merge_laws.specs.LineagesStand.{KnowsAll, OfOrder, ReplyAnswers, counts_in, is_of}
 use Rattle.merge_laws.specs.Unsent.{is_changed_above}
-use Rattle.merge_laws.proofs.Finding.{letter-zip}
+use Rattle.merge_model.proofs.Finding.{letter-zip}
 use Rattle.merge_laws.proofs.HeldRows.{above-held, held-put, some-none}
-use Rattle.merge_laws.proofs.KeyLookUps.{keys-same, row-dropped}
-use Rattle.merge_laws.proofs.Lists.{all-both}
+use Rattle.merge_model.proofs.KeyLookUps.{keys-same, row-dropped}
+use Rattle.merge_model.proofs.Lists.{all-both}
 use Rattle.merge_laws.proofs.OwnBase.{Base}
 use Rattle.merge_laws.proofs.OwnKnowing.{KnowsOf}
 use Rattle.merge_laws.proofs.OwnParts.{NoneNew, Rest, at_model, replies-on, same-grows, up_to, uploads-on}
 use Rattle.merge_laws.proofs.OwnPasts.{SameBut, lost-on, past-but, put-but, reply-on}
 use Rattle.merge_laws.proofs.OwnQuiet.{AnyLetter, OwnsRows, any-letters, on-each}
 use Rattle.merge_laws.proofs.PastLookUps.{with-past-same, without-past-other}
-use Rattle.merge_laws.proofs.Tests.{if-either}
+use Rattle.merge_model.proofs.Tests.{if-either}
 use Rattle.merge_laws.proofs.Unsending.{received-sorted}
 use Rattle.merge_laws.proofs.UnsentKept.{all-found, reply-site}
 use Rattle.merge_laws.proofs.Walking.{comes}

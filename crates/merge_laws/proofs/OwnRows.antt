@@ -20,8 +20,8 @@ use Rattle.merge_types.specs.declared.row_key.RowKey.{RowKey as Key}
 use Rattle.merge_units.specs.declared.site_row.PublisherRow.{PublisherRow}
 use Rattle.merge_model.specs.Tables.{PublisherTables}
 use Rattle.merge_model.proofs.Sorted.{key_total}
-use Rattle.merge_laws.proofs.KeyLookUps.{key-test, keys-same, keys-exact}
-use Rattle.merge_laws.proofs.LastLineKeys.{kept, lookup-filter}
+use Rattle.merge_model.proofs.KeyLookUps.{key-test, keys-same, keys-exact}
+use Rattle.merge_model.proofs.PlaceLookUps.{kept, lookup-filter}
 
 -- The publisher's rows: what is held was held, or is put.
 

@@ -33,15 +33,16 @@ use Rattle.merge_units.specs.declared.site_row.PublisherRow.{PublisherRow}
 use Rattle.merge_units.specs.declared.site_row.SubscriberRow.{SubscriberRow}
 use Rattle.merge_model.specs.Tables.{PublisherTables, SubscriberTables}
 use Rattle.merge_model.specs.Taking.{key_of_download}
-use Rattle.merge_model.specs.World.{Asks, Replies, World, letter_at, subscriber_at, with_publisher, with_subscriber}
+use Rattle.merge_model.specs.World.{World, letter_at, subscriber_at, with_publisher, with_subscriber}
+use Rattle.merge_model.specs.declared.letter.Message.TheVariants.{Asks, Replies}
 use Rattle.merge_laws.specs.Accepting.{accepts}
 use Rattle.merge_laws.specs.LineagesStand.{KnowsAll, OfOrder, ReplyAnswers, counts_in, is_of, is_sent}
 use Rattle.merge_laws.specs.Unsent.{RowsTell, is_changed_above}
-use Rattle.merge_laws.proofs.Finding.{all-at, all-weaker}
+use Rattle.merge_model.proofs.Finding.{all-at, all-weaker}
 use Rattle.merge_laws.proofs.GivenUp.{ask-given, counts-before}
-use Rattle.merge_laws.proofs.KeyLookUps.{key-itself, key-test, keys-same, keys-turned, row-put}
+use Rattle.merge_model.proofs.KeyLookUps.{key-itself, key-test, keys-same, keys-turned, row-put}
 use Rattle.merge_laws.proofs.LetterPasts.{download-past, is_put, item-past}
-use Rattle.merge_laws.proofs.Lists.{all-both, all-every, all-of, all-passing, any-mono, each-found, all-map, all-unit}
+use Rattle.merge_model.proofs.Lists.{all-both, all-every, all-of, all-passing, any-mono, each-found, all-map, all-unit}
 use Rattle.merge_laws.proofs.OwnBase.{Base, LetterFacts, letter-facts}
 use Rattle.merge_laws.proofs.OwnDone.{done-accepted, received-acted}
 use Rattle.merge_laws.proofs.OwnItems.{among-site}

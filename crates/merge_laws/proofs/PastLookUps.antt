@@ -6,8 +6,8 @@ use Rattle.merge_model.specs.Keys.{at_number, drop_row, put_number, put_row, row
 use Rattle.merge_model.specs.Noting
 use Rattle.merge_types.specs.declared.row_key.RowKey.{RowKey as Key}
 use Rattle.merge_laws.specs.KnownMakers.{Ascend}
-use Rattle.merge_laws.proofs.Finding.{at_put_other, at_put_same}
-use Rattle.merge_laws.proofs.KeyLookUps.{row-dropped, row-left, row-put}
+use Rattle.merge_model.proofs.Finding.{at_put_other, at_put_same}
+use Rattle.merge_model.proofs.KeyLookUps.{row-dropped, row-left, row-put}
 use Rattle.merge_laws.proofs.Subscribing.{number-decided, same_number}
 
 -- The pasts of each site.

@@ -25,12 +25,12 @@ use Rattle.merge_types.specs.declared.row_key.RowKey.{RowKey as Key}
 use Rattle.merge_model.specs.Tables.{PublisherTables}
 use Rattle.merge_model.specs.Taking.{key_of_download}
 use Rattle.merge_laws.specs.KnownMakers.{Ascend, KnowsMaker}
-use Rattle.merge_laws.proofs.KeyLookUps.{keys-same}
+use Rattle.merge_model.proofs.KeyLookUps.{keys-same}
 use Rattle.merge_laws.proofs.Noted.{DecidesAsOwn}
 use Rattle.merge_laws.proofs.NotesLeave.{loser-leaves}
 use Rattle.merge_laws.proofs.PastLists.{drop-ascends}
 use Rattle.merge_laws.proofs.PastLookUps.{all-sites, past-dropped, past-put, put-here, put-there, rows_in}
-use Rattle.merge_laws.proofs.Tests.{if-false, if-true}
+use Rattle.merge_model.proofs.Tests.{if-false, if-true}
 
 -- A purge drops the pasts of old tombstones.
 

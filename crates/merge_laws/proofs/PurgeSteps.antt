@@ -23,8 +23,8 @@ use Rattle.merge_model.specs.PublisherUpload.{state_seeing, taken_in, with_acts,
 use Rattle.merge_model.specs.Tables.{PublisherTables}
 use Rattle.merge_model.proofs.Sorted.{closed_filling-rises}
 use Rattle.merge_laws.specs.Purges.{AllClosings, ClosedInOrder, SiteInStep, StateInStep, AllInStep, InStep, IsInStep, base_in}
-use Rattle.merge_laws.proofs.Finding.{all-weaker, at_put_other, at_put_same}
-use Rattle.merge_laws.proofs.Lists.{all-both, all-of}
+use Rattle.merge_model.proofs.Finding.{all-weaker, at_put_other, at_put_same}
+use Rattle.merge_model.proofs.Lists.{all-both, all-of}
 use Rattle.merge_laws.proofs.PurgeLists.{moved-in-order, moved-in-step, purged-in-order, purged-in-step, order-later, step-later, closed_at, found-been, found-before, if-put, if-weaker, if-map}
 
 -- The moment rises.

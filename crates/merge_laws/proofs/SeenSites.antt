@@ -24,7 +24,7 @@ use Rattle.merge_model.specs.Tables.{PublisherTables}
 use Rattle.merge_laws.specs.LineagesStand.{is_sent}
 use Rattle.merge_laws.specs.Seen.{field_at, greatest_in}
 use Rattle.merge_laws.specs.Standing.{Told}
-use Rattle.merge_laws.proofs.KeyLookUps.{keys-same}
+use Rattle.merge_model.proofs.KeyLookUps.{keys-same}
 use Rattle.merge_laws.proofs.NotesLeave.{fate-leaves}
 use Rattle.merge_laws.proofs.Publishing.{seeing-some, sites_taken}
 use Rattle.merge_laws.proofs.SeenDots.{greatest-both, known-number, told-greatest}

@@ -15,7 +15,7 @@ use Rattle.merge_model.specs.Subscriber.{sub_last_closed}
 use Rattle.merge_types.specs.declared.row_key.RowKey.{RowKey as Key}
 use Rattle.merge_model.specs.Tables.{SubscriberTables}
 use Rattle.merge_laws.specs.Numbered.{InOrder}
-use Rattle.merge_laws.proofs.Finding.{all-weaker}
+use Rattle.merge_model.proofs.Finding.{all-weaker}
 
 -- no change stands above a generation
 abbrev pub UpTo : ℕ → List MadeChange → Type 0

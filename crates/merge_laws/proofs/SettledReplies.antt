@@ -28,16 +28,17 @@ use Rattle.merge_units.specs.declared.site_row.PublisherRow.{PublisherRow}
 use Rattle.merge_model.specs.Tables.{PublisherTables, SubscriberTables}
 use Rattle.merge_model.specs.World.{World}
 use Rattle.merge_laws.specs.Settled.{ReplyHolds, SiteView, held_by, owed_at, said_of, said_over, site_view, touched_at}
-use Rattle.merge_laws.proofs.Downloads.{inside-held}
+use Rattle.merge_model.proofs.Downloads.{inside-held}
 use Rattle.merge_laws.proofs.Ground.{Ground}
-use Rattle.merge_laws.proofs.KeyLookUps.{keys-same}
-use Rattle.merge_laws.proofs.LastLineGone.{keys-once, told-of}
+use Rattle.merge_model.proofs.KeyLookUps.{keys-same}
+use Rattle.merge_model.proofs.KeyLists.{keys-once}
+use Rattle.merge_laws.proofs.LastLineGone.{told-of}
 use Rattle.merge_laws.proofs.LastLineReads.{inside-by-line, outside-by-line}
 use Rattle.merge_laws.proofs.Publishing.{asked-same}
 use Rattle.merge_laws.proofs.Sendings.{batch-begin, batch-bound}
 use Rattle.merge_laws.proofs.SettledRows.{IsLiveAt, inside-is-live}
-use Rattle.merge_laws.proofs.Tests.{or-second}
-use Rattle.merge_laws.proofs.TouchParts.{keys-held}
+use Rattle.merge_model.proofs.Tests.{or-second}
+use Rattle.merge_model.proofs.StepParts.{keys-held}
 use Rattle.merge_laws.proofs.Walking.{here}
 use Rattle.merge_laws.proofs.Worlds.{received-is}
 

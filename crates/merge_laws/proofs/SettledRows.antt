@@ -33,8 +33,8 @@ use Rattle.merge_units.specs.declared.site_row.SubscriberRow.{SubscriberRow}
 use Rattle.merge_model.specs.Tables.{PublisherTables}
 use Rattle.merge_model.specs.Taking.{key_of_download, row_above, with_item, with_order}
 use Rattle.merge_laws.specs.Settled.{held_by, live_only, said_of, said_over}
-use Rattle.merge_laws.proofs.Downloads.{any-map, inside-live}
-use Rattle.merge_laws.proofs.KeyLookUps.{keys-same, row-dropped, row-put, key-test, keys-exact, none-behind}
+use Rattle.merge_model.proofs.Downloads.{any-map, inside-live}
+use Rattle.merge_model.proofs.KeyLookUps.{keys-same, row-dropped, row-put, key-test, keys-exact, none-behind}
 use Rattle.merge_laws.proofs.Unsending.{order-sorted}
 
 -- Rows for which there is a value, with it.

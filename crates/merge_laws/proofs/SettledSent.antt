@@ -22,7 +22,7 @@ use Rattle.merge_laws.specs.Numbered.{InOrder}
 use Rattle.merge_laws.specs.Settled.{SendsChanged, changed_of, has_item}
 use Rattle.merge_laws.specs.Unsent.{RowsTell, gens_in, is_changed_above, last_made}
 use Rattle.merge_laws.proofs.Changed.{changed_made, made-changed}
-use Rattle.merge_laws.proofs.KeyLookUps.{keys-exact}
+use Rattle.merge_model.proofs.KeyLookUps.{keys-exact}
 
 -- Changes in order: none is in a later generation than the first one.
 

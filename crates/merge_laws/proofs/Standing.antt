@@ -17,7 +17,7 @@ use Rattle.merge_model.specs.Keys.{same_key}
 use Rattle.merge_types.specs.declared.row_key.RowKey.{RowKey as Key}
 use Rattle.merge_laws.specs.Knowledge.{Knows, KnowsItsPast, is_made, same_dot}
 use Rattle.merge_laws.specs.Standing.{AgreesOn, IsKnownLater, KnewEarlier, StandsAt, StandsFor, Tells, is_counted}
-use Rattle.merge_laws.proofs.Finding.{all-weaker}
+use Rattle.merge_model.proofs.Finding.{all-weaker}
 
 -- What is known of a dot is known of the same dot.
 abbrev has_at : List Dot → ℕ → ℕ → Bool

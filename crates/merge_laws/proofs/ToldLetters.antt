@@ -16,11 +16,12 @@ use Rattle.merge_model.specs.Subscriber.{sub_version_at}
 use Rattle.merge_types.specs.declared.row_key.RowKey.{RowKey as Key}
 use Rattle.merge_model.specs.Tables.{PublisherTables, SubscriberTables}
 use Rattle.merge_model.specs.Taking.{key_of_download}
-use Rattle.merge_model.specs.World.{Letter, World, letter_at}
+use Rattle.merge_model.specs.World.{World, letter_at}
+use Rattle.merge_model.specs.declared.letter.Letter.{Letter}
 use Rattle.merge_laws.specs.LineagesStand.{OfMessage, OfOrder}
-use Rattle.merge_laws.proofs.Finding.{letter-zip}
+use Rattle.merge_model.proofs.Finding.{letter-zip}
 use Rattle.merge_laws.proofs.LetterPasts.{items-sent, orders-sent, removed-order}
-use Rattle.merge_laws.proofs.Lists.{OfSome, all-filter_map, all-map, all-unit}
+use Rattle.merge_model.proofs.Lists.{OfSome, all-filter_map, all-map, all-unit}
 use Rattle.merge_laws.proofs.ToldRows.{AllFit, HeldFits}
 
 module _ (P : Key → Version → Past → Type 0) where

@@ -25,7 +25,7 @@ use Rattle.merge_model.specs.Tables.{SubscriberTables}
 use Rattle.merge_model.specs.Taking.{key_of_download, row_above, with_item, with_order}
 use Rattle.merge_model.proofs.Sorted.{key_total}
 use Rattle.merge_laws.specs.LineagesStand.{OfOrder}
-use Rattle.merge_laws.proofs.Lists.{OfSome, all-filter_map}
+use Rattle.merge_model.proofs.Lists.{OfSome, all-filter_map}
 use Rattle.merge_laws.proofs.ToldHistories.{Goes, goes-dropped, goes-emptied, goes-lost, goes-put, goes-same}
 use Rattle.merge_laws.proofs.ToldRows.{drop_version, found-dropped, found-put, found_in, put_version}
 use Rattle.merge_laws.proofs.ToldSites.{own_version}

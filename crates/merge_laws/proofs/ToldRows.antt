@@ -15,7 +15,7 @@ use Rattle.merge_types.specs.RowKeys.{key_cmp}
 use Rattle.merge_model.specs.Keys.{drop_row, put_row, row_at, same_key}
 use Rattle.merge_types.specs.declared.row_key.RowKey.{RowKey as Key}
 use Rattle.merge_model.proofs.Sorted.{key_total}
-use Rattle.merge_laws.proofs.KeyLookUps.{keys-same, row-dropped, row-put, key-test, keys-exact, key-itself}
+use Rattle.merge_model.proofs.KeyLookUps.{keys-same, row-dropped, row-put, key-test, keys-exact, key-itself}
 use Rattle.merge_laws.proofs.PastLookUps.{past-put, past-left}
 
 -- a fact of a key, a version and a past, of a row that may not be held

@@ -23,8 +23,8 @@ use Rattle.merge_types.specs.declared.row_key.RowKey.{RowKey as Key}
 use Rattle.merge_units.specs.declared.site_row.PublisherRow.{PublisherRow}
 use Rattle.merge_model.specs.Tables.{PublisherTables}
 use Rattle.merge_model.proofs.Sorted.{key_total}
-use Rattle.merge_laws.proofs.KeyLookUps.{key-test, keys-exact}
-use Rattle.merge_laws.proofs.LastLineKeys.{kept, lookup-filter}
+use Rattle.merge_model.proofs.KeyLookUps.{key-test, keys-exact}
+use Rattle.merge_model.proofs.PlaceLookUps.{kept, lookup-filter}
 use Rattle.merge_laws.proofs.ToldRows.{drop_version, found-put, found_in, keyed, put_if, put_version}
 
 abbrev pub row_version : PublisherRow → Version

@@ -34,7 +34,7 @@ use Rattle.merge_model.specs.PublisherLocal.{version_at}
 use Rattle.merge_types.specs.declared.row_key.RowKey.{RowKey as Key}
 use Rattle.merge_units.specs.declared.site_row.PublisherRow.{PublisherRow}
 use Rattle.merge_model.specs.Tables.{PublisherTables}
-use Rattle.merge_laws.proofs.Lists.{all-both}
+use Rattle.merge_model.proofs.Lists.{all-both}
 use Rattle.merge_laws.proofs.Noted.{DecidesAsOwn}
 use Rattle.merge_laws.proofs.ToldHistories.{Goes, goes-lost, goes-others, goes-put, past-elsewhere}
 use Rattle.merge_laws.proofs.ToldItems.{ActsApart}

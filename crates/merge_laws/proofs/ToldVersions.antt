@@ -34,9 +34,9 @@ use Rattle.merge_model.specs.Pasts.{past_after, past_by}
 use Rattle.merge_model.specs.Publications.{tracking_at}
 use Rattle.merge_laws.specs.Knowledge.{same_dot}
 use Rattle.merge_laws.specs.Standing.{HeldTold, Tells, Told}
-use Rattle.merge_laws.proofs.Finding.{all-weaker}
+use Rattle.merge_model.proofs.Finding.{all-weaker}
 use Rattle.merge_laws.proofs.LineagesTold.{tells-change, tells-merge}
-use Rattle.merge_laws.proofs.Tests.{dot-first}
+use Rattle.merge_laws.proofs.DotTests.{dot-first}
 
 -- what holds of the tops of cells
 module _ (Q : Dot → Type 0) where

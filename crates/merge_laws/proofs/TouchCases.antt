@@ -14,7 +14,7 @@ use Rattle.merge_units.specs.declared.site_row.PublisherRow.{PublisherRow}
 use Rattle.merge_gens.specs.declared.moves.RowSite.{RowSite}
 use Rattle.merge_gens.specs.Moves.{is_left}
 use Rattle.merge_model.specs.Tables.{PublisherTables}
-use Rattle.merge_laws.proofs.LastLineKeys.{kept}
+use Rattle.merge_model.proofs.PlaceLookUps.{kept}
 use Rattle.merge_laws.proofs.TouchEntries.{EntersHere, MovedTo, changed_of, generation_of}
 
 abbrev pub touch_of : Bool → Option PublisherRow → Option Mapping → ℕ

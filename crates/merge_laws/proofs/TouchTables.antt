@@ -43,12 +43,12 @@ use Rattle.merge_gens.specs.declared.moves.RowSite.{RowSite}
 use Rattle.merge_model.specs.Tables.{PublisherTables}
 use Rattle.merge_model.proofs.Sorted.{key_total, row_site_total}
 use Rattle.merge_laws.specs.Settled.{owed_at, touched_at}
-use Rattle.merge_laws.proofs.Downloads.{inside-held}
-use Rattle.merge_laws.proofs.KeyLookUps.{keys-exact}
-use Rattle.merge_laws.proofs.LastLineKeys.{kept, kept-found, lookup-filter, places-exact}
+use Rattle.merge_model.proofs.Downloads.{inside-held}
+use Rattle.merge_model.proofs.KeyLookUps.{keys-exact}
+use Rattle.merge_model.proofs.PlaceLookUps.{kept, kept-found, lookup-filter, places-exact}
 use Rattle.merge_laws.proofs.TouchCases.{StaysOr, acted-case, in-case, old-case, other-case, out-case, owed-same, owed_of, stays, touch-case, touch-is, touch_of}
 use Rattle.merge_laws.proofs.TouchEntries.{enters, inside-after}
-use Rattle.merge_laws.proofs.TouchParts.{CanBeSaid, found-any, found-same, found_keys}
+use Rattle.merge_model.proofs.StepParts.{CanBeSaid, found-any, found-same, found_keys}
 use Rattle.merge_laws.proofs.TouchUploads.{acts-keys, held-changes}
 
 -- nothing changed of the row for the site

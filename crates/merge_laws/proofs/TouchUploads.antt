@@ -12,8 +12,8 @@ use Rattle.merge_model.specs.Keys.{has_key, row_at, same_key}
 use Rattle.merge_types.specs.declared.row_key.RowKey.{RowKey as Key}
 use Rattle.merge_units.specs.declared.site_row.PublisherRow.{PublisherRow}
 use Rattle.merge_model.specs.Tables.{PublisherTables}
-use Rattle.merge_laws.proofs.KeyLookUps.{keys-same}
-use Rattle.merge_laws.proofs.TouchLists.{or-either}
+use Rattle.merge_model.proofs.KeyLookUps.{keys-same}
+use Rattle.merge_model.proofs.EntryLists.{or-either}
 
 abbrev key_of_version : Key × Version → Key
 key_of_version row = row.0

@@ -45,11 +45,11 @@ use Rattle.merge_model.specs.Taking.{taken}
 use Rattle.merge_model.specs.World.{Saying, World, empty_subscribers, empty_world, subscriber_at, with_subscriber}
 use Rattle.merge_model.proofs.Sorted.{closed_filling-rises, key_total, row_site_total}
 use Rattle.merge_laws.specs.Settled.{OfPublisher, TouchedInOrder, last_used, touched_at}
-use Rattle.merge_laws.proofs.Downloads.{inside-held}
-use Rattle.merge_laws.proofs.Finding.{at_put_other, at_put_same}
+use Rattle.merge_model.proofs.Downloads.{inside-held}
+use Rattle.merge_model.proofs.Finding.{at_put_other, at_put_same}
 use Rattle.merge_laws.proofs.Ground.{Ground}
-use Rattle.merge_laws.proofs.KeyLookUps.{keys-exact}
-use Rattle.merge_laws.proofs.LastLineKeys.{kept, lookup-filter, places-exact}
+use Rattle.merge_model.proofs.KeyLookUps.{keys-exact}
+use Rattle.merge_model.proofs.PlaceLookUps.{kept, lookup-filter, places-exact}
 use Rattle.merge_laws.proofs.Models.{begins-with}
 use Rattle.merge_laws.proofs.PurgeLists.{if-put, if-weaker}
 use Rattle.merge_laws.proofs.PurgeNotes.{anew-bases, lines-bases, purge-bases, taken-bases, upload-bases}
@@ -57,7 +57,7 @@ use Rattle.merge_laws.proofs.Subscribing.{number-decided, same_number}
 use Rattle.merge_laws.proofs.TouchCases.{touch-bound, touch-is}
 use Rattle.merge_laws.proofs.TouchEntries.{changed_of, generation_of, move-new, row-new, used-after, used-more}
 use Rattle.merge_laws.proofs.TouchLists.{used-closed, used-empty, used-low}
-use Rattle.merge_laws.proofs.TouchParts.{CanBeSaid}
+use Rattle.merge_model.proofs.StepParts.{CanBeSaid}
 use Rattle.merge_laws.proofs.TouchTables.{Touches, asked-touches, changed-touches, closed-touches, joined-in, joined-other, joined-out, purge-inside, purge-touched}
 use Rattle.merge_laws.proofs.UnsentKept.{reply-site, version-site}
 use Rattle.merge_laws.proofs.Walking.{StepsKeep, acts_in, here, join_noted, own_noted}

@@ -25,7 +25,7 @@ use Rattle.merge_laws.specs.Numbered.{InOrder}
 use Rattle.merge_laws.specs.Unsent.{RowsTell, gens_in, is_changed_above, last_made}
 use Rattle.merge_laws.proofs.Changed.{gens_of}
 use Rattle.merge_laws.proofs.Generations.{above-kept, between-kept, none-above, none-between, open-above, open-behind, open-beyond, open-between, order-above}
-use Rattle.merge_laws.proofs.KeyLookUps.{keys-same, row-dropped, row-put}
+use Rattle.merge_model.proofs.KeyLookUps.{keys-same, row-dropped, row-put}
 use Rattle.merge_laws.proofs.Telling.{decided}
 
 -- The generations that are kept with a row.

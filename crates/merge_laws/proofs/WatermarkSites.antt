@@ -24,7 +24,7 @@ use Rattle.merge_model.specs.Subscriber.{sub_at_moment, sub_made_locally, sub_ne
 use Rattle.merge_types.specs.declared.row_key.RowKey.{RowKey as Key}
 use Rattle.merge_model.specs.Tables.{SubscriberTables}
 use Rattle.merge_model.specs.Taking.{seq_of, taken}
-use Rattle.merge_model.specs.World.{Replies}
+use Rattle.merge_model.specs.declared.letter.Message.TheVariants.{Replies}
 use Rattle.merge_laws.specs.Received.{MessageFits}
 use Rattle.merge_laws.specs.Watermarks.{StateHolds}
 use Rattle.merge_laws.proofs.WatermarkLists.{Moves}

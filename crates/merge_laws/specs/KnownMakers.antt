@@ -11,7 +11,8 @@ use Rattle.merge_types.specs.RowKeys.{key_cmp}
 use Rattle.merge_model.specs.Keys.{at_number, row_at}
 use Rattle.merge_types.specs.declared.row_key.RowKey.{RowKey as Key}
 use Rattle.merge_model.specs.Tables.{SubscriberTables}
-use Rattle.merge_model.specs.World.{Letter, World}
+use Rattle.merge_model.specs.World.{World}
+use Rattle.merge_model.specs.declared.letter.Letter.{Letter}
 use Rattle.merge_laws.specs.LineagesStand.{OfMessage}
 
 abbrev pub KnowsMaker : Key → List Dot → Type 0

@@ -1,12 +1,11 @@
 -- Covering, by the numbers of the sites.
-use Rattle.std.proofs.Common.{◌≡◌, ℕ, suc, ◌+◌, ◌<◌, ◌≤◌, Bool, true, false, List, [], ◌∷◌, Some, None, Option, max, leb, IsTrue, ◌↔◌, refl, sym, ap, ◌∙◌, arith}
-use Rattle.std.specs.Prelude.{All, nat_le, ◌||◌, ◌&&◌, ◌==◌, unwrap_or}
+use Rattle.std.proofs.Common.{◌≡◌, ℕ, ◌<◌, true, List, [], ◌∷◌, Some, None, Option, max, IsTrue, ◌↔◌, refl, sym, ap, ◌∙◌, arith}
+use Rattle.std.specs.Prelude.{nat_le, ◌||◌, ◌&&◌, ◌==◌, unwrap_or}
 use Rattle.std.specs.List.{list_all}
 use Rattle.std.proofs.lemmas.List.Elements.{All-head, All-tail}
 use Rattle.std.proofs.lemmas.Bool.Decides.{nat_tests}
 use Rattle.merge_types.specs.declared.Dot.{Dot}
-use Rattle.merge_types.specs.declared.SiteId.{SiteId}
-use Rattle.merge_lineage.specs.Lineage.{IsAscending, number_at, number_of, knows, Covers, greater, Joins, with_dot, joined}
+use Rattle.merge_lineage.specs.Lineage.{IsAscending, number_at, number_of, knows, Covers, greater, joined}
 use Rattle.merge_lineage.specs.Laws.{HasNumbers, CoversByKnowing, CoversBothWays, JoinCoversBoth, JoinIsLeast, JoinKnows, JoinIsAssociative, JoinIsCommutative, JoinIsIdempotent, AdvanceKnows}
 use Rattle.merge_lineage.proofs.Numbers.{number-with_dot}
 use Rattle.merge_lineage.proofs.Rising.{ascending_with_dot}

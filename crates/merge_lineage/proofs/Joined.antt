@@ -1,9 +1,8 @@
 -- Joins, by the numbers of the sites.
-use Rattle.std.proofs.Common.{◌≡◌, ℕ, zero, suc, subst, ◌+◌, ◌<◌, ◌≤◌, Bool, true, false, List, [], ◌∷◌, length, get_or, drop, Some, None, Option, max, IsTrue, ◌↔◌, refl, sym, ap, ◌∙◌, inl, inr, arith, add-one}
+use Rattle.std.proofs.Common.{◌≡◌, ℕ, suc, ◌+◌, false, List, [], ◌∷◌, Some, None, Option, refl, sym, ap, ◌∙◌, arith}
 use Rattle.std.proofs.lemmas.Bool.Decides.{nat_tests}
-use Rattle.std.proofs.lemmas.List.{drop_more, drop_all}
 use Rattle.merge_types.specs.declared.Dot.{Dot}
-use Rattle.merge_lineage.specs.Lineage.{IsAscending, number_at, number_of, knows, Covers, greater, Joins, Advances, with_dot, joined, no_dot}
+use Rattle.merge_lineage.specs.Lineage.{IsAscending, number_at, knows, greater, Joins, Advances, with_dot, joined}
 use Rattle.merge_lineage.proofs.Rising.{RisesFrom, rises_from_ascending, ascending_with_dot}
 use Rattle.merge_lineage.proofs.Numbers.{greater-none, number_below, number-with_dot}
 
@@ -32,11 +31,6 @@ ascending_tail x xs ascending i j d lt in_range = ascending (suc i) (suc j) d (o
 
 pub tail_lacks : (x : Dot) (xs : List Dot) → IsAscending (x ∷ xs) → number_at xs x.site.0 ≡ None
 tail_lacks x xs ascending = number_below (x.site.0 + 1) xs (rises_from_ascending (x ∷ xs) ascending).1 x.site.0 (omega arith)
-
-ascending_drop : (i : ℕ) (l : List Dot) → IsAscending l → IsAscending (drop i l)
-ascending_drop zero l ascending = ascending
-ascending_drop (suc i) [] ascending = ascending
-ascending_drop (suc i) (x ∷ xs) ascending = ascending_drop i xs (ascending_tail x xs ascending)
 
 pub greater-comm : (m n : Option ℕ) → greater m n ≡ greater n m
 greater-comm None None = refl
@@ -77,22 +71,6 @@ pub join_is_one : (a b l : List Dot) → IsAscending a → IsAscending b → IsA
 join_is_one a b l ascending_a ascending_b ascending_l joins =
     numbers_determine l (joined a b) ascending_l (ascending-joined a b ascending_a ascending_b) (λ site. joins site ∙ sym (joins-joined a b ascending_a ascending_b site))
 
--- the next dot moves from what is left to what is joined
-pub joins_next : (l : List Dot) → IsAscending l → (i : ℕ) → i < length l → (old : List Dot) → IsAscending old
-    → (site : ℕ) → greater (number_at (with_dot (get_or l i no_dot) old) site) (number_at (drop (i + 1) l) site) ≡ greater (number_at old site) (number_at (drop i l) site)
-joins_next l ascending i lt old ascending_old site =
-    let here = get_or l i no_dot in
-    let rest = drop (i + 1) l in
-    let cut : drop i l ≡ here ∷ rest = drop_more l i no_dot lt in
-    let ascends : IsAscending (here ∷ rest) = subst IsAscending cut (ascending_drop i l ascending) in
-    ap (λ n. greater n (number_at rest site)) (number-with_dot old ascending_old here site)
-    ∙ greater-assoc (number_at old site) (number_at (here ∷ []) site) (number_at rest site)
-    ∙ ap (λ n. greater (number_at old site) n) (sym (number-cons here rest ascends site) ∙ ap (λ r. number_at r site) (sym cut))
-
 -- a dot that is not known has the greater number
 pub advances_with_dot : (l : List Dot) → IsAscending l → (d : Dot) → knows l d ≡ false → Advances l d (with_dot d l)
 advances_with_dot l ascending d unknown site = grind (arith, nat_tests, number-with_dot l ascending d site, greater-none (number_at l site))
-
--- where all is joined
-pub joins_all : (a b l : List Dot) (i : ℕ) → length b ≤ i → ((site : ℕ) → greater (number_at l site) (number_at (drop i b) site) ≡ greater (number_at a site) (number_at b site)) → Joins a b l
-joins_all a b l i le so_far site = sym (greater-none (number_at l site)) ∙ ap (λ r. greater (number_at l site) (number_at r site)) (sym (drop_all i b le)) ∙ so_far site

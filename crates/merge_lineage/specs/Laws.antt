@@ -1,7 +1,11 @@
 -- What holds of every lineage.
 use Rattle.std.specs.Prelude.{◌≡◌, ℕ, ◌≤◌, ◌<◌, List, All, IsTrue, ◌↔◌, ◌||◌, ◌&&◌, ◌==◌, nat_le}
 use Rattle.merge_types.specs.declared.Dot.{Dot}
-use Rattle.merge_lineage.specs.Lineage.{IsAscending, number_at, number_of, knows, Covers, Joins, Advances, with_dot, joined}
+use Rattle.merge_lineage.specs.Lineage.{IsAscending, ascending, number_at, knows, Covers, Joins, with_dot, joined}
+
+-- the test of a lineage says whether the sites ascend
+abbrev pub AscendingIsTested : Type 0
+AscendingIsTested = (dots : List Dot) → IsTrue (ascending dots) ↔ IsAscending dots
 
 -- the numbers of the sites say which lineage it is
 abbrev pub NumbersDetermine : Type 0

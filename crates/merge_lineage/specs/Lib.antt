@@ -1,2 +1,3 @@
 pub mod Lineage
+pub mod Merging
 pub mod Laws

@@ -1,5 +1,5 @@
 -- A lineage is the list of its dots, by site: which changes of each site a version has seen.
-use Rattle.std.specs.Prelude.{◌≡◌, ℕ, ◌<◌, ◌≤◌, Bool, nat_le, nat_lt, ◌==◌, if◌then◌else◌, List, [], ◌∷◌, length, AllPairs, slice_index_or, Option, Some, None, unwrap_or, max}
+use Rattle.std.specs.Prelude.{◌≡◌, ℕ, ◌<◌, ◌≤◌, Bool, true, ◌&&◌, nat_le, nat_lt, ◌==◌, if◌then◌else◌, List, [], ◌∷◌, length, AllPairs, slice_index_or, Option, Some, None, unwrap_or, max}
 use Rattle.merge_types.specs.declared.Dot.{Dot}
 use Rattle.merge_lineage.specs.declared.lineage.Order4.{Order4}
 use Rattle.merge_lineage.specs.declared.lineage.Order4.TheVariants as order
@@ -7,6 +7,15 @@ use Rattle.merge_lineage.specs.declared.lineage.Order4.TheVariants as order
 -- the sites ascend, so no site comes twice
 abbrev pub IsAscending : List Dot → Type 0
 IsAscending dots = AllPairs (λ (a b : Dot). a.site.0 < b.site.0) dots
+
+-- the same as a test
+abbrev pub ascending_behind : ℕ → List Dot → Bool
+ascending_behind site [] = true
+ascending_behind site (dot ∷ rest) = nat_lt site dot.site.0 && ascending_behind dot.site.0 rest
+
+abbrev pub ascending : List Dot → Bool
+ascending [] = true
+ascending (dot ∷ rest) = ascending_behind dot.site.0 rest
 
 -- the number that a site has, where it has one
 abbrev pub number_at : List Dot → ℕ → Option ℕ

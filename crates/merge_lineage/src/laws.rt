@@ -1,8 +1,9 @@
 //! What holds of every lineage. These functions do nothing: their contracts are the laws.
-ghost use Rattle.merge_lineage.specs.Laws.{NumbersDetermine, KnowsTheEarlier, CoversByKnowing, CoversItself, CoversAlong, CoversBothWays, JoinedJoins, JoinIsOne, JoinCoversBoth, JoinIsLeast, JoinKnows, JoinIsAssociative, JoinIsCommutative, JoinIsIdempotent, AdvanceKnows};
+ghost use Rattle.merge_lineage.specs.Laws.{AscendingIsTested, NumbersDetermine, KnowsTheEarlier, CoversByKnowing, CoversItself, CoversAlong, CoversBothWays, JoinedJoins, JoinIsOne, JoinCoversBoth, JoinIsLeast, JoinKnows, JoinIsAssociative, JoinIsCommutative, JoinIsIdempotent, AdvanceKnows};
 
 /// A lineage is its numbers, and knowing rises with the numbers.
 pub fn knowing_laws()
+    ensures tested { AscendingIsTested }
     ensures numbers { NumbersDetermine }
     ensures earlier { KnowsTheEarlier }
     ensures advance { AdvanceKnows }

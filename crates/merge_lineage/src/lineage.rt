@@ -1,10 +1,13 @@
 //! Lineages, and how two of them stand to each other.
-ghost use Rattle.std.specs.Prelude.{◌≡◌, ◌∷◌, [], false, IsTrue, ◌↔◌, IfOk, IfErr, OnOk, OnErr};
+ghost use Rattle.std.specs.Prelude.{◌≡◌, ◌≤◌, ◌+◌, ◌∷◌, ◌++◌, [], false, length, IsTrue, ◌↔◌, IfOk, IfErr, OnOk, OnErr, vec_len};
 ghost use Rattle.std.specs.List.{list_all};
-ghost use Rattle.merge_lineage.specs.Lineage.{IsAscending, knows, Covers, HasOrder, Joins, Advances, with_dot, joined, IsAt, IsGapFor};
+ghost use Rattle.std.specs.Vec.{vec_capacity};
+ghost use Rattle.merge_lineage.specs.Lineage.{IsAscending, ascending, ascending_behind, number_of, knows, Covers, HasOrder, Joins, Advances, with_dot, joined, IsAt, IsGapFor};
+ghost use Rattle.merge_lineage.specs.Merging.{lesser, first_of, behind};
 
 use merge_types::{Dot, Exact, NoMemory, SiteId};
 use std::alloc::{AllocError, Global};
+use std::cmp::Ordering;
 use std::marker::Model;
 
 /// How one lineage stands to another.
@@ -55,14 +58,79 @@ impl Exact for Lineage {
 
 /// Whether these dots are those of a lineage: the test for `Lineage::restore`.
 pub fn are_ascending(dots: &[Dot]) -> bool
-    ensures { IsTrue result ↔ IsAscending dots.now }
+    ensures test { result ≡ ascending dots.now }
+    ensures ascending { IsTrue result ↔ IsAscending dots.now }
 {
-    for at in 1..dots.len() {
-        if dots[at].site.0 <= dots[at - 1].site.0 {
+    match dots.split_first() {
+        None => true,
+        Some((first, rest)) => ascend_behind(first.site, rest),
+    }
+}
+
+// Whether the sites ascend, and all are above this one.
+fn ascend_behind(site: SiteId, dots: &[Dot]) -> bool
+    ensures { result ≡ ascending_behind site.0 dots.now }
+{
+    let mut last = site.0;
+    for dot in dots {
+        if dot.site.0 <= last {
             return false;
         }
+        last = dot.site.0;
     }
     true
+}
+
+// The first dot of a join of these: that of the smaller site, and of both the greater number.
+fn first_of(ours: &[Dot], theirs: &[Dot]) -> Option<Dot>
+    ensures { result ≡ first_of ours.now theirs.now }
+{
+    match (ours.first(), theirs.first()) {
+        (None, None) => None,
+        (Some(our), None) => Some(*our),
+        (None, Some(their)) => Some(*their),
+        (Some(our), Some(their)) => Some(lesser(*our, *their)),
+    }
+}
+
+// The dot of the smaller site, or of one site the greater number.
+fn lesser(our: Dot, their: Dot) -> Dot
+    ensures { result ≡ lesser our their }
+{
+    match our.site.0.cmp(&their.site.0) {
+        Ordering::Less => our,
+        Ordering::Greater => their,
+        Ordering::Equal => Dot {
+            site: their.site,
+            number: their.number.max(our.number),
+        },
+    }
+}
+
+// The dots behind that of the site, where it is the first.
+fn behind(dots: &[Dot], site: SiteId) -> &[Dot]
+    ensures { result.now ≡ behind site.0 dots.now }
+{
+    match dots.split_first() {
+        Some((first, rest)) if first.site.0 == site.0 => rest,
+        _ => dots,
+    }
+}
+
+// Adds the join of both behind. There is room for all dots of both.
+fn add_joined(dots: &mut Vec<Dot>, ours: &[Dot], theirs: &[Dot])
+    requires room { vec_len dots.old + (length ours.now + length theirs.now) ≤ vec_capacity dots.old }
+    requires ours { IsAscending ours.now }
+    requires theirs { IsAscending theirs.now }
+    ensures { dots.new.items ≡ dots.old.items ++ joined ours.now theirs.now }
+{
+    let mut here = ours;
+    let mut there = theirs;
+    while let Some(dot) = first_of(here, there) {
+        dots.push_reserved(dot);
+        here = behind(here, dot.site);
+        there = behind(there, dot.site);
+    }
 }
 
 impl Lineage {
@@ -99,14 +167,21 @@ impl Lineage {
         &self.dots
     }
 
+    /// The greatest number of the site's changes that are known, 0 where none is.
+    pub fn number_of(&self, site: SiteId) -> u64
+        ensures { result ≡ number_of self.now site.0 }
+    {
+        match self.search(site) {
+            Ok(at) => self.dots[at].number,
+            Err(_) => 0,
+        }
+    }
+
     /// Whether the change is known.
     pub fn knows(&self, dot: Dot) -> bool
         ensures { result ≡ knows self.now dot }
     {
-        match self.search(dot.site) {
-            Ok(at) => dot.number <= self.dots[at].number,
-            Err(_) => dot.number == 0,
-        }
+        dot.number <= self.number_of(dot.site)
     }
 
     /// Whether all is known that the other knows.
@@ -141,11 +216,10 @@ impl Lineage {
         ensures greater { IfOk result (Joins self.now other.now) }
         ensures value { IfOk result (λ lineage. lineage ≡ joined self.now other.now) }
     {
-        let mut joined = Lineage::restore(self.dots.clone()?);
-        for dot in &other.dots {
-            joined.raise(*dot)?;
-        }
-        Ok(joined)
+        let mut dots = Vec::new(*self.dots.allocator());
+        dots.reserve(self.dots.len() + other.dots.len())?;
+        add_joined(&mut dots, &self.dots, &other.dots);
+        Ok(Lineage::restore(dots))
     }
 
     /// The lineage that knows a new change besides.

@@ -57,6 +57,8 @@ fn knows_what_it_advanced_to(rt: HostRuntime) -> Result<(), Fail> {
     assert!(rt; seen.knows(dot(1, 3)));
     assert!(rt; !seen.knows(dot(0, 3)));
     assert!(rt; !seen.knows(dot(2, 1)));
+    assert_eq!(rt; seen.number_of(SiteId(1)), 5);
+    assert_eq!(rt; seen.number_of(SiteId(2)), 0);
     assert!(rt; seen.covers(&lineage(&rt, rt.alloc(), &[(1, 5)])?));
     assert!(rt; !seen.covers(&lineage(&rt, rt.alloc(), &[(1, 6)])?));
     assert_eq!(rt;

@@ -39,7 +39,9 @@ use Rattle.merge_model.specs.Judge.{SubscriberJudge}
 use Rattle.merge_model.specs.Faults.{reply_fault}
 use Rattle.merge_model.specs.Subscriber.{sub_local, sub_local_refusal, sub_drawn, sub_made_locally, sub_version_at, sub_next_dot, with_version_if, with_version, close_sub_generation, sub_closed, sub_at_moment, sub_counters, sub_last_closed}
 use Rattle.merge_model.specs.Sending.{with_message}
-use Rattle.merge_model.specs.Taking.{Taken, Acted, Missed, taken, take_reply, met_by, seq_of, after_reply, row_above, gens_above, with_received, with_item, with_items, with_order, key_of_download}
+use Rattle.merge_model.specs.Taking.{taken, take_reply, met_by, seq_of, after_reply, row_above, gens_above, with_received, with_item, with_items, with_order, key_of_download}
+use Rattle.merge_model.specs.declared.outcome.Taken.{Taken}
+use Rattle.merge_model.specs.declared.outcome.Taken.TheVariants.{Acted, Missed}
 use Rattle.merge_model.specs.Reinit.{reinitialise, reinitialised, made_anew, numbered_from, discarded}
 use Rattle.merge_model.specs.World.{World, Judges, Saying}
 use Rattle.merge_model.specs.Steps.{Action, step_by}

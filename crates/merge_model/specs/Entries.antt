@@ -52,7 +52,7 @@ parts_of publication before after = map (λ (s : ℕ × Subscription). record {
 
 -- How a row moved for a site: by whether it was in the partition, whether it is, whether its change
 -- makes an entry in this step, and whether an item of this site's upload acted on it. A changed row
--- that comes in makes no entry of its own. The uploader is told of each row that it sent and may not hold.
+-- that comes in makes no entry for that, since its change tells the site of it. The uploader is told of each row that it sent and may not hold.
 abbrev pub move_of : Bool → Bool → Bool → Bool → Option MoveKind
 move_of true false changed acted = Some Left
 move_of false false changed true = Some Left

@@ -13,7 +13,7 @@ pub record PublisherJudge : Type 0 where
   pub seen : ℕ → ℕ
   -- whether a site's generation has acted
   pub has_acted : ℕ → ℕ → Bool
-  -- whether a site left out a generation that has not acted, of those up to this one
+  -- whether some generation of a site up to this one has not acted, so that a batch behind it would leave a gap
   pub is_gap : ℕ → ℕ → Bool
   -- whether the change of a site that made a row has not acted, by its number
   pub is_unmet : ℕ → ℕ → Bool

@@ -25,7 +25,8 @@ use Rattle.merge_types.specs.declared.row_key.RowKey.{RowKey as Key}
 use Rattle.merge_model.specs.Tables.{PublisherTables}
 use Rattle.merge_batch.specs.declared.reply.Act.TheVariants as order
 
--- How far a site is in step: now, where it has all; else the moment at which the generation closed up to which it has all, where that is kept.
+-- How far a site is in step: up to now, where it holds all closed generations and the open one is empty; else up to the moment
+-- at which the last generation that it holds closed, and 0 where that is not kept.
 abbrev pub in_step : Download → PublisherTables → ℕ
 in_step m p = if (m.from == last_closed p) && (p.gens.filling.filled == 0) then p.latest.0 else unwrap_or (moment_of p.gens.closings m.from) 0
 

@@ -44,7 +44,8 @@ pub record SubscriberTables : Type 0 where
   pub seq : ℕ
   -- the message that is outstanding, with its number
   pub outstanding : Option (ℕ × Outstanding)
-  -- the last own generation that the publisher has taken
+  -- The own generations up to this one are done with: the publisher has taken them, or the site was made anew since, and
+  -- discarded what it had not sent.
   pub received : ℕ
   -- the last generation of the publisher that is held
   pub watermark : ℕ

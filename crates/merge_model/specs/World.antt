@@ -15,15 +15,7 @@ use Rattle.merge_model.specs.Publications.{by_site}
 use Rattle.merge_model.specs.Publisher.{empty_publisher}
 use Rattle.merge_model.specs.Subscriber.{empty_subscriber}
 use Rattle.merge_model.specs.Tables.{PublisherTables, SubscriberTables}
-
-pub data Message : Type 0 where
-  Asks : Request → Message
-  Replies : Reply → Message
-
--- a message of a site, or a reply to it
-pub record Letter : Type 0 where
-  pub site : SiteId
-  pub message : Message
+use Rattle.merge_model.specs.declared.letter.Letter.{Letter}
 
 pub record World : Type 0 where
   pub publisher : PublisherTables

@@ -2,3 +2,4 @@ pub mod Changes
 pub mod Asked
 pub mod Tallies
 pub mod FitLists
+pub mod CountedRows

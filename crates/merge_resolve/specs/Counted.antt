@@ -1,5 +1,6 @@
 -- What a decision counts as.
-use Rattle.std.specs.Prelude.{ℕ, pos, negsuc, int_le, nat_le, ◌+◌, ◌==◌, ◌&&◌, Bool, true, false, if◌then◌else◌, List, [], ◌∷◌, length, slice_get, slice_set, Option, Some, None}
+use Rattle.std.specs.Prelude.{ℕ, int_le, nat_le, ◌+◌, ◌==◌, ◌&&◌, Bool, true, false, if◌then◌else◌, List, [], ◌∷◌, length, slice_get, slice_set, Option, Some, None}
+use Rattle.merge_types.specs.Limits.{value_limit, row_limit, first_day, last_day}
 use Rattle.merge_types.specs.declared.ColType.{ColType}
 use Rattle.merge_types.specs.declared.ColType.TheVariants as column
 use Rattle.merge_types.specs.declared.Value.{Value}
@@ -12,18 +13,20 @@ use Rattle.merge_units.specs.declared.case.Side.TheVariants as side
 use Rattle.merge_units.specs.declared.result.Decision.{Decision}
 use Rattle.merge_units.specs.declared.result.Decision.TheVariants.{KeepPublisher, TakeSubscriber, Custom}
 use Rattle.merge_types.specs.Length.{row_length}
-use Rattle.merge_conflict.specs.declared.case.ConflictCase.{ConflictCase}
+use Rattle.merge_resolve.specs.declared.case.CaseKind.{CaseKind}
+use Rattle.merge_resolve.specs.declared.case.CaseKind.TheVariants as kind
+use Rattle.merge_resolve.specs.declared.case.ConflictCase.{ConflictCase}
 use Rattle.merge_resolve.specs.Columns.{body_value}
 
--- a Null, or a value of the column's type: a text or bytes of at most 4,000 bytes, a day of the years 0001 to 9999
+-- a Null, or a value of the column's type: a text or bytes within the limit, a day of the years 0001 to 9999
 unfoldable pub fits_column : ColType → Value → Bool
 fits_column ty Null = true
 fits_column column.Int (Int number) = true
 fits_column column.Bit (Bit bit) = true
-fits_column column.Text (Text text) = nat_le (length text) 4000
-fits_column column.Day (Day day) = int_le (negsuc 719161) day && int_le day (pos 2932896)
+fits_column column.Text (Text text) = nat_le (length text) value_limit
+fits_column column.Day (Day day) = int_le first_day day && int_le day last_day
 fits_column column.Guid (Guid guid) = true
-fits_column column.Bytes (Bytes bytes) = nat_le (length bytes) 4000
+fits_column column.Bytes (Bytes bytes) = nat_le (length bytes) value_limit
 fits_column _ _ = false
 
 -- the same, of the column at a place
@@ -40,9 +43,14 @@ fit_all fits [] [] = true
 fit_all fits (x ∷ xs) (value ∷ values) = fits x value && fit_all fits xs values
 fit_all fits _ _ = false
 
+-- whether a list has a value for each column
+abbrev pub is_by_row : CaseKind → Bool
+is_by_row kind.ByRow = true
+is_by_row _ = false
+
 -- with row tracking there is one value for each column, else one for each conflicting cell in order
-abbrev pub fit_columns : ℕ → List ColType → List ℕ → List Value → Bool
-fit_columns kind types cells values = if kind == 1 then fit_all fits_column types values else fit_all (fits_place types) cells values
+abbrev pub fit_columns : CaseKind → List ColType → List ℕ → List Value → Bool
+fit_columns kind types cells values = if is_by_row kind then fit_all fits_column types values else fit_all (fits_place types) cells values
 
 -- the identity column keeps its value
 abbrev pub own_placed : ℕ → Value → List ℕ → List Value → List Value
@@ -50,8 +58,8 @@ own_placed identity own [] values = []
 own_placed identity own (place ∷ places) [] = []
 own_placed identity own (place ∷ places) (value ∷ values) = (if place == identity then own else value) ∷ own_placed identity own places values
 
-abbrev pub with_own_value : ℕ → List ℕ → ℕ → Value → List Value → List Value
-with_own_value kind cells identity own values = if kind == 1 then slice_set values identity own else own_placed identity own cells values
+abbrev pub with_own_value : CaseKind → List ℕ → ℕ → Value → List Value → List Value
+with_own_value kind cells identity own values = if is_by_row kind then slice_set values identity own else own_placed identity own cells values
 
 abbrev pub with_own : ConflictCase → Option ℕ → Option Value → List Value → List Value
 with_own case (Some identity) (Some own) values = with_own_value case.kind case.cells identity own values
@@ -69,10 +77,10 @@ kept_length (s ∷ sides) [] theirs = 0
 kept_length (s ∷ sides) (p ∷ ours) [] = 0
 kept_length (s ∷ sides) (p ∷ ours) (i ∷ theirs) = side_length s p i + kept_length sides ours theirs
 
--- each cell has its side, and the row that the values give has at most 8,000 bytes
+-- each cell has its side, and the row that the values give is within its limit
 abbrev pub is_within : List Side → List Cell → List Cell → List Value → Bool
 is_within sides ours theirs values =
-    length sides == length ours && length sides == length theirs && nat_le (row_length values + kept_length sides ours theirs) 8000
+    length sides == length ours && length sides == length theirs && nat_le (row_length values + kept_length sides ours theirs) row_limit
 
 abbrev pub within_or_kept : Bool → List Value → Decision
 within_or_kept true values = Custom values
@@ -91,3 +99,8 @@ abbrev pub counted_decision : List ColType → Option ℕ → List Side → Conf
 counted_decision types identity sides case KeepPublisher = KeepPublisher
 counted_decision types identity sides case TakeSubscriber = TakeSubscriber
 counted_decision types identity sides case (Custom values) = counted_list types identity sides case case.publisher case.incoming values
+
+-- whether a decision brings values
+abbrev pub is_custom : Decision → Bool
+is_custom (Custom values) = true
+is_custom decision = false

@@ -2,7 +2,7 @@
 use Rattle.std.specs.Prelude.{ℤ, int_lt, Bool, Option, Some, None}
 use Rattle.merge_types.specs.declared.Value.{Value}
 use Rattle.merge_types.specs.declared.Value.TheVariants.{Null, Int, Day}
-use Rattle.merge_conflict.specs.declared.case.ConflictCase.{ConflictCase}
+use Rattle.merge_resolve.specs.declared.case.ConflictCase.{ConflictCase}
 use Rattle.merge_units.specs.declared.result.Decision.{Decision}
 use Rattle.merge_units.specs.declared.result.Decision.TheVariants.{KeepPublisher, TakeSubscriber}
 use Rattle.merge_resolve.specs.declared.extremes.Extreme.{Extreme}

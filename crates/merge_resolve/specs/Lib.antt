@@ -1,10 +1,12 @@
 pub mod Changes
 pub mod Asked
 pub mod AskingLaws
-pub mod Questions
 pub mod Columns
 pub mod Rules
 pub mod Extremes
-pub mod Sums
-pub mod Losers
 pub mod Counted
+pub mod Sums
+pub mod Choices
+pub mod Priorities
+pub mod Questions
+pub mod CountedLaws

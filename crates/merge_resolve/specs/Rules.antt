@@ -1,6 +1,6 @@
 -- The priority of the sites decides.
 use Rattle.std.specs.Prelude.{Bool, true, false, Option, Some, None, nat_lt}
-use Rattle.merge_conflict.specs.declared.case.ConflictCase.{ConflictCase}
+use Rattle.merge_resolve.specs.declared.case.ConflictCase.{ConflictCase}
 use Rattle.merge_units.specs.declared.result.Decision.{Decision}
 use Rattle.merge_units.specs.declared.result.Decision.TheVariants.{KeepPublisher, TakeSubscriber}
 

@@ -3,7 +3,9 @@ use Rattle.std.specs.Prelude.{ℕ, ℤ, pos, negsuc, ◌+ℤ◌, int_le, ◌&&�
 use Rattle.std.specs.List.{list_any}
 use Rattle.merge_types.specs.declared.Value.{Value}
 use Rattle.merge_types.specs.declared.Value.TheVariants.{Null, Int}
-use Rattle.merge_conflict.specs.declared.case.ConflictCase.{ConflictCase}
+use Rattle.merge_resolve.specs.declared.case.CaseKind.{CaseKind}
+use Rattle.merge_resolve.specs.declared.case.ConflictCase.{ConflictCase}
+use Rattle.merge_resolve.specs.Counted.{is_by_row}
 use Rattle.merge_units.specs.declared.version.Cell.{Cell}
 use Rattle.merge_units.specs.declared.result.Decision.{Decision}
 use Rattle.merge_units.specs.declared.result.Decision.TheVariants.{Custom}
@@ -29,21 +31,21 @@ sum_of (Int our) (Int their) = int_sum our their
 sum_of _ _ = None
 
 -- the cell that has a column: with row tracking the only one
-abbrev pub cell_of : ℕ → ℕ → ℕ
-cell_of kind column = if kind == 1 then 0 else column
+abbrev pub cell_of : CaseKind → ℕ → ℕ
+cell_of kind column = if is_by_row kind then 0 else column
 
 -- whether the column is in a conflicting cell
-abbrev pub is_in_conflict : ℕ → List ℕ → ℕ → Bool
+abbrev pub is_in_conflict : CaseKind → List ℕ → ℕ → Bool
 is_in_conflict kind cells column = list_any (λ place. place == cell_of kind column) cells
 
 -- the value that the column at a place gets: the sum, or that of the side that wins by priority
-abbrev pub column_after : ℕ → List Cell → ℕ → Value → ℕ → Value
+abbrev pub column_after : CaseKind → List Cell → ℕ → Value → ℕ → Value
 column_after kind winner column sum place = if place == column then sum else unwrap_or (value_in kind winner place) Null
 
 -- the values of the conflicting cells: with row tracking of all columns, else of the conflicting columns in order
 abbrev pub with_sum : ConflictCase → List Cell → ℕ → Value → List Value
 with_sum case winner column sum =
-    if case.kind == 1 then slice_set (first_values winner) column sum else map (column_after case.kind winner column sum) case.cells
+    if is_by_row case.kind then slice_set (first_values winner) column sum else map (column_after case.kind winner column sum) case.cells
 
 -- the decision where there is a sum: as the priority does where its column is in no conflicting cell
 abbrev pub summed : ConflictCase → ℕ → Value → Decision

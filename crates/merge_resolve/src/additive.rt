@@ -1,6 +1,8 @@
 //! The sum of both values wins.
-ghost use Rattle.std.specs.Prelude.{◌≡◌, ◌<◌, ◌+ℤ◌, ◌==◌, IfOk, length, slice_set, map, if◌then◌else◌, Some, None};
+ghost use Rattle.std.specs.Prelude.{◌≡◌, ℕ, ◌<◌, ◌+ℤ◌, ◌==◌, IfOk, length, slice_set, map, if◌then◌else◌, Some, None};
 ghost use Rattle.std.specs.List.{list_any};
+ghost use Rattle.merge_resolve.specs.declared.choice.ResolverChoice.TheVariants as choice;
+ghost use Rattle.merge_resolve.specs.Choices.{rule_of};
 ghost use Rattle.std.specs.Option.{option_copied};
 ghost use Rattle.merge_units.specs.Version.{cells_of};
 ghost use Rattle.merge_units.specs.Results.{winner_body};
@@ -8,10 +10,10 @@ ghost use Rattle.merge_resolve.specs.Extremes.{judged};
 ghost use Rattle.merge_resolve.specs.Columns.{value_in, first_values};
 ghost use Rattle.merge_resolve.specs.Sums.{is_i64, int_sum, sum_of, cell_of, column_after, with_sum, is_in_conflict, summed, additive_decision};
 
-use crate::Resolver;
+use crate::counted::is_by_row;
 use crate::priority::by_priority;
-use crate::values::{BY_ROW, body_value, value_in};
-use merge_conflict::ConflictCase;
+use crate::values::{body_value, value_in};
+use crate::{CaseKind, ConflictCase, Resolver};
 use merge_types::{NoMemory, Value, Values};
 use merge_units::{Body, Cell, Decision};
 use std::alloc::Global;
@@ -25,7 +27,8 @@ pub struct Additive {
 impl Additive {
     /// Never asked.
     pub fn new() -> Self
-        ensures { result ≡ record { asked = 0 } }
+        ensures fresh { result ≡ record { asked = 0 } }
+        ensures means { (n : ℕ) (asked : _) → ⟦<Additive as Resolver>⟧.says result n asked ≡ rule_of choice.Additive asked }
     {
         Additive { asked: 0 }
     }
@@ -106,10 +109,10 @@ fn summed(alloc: Global, case: &ConflictCase, column: u8, sum: &Value) -> Result
 }
 
 // Whether the column is in a conflicting cell.
-fn is_in_conflict(kind: u8, cells: &[u8], column: u8) -> bool
+fn is_in_conflict(kind: CaseKind, cells: &[u8], column: u8) -> bool
     ensures { result ≡ is_in_conflict kind cells.now column }
 {
-    let cell = if kind == BY_ROW { 0 } else { column };
+    let cell = if is_by_row(kind) { 0 } else { column };
     cells.iter().any(|place| *place == cell)
 }
 
@@ -132,7 +135,7 @@ fn with_sum(
 ) -> Result<Values, NoMemory>
     ensures { IfOk result (λ values. values ≡ with_sum case.now winner.now column sum.now) }
 {
-    if case.kind == BY_ROW {
+    if is_by_row(case.kind) {
         Ok(Values::new(row_with_sum(alloc, winner, column, sum)?))
     } else {
         let cells = case.cells.as_slice();
@@ -168,7 +171,7 @@ fn first_values(cells: &[Cell]) -> &[Value]
 // The values of the conflicting columns.
 fn columns_with_sum(
     alloc: Global,
-    kind: u8,
+    kind: CaseKind,
     cells: &[u8],
     winner: &[Cell],
     column: u8,
@@ -185,7 +188,7 @@ fn columns_with_sum(
 
 // The value that the column at a place gets.
 fn column_after(
-    kind: u8,
+    kind: CaseKind,
     winner: &[Cell],
     column: u8,
     sum: &Value,

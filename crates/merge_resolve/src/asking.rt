@@ -1,21 +1,30 @@
 //! Asking the resolvers of a list.
-ghost use Rattle.std.specs.Prelude.{◌≡◌, ◌<◌, ◌≤◌, ◌+◌, ◌^◌, ◌-◌, ◌≢◌, ℕ, min, IfOk, length, slice_get, slice_index, map, take, All, OnOk, Some};
+ghost use Rattle.std.specs.Prelude.{◌≡◌, ◌<◌, ◌≤◌, ◌+◌, ◌^◌, ◌-◌, ◌≢◌, ℕ, min, IfOk, length, slice_get, slice_index, map, take, All, OnOk, IsOk, [], Some};
 ghost use Rattle.merge_resolve.specs.Asked.{raised, says_at, decisions_of, tallies_after};
 ghost use Rattle.merge_resolve.specs.Questions.{question_of};
 ghost use Rattle.merge_resolve.specs.Changes.{ChangesAt};
 
-use crate::Handed;
-use merge_conflict::ConflictCase;
-use merge_types::{Listing, NoMemory};
-use merge_units::Decision;
+use crate::{ConflictCase, Handed};
+use merge_types::{ColType, Listing, NoMemory};
+use merge_units::{Decision, Sides};
 use std::alloc::Global;
 
-/// A conflict, and the place of its resolver in the list that was handed in.
+/// A conflict, the place of its resolver in the list that was handed in, and by what a decision on
+/// it counts.
 #[derive(Debug, Drop)]
 pub struct Question {
-    pub place: usize,
+    pub place: u8,
     pub case: ConflictCase,
+    /// The side of each cell.
+    pub sides: Sides,
+    /// The types of the article's columns.
+    pub types: ColTypes,
+    /// The place of its identity column.
+    pub identity: Option<u8>,
 }
+
+/// The types of columns, in order.
+pub type ColTypes = Listing<ColType>;
 
 /// The decisions on questions, in their order.
 pub type Decisions = Listing<Decision>;
@@ -66,10 +75,13 @@ pub fn ask_all(
         ≡ tallies_after (map (λ r. tally_of r) resolvers.old.items) (map question_of (take n questions.now))) }
     ensures steady { (k n : ℕ) (asked : _) → says_at (λ r. says r) resolvers.new.items k n asked ≡ says_at (λ r. says r) resolvers.old.items k n asked }
     ensures len { length resolvers.new.items ≡ length resolvers.old.items }
+
+    // Of nothing no memory is taken.
+    ensures free { questions.now ≡ [] → IsOk result }
 {
     let mut decisions = Decisions::empty(alloc);
     for question in questions {
-        decisions.push(ask_at(alloc, resolvers, question.place, &question.case)?)?;
+        decisions.push(ask_at(alloc, resolvers, question.place as usize, &question.case)?)?;
     }
     Ok(decisions)
 }

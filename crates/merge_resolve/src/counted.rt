@@ -1,24 +1,15 @@
 //! What a decision counts as.
-ghost use Rattle.std.specs.Prelude.{◌≡◌, ◌-◌, ◌^◌, ◌==◌, ◌&&◌, ◌≢◌, IsTrue, min, nat_le, IfOk, length, if◌then◌else◌, slice_set, slice_get};
+ghost use Rattle.std.specs.Prelude.{◌≡◌, ◌-◌, ◌^◌, ◌==◌, ◌&&◌, IsTrue, false, IsOk, min, nat_le, IfOk, length, if◌then◌else◌, slice_set, slice_get};
 ghost use Rattle.std.specs.Option.{option_copied};
 ghost use Rattle.merge_types.specs.Length.{row_length};
-ghost use Rattle.merge_resolve.specs.Counted.{fits_column, fits_place, fit_all, fit_columns, own_placed, with_own_value, with_own, side_length, kept_length, is_within, counted_list, counted_decision};
+ghost use Rattle.merge_resolve.specs.Counted.{is_custom, is_by_row, fits_column, fits_place, fit_all, fit_columns, own_placed, with_own_value, with_own, side_length, kept_length, is_within, counted_list, counted_decision};
 
-use crate::values::{BY_ROW, body_value};
-use merge_conflict::ConflictCase;
+use crate::values::body_value;
+use crate::{CaseKind, ConflictCase};
+use merge_types::limits::{FIRST_DAY, LAST_DAY, ROW_LIMIT, VALUE_LIMIT};
 use merge_types::{ColType, NoMemory, Value, Values};
 use merge_units::{Body, Cell, Decision, Side};
 use std::alloc::Global;
-
-// The most bytes of a text or bytes, and of a row.
-const VALUE_LIMIT: usize = 4000;
-
-const ROW_LIMIT: u64 = 8000;
-
-// 0001-01-01 and 9999-12-31, counted from 1970-01-01.
-const FIRST_DAY: i32 = -719162;
-
-const LAST_DAY: i32 = 2932896;
 
 /// What the decision counts as, for an article with columns of these types and perhaps an identity
 /// column, and cells that are new on these sides.
@@ -30,7 +21,10 @@ pub fn counted_decision(
     case: &ConflictCase,
     decision: Decision,
 ) -> Result<Decision, NoMemory>
-    ensures { IfOk result (λ counted. counted ≡ counted_decision types.now identity sides.now case.now decision) }
+    ensures counted { IfOk result (λ counted. counted ≡ counted_decision types.now identity sides.now case.now decision) }
+
+    // Without a list no memory is taken.
+    ensures free { is_custom decision ≡ false → IsOk result }
 {
     match decision {
         Decision::KeepPublisher => Ok(Decision::KeepPublisher),
@@ -66,12 +60,19 @@ fn counted_list(
     }
 }
 
-// Whether the values are as many as are asked for, and fit.
-fn fit_columns(kind: u8, types: &[ColType], cells: &[u8], values: &[Value]) -> bool
-    ensures fit { result ≡ fit_columns kind types.now cells.now values.now }
-    ensures counted { IsTrue result → kind ≢ 1 → length cells.now ≡ length values.now }
+// Whether a list has a value for each column.
+pub fn is_by_row(kind: CaseKind) -> bool
+    ensures { result ≡ is_by_row kind }
 {
-    if kind == BY_ROW {
+    matches!(kind, CaseKind::ByRow)
+}
+
+// Whether the values are as many as are asked for, and fit.
+fn fit_columns(kind: CaseKind, types: &[ColType], cells: &[u8], values: &[Value]) -> bool
+    ensures fit { result ≡ fit_columns kind types.now cells.now values.now }
+    ensures counted { IsTrue result → is_by_row kind ≡ false → length cells.now ≡ length values.now }
+{
+    if is_by_row(kind) {
         fit_row(types, values)
     } else {
         fit_places(types, cells, values)
@@ -141,7 +142,7 @@ fn with_own(
     own: Option<&Value>,
     values: Values,
 ) -> Result<Values, NoMemory>
-    requires { case.now.kind ≢ 1 → length case.now.cells ≡ length values }
+    requires { is_by_row case.now.kind ≡ false → length case.now.cells ≡ length values }
     ensures { IfOk result (λ kept. kept ≡ with_own case.now identity (option_copied own.entry) values) }
 {
     match (identity, own) {
@@ -161,16 +162,16 @@ fn with_own(
 
 fn with_own_value(
     alloc: Global,
-    kind: u8,
+    kind: CaseKind,
     cells: &[u8],
     identity: u8,
     own: &Value,
     values: Values,
 ) -> Result<Values, NoMemory>
-    requires { kind ≢ 1 → length cells.now ≡ length values }
+    requires { is_by_row kind ≡ false → length cells.now ≡ length values }
     ensures { IfOk result (λ kept. kept ≡ with_own_value kind cells.now identity own.now values) }
 {
-    if kind == BY_ROW {
+    if is_by_row(kind) {
         let mut row = values.into_vec();
         if (identity as usize) < row.len() {
             row[identity as usize] = own.clone()?;

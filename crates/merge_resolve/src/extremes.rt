@@ -1,12 +1,13 @@
 //! The version with the greater value wins, or the one with the smaller.
-ghost use Rattle.std.specs.Prelude.{◌≡◌, int_lt};
+ghost use Rattle.std.specs.Prelude.{◌≡◌, ℕ, int_lt};
+ghost use Rattle.merge_resolve.specs.declared.choice.ResolverChoice.TheVariants as choice;
+ghost use Rattle.merge_resolve.specs.Choices.{rule_of};
 ghost use Rattle.std.specs.Option.{option_copied};
 ghost use Rattle.merge_resolve.specs.Extremes.{beats, picked, judged, extreme_decision};
 
-use crate::Resolver;
 use crate::priority::{by_priority, take_if};
 use crate::values::body_value;
-use merge_conflict::ConflictCase;
+use crate::{ConflictCase, Resolver};
 use merge_types::{NoMemory, Value};
 use merge_units::Decision;
 use std::alloc::Global;
@@ -33,7 +34,8 @@ pub enum Extreme {
 impl Maximum {
     /// Never asked.
     pub fn new() -> Self
-        ensures { result ≡ record { asked = 0 } }
+        ensures fresh { result ≡ record { asked = 0 } }
+        ensures means { (n : ℕ) (asked : _) → ⟦<Maximum as Resolver>⟧.says result n asked ≡ rule_of choice.Maximum asked }
     {
         Maximum { asked: 0 }
     }
@@ -42,7 +44,8 @@ impl Maximum {
 impl Minimum {
     /// Never asked.
     pub fn new() -> Self
-        ensures { result ≡ record { asked = 0 } }
+        ensures fresh { result ≡ record { asked = 0 } }
+        ensures means { (n : ℕ) (asked : _) → ⟦<Minimum as Resolver>⟧.says result n asked ≡ rule_of choice.Minimum asked }
     {
         Minimum { asked: 0 }
     }

@@ -3,21 +3,27 @@
 
 mod additive;
 mod asking;
+mod case;
+mod choice;
 mod counted;
 mod extremes;
 mod laws;
-mod losers;
+mod priorities;
 mod priority;
+mod question;
 mod resolver;
 mod values;
 
 pub use additive::Additive;
-pub use asking::{Decisions, Question, ask, ask_all, ask_at};
+pub use asking::{ColTypes, Decisions, Question, ask, ask_all, ask_at};
+pub use case::{CaseKind, ConflictCase, Places};
+pub use choice::ResolverChoice;
 pub use counted::counted_decision;
 pub use extremes::{Maximum, Minimum};
-pub use laws::asking_law;
-pub use losers::losing_rows;
+pub use laws::{asking_law, counted_laws};
+pub use priorities::{incoming_priority, publisher_priority};
 pub use priority::{Priority, SubscriberWins};
+pub use question::Meeting;
 pub use resolver::{Handed, Resolver};
 
 #[cfg(test)]

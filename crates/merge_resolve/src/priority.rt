@@ -1,9 +1,10 @@
 //! The priority of the sites decides, or the subscriber wins whatever the priorities are.
-ghost use Rattle.std.specs.Prelude.{◌≡◌};
+ghost use Rattle.std.specs.Prelude.{◌≡◌, ℕ};
+ghost use Rattle.merge_resolve.specs.declared.choice.ResolverChoice.TheVariants as choice;
+ghost use Rattle.merge_resolve.specs.Choices.{rule_of};
 ghost use Rattle.merge_resolve.specs.Rules.{take_if, by_priority};
 
-use crate::Resolver;
-use merge_conflict::ConflictCase;
+use crate::{ConflictCase, Resolver};
 use merge_types::NoMemory;
 use merge_units::Decision;
 use std::alloc::Global;
@@ -23,7 +24,8 @@ pub struct SubscriberWins {
 impl Priority {
     /// Never asked.
     pub fn new() -> Self
-        ensures { result ≡ record { asked = 0 } }
+        ensures fresh { result ≡ record { asked = 0 } }
+        ensures means { (n : ℕ) (asked : _) → ⟦<Priority as Resolver>⟧.says result n asked ≡ rule_of choice.Priority asked }
     {
         Priority { asked: 0 }
     }
@@ -32,7 +34,8 @@ impl Priority {
 impl SubscriberWins {
     /// Never asked.
     pub fn new() -> Self
-        ensures { result ≡ record { asked = 0 } }
+        ensures fresh { result ≡ record { asked = 0 } }
+        ensures means { (n : ℕ) (asked : _) → ⟦<SubscriberWins as Resolver>⟧.says result n asked ≡ rule_of choice.SubscriberWins asked }
     {
         SubscriberWins { asked: 0 }
     }

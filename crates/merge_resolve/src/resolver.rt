@@ -1,7 +1,7 @@
 //! What decides a conflict.
 ghost use Rattle.std.specs.Prelude.{◌≡◌, ℕ, ◌+◌, ◌-◌, ◌^◌, min, IfOk};
 
-use merge_conflict::ConflictCase;
+use crate::ConflictCase;
 use merge_types::NoMemory;
 use merge_units::Decision;
 use std::alloc::Global;
@@ -10,7 +10,7 @@ use std::alloc::Global;
 /// but the case.
 pub trait Resolver: Drop {
     ghost use Rattle.std.specs.Prelude.{ℕ};
-    ghost use Rattle.merge_conflict.specs.declared.case.ConflictCase.{ConflictCase};
+    ghost use Rattle.merge_resolve.specs.declared.case.ConflictCase.{ConflictCase};
     ghost use Rattle.merge_units.specs.declared.result.Decision.{Decision};
 
     /// The decision on a case when asked so often before.

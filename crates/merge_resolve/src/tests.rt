@@ -2,13 +2,16 @@
 ghost use Rattle.std.specs.Prelude.{◌≡◌, IfOk};
 
 use crate::{
-    Additive, Handed, Maximum, Minimum, Priority, Question, Resolver, SubscriberWins, ask_all,
-    counted_decision, losing_rows,
+    Additive, CaseKind, ColTypes, ConflictCase, Handed, Maximum, Meeting, Minimum, Places,
+    Priority, Question, Resolver, ResolverChoice, SubscriberWins, ask_all, counted_decision,
+    incoming_priority, publisher_priority,
 };
-use merge_conflict::{ConflictCase, Places, Verdict};
 use merge_lineage::Lineage;
-use merge_types::{ColType, Dot, Moment, NoMemory, RowId, SiteId, Value, Values};
-use merge_units::{Body, Cell, Cells, Decision, Side, Version};
+use merge_schema::{Article, Publication, SubKind, Subscription, Tracking};
+use merge_types::{
+    ColType, Column, Dot, HostName, Listing, Moment, NoMemory, RowId, SiteId, Value, Values, Words,
+};
+use merge_units::{Body, Case, Cell, Cells, Decision, Side, Sides, Version};
 use std::alloc::Global;
 use std::test::Fail;
 
@@ -20,7 +23,7 @@ const DOT: Dot = Dot {
 // The values of the resolver's column, and whether the incoming priority is the greater one.
 #[derive(Debug, Drop)]
 struct Sample {
-    kind: u8,
+    kind: CaseKind,
     ours: Value,
     theirs: Value,
     higher: bool,
@@ -36,12 +39,12 @@ enum Expected {
     Sum(Value),
 }
 
-// With row tracking one cell, with column tracking two; kind 3 has a delete.
-fn body(alloc: Global, kind: u8, value: &Value, other: i64) -> Result<Body, Fail> {
+// With row tracking one cell, with column tracking two.
+fn body(alloc: Global, kind: CaseKind, value: &Value, other: i64) -> Result<Body, Fail> {
     let mut cells = Cells::empty(alloc);
     let mut values = Values::empty(alloc);
     values.push(value.clone()?)?;
-    if kind == 1 {
+    if kind == CaseKind::ByRow {
         values.push(Value::Int(other))?;
         cells.push(Cell { top: DOT, values })?;
     } else {
@@ -58,14 +61,14 @@ fn body(alloc: Global, kind: u8, value: &Value, other: i64) -> Result<Body, Fail
 
 fn case(
     alloc: Global,
-    kind: u8,
+    kind: CaseKind,
     ours: &Value,
     theirs: &Value,
     higher: bool,
 ) -> Result<ConflictCase, Fail> {
     let mut cells = Places::empty(alloc);
     cells.push(0)?;
-    let incoming = if kind == 3 {
+    let incoming = if kind == CaseKind::Delete {
         Body::Dead(DOT)
     } else {
         body(alloc, kind, theirs, 2)?
@@ -87,16 +90,16 @@ fn case(
 
 // A sum stands first, and with row tracking the other column of the side that wins by priority
 // behind it.
-fn is_sum(values: &[Value], sum: &Value, kind: u8, higher: bool) -> bool {
+fn is_sum(values: &[Value], sum: &Value, kind: CaseKind, higher: bool) -> bool {
     let other = Value::Int(if higher { 2 } else { 1 });
     match values {
-        [first] => kind == 2 && first == sum,
-        [first, second] => kind == 1 && first == sum && *second == other,
+        [first] => kind == CaseKind::ByColumn && first == sum,
+        [first, second] => kind == CaseKind::ByRow && first == sum && *second == other,
         _ => false,
     }
 }
 
-fn is_expected(decision: &Decision, expected: &Expected, kind: u8, higher: bool) -> bool {
+fn is_expected(decision: &Decision, expected: &Expected, kind: CaseKind, higher: bool) -> bool {
     match (decision, expected) {
         (Decision::KeepPublisher, Expected::Keep) => true,
         (Decision::TakeSubscriber, Expected::Take) => true,
@@ -108,7 +111,7 @@ fn is_expected(decision: &Decision, expected: &Expected, kind: u8, higher: bool)
 }
 
 fn sampled(
-    kind: u8,
+    kind: CaseKind,
     ours: Value,
     theirs: Value,
     higher: bool,
@@ -127,22 +130,23 @@ fn sampled(
 
 #[test]
 fn rules_decide(rt: HostRuntime) -> Result<(), Fail> {
+    use CaseKind::{ByColumn, ByRow, Delete};
     use Expected::{Keep, Sum, Take};
     use Value::{Day, Guid, Int, Null};
     let samples = [
-        sampled(1, Int(1), Int(5), false, (Take, Keep, Sum(Int(6)))),
-        sampled(1, Int(5), Int(1), true, (Keep, Take, Sum(Int(6)))),
-        sampled(2, Int(5), Int(5), true, (Keep, Keep, Sum(Int(10)))),
-        sampled(2, Null, Int(5), false, (Take, Take, Sum(Int(5)))),
-        sampled(1, Int(5), Null, true, (Keep, Keep, Sum(Int(5)))),
-        sampled(2, Null, Null, true, (Keep, Keep, Sum(Null))),
-        sampled(2, Day(3), Day(9), false, (Take, Keep, Keep)),
-        sampled(2, Int(3), Day(9), true, (Take, Take, Take)),
-        sampled(1, Guid(1), Guid(2), false, (Keep, Keep, Keep)),
-        sampled(1, Int(i64::MAX), Int(1), true, (Keep, Take, Take)),
-        sampled(2, Int(i64::MIN), Int(-1), false, (Take, Keep, Keep)),
-        sampled(3, Int(1), Int(5), true, (Take, Take, Take)),
-        sampled(3, Int(1), Int(5), false, (Keep, Keep, Keep)),
+        sampled(ByRow, Int(1), Int(5), false, (Take, Keep, Sum(Int(6)))),
+        sampled(ByRow, Int(5), Int(1), true, (Keep, Take, Sum(Int(6)))),
+        sampled(ByColumn, Int(5), Int(5), true, (Keep, Keep, Sum(Int(10)))),
+        sampled(ByColumn, Null, Int(5), false, (Take, Take, Sum(Int(5)))),
+        sampled(ByRow, Int(5), Null, true, (Keep, Keep, Sum(Int(5)))),
+        sampled(ByColumn, Null, Null, true, (Keep, Keep, Sum(Null))),
+        sampled(ByColumn, Day(3), Day(9), false, (Take, Keep, Keep)),
+        sampled(ByColumn, Int(3), Day(9), true, (Take, Take, Take)),
+        sampled(ByRow, Guid(1), Guid(2), false, (Keep, Keep, Keep)),
+        sampled(ByRow, Int(i64::MAX), Int(1), true, (Keep, Take, Take)),
+        sampled(ByColumn, Int(i64::MIN), Int(-1), false, (Take, Keep, Keep)),
+        sampled(Delete, Int(1), Int(5), true, (Take, Take, Take)),
+        sampled(Delete, Int(1), Int(5), false, (Keep, Keep, Keep)),
     ];
     for s in &samples {
         let asked = case(rt.alloc(), s.kind, &s.ours, &s.theirs, s.higher)?;
@@ -186,11 +190,23 @@ impl Resolver for Turncoat {
     }
 }
 
-fn question(alloc: Global, place: usize) -> Result<Question, Fail>
+fn question(alloc: Global, place: u8) -> Result<Question, Fail>
     ensures { IfOk result (λ question. question.place ≡ place) }
 {
-    let case = case(alloc, 2, &Value::Int(1), &Value::Int(2), false)?;
-    Ok(Question { place, case })
+    let case = case(
+        alloc,
+        CaseKind::ByColumn,
+        &Value::Int(1),
+        &Value::Int(2),
+        false,
+    )?;
+    Ok(Question {
+        place,
+        case,
+        sides: Sides::empty(alloc),
+        types: ColTypes::empty(alloc),
+        identity: None,
+    })
 }
 
 #[test]
@@ -204,12 +220,12 @@ fn asks_in_turn(rt: HostRuntime) -> Result<(), Fail> {
         (1, Expected::Take),
     ];
     for (place, told) in &places {
-        assert!(rt; *place < resolvers.len());
+        assert!(rt; (*place as usize) < resolvers.len());
         let questions = [question(rt.alloc(), *place)?];
         let decisions = ask_all(rt.alloc(), &mut resolvers, &questions)?;
         assert_eq!(rt; decisions.len(), 1);
         for decision in decisions.as_slice() {
-            assert!(rt; is_expected(decision, told, 2, false));
+            assert!(rt; is_expected(decision, told, CaseKind::ByColumn, false));
         }
     }
     assert_eq!(rt; resolvers.len(), 2);
@@ -219,41 +235,14 @@ fn asks_in_turn(rt: HostRuntime) -> Result<(), Fail> {
 }
 
 #[test]
-fn losers_are_kept(rt: HostRuntime) -> Result<(), Fail> {
-    let asked = case(rt.alloc(), 3, &Value::Int(1), &Value::Int(2), false)?;
-    let ours = Version {
-        lineage: Lineage::new(rt.alloc()),
-        body: asked.publisher.clone()?,
-    };
-    let theirs = Version {
-        lineage: Lineage::new(rt.alloc()),
-        body: asked.incoming.clone()?,
-    };
-    let cases = [
-        (Decision::KeepPublisher, 4, SiteId(7), Verdict::Publisher),
-        (Decision::TakeSubscriber, 3, SiteId(0), Verdict::Subscriber),
-    ];
-    for (decision, kind, from, verdict) in &cases {
-        let rows = losing_rows(rt.alloc(), 1, &asked, &ours, &theirs, decision)?;
-        assert_eq!(rt; rows.len(), 1);
-        for row in rows.as_slice() {
-            assert_eq!(rt; (row.kind, row.from, row.verdict), (*kind, *from, *verdict));
-        }
-    }
-    // Where other values are decided both lose, the publisher's first.
-    let custom = Decision::Custom(Values::empty(rt.alloc()));
-    let rows = losing_rows(rt.alloc(), 5, &asked, &ours, &theirs, &custom)?;
-    assert_eq!(rt; rows.len(), 2);
-    let told = [(5, SiteId(0)), (6, SiteId(7))];
-    for (row, (number, from)) in rows.as_slice().iter().zip(&told) {
-        assert_eq!(rt; (row.number, row.from), (*number, *from));
-    }
-    Ok(())
-}
-
-#[test]
 fn lists_count_where_they_fit(rt: HostRuntime) -> Result<(), Fail> {
-    let asked = case(rt.alloc(), 2, &Value::Int(1), &Value::Int(2), false)?;
+    let asked = case(
+        rt.alloc(),
+        CaseKind::ByColumn,
+        &Value::Int(1),
+        &Value::Int(2),
+        false,
+    )?;
     let types = [ColType::Int, ColType::Int];
     let sides = [Side::Both, Side::Neither];
     let lists = [
@@ -268,7 +257,127 @@ fn lists_count_where_they_fit(rt: HostRuntime) -> Result<(), Fail> {
         }
         let decision = Decision::Custom(values);
         let counted = counted_decision(rt.alloc(), &types, *identity, &sides, &asked, decision)?;
-        assert!(rt; is_expected(&counted, told, 2, false));
+        assert!(rt; is_expected(&counted, told, CaseKind::ByColumn, false));
+    }
+    Ok(())
+}
+
+fn article(alloc: Global) -> Result<Article, Fail> {
+    let mut columns = Listing::empty(alloc);
+    for name in ["id", "total"] {
+        columns.push(Column {
+            name: Words::of(alloc, name)?,
+            ty: ColType::Int,
+        })?;
+    }
+    Ok(Article {
+        name: Words::of(alloc, "orders")?,
+        columns,
+        tracking: Tracking::ByColumn,
+        filter: None,
+        joins: Listing::empty(alloc),
+        identity: None,
+        resolver: ResolverChoice::Additive.place(),
+        resolver_column: Some(1),
+    })
+}
+
+#[test]
+fn a_question_is_built_from_its_article(rt: HostRuntime) -> Result<(), Fail> {
+    let alloc = rt.alloc();
+    let asked = case(
+        alloc,
+        CaseKind::ByColumn,
+        &Value::Int(1),
+        &Value::Int(2),
+        false,
+    )?;
+    let publisher = Version {
+        lineage: Lineage::new(alloc),
+        body: asked.publisher.clone()?,
+    };
+    let incoming = Version {
+        lineage: Lineage::new(alloc),
+        body: asked.incoming.clone()?,
+    };
+    let mut sides = Sides::empty(alloc);
+    sides.push(Side::Neither)?;
+    sides.push(Side::Both)?;
+    let meeting = Meeting {
+        article: 0,
+        row: RowId(1),
+        site: SiteId(7),
+        publisher_priority: 5,
+        incoming_priority: 6,
+        moment: Moment(9),
+    };
+    let conflict = Case::Conflict(sides);
+    let question = meeting.question(alloc, &article(alloc)?, &publisher, &incoming, &conflict)?;
+    assert_eq!(rt;
+        ResolverChoice::at(question.place),
+        Some(ResolverChoice::Additive)
+    );
+    assert_eq!(rt; question.case.kind, CaseKind::ByColumn);
+    assert_eq!(rt; question.case.cells.as_slice(), [1].as_slice());
+    assert_eq!(rt;
+        question.sides.as_slice(),
+        [Side::Neither, Side::Both].as_slice()
+    );
+    assert_eq!(rt;
+        question.types.as_slice(),
+        [ColType::Int, ColType::Int].as_slice()
+    );
+    let life = meeting.question(
+        alloc,
+        &article(alloc)?,
+        &publisher,
+        &incoming,
+        &Case::LifeConflict,
+    )?;
+    assert_eq!(rt; life.case.kind, CaseKind::Delete);
+    assert_eq!(rt; life.case.cells.len(), 0);
+    Ok(())
+}
+
+#[test]
+fn priorities_of_both_sides(rt: HostRuntime) -> Result<(), Fail> {
+    let alloc = rt.alloc();
+    let mut subscriptions = Listing::empty(alloc);
+    for (site, kind, priority) in [(1, SubKind::Client, 0), (2, SubKind::Server, 300)] {
+        subscriptions.push(Subscription {
+            site: SiteId(site),
+            host: HostName(Words::of(alloc, "host")?),
+            kind,
+            priority,
+        })?;
+    }
+    let publication = Publication {
+        name: Words::of(alloc, "sales")?,
+        retention_days: 14,
+        conflict_retention_days: 14,
+        articles: Listing::empty(alloc),
+        subscriptions,
+    };
+    assert_eq!(rt; incoming_priority(&publication, SiteId(1)), 0);
+    assert_eq!(rt; incoming_priority(&publication, SiteId(2)), 300);
+    // A change that the incoming version knows has no weight.
+    for (site, weight) in [(0, 10000), (1, 10000), (2, 300)] {
+        let top = Dot {
+            site: SiteId(site),
+            number: 1,
+        };
+        let publisher = Version {
+            lineage: Lineage::new(alloc),
+            body: Body::Dead(top),
+        };
+        let mut incoming = publisher.clone()?;
+        assert_eq!(rt;
+            publisher_priority(&publication, &publisher, &incoming),
+            weight
+        );
+        assert!(rt; !incoming.lineage.knows(top));
+        incoming.lineage = incoming.lineage.advance(top)?;
+        assert_eq!(rt; publisher_priority(&publication, &publisher, &incoming), 0);
     }
     Ok(())
 }

@@ -3,17 +3,12 @@ ghost use Rattle.std.specs.Prelude.{◌≡◌, slice_get};
 ghost use Rattle.std.specs.Option.{option_copied};
 ghost use Rattle.merge_resolve.specs.Columns.{cell_value, value_in, body_value};
 
+use crate::CaseKind;
 use merge_types::Value;
 use merge_units::{Body, Cell};
 
-/// The kind of a case with row tracking.
-pub const BY_ROW: u8 = 1;
-
-/// The kind of a case with column tracking.
-pub const BY_COLUMN: u8 = 2;
-
 /// The value of the column, where a case of this kind names one that the body has.
-pub fn body_value(kind: u8, body: &Body, column: Option<u8>) -> Option<&Value>
+pub fn body_value(kind: CaseKind, body: &Body, column: Option<u8>) -> Option<&Value>
     ensures { option_copied result ≡ body_value kind body.now column }
 {
     match (body, column) {
@@ -23,15 +18,13 @@ pub fn body_value(kind: u8, body: &Body, column: Option<u8>) -> Option<&Value>
 }
 
 /// The value of a column, where the cells have it.
-pub fn value_in(kind: u8, cells: &[Cell], column: usize) -> Option<&Value>
+pub fn value_in(kind: CaseKind, cells: &[Cell], column: usize) -> Option<&Value>
     ensures { option_copied result ≡ value_in kind cells.now column }
 {
-    if kind == BY_ROW {
-        cell_value(cells.get(0), column)
-    } else if kind == BY_COLUMN {
-        cell_value(cells.get(column), 0)
-    } else {
-        None
+    match kind {
+        CaseKind::ByRow => cell_value(cells.get(0), column),
+        CaseKind::ByColumn => cell_value(cells.get(column), 0),
+        CaseKind::Delete => None,
     }
 }
 

@@ -3,7 +3,7 @@ use Rattle.std.proofs.Common.{◌≡◌, ◌≤◌, ℕ, zero, suc, min, drop, B
 use Rattle.std.specs.List.{list_any}
 use Rattle.std.proofs.lemmas.Slice.Zip.{length-zip}
 use Rattle.std.proofs.lemmas.Grind.{common_steps}
-use Rattle.merge_types.specs.declared.Dot.{Dot}
+use Rattle.merge_lineage.specs.Lineage.{knows}
 use Rattle.merge_units.specs.declared.version.Cell.{Cell}
 use Rattle.merge_units.specs.declared.version.Body.{Body}
 use Rattle.merge_units.specs.declared.version.Body.TheVariants.{Live, Dead}
@@ -12,8 +12,8 @@ use Rattle.merge_units.specs.declared.case.Side.{Side}
 use Rattle.merge_units.specs.declared.case.Case.TheVariants as case
 use Rattle.merge_units.specs.declared.result.Decision.{Decision}
 use Rattle.merge_units.specs.declared.result.Decision.TheVariants.{KeepPublisher, TakeSubscriber, Custom}
-use Rattle.merge_units.specs.Version.{HaveEqualCounts, has_news}
-use Rattle.merge_units.specs.Cases.{is_both, sides_of, bodies_case, news_case, case_of}
+use Rattle.merge_units.specs.Version.{Knowing, HaveEqualCounts, has_news, has_news_over}
+use Rattle.merge_units.specs.Cases.{is_both, live_case, sides_of, bodies_case, news_case, case_by, case_of}
 use Rattle.merge_units.specs.Results.{taken_count, FitsDecision, FitsBodies}
 
 -- a side alone takes no values
@@ -38,10 +38,10 @@ live false ss ps is (Custom vs) here there fits = absurd fits
 live false ss ps is KeepPublisher here there fits = record { here = here; there = there; values = keep_takes_none ss ps }
 live false ss ps is TakeSubscriber here there fits = record { here = here; there = there; values = take_takes_none ss ps }
 
-pub length-sides_of : (here there : List Dot) (ps is : List Cell) → length ps ≡ length is → length (sides_of here there ps is) ≡ length ps
+pub length-sides_of : (here there : Knowing) (ps is : List Cell) → length ps ≡ length is → length (sides_of here there ps is) ≡ length ps
 length-sides_of here there ps is counts = grind (arith, common_steps, length-zip ps is)
 
-module _ (here there : List Dot) where
+module _ (here there : Knowing) where
   by_bodies : (p i : Body) (d : Decision) → HaveEqualCounts p i → FitsDecision (bodies_case here there p i) p d → FitsBodies (bodies_case here there p i) p i d
   by_bodies (Dead p) (Dead i) d counts fits = tt
   by_bodies (Dead p) (Live is) d counts fits = tt
@@ -58,8 +58,17 @@ module _ (here there : List Dot) where
   by_news false true p i d counts fits = tt
   by_news false false p i d counts fits = tt
 
+  -- the same for the case by what each knows
+  pub fits_case : (p i : Body) (d : Decision) → HaveEqualCounts p i → FitsDecision (case_by here there p i) p d → FitsBodies (case_by here there p i) p i d
+  fits_case p i d counts fits = by_news (has_news there p) (has_news here i) p i d counts fits
+
 pub fits_bodies : (p i : Version) (d : Decision) → HaveEqualCounts p.body i.body → FitsDecision (case_of p i) p.body d → FitsBodies (case_of p i) p.body i.body d
-fits_bodies p i d counts fits = by_news p.lineage i.lineage (has_news p i) (has_news i p) p.body i.body d counts fits
+fits_bodies p i d counts fits = fits_case (knows p.lineage) (knows i.lineage) p.body i.body d counts fits
+
+-- the case of two live versions that both have news
+pub live_case_of : (p i : Version) (ours theirs : List Cell) → p.body ≡ Live ours → i.body ≡ Live theirs → has_news_over p i ≡ true → has_news_over i p ≡ true
+    → case_of p i ≡ live_case (sides_of (knows p.lineage) (knows i.lineage) ours theirs)
+live_case_of p i ours theirs here there news_here news_there = rw (news_here, news_there, here, there) refl
 
 -- behind the shorter list no cell takes a value
 no_cells_take : (d : Decision) (ss : List Side) → taken_count d ss [] ≡ 0

@@ -4,9 +4,11 @@ use Rattle.std.specs.List.{list_any, zip}
 use Rattle.std.proofs.lemmas.List.{length-map}
 use Rattle.std.proofs.lemmas.List.Sums.{sum_by-cons}
 use Rattle.std.proofs.lemmas.Bool.Decides.{nat_tests}
+use Rattle.merge_types.specs.Limits.{row_limit, united_limit}
 use Rattle.merge_types.specs.declared.Dot.{Dot}
 use Rattle.merge_types.specs.declared.Value.{Value}
 use Rattle.merge_types.specs.declared.Value.TheVariants as value
+use Rattle.merge_lineage.specs.Lineage.{knows}
 use Rattle.merge_units.specs.declared.version.Cell.{Cell}
 use Rattle.merge_units.specs.declared.version.Body.{Body}
 use Rattle.merge_units.specs.declared.version.Body.TheVariants.{Live, Dead}
@@ -16,8 +18,8 @@ use Rattle.merge_units.specs.declared.result.Decision.{Decision}
 use Rattle.merge_units.specs.declared.result.Decision.TheVariants.{KeepPublisher, TakeSubscriber, Custom}
 use Rattle.merge_types.specs.Length.{stored_length as value_length, weight}
 use Rattle.merge_units.specs.Length.{stored_length, cell_weight, value_count}
-use Rattle.merge_units.specs.Version.{has_news, cells_of}
-use Rattle.merge_units.specs.Cases.{united_weight, are_long, side_by, side_of, sides_of, is_both, bodies_case, news_case}
+use Rattle.merge_units.specs.Version.{Knowing, has_news, cells_of}
+use Rattle.merge_units.specs.Cases.{united_weight, are_long, side_by, side_of, sides_of, is_both, bodies_case, news_case, case_by}
 use Rattle.merge_units.specs.Results.{decided, taken, result_cell, result_cells, case_body, winner_body}
 use Rattle.merge_units.specs.Laws.{HaveSameShape, PicksSide, RowsStayInLimit}
 use Rattle.merge_units.proofs.Merged.{live_body}
@@ -78,7 +80,7 @@ row_fits dot d values (s ∷ ss) (p ∷ ps) (i ∷ is) side shape =
     )
 
 -- where every cell conflicts, one side wins as a whole
-module _ (dot : Dot) (here there : List Dot) where
+module _ (dot : Dot) (here there : Knowing) where
   all_kept : (values : List Value) (ps is : List Cell) → length ps ≡ length is → result_cells dot KeepPublisher values (map (side_of true here there) (zip ps is)) ps is ≡ ps
   unfolding side_by
   all_kept values [] is counts = refl
@@ -92,28 +94,28 @@ module _ (dot : Dot) (here there : List Dot) where
   all_taken values (p ∷ ps) [] counts = absurd (omega arith)
   all_taken values (p ∷ ps) (i ∷ is) counts = ap (λ (cells : List Cell). i ∷ cells) (all_taken values ps is (omega arith))
 
-module _ (dot : Dot) (here there : List Dot) (ps is : List Cell) (shape : map (λ (cell : Cell). length cell.values) ps ≡ map (λ (cell : Cell). length cell.values) is)
-    (columns : value_count ps ≤ 64) (ours : stored_length ps ≤ 8000) (theirs : stored_length is ≤ 8000) where
+module _ (dot : Dot) (here there : Knowing) (ps is : List Cell) (shape : map (λ (cell : Cell). length cell.values) ps ≡ map (λ (cell : Cell). length cell.values) is)
+    (columns : value_count ps ≤ 64) (ours : stored_length ps ≤ row_limit) (theirs : stored_length is ≤ row_limit) where
   equal_counts : length ps ≡ length is
   equal_counts = omega (arith, ap length shape, length-map ps (λ (cell : Cell). length cell.values), length-map is (λ (cell : Cell). length cell.values))
 
   -- long together one side has the row, and else each cell is within the heavier one
-  by_length : (d : Decision) → PicksSide d → (values : List Value) (long : Bool) → are_long ps is ≡ long → stored_length (result_cells dot d values (map (side_of long here there) (zip ps is)) ps is) ≤ 8000
+  by_length : (d : Decision) → PicksSide d → (values : List Value) (long : Bool) → are_long ps is ≡ long → stored_length (result_cells dot d values (map (side_of long here there) (zip ps is)) ps is) ≤ row_limit
   by_length (Custom vs) side values long is_long = absurd side
   by_length KeepPublisher side values true is_long = rw (all_kept dot here there values ps is equal_counts) ours
   by_length TakeSubscriber side values true is_long = rw (all_taken dot here there values ps is equal_counts) theirs
   by_length d side values false not_long =
-      let light : united_weight (zip ps is) ≤ 7936 = grind (arith, nat_tests) in
+      let light : united_weight (zip ps is) ≤ united_limit = grind (arith, nat_tests) in
       omega (arith, row_fits dot d values (map (side_of false here there) (zip ps is)) ps is side shape)
 
-row_of_side : (d : Decision) → PicksSide d → (p i : Body) → stored_length (cells_of p) ≤ 8000 → stored_length (cells_of i) ≤ 8000 → stored_length (cells_of (winner_body d p i)) ≤ 8000
+row_of_side : (d : Decision) → PicksSide d → (p i : Body) → stored_length (cells_of p) ≤ row_limit → stored_length (cells_of i) ≤ row_limit → stored_length (cells_of (winner_body d p i)) ≤ row_limit
 row_of_side (Custom vs) side p i ours theirs = absurd side
 row_of_side KeepPublisher side p i ours theirs = ours
 row_of_side TakeSubscriber side p i ours theirs = theirs
 
-module _ (dot : Dot) (here there : List Dot) (d : Decision) (side : PicksSide d) where
-  by_bodies : (p i : Body) → HaveSameShape p i → value_count (cells_of p) ≤ 64 → stored_length (cells_of p) ≤ 8000 → stored_length (cells_of i) ≤ 8000
-      → stored_length (cells_of (case_body dot d (bodies_case here there p i) p i)) ≤ 8000
+module _ (dot : Dot) (here there : Knowing) (d : Decision) (side : PicksSide d) where
+  by_bodies : (p i : Body) → HaveSameShape p i → value_count (cells_of p) ≤ 64 → stored_length (cells_of p) ≤ row_limit → stored_length (cells_of i) ≤ row_limit
+      → stored_length (cells_of (case_body dot d (bodies_case here there p i) p i)) ≤ row_limit
   by_bodies (Dead p) (Dead i) shape columns ours theirs = ours
   by_bodies (Dead p) (Live is) shape columns ours theirs = row_of_side d side (Dead p) (Live is) ours theirs
   by_bodies (Live ps) (Dead i) shape columns ours theirs = row_of_side d side (Live ps) (Dead i) ours theirs
@@ -121,12 +123,17 @@ module _ (dot : Dot) (here there : List Dot) (d : Decision) (side : PicksSide d)
       rw (live_body dot d (list_any is_both (sides_of here there ps is)) (sides_of here there ps is) ps is)
       (by_length dot here there ps is shape columns ours theirs d side (decided d) (are_long ps is) refl)
 
-  by_news : (ours theirs : Bool) (p i : Body) → HaveSameShape p i → value_count (cells_of p) ≤ 64 → stored_length (cells_of p) ≤ 8000 → stored_length (cells_of i) ≤ 8000
-      → stored_length (cells_of (case_body dot d (news_case ours theirs (bodies_case here there p i)) p i)) ≤ 8000
+  by_news : (ours theirs : Bool) (p i : Body) → HaveSameShape p i → value_count (cells_of p) ≤ 64 → stored_length (cells_of p) ≤ row_limit → stored_length (cells_of i) ≤ row_limit
+      → stored_length (cells_of (case_body dot d (news_case ours theirs (bodies_case here there p i)) p i)) ≤ row_limit
   by_news true true p i shape columns our_row their_row = by_bodies p i shape columns our_row their_row
   by_news false true p i shape columns our_row their_row = their_row
   by_news true false p i shape columns our_row their_row = our_row
   by_news false false p i shape columns our_row their_row = our_row
 
+  -- by what each version knows
+  pub rows_stay_by : (p i : Body) → HaveSameShape p i → value_count (cells_of p) ≤ 64 → stored_length (cells_of p) ≤ row_limit → stored_length (cells_of i) ≤ row_limit
+      → stored_length (cells_of (case_body dot d (case_by here there p i) p i)) ≤ row_limit
+  rows_stay_by p i shape columns ours theirs = by_news (has_news there p) (has_news here i) p i shape columns ours theirs
+
 pub rows_stay_in_limit : RowsStayInLimit
-rows_stay_in_limit p i d dot side shape columns ours theirs = by_news dot p.lineage i.lineage d side (has_news p i) (has_news i p) p.body i.body shape columns ours theirs
+rows_stay_in_limit p i d dot side shape columns ours theirs = rows_stay_by dot (knows p.lineage) (knows i.lineage) d side p.body i.body shape columns ours theirs

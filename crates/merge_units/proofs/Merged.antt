@@ -5,6 +5,7 @@ use Rattle.std.proofs.lemmas.List.{length-take-le, length-drop, take-append-drop
 use Rattle.std.proofs.lemmas.Slice.Zip.{length-zip, get_or-zip}
 use Rattle.merge_types.specs.declared.Dot.{Dot}
 use Rattle.merge_types.specs.declared.Value.{Value}
+use Rattle.merge_lineage.specs.Lineage.{knows}
 use Rattle.merge_units.specs.declared.version.Cell.{Cell}
 use Rattle.merge_units.specs.declared.version.Body.{Body}
 use Rattle.merge_units.specs.declared.version.Body.TheVariants.{Live, Dead}
@@ -14,7 +15,7 @@ use Rattle.merge_units.specs.declared.case.Side.TheVariants as side
 use Rattle.merge_units.specs.declared.case.Case.TheVariants as case
 use Rattle.merge_units.specs.declared.result.Decision.{Decision}
 use Rattle.merge_units.specs.declared.result.Decision.TheVariants.{KeepPublisher, TakeSubscriber, Custom}
-use Rattle.merge_units.specs.Version.{HaveEqualCounts, cells_of}
+use Rattle.merge_units.specs.Version.{Knowing, HaveEqualCounts, cells_of}
 use Rattle.merge_units.specs.Cases.{are_long, side_of, sides_of, is_both, case_of}
 use Rattle.merge_units.specs.Results.{decided, taken, taken_count, result_cell, result_cells, case_body, result_of, FitsDecision, FitsLive, FitsBodies}
 use Rattle.merge_units.specs.Laws.{IsCellBy, AreApart, MergesBySide, CellsBySide, conflicting_values, DecidedValuesStand}
@@ -60,30 +61,30 @@ live_values : (any : Bool) (ss : List Side) (ps is : List Cell) (d : Decision) �
 live_values true ss ps is d fits = fits.values
 live_values false ss ps is d fits = fits.values
 
-side_at : (here there : List Dot) (ps is : List Cell) → length ps ≡ length is → (k : ℕ) (e : Cell) → k < length ps
+side_at : (here there : Knowing) (ps is : List Cell) → length ps ≡ length is → (k : ℕ) (e : Cell) → k < length ps
     → get_or (sides_of here there ps is) k side.Neither ≡ side_of (are_long ps is) here there (get_or ps k e, get_or is k e)
 side_at here there ps is counts k e lt =
     let pair = get_or-zip ps is k (e, e) lt (omega arith) in
     get_or-map (side_of (are_long ps is) here there) (zip ps is) k (e, e) side.Neither (omega (arith, length-zip ps is)) ∙ ap (side_of (are_long ps is) here there) pair
 
 module _ (p i : Version) (d : Decision) (dot : Dot) (ours theirs : List Cell) (apart : AreApart p i ours theirs) where
-  merged_body : (result_of p i d dot).body ≡ Live (result_cells dot d (decided d) (sides_of p.lineage i.lineage ours theirs) ours theirs)
-  merged_body = rw (apart.news_here, apart.news_there, apart.here, apart.there) (live_body dot d (list_any is_both (sides_of p.lineage i.lineage ours theirs)) (sides_of p.lineage i.lineage ours theirs) ours theirs)
+  merged_body : (result_of p i d dot).body ≡ Live (result_cells dot d (decided d) (sides_of (knows p.lineage) (knows i.lineage) ours theirs) ours theirs)
+  merged_body = rw (apart.news_here, apart.news_there, apart.here, apart.there) (live_body dot d (list_any is_both (sides_of (knows p.lineage) (knows i.lineage) ours theirs)) (sides_of (knows p.lineage) (knows i.lineage) ours theirs) ours theirs)
 
-  merged_values : length ours ≡ length theirs → FitsDecision (case_of p i) p.body d → length (decided d) ≡ taken_count d (sides_of p.lineage i.lineage ours theirs) ours
+  merged_values : length ours ≡ length theirs → FitsDecision (case_of p i) p.body d → length (decided d) ≡ taken_count d (sides_of (knows p.lineage) (knows i.lineage) ours theirs) ours
   merged_values counts fits =
       let equal_counts : HaveEqualCounts p.body i.body = rw (apart.here, apart.there) counts in
-      live_values (list_any is_both (sides_of p.lineage i.lineage ours theirs)) (sides_of p.lineage i.lineage ours theirs) ours theirs d
+      live_values (list_any is_both (sides_of (knows p.lineage) (knows i.lineage) ours theirs)) (sides_of (knows p.lineage) (knows i.lineage) ours theirs) ours theirs d
       (rw (apart.news_here, apart.news_there, apart.here, apart.there) at (fits_bodies p i d equal_counts fits))
 
 pub cells_by_side : CellsBySide
 cells_by_side p i d dot ours theirs apart counts fits =
-    let ss = sides_of p.lineage i.lineage ours theirs in
-    let here = length-sides_of p.lineage i.lineage ours theirs counts in
+    let ss = sides_of (knows p.lineage) (knows i.lineage) ours theirs in
+    let here = length-sides_of (knows p.lineage) (knows i.lineage) ours theirs counts in
     let values = merged_values p i d dot ours theirs apart counts fits in
-    let by : (k : ℕ) (e : Cell) → k < length ours → IsCellBy dot d (side_of (are_long ours theirs) p.lineage i.lineage (get_or ours k e, get_or theirs k e)) (get_or ours k e) (get_or theirs k e) (get_or (result_cells dot d (decided d) ss ours theirs) k e) =
+    let by : (k : ℕ) (e : Cell) → k < length ours → IsCellBy dot d (side_of (are_long ours theirs) (knows p.lineage) (knows i.lineage) (get_or ours k e, get_or theirs k e)) (get_or ours k e) (get_or theirs k e) (get_or (result_cells dot d (decided d) ss ours theirs) k e) =
     λ k e lt. subst (λ (s : Side). IsCellBy dot d s (get_or ours k e) (get_or theirs k e) (get_or (result_cells dot d (decided d) ss ours theirs) k e))
-    (side_at p.lineage i.lineage ours theirs counts k e lt)
+    (side_at (knows p.lineage) (knows i.lineage) ours theirs counts k e lt)
     (cells_by dot d (decided d) ss ours theirs here (here ∙ counts) values k side.Neither e (omega (arith, here))) in
     subst (λ (body : Body). MergesBySide p i d dot ours theirs (cells_of body)) (sym (merged_body p i d dot ours theirs apart))
     (record { counts = length-result_cells dot d (decided d) ss ours theirs here (here ∙ counts); cells = by })

@@ -1,6 +1,6 @@
 -- Loops over two lists side by side.
-use Rattle.std.proofs.Common.{◌≡◌, ℕ, ◌+◌, ◌<◌, List, [], ◌∷◌, ◌++◌, length, get_or, take, map, max, ap, arith}
-use Rattle.std.specs.List.{zip}
+use Rattle.std.proofs.Common.{◌≡◌, ℕ, ◌+◌, ◌<◌, Bool, List, [], ◌∷◌, ◌++◌, length, get_or, take, map, max, ap, refl, arith}
+use Rattle.std.specs.List.{list_any, zip}
 use Rattle.std.proofs.lemmas.Slice.Zip.{get_or-zip, length-zip}
 use Rattle.std.proofs.lemmas.Grind.{common_steps}
 use Rattle.merge_units.specs.Length.{cell_weight}
@@ -20,3 +20,8 @@ module _ {A B : Type 0} (xs : List A) (ys : List B) (k : ℕ) (x : A) (y : B) (i
 pub united_weight_next : (ps is : List Cell) (k : ℕ) (p i : Cell) → k < length ps → k < length is → p ≡ get_or ps k p → i ≡ get_or is k i
     → united_weight (take (k + 1) (zip ps is)) ≡ united_weight (take k (zip ps is)) + max (cell_weight p) (cell_weight i)
 united_weight_next ps is k p i in_ps in_is at_p at_i = grind (arith, common_steps, ap united_weight (take-zip_next ps is k p i in_ps in_is at_p at_i))
+
+-- a test of what a function gives
+pub any_map : {A B : Type 0} (test : B → Bool) (f : A → B) (xs : List A) → list_any test (map f xs) ≡ list_any (λ x. test (f x)) xs
+any_map test f [] = refl
+any_map test f (x ∷ xs) = rw (any_map test f xs) refl

@@ -20,9 +20,9 @@ use Rattle.merge_units.specs.declared.result.Decision.{Decision}
 use Rattle.merge_units.specs.declared.result.Decision.TheVariants.{KeepPublisher, TakeSubscriber, Custom}
 use Rattle.merge_units.specs.Version.{FitsTracking, cells_of}
 use Rattle.merge_units.specs.Cases.{case_of}
-use Rattle.merge_units.specs.Changes.{set_value, new_cell, cell_after, whole_row_after}
+use Rattle.merge_units.specs.Changes.{set_value, new_cell, new_cells, cell_after, whole_row_after}
 use Rattle.merge_units.specs.Results.{decided, taken, taken_count, result_cell, result_cells, case_body, FitsMerge, FitsLive, FitsBodies}
-use Rattle.merge_units.specs.Laws.{FitsBody, ResultFits, ChangeFits}
+use Rattle.merge_units.specs.Laws.{FitsBody, ResultFits, ChangeFits, InsertFits}
 use Rattle.merge_units.proofs.Fits.{fits_bodies}
 use Rattle.merge_units.proofs.Merged.{length-result_cells}
 
@@ -86,3 +86,11 @@ columns_have_one dot edits n (x ∷ xs) each = All-cons HasOne _ _
 pub change_fits : ChangeFits
 change_fits tracking.Row v dot edits fits = length-map (cells_of v.body) (whole_row_after dot edits) ∙ fits
 change_fits tracking.ByColumn v dot edits fits = columns_have_one dot edits 0 (cells_of v.body) fits
+
+columns_of_one : (dot : Dot) (values : List Value) → All HasOne (new_cells tracking.ByColumn dot values)
+columns_of_one dot [] = All-nil HasOne
+columns_of_one dot (value ∷ values) = All-cons HasOne _ _ refl (columns_of_one dot values)
+
+pub insert_fits : InsertFits
+insert_fits tracking.Row dot values = refl
+insert_fits tracking.ByColumn dot values = columns_of_one dot values

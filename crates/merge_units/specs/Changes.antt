@@ -35,6 +35,15 @@ abbrev pub cells_after : Tracking → Dot → List Setting → List Cell → Lis
 cells_after tracking.Row dot edits cells = map (whole_row_after dot edits) cells
 cells_after tracking.ByColumn dot edits cells = map (cell_after dot edits) (enumerate_from 0 cells)
 
+-- the cells of a new row
+abbrev pub new_cells : Tracking → Dot → List Value → List Cell
+new_cells tracking.Row dot values = record { top = dot; values = values } ∷ []
+new_cells tracking.ByColumn dot values = map (λ (value : Value). record { top = dot; values = value ∷ [] }) values
+
+-- the version that an insert of these values makes
+abbrev pub new_row : Dot → List Value → Tracking → Version
+new_row dot values tracking = record { lineage = with_dot dot []; body = Live (new_cells tracking dot values) }
+
 -- the version after an update of these columns
 abbrev pub changed : Version → Dot → List Setting → Tracking → Version
 changed version dot edits tracking = record { lineage = with_dot dot version.lineage; body = Live (cells_after tracking dot edits (cells_of version.body)) }

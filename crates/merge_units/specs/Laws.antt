@@ -1,10 +1,11 @@
 -- What holds of every merge.
 use Rattle.std.specs.Prelude.{◌≡◌, ℕ, ◌<◌, ◌≤◌, true, false, List, [], ◌∷◌, ◌++◌, length, map, slice_index_or, if◌then◌else◌}
+use Rattle.merge_types.specs.Limits.{row_limit}
 use Rattle.merge_types.specs.declared.Dot.{Dot}
 use Rattle.merge_types.specs.declared.Value.{Value}
 use Rattle.merge_types.specs.declared.Setting.{Setting}
 use Rattle.merge_types.specs.declared.Tracking.{Tracking}
-use Rattle.merge_lineage.specs.Lineage.{IsAscending, Covers}
+use Rattle.merge_lineage.specs.Lineage.{IsAscending, knows, Covers}
 use Rattle.merge_units.specs.declared.version.Cell.{Cell}
 use Rattle.merge_units.specs.declared.version.Body.{Body}
 use Rattle.merge_units.specs.declared.version.Body.TheVariants.{Live, Dead}
@@ -15,14 +16,18 @@ use Rattle.merge_units.specs.declared.case.Case.TheVariants as case
 use Rattle.merge_units.specs.declared.result.Decision.{Decision}
 use Rattle.merge_units.specs.declared.result.Decision.TheVariants.{KeepPublisher, TakeSubscriber, Custom}
 use Rattle.merge_units.specs.Length.{stored_length, value_count}
-use Rattle.merge_units.specs.Version.{has_news, KnowsItsTops, cells_of, HaveEqualCounts, FitsTracking}
-use Rattle.merge_units.specs.Cases.{are_long, side_of, is_both, case_of}
+use Rattle.merge_units.specs.Version.{has_news_over, KnowsItsTops, cells_of, HaveEqualCounts, FitsTracking}
+use Rattle.merge_units.specs.Cases.{are_long, side_of, is_both, case_of, case_by}
 use Rattle.merge_units.specs.Results.{result_of, FitsDecision}
-use Rattle.merge_units.specs.Changes.{changed, removed}
+use Rattle.merge_units.specs.Changes.{changed, removed, new_row}
+
+-- the case by lineages is that by what each version knows, which is what its lineage does
+abbrev pub CaseByKnowing : Type 0
+CaseByKnowing = (p i : Version) → case_of p i ≡ case_by (knows p.lineage) (knows i.lineage) p.body i.body
 
 -- a version has no news over one that knows all that it knows
 abbrev pub CoveredHasNoNews : Type 0
-CoveredHasNoNews = (x y : Version) → KnowsItsTops x → Covers y.lineage x.lineage → has_news x y ≡ false
+CoveredHasNoNews = (x y : Version) → KnowsItsTops x → Covers y.lineage x.lineage → has_news_over x y ≡ false
 
 -- so an equal version brings nothing
 abbrev pub EqualIsNothing : Type 0
@@ -34,7 +39,7 @@ CoveredIsNothing = (p i : Version) → KnowsItsTops i → Covers p.lineage i.lin
 
 -- and one that knows all of the publisher's is taken, where it has news
 abbrev pub CoveringIsTaken : Type 0
-CoveringIsTaken = (p i : Version) → KnowsItsTops p → Covers i.lineage p.lineage → case_of p i ≡ (if has_news i p then case.Take else case.Nothing)
+CoveringIsTaken = (p i : Version) → KnowsItsTops p → Covers i.lineage p.lineage → case_of p i ≡ (if has_news_over i p then case.Take else case.Nothing)
 
 -- a cell is the winner's where it conflicts, that of the side where it is new alone, and else the publisher's
 abbrev pub IsCellBy : Dot → Decision → Side → Cell → Cell → Cell → Type 0
@@ -49,14 +54,14 @@ IsCellBy dot (Custom values) side.Both ours theirs cell = (cell.top ≡ dot) × 
 pub record AreApart (p i : Version) (ours theirs : List Cell) : Type 0 where
   pub here : p.body ≡ Live ours
   pub there : i.body ≡ Live theirs
-  pub news_here : has_news p i ≡ true
-  pub news_there : has_news i p ≡ true
+  pub news_here : has_news_over p i ≡ true
+  pub news_there : has_news_over i p ≡ true
 
 -- each cell of their merge is by its side
 pub record MergesBySide (p i : Version) (decision : Decision) (dot : Dot) (ours theirs merged : List Cell) : Type 0 where
   pub counts : length merged ≡ length ours
   pub cells : (k : ℕ) (d : Cell) → k < length ours
-      → IsCellBy dot decision (side_of (are_long ours theirs) p.lineage i.lineage (slice_index_or ours k d, slice_index_or theirs k d)) (slice_index_or ours k d) (slice_index_or theirs k d) (slice_index_or merged k d)
+      → IsCellBy dot decision (side_of (are_long ours theirs) (knows p.lineage) (knows i.lineage) (slice_index_or ours k d, slice_index_or theirs k d)) (slice_index_or ours k d) (slice_index_or theirs k d) (slice_index_or merged k d)
 
 abbrev pub CellsBySide : Type 0
 CellsBySide = (p i : Version) (decision : Decision) (dot : Dot) (ours theirs : List Cell) → AreApart p i ours theirs → length ours ≡ length theirs
@@ -86,7 +91,7 @@ PicksSide _ = Unit {0}
 -- no row of at most 64 columns passes the limit by a merge
 abbrev pub RowsStayInLimit : Type 0
 RowsStayInLimit = (p i : Version) (decision : Decision) (dot : Dot) → PicksSide decision → HaveSameShape p.body i.body → value_count (cells_of p.body) ≤ 64
-    → stored_length (cells_of p.body) ≤ 8000 → stored_length (cells_of i.body) ≤ 8000 → stored_length (cells_of (result_of p i decision dot).body) ≤ 8000
+    → stored_length (cells_of p.body) ≤ row_limit → stored_length (cells_of i.body) ≤ row_limit → stored_length (cells_of (result_of p i decision dot).body) ≤ row_limit
 
 -- where tops are known by their own lineage, so are those of a result
 abbrev pub ResultKnowsItsTops : Type 0
@@ -95,6 +100,10 @@ ResultKnowsItsTops = (p i : Version) (decision : Decision) (dot : Dot) → IsAsc
 -- and those of a local change
 abbrev pub ChangeKnowsItsTops : Type 0
 ChangeKnowsItsTops = (v : Version) (dot : Dot) (edits : List Setting) (tracking : Tracking) → IsAscending v.lineage → KnowsItsTops v → KnowsItsTops (changed v dot edits tracking) × KnowsItsTops (removed v dot)
+
+-- a new row knows its tops
+abbrev pub InsertKnowsItsTops : Type 0
+InsertKnowsItsTops = (dot : Dot) (values : List Value) (tracking : Tracking) → KnowsItsTops (new_row dot values tracking)
 
 -- whether the body can be that of a row with this tracking
 abbrev pub FitsBody : Tracking → Body → Type 0
@@ -109,3 +118,7 @@ ResultFits = (tracking : Tracking) (p i : Version) (decision : Decision) (dot : 
 -- and a local change keeps it
 abbrev pub ChangeFits : Type 0
 ChangeFits = (tracking : Tracking) (v : Version) (dot : Dot) (edits : List Setting) → FitsTracking tracking (cells_of v.body) → FitsTracking tracking (cells_of (changed v dot edits tracking).body)
+
+-- a new row fits its tracking
+abbrev pub InsertFits : Type 0
+InsertFits = (tracking : Tracking) (dot : Dot) (values : List Value) → FitsTracking tracking (cells_of (new_row dot values tracking).body)

@@ -69,12 +69,15 @@ abbrev pub result_lineage : List Dot → List Dot → Decision → Dot → List 
 result_lineage here there (Custom values) dot = with_dot dot (joined here there)
 result_lineage here there _ dot = joined here there
 
--- the row's version after the decision
-abbrev pub result_of : Version → Version → Decision → Dot → Version
-result_of p i decision dot = record {
+-- the row's version after a case was decided
+abbrev pub result_by : Case → Version → Version → Decision → Dot → Version
+result_by case p i decision dot = record {
   lineage = result_lineage p.lineage i.lineage decision dot;
-  body = case_body dot decision (case_of p i) p.body i.body;
+  body = case_body dot decision case p.body i.body;
 }
+
+abbrev pub result_of : Version → Version → Decision → Dot → Version
+result_of p i decision dot = result_by (case_of p i) p i decision dot
 
 -- values may be decided in a conflict alone, as many as the conflicting cells have
 abbrev pub FitsDecision : Case → Body → Decision → Type 0

@@ -1,5 +1,5 @@
 -- What a version has, and what is news in it.
-use Rattle.std.specs.Prelude.{◌≡◌, Bool, true, false, not, List, [], length, All}
+use Rattle.std.specs.Prelude.{◌≡◌, Bool, true, false, not, List, [], ◌∷◌, length, map, filter, All}
 use Rattle.std.specs.List.{list_any}
 use Rattle.merge_types.specs.declared.Dot.{Dot}
 use Rattle.merge_types.specs.declared.Tracking.{Tracking}
@@ -10,22 +10,34 @@ use Rattle.merge_units.specs.declared.version.Body.{Body}
 use Rattle.merge_units.specs.declared.version.Body.TheVariants.{Live, Dead}
 use Rattle.merge_units.specs.declared.version.Version.{Version}
 
--- whether the change is not known
-abbrev pub is_new : List Dot → Dot → Bool
-is_new lineage dot = not (knows lineage dot)
+-- which changes of a row a version knows
+abbrev pub Knowing : Type 0
+Knowing = Dot → Bool
 
--- whether one of the body's tops is not known by the lineage
-abbrev pub has_new_top : List Dot → Body → Bool
-has_new_top lineage (Live cells) = list_any (λ (cell : Cell). is_new lineage cell.top) cells
-has_new_top lineage (Dead top) = is_new lineage top
+-- whether the change is not known there
+abbrev pub is_new : Knowing → Dot → Bool
+is_new there dot = not (there dot)
 
--- whether one of x's tops is not known by y's lineage
-abbrev pub has_news : Version → Version → Bool
-has_news x y = has_new_top y.lineage x.body
+-- the tops of a body: the change that last set each cell, or the one that deleted the row
+abbrev pub tops_of : Body → List Dot
+tops_of (Live cells) = map (λ (cell : Cell). cell.top) cells
+tops_of (Dead top) = top ∷ []
+
+-- the tops that are not known there
+abbrev pub new_tops : Knowing → Body → List Dot
+new_tops there body = filter (is_new there) (tops_of body)
+
+-- a version has news where it has such a top
+abbrev pub has_news : Knowing → Body → Bool
+has_news there body = list_any (is_new there) (tops_of body)
+
+-- the news of x over y, where each knows what its lineage does
+abbrev pub has_news_over : Version → Version → Bool
+has_news_over x y = has_news (knows y.lineage) x.body
 
 -- each top is known by the version's own lineage
 abbrev pub KnowsItsTops : Version → Type 0
-KnowsItsTops v = has_news v v ≡ false
+KnowsItsTops v = has_news_over v v ≡ false
 
 -- the cells of a live body
 abbrev pub cells_of : Body → List Cell

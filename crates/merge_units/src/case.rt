@@ -1,11 +1,13 @@
 //! What an incoming version of a row is to the publisher's.
-ghost use Rattle.std.specs.Prelude.{◌≡◌, IfOk, length, map};
+ghost use Rattle.std.specs.Prelude.{◌≡◌, false, IfOk, IsOk, length, map};
 ghost use Rattle.std.specs.List.{list_any, zip};
+ghost use Rattle.merge_lineage.specs.Lineage.{knows};
 ghost use Rattle.merge_units.specs.Version.{HaveEqualCounts};
-ghost use Rattle.merge_units.specs.Cases.{is_both, side_by, side_of, live_case, sides_of, case_of, are_long};
+ghost use Rattle.merge_units.specs.Cases.{is_both, side_by, side_of, live_case, sides_of, case_of, names_sides, are_long};
 
 use crate::{Body, Cell, Version};
 use merge_lineage::Lineage;
+use merge_types::limits::UNITED_LIMIT;
 use merge_types::{Exact, Listing, NoMemory};
 use std::alloc::Global;
 
@@ -46,14 +48,13 @@ pub enum Case {
     LifeConflict,
 }
 
-// Two versions that would weigh more than this together conflict in every cell, so that no row
-// passes the limit of 8,000 bytes, Nulls included, by a merge.
-const UNITED_LIMIT: u64 = 7936;
-
 /// What the incoming version is to the publisher's.
 pub fn classify(alloc: Global, publisher: &Version, incoming: &Version) -> Result<Case, NoMemory>
     requires { HaveEqualCounts publisher.now.body incoming.now.body }
-    ensures { IfOk result (λ case. case ≡ case_of publisher.now incoming.now) }
+    ensures case { IfOk result (λ case. case ≡ case_of publisher.now incoming.now) }
+
+    // A case that names no sides takes no memory.
+    ensures free { names_sides (case_of publisher.now incoming.now) ≡ false → IsOk result }
 {
     match (
         publisher.has_news_over(incoming),
@@ -105,7 +106,7 @@ fn sides(
     theirs: &[Cell],
 ) -> Result<Sides, NoMemory>
     requires { length ours.now ≡ length theirs.now }
-    ensures { IfOk result (λ sides. sides ≡ sides_of here.now there.now ours.now theirs.now) }
+    ensures { IfOk result (λ sides. sides ≡ sides_of (knows here.now) (knows there.now) ours.now theirs.now) }
 {
     let long = are_long(ours, theirs);
     Ok(Sides::new(pair_sides(alloc, long, here, there, ours, theirs)?))
@@ -120,7 +121,7 @@ fn pair_sides(
     theirs: &[Cell],
 ) -> Result<Vec<Side>, NoMemory>
     requires { length ours.now ≡ length theirs.now }
-    ensures { IfOk result (λ sides. sides.items ≡ map (side_of long here.now there.now) (zip ours.now theirs.now)) }
+    ensures { IfOk result (λ sides. sides.items ≡ map (side_of long (knows here.now) (knows there.now)) (zip ours.now theirs.now)) }
 {
     let mut sides = Vec::new(alloc);
     for at in 0..ours.len() {
@@ -130,7 +131,7 @@ fn pair_sides(
 }
 
 fn pair_side(long: bool, here: &Lineage, there: &Lineage, our: &Cell, their: &Cell) -> Side
-    ensures { result ≡ side_of long here.now there.now (our.now, their.now) }
+    ensures { result ≡ side_of long (knows here.now) (knows there.now) (our.now, their.now) }
 {
     side_by(long, !there.knows(our.top), !here.knows(their.top))
 }

@@ -2,10 +2,10 @@
 ghost use Rattle.std.specs.Prelude.{◌≡◌, ◌<◌, IsTrue, ◌↔◌, All, length};
 ghost use Rattle.merge_units.specs.Length.{value_count};
 ghost use Rattle.merge_units.specs.Version.{HaveEqualCounts, FitsTracking};
-ghost use Rattle.merge_units.specs.Results.{taken_count, FitsDecision, IsNewWhereDecided};
+ghost use Rattle.merge_units.specs.Results.{taken_count, FitsDecision, FitsMerge, FitsBodies, IsNewWhereDecided};
 ghost use Rattle.merge_units.specs.Changes.{ColumnsAscend, AscendBelow};
 
-use crate::result::taken;
+use crate::result::{taken, values_of};
 use crate::{Body, Case, Cell, Decision, Side};
 use merge_lineage::Lineage;
 use merge_types::{Dot, Setting, Tracking, Value};
@@ -103,6 +103,32 @@ pub fn is_new_where_decided(
         Decision::Custom(_) => !publisher.knows(dot) && !incoming.knows(dot),
         Decision::KeepPublisher | Decision::TakeSubscriber => true,
     }
+}
+
+/// Whether the decision may come for this case of two bodies: the test for `Case::apply`.
+pub fn fits_bodies(case: &Case, publisher: &Body, incoming: &Body, decision: &Decision) -> bool
+    ensures { IsTrue result ↔ FitsBodies case.now publisher.now incoming.now decision.now }
+{
+    match (case, publisher, incoming) {
+        (Case::Merge(sides) | Case::Conflict(sides), Body::Live(ours), Body::Live(theirs)) => {
+            fits_merge(
+                sides.as_slice(),
+                ours.as_slice(),
+                theirs.as_slice(),
+                decision,
+            )
+        }
+        (Case::Merge(_) | Case::Conflict(_), _, _) => false,
+        _ => true,
+    }
+}
+
+fn fits_merge(sides: &[Side], ours: &[Cell], theirs: &[Cell], decision: &Decision) -> bool
+    ensures { IsTrue result ↔ FitsMerge sides.now ours.now theirs.now decision.now }
+{
+    sides.len() == ours.len()
+        && sides.len() == theirs.len()
+        && are_taken(values_of(decision), sides, ours, decision)
 }
 
 // Whether the conflicting cells take all of these values, and no more.

@@ -4,11 +4,52 @@ ghost use Rattle.std.specs.List.{enumerate_from};
 ghost use Rattle.merge_lineage.specs.Lineage.{knows};
 ghost use Rattle.merge_units.specs.Length.{value_count};
 ghost use Rattle.merge_units.specs.Version.{is_live, cells_of, FitsTracking};
-ghost use Rattle.merge_units.specs.Changes.{value_after, cell_after, cells_after, changed, removed, AscendBelow};
+ghost use Rattle.merge_units.specs.Changes.{new_cells, new_row, value_after, cell_after, cells_after, changed, removed, AscendBelow};
 
 use crate::{Body, Cell, Cells, Version};
+use merge_lineage::Lineage;
 use merge_types::{Dot, NoMemory, Setting, Tracking, Value, Values};
 use std::alloc::Global;
+
+/// The version that an insert of these values makes, by the change with this dot.
+pub fn insert(
+    alloc: Global,
+    dot: Dot,
+    values: Values,
+    tracking: Tracking,
+) -> Result<Version, NoMemory>
+    ensures { IfOk result (λ version. version ≡ new_row dot values tracking) }
+{
+    let mut dots = Vec::new(alloc);
+    dots.push(dot)?;
+    let lineage = Lineage::restore(dots);
+    let body = Body::Live(new_cells(alloc, dot, values, tracking)?);
+    Ok(Version { lineage, body })
+}
+
+// The cells of a new row.
+fn new_cells(alloc: Global, dot: Dot, values: Values, tracking: Tracking) -> Result<Cells, NoMemory>
+    ensures { IfOk result (λ cells. cells ≡ new_cells tracking dot values) }
+{
+    match tracking {
+        Tracking::Row => {
+            let mut cells = Cells::empty(alloc);
+            cells.push(Cell { top: dot, values })?;
+            Ok(cells)
+        }
+        Tracking::ByColumn => Ok(Cells::new(new_columns(alloc, dot, values.into_vec())?)),
+    }
+}
+
+fn new_columns(alloc: Global, dot: Dot, values: Vec<Value>) -> Result<Vec<Cell>, NoMemory>
+    ensures { IfOk result (λ cells. cells.items ≡ map (λ value. record { top = dot; values = value ∷ [] }) values.items) }
+{
+    let mut cells = Vec::new(alloc);
+    for value in values {
+        cells.push(column_cell(alloc, dot, value)?)?;
+    }
+    Ok(cells)
+}
 
 /// The version after an update of these columns by the change with this dot.
 /// An update with equal values is a change too.
@@ -93,16 +134,16 @@ fn columns_after(
 {
     let mut after = cells.to_vec(alloc)?;
     for edit in edits {
-        after[edit.column as usize] = column_cell(alloc, dot, &edit.value)?;
+        after[edit.column as usize] = column_cell(alloc, dot, edit.value.clone()?)?;
     }
     Ok(after)
 }
 
 // The cell of a column that is set.
-fn column_cell(alloc: Global, dot: Dot, value: &Value) -> Result<Cell, NoMemory>
-    ensures { IfOk result (λ cell. cell ≡ record { top = dot; values = value.now ∷ [] }) }
+fn column_cell(alloc: Global, dot: Dot, value: Value) -> Result<Cell, NoMemory>
+    ensures { IfOk result (λ cell. cell ≡ record { top = dot; values = value ∷ [] }) }
 {
     let mut values = Values::empty(alloc);
-    values.push(value.clone()?)?;
+    values.push(value)?;
     Ok(Cell { top: dot, values })
 }

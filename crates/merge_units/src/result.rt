@@ -2,11 +2,11 @@
 ghost use Rattle.std.specs.Prelude.{◌≡◌, IfOk, length};
 ghost use Rattle.merge_units.specs.Version.{HaveEqualCounts};
 ghost use Rattle.merge_units.specs.Cases.{case_of};
-ghost use Rattle.merge_units.specs.Results.{decided, taken, taken_count, result_cell, result_cells, case_body, result_lineage, result_of, FitsDecision, FitsBodies, IsNewWhereDecided};
+ghost use Rattle.merge_units.specs.Results.{decided, taken, taken_count, result_cell, result_cells, case_body, result_lineage, result_by, result_of, FitsDecision, FitsBodies, IsNewWhereDecided};
 
 use crate::{Body, Case, Cell, Cells, Side, Version, classify};
 use merge_lineage::Lineage;
-use merge_types::{Dot, NoMemory, Value, Values};
+use merge_types::{Dot, Exact, NoMemory, Value, Values};
 use std::alloc::{AllocError, Global};
 
 /// What a resolver decides on the conflicting cells of a row, or on the whole row where one of the
@@ -17,6 +17,22 @@ pub enum Decision {
     TakeSubscriber,
     /// These values, for the conflicting cells in order.
     Custom(Values),
+}
+
+impl Clone for Decision {
+    ghost is_clone = { λ old new. new ≡ old };
+
+    fn clone(&self) -> Result<Decision, AllocError> {
+        match self {
+            Decision::KeepPublisher => Ok(Decision::KeepPublisher),
+            Decision::TakeSubscriber => Ok(Decision::TakeSubscriber),
+            Decision::Custom(values) => Ok(Decision::Custom(values.clone()?)),
+        }
+    }
+}
+
+impl Exact for Decision {
+    ghost exact = { λ value copy same. same };
 }
 
 /// The row's version after the decision. The dot is the publisher's change that makes decided
@@ -33,10 +49,29 @@ pub fn apply(
     requires dot { IsNewWhereDecided publisher.now.lineage incoming.now.lineage decision.now dot }
     ensures { IfOk result (λ version. version ≡ result_of publisher.now incoming.now decision.now dot) }
 {
-    let lineage = joined(&publisher.lineage, &incoming.lineage, decision, dot)?;
     let case = classify(alloc, publisher, incoming)?;
-    let body = case_body(alloc, case, &publisher.body, &incoming.body, decision, dot)?;
-    Ok(Version { lineage, body })
+    case.apply(alloc, publisher, incoming, decision, dot)
+}
+
+impl Case {
+    /// The row's version after the decision on two versions of which this is the case, for a caller
+    /// that has told it before, as one must who asks a resolver.
+    pub fn apply(
+        &self,
+        alloc: Global,
+        publisher: &Version,
+        incoming: &Version,
+        decision: &Decision,
+        dot: Dot,
+    ) -> Result<Version, NoMemory>
+        requires fits { FitsBodies self.now publisher.now.body incoming.now.body decision.now }
+        requires dot { IsNewWhereDecided publisher.now.lineage incoming.now.lineage decision.now dot }
+        ensures { IfOk result (λ version. version ≡ result_by self.now publisher.now incoming.now decision.now dot) }
+    {
+        let lineage = joined(&publisher.lineage, &incoming.lineage, decision, dot)?;
+        let body = case_body(alloc, self, &publisher.body, &incoming.body, decision, dot)?;
+        Ok(Version { lineage, body })
+    }
 }
 
 // The join of both, with the dot of decided values.
@@ -59,14 +94,14 @@ fn joined(
 // The body of the result.
 fn case_body(
     alloc: Global,
-    case: Case,
+    case: &Case,
     ours: &Body,
     theirs: &Body,
     decision: &Decision,
     dot: Dot,
 ) -> Result<Body, NoMemory>
-    requires { FitsBodies case ours.now theirs.now decision.now }
-    ensures { IfOk result (λ body. body ≡ case_body dot decision.now case ours.now theirs.now) }
+    requires { FitsBodies case.now ours.now theirs.now decision.now }
+    ensures { IfOk result (λ body. body ≡ case_body dot decision.now case.now ours.now theirs.now) }
 {
     match case {
         Case::Nothing | Case::Unite => Ok(ours.clone()?),
@@ -123,7 +158,7 @@ fn merged(
 }
 
 // The values that a decision brings.
-fn values_of(decision: &Decision) -> &[Value]
+pub fn values_of(decision: &Decision) -> &[Value]
     ensures { result.now ≡ decided decision.now }
 {
     match decision {

@@ -1,7 +1,8 @@
 //! Versions of a row as sites hold them.
 ghost use Rattle.std.specs.Prelude.{◌≡◌};
 ghost use Rattle.std.specs.List.{list_any};
-ghost use Rattle.merge_units.specs.Version.{is_new, has_news, is_live};
+ghost use Rattle.merge_lineage.specs.Lineage.{knows};
+ghost use Rattle.merge_units.specs.Version.{is_new, has_news_over, is_live};
 
 use merge_lineage::Lineage;
 use merge_types::{Dot, Exact, Listing, RowId, Values};
@@ -114,7 +115,7 @@ impl Version {
 
     /// Whether a change that last set something here is not known there.
     pub fn has_news_over(&self, other: &Version) -> bool
-        ensures { result ≡ has_news self.now other.now }
+        ensures { result ≡ has_news_over self.now other.now }
     {
         match &self.body {
             Body::Live(cells) => any_new(&other.lineage, cells.as_slice()),
@@ -125,7 +126,7 @@ impl Version {
 
 // Whether a cell's top is not known.
 fn any_new(lineage: &Lineage, cells: &[Cell]) -> bool
-    ensures { result ≡ list_any (λ cell. is_new lineage.now cell.top) cells.now }
+    ensures { result ≡ list_any (λ cell. is_new (knows lineage.now) cell.top) cells.now }
 {
     cells.iter().any(|cell| !lineage.knows(cell.top))
 }

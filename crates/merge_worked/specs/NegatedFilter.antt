@@ -18,7 +18,7 @@ publication = record {
     name = codes "customer";
     columns = (record { name = codes "region"; ty = ty.Text } ∷ []);
     tracking = tracking.Row;
-    filter = (Some (Not (Compare (operand.Column 0) sign.Equal 7 operand.Host)));
+    filter = (Some (Not (Compare (operand.Column 0) sign.Equal 11 operand.Host)));
     joins = [];
     identity = None;
     resolver = 0;

@@ -1,5 +1,5 @@
 use Rattle.std.proofs.Common.{◌≡◌, ℕ, ◌++◌, drop, take, map, Some, length}
-use Rattle.merge_conflict.specs.declared.case.ConflictCase.{ConflictCase}
+use Rattle.merge_resolve.specs.declared.case.ConflictCase.{ConflictCase}
 use Rattle.merge_resolve.specs.Asked.{says_at, decisions_of, tallies_after}
 use Rattle.merge_resolve.specs.Questions.{question_of}
 use Rattle.merge_resolve.proofs.asking.ask_all.Given as goal

@@ -13,5 +13,6 @@ pub loop-edit-preserved : goal.loop-edit-preserved
 loop-edit-preserved c =
     let edit = c.edit-item.result in
     let in_range = column_below c.args.edits.now (length c.args.cells.now) c.requires.1 c.loop-edit.edit-index edit c.loop-edit-test.true c.edit-item.is in
-    rw (c.in_ok-after-2.ensures, c.loop-edit.invariant, add-one)
+    let copied : c.in_ok-clone.field-0 ≡ edit.value = search rules in
+    rw (c.in_ok-after-2.ensures, copied, c.loop-edit.invariant, add-one)
     (written_more (new_cell c.args.dot) c.args.cells.now c.args.edits.now c.requires.0 c.loop-edit.edit-index edit c.loop-edit-test.true c.edit-item.is in_range (record { top = c.args.dot; values = edit.value ∷ [] }) (λ x. refl))

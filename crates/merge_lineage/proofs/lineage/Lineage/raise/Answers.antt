@@ -1,5 +1,4 @@
 use Rattle.std.proofs.Common.{◌≡◌, set, subst, sym, arith}
-use Rattle.std.specs.List.{insert}
 use Rattle.std.proofs.lemmas.List.{get_or_default}
 use Rattle.merge_lineage.specs.Lineage.{no_dot, IsAscending, with_dot}
 use Rattle.merge_lineage.proofs.Rising.{ascending_with_dot}
