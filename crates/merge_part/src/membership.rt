@@ -42,7 +42,8 @@ use std::sync::ledger::Ledger;
 /// A question costs the logarithm of the number of rows. A change costs that for its row, for each
 /// link of its article, and for each child that it reaches: the children by a value that the row
 /// had or gets in a column by which they follow it, and all its children where it enters a
-/// partition or leaves one. A child looks at each parent that has its value.
+/// partition or leaves one. In a step the children of a value are reached once, and what its
+/// parents give is worked out once, with a look at each of them.
 #[derive(Drop)]
 pub struct Membership {
     alloc: Global,
