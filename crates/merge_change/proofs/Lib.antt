@@ -1,0 +1,5 @@
+pub mod Lengths
+pub mod Steps
+pub mod FitsAfter
+pub mod Whole
+pub mod Places
