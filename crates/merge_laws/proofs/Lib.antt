@@ -189,3 +189,6 @@ pub mod AccountOwn
 pub mod AccountSteps
 pub mod AccountsAlways
 mod AccountExamples
+pub mod EffectsOnce
+pub mod ValidRules
+pub mod RestsOnKept
