@@ -192,3 +192,5 @@ mod AccountExamples
 pub mod EffectsOnce
 pub mod ValidRules
 pub mod RestsOnKept
+pub mod LeavingsSeen
+pub mod LeavingsOwed

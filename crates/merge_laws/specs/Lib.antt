@@ -25,3 +25,4 @@ pub mod Accounts
 pub mod Effects
 pub mod Promised
 pub mod RestsOn
+pub mod Leavings

@@ -4,6 +4,7 @@
 
 mod effects;
 mod laws;
+mod leavings;
 mod promised;
 mod rests_on;
 
@@ -18,5 +19,6 @@ pub use laws::{
     received_numbers_are_the_generations_that_acted, settled_sites_hold_their_partitions,
     subscribers_decide_as_their_changes_do, uploads_take_effect_once, watermarks_are_held,
 };
+pub use leavings::{purges_and_joins_take_nothing_owed, rows_leave_where_a_step_saw_it};
 pub use promised::{promises_hold, valid_publications_have_values};
 pub use rests_on::runs_keep_what_laws_rest_on;
