@@ -194,3 +194,5 @@ pub mod ValidRules
 pub mod RestsOnKept
 pub mod LeavingsSeen
 pub mod LeavingsOwed
+pub mod RoundStays
+pub mod RoundLaw

@@ -26,3 +26,4 @@ pub mod Effects
 pub mod Promised
 pub mod RestsOn
 pub mod Leavings
+pub mod Rounds

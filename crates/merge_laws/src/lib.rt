@@ -7,6 +7,7 @@ mod laws;
 mod leavings;
 mod promised;
 mod rests_on;
+mod rounds;
 
 pub use effects::no_generation_takes_effect_twice;
 pub use laws::{
@@ -22,3 +23,4 @@ pub use laws::{
 pub use leavings::{purges_and_joins_take_nothing_owed, rows_leave_where_a_step_saw_it};
 pub use promised::{promises_hold, valid_publications_have_values};
 pub use rests_on::runs_keep_what_laws_rest_on;
+pub use rounds::rounds_settle_all_sites;
