@@ -52,7 +52,7 @@ letter-more w (suc k) letter other at = slice_get-append_within w.pool (other �
 -- Each step keeps the letters that there were at their numbers, and what had acted.
 
 module _ (before : Model) where
-  abbrev Grows : History → Type 0
+  abbrev pub Grows : History → Type 0
   Grows h = (site generation : ℕ) → is_done before.history site generation ≡ true → is_done h site generation ≡ true
 
   notes-grow : NotesKeep Grows
@@ -76,10 +76,10 @@ module _ (before : Model) where
       let done : History = record (Noting.with_done m.site.0 0 m.generation h) { bases = put_number h.bases m.site.0 (last_closed p) } in
       lines-keep Grows notes-grow (map (Noting.gone_line (last_closed p + 1)) (map (Noting.gone_for m.site) (Noting.left_rows j m.site))) done (done-grows h m.site.0 0 m.generation g)
 
-  abbrev KeepsLetters : World → Type 0
+  abbrev pub KeepsLetters : World → Type 0
   KeepsLetters w = (number : ℕ) (letter : Letter) → letter_at before.world number ≡ Some letter → letter_at w number ≡ Some letter
 
-  abbrev Stays : World → History → Type 0
+  abbrev pub Stays : World → History → Type 0
   Stays w h = KeepsLetters w × Grows h
 
   module _ (publication : Publication) (says : Saying) where
@@ -97,7 +97,7 @@ module _ (before : Model) where
     sent-stays : (site : SiteId) (message : Message) (w : World) (h : History) → KeepsLetters w → Grows h → Sends Stays site message w h
     sent-stays site message w h kept g = (λ number letter at. letter-more w number letter (record { site = site; message = message }) (kept number letter at), g)
 
-    stays-keep : StepsKeep publication says Received Stays
+    pub stays-keep : StepsKeep publication says Received Stays
     stays-keep = record {
       moment = λ w h now r p. p;
       own_change = λ w h change d r p fine draws. (p.0, own-keep Grows notes-grow publication (by_past h (pasts_with h 0)) change d (here w) h p.1);
@@ -148,7 +148,7 @@ module _ (publication : Publication) (says : Saying) where
   taken-acted m number site u r (Some why) is did = absurd (cc did)
   taken-acted m number site u r None is did = news-acted m number site u r (brings_news (judge publication says m number site u) u) refl (is-fine publication says m number site u is).0
 
-  delivered-acted : (m : Model) → Received m.world m.history → TakenHaveActed publication says m
+  pub delivered-acted : (m : Model) → Received m.world m.history → TakenHaveActed publication says m
   delivered-acted m r number site u at = subst (λ (done : Model × Outcome). did_something done.1 ≡ true → AllActed done.0.history u) (sym (delivered-by publication says m number site u at))
       (taken-acted m number site u r (refusal publication says m number site u) refl)
 

@@ -189,3 +189,10 @@ pub mod AccountOwn
 pub mod AccountSteps
 pub mod AccountsAlways
 mod AccountExamples
+pub mod EffectsOnce
+pub mod ValidRules
+pub mod RestsOnKept
+pub mod LeavingsSeen
+pub mod LeavingsOwed
+pub mod RoundStays
+pub mod RoundLaw

@@ -33,50 +33,50 @@ use Rattle.merge_laws.proofs.Tellings.{numbered-always, numbered-keeps}
 use Rattle.merge_laws.proofs.Walking.{step-keeps, same-sites}
 
 module _ (publication : Publication) (says : Saying) (site : SiteId) where
-  abbrev Known : Model → Type 0
+  abbrev pub Known : Model → Type 0
   Known k = Received k.world k.history × Numbered k.world k.history
 
   -- What is known behind each part of a session.
 
   -- the site's tables
-  record At (k : Model) : Type 0 where
-    tables : SubscriberTables
-    known : Known k
-    here : subscriber_at k.world site ≡ Some tables
+  pub record At (k : Model) : Type 0 where
+    pub tables : SubscriberTables
+    pub known : Known k
+    pub here : subscriber_at k.world site ≡ Some tables
 
-  record Joins (k : Model) : Type 0 where
-    at : At k
-    joined : at.tables.is_joined ≡ true
+  pub record Joins (k : Model) : Type 0 where
+    pub at : At k
+    pub joined : at.tables.is_joined ≡ true
 
   -- nothing of it is unsent
-  record Uploaded (k : Model) : Type 0 where
-    joins : Joins k
-    none : NoneBetween joins.at.tables.received (sub_last_closed joins.at.tables + 1) (made_at k.history site.0)
+  pub record Uploaded (k : Model) : Type 0 where
+    pub joins : Joins k
+    pub none : NoneBetween joins.at.tables.received (sub_last_closed joins.at.tables + 1) (made_at k.history site.0)
 
   -- the publisher's generations have closed up to this one, and the open one is empty. The site may still have to ask for some
-  record Fetches (target : ℕ) (k : Model) : Type 0 where
-    uploaded : Uploaded k
-    closed : last_closed k.world.publisher ≡ target
-    empty : k.world.publisher.gens.filling.filled ≡ 0
-    in_time : is_expired_at publication k.world site ≡ false
-    marks : uploaded.joins.at.tables.watermark ≤ target
+  pub record Fetches (target : ℕ) (k : Model) : Type 0 where
+    pub uploaded : Uploaded k
+    pub closed : last_closed k.world.publisher ≡ target
+    pub empty : k.world.publisher.gens.filling.filled ≡ 0
+    pub in_time : is_expired_at publication k.world site ≡ false
+    pub marks : uploaded.joins.at.tables.watermark ≤ target
 
-  record Fetched (k : Model) : Type 0 where
-    fetches : Fetches (last_closed k.world.publisher) k
-    held : fetches.uploaded.joins.at.tables.watermark ≡ last_closed k.world.publisher
+  pub record Fetched (k : Model) : Type 0 where
+    pub fetches : Fetches (last_closed k.world.publisher) k
+    pub held : fetches.uploaded.joins.at.tables.watermark ≡ last_closed k.world.publisher
 
-  same-site : (k : Model) (a : At k) → a.tables.site ≡ site
+  pub same-site : (k : Model) (a : At k) → a.tables.site ≡ site
   same-site k a = same-sites a.tables.site site (a.known.0.subscribers site.0 a.tables a.here).keyed
 
-  own : (k : Model) (a : At k) → subscriber_at k.world a.tables.site ≡ Some a.tables
+  pub own : (k : Model) (a : At k) → subscriber_at k.world a.tables.site ≡ Some a.tables
   own k a = ap (λ (x : SiteId). subscriber_at k.world x) (same-site k a) ∙ a.here
 
   -- what is said of the model of a session that nothing ended
-  abbrev Settles : (Model → Type 0) → Session Model → Type 0
+  abbrev pub Settles : (Model → Type 0) → Session Model → Type 0
   Settles Q u = u.stop ≡ None → Q u.world
 
   -- What steps keep, an exchange keeps.
-  step-known : (k : Model) (action : Action) → Known k → Known (model_step publication says k action).0
+  pub step-known : (k : Model) (action : Action) → Known k → Known (model_step publication says k action).0
   step-known k action g = (model-fine publication says k action g.0, step-keeps publication says Received Numbered (λ w h r. r) (numbered-keeps publication says) k action g.0 g.1)
 
   -- how a session goes on behind an exchange
@@ -95,11 +95,11 @@ module _ (publication : Publication) (says : Saying) (site : SiteId) where
   answered-settles Acts Rests Q u (k, NoPost) counted next ends g acts rests = λ none. rests k g ends
   answered-settles Acts Rests Q u (k, outcome) counted next ends g acts rests = absurd ends
 
-  deliver-known : (done : Model × Outcome) → Known done.0 → Known (then_deliver (model publication says) site done).0
+  pub deliver-known : (done : Model × Outcome) → Known done.0 → Known (then_deliver (model publication says) site done).0
   deliver-known (k, Posted number) g = step-known k (Deliver number) g
   deliver-known (k, outcome) g = g
 
-  exchange-settles : (Acts Rests Q : Model → Type 0) (sending : Sending) (u : Session Model) (counted next : Session Model → Session Model) → Answered publication says Acts Rests site (ask (model publication says) site sending u.world) → Known u.world
+  pub exchange-settles : (Acts Rests Q : Model → Type 0) (sending : Sending) (u : Session Model) (counted next : Session Model → Session Model) → Answered publication says Acts Rests site (ask (model publication says) site sending u.world) → Known u.world
       → ((x : Session Model) → Known x.world → Acts x.world → Settles Q (next x)) → ((k : Model) → Known k → Rests k → Q k) → Settles Q (exchange (model publication says) site sending counted next u)
   exchange-settles Acts Rests Q sending u counted next ends g acts rests = answered-settles Acts Rests Q u (ask (model publication says) site sending u.world) counted next ends
       (deliver-known (model_step publication says u.world (Send site sending)) (step-known u.world (Send site sending) g)) acts rests
@@ -109,7 +109,7 @@ module _ (publication : Publication) (says : Saying) (site : SiteId) where
   stopped-settles Q R next u (Some refusal) is q more = λ none. absurd (grind (arith, none, is))
   stopped-settles Q R next u None is q more = more u (q is)
 
-  if-settles : (Q : Model → Type 0) (b : Bool) (x y : Session Model) → (b ≡ true → Settles Q x) → (b ≡ false → Settles Q y) → Settles Q (if b then x else y)
+  pub if-settles : (Q : Model → Type 0) (b : Bool) (x y : Session Model) → (b ≡ true → Settles Q x) → (b ≡ false → Settles Q y) → Settles Q (if b then x else y)
   if-settles Q true x y one other = one refl
   if-settles Q false x y one other = other refl
 
@@ -118,11 +118,11 @@ module _ (publication : Publication) (says : Saying) (site : SiteId) where
   joined-is k a b is = sym (ap (λ (found : Option SubscriberTables). unwrap_or (option_map (λ (s : SubscriberTables). s.is_joined) found) true) a.here) ∙ is
 
   -- facts of an exchange are told of the tables' own site
-  ends-here : (Acts Rests : Model → Type 0) (sending : Sending) (k : Model) (a : At k) → Answered publication says Acts Rests a.tables.site (ask (model publication says) a.tables.site sending k)
+  pub ends-here : (Acts Rests : Model → Type 0) (sending : Sending) (k : Model) (a : At k) → Answered publication says Acts Rests a.tables.site (ask (model publication says) a.tables.site sending k)
       → Answered publication says Acts Rests site (ask (model publication says) site sending k)
   ends-here Acts Rests sending k a ends = subst (λ (x : SiteId). Answered publication says Acts Rests x (ask (model publication says) x sending k)) (same-site k a) ends
 
-  abbrev at_next : (k n : Model) (a : At k) (t : SubscriberTables) → Known n → subscriber_at n.world a.tables.site ≡ Some t → At n
+  abbrev pub at_next : (k n : Model) (a : At k) (t : SubscriberTables) → Known n → subscriber_at n.world a.tables.site ≡ Some t → At n
   at_next k n a t g found = record { tables = t; known = g; here = subst (λ (x : SiteId). subscriber_at n.world x ≡ Some t) (same-site k a) found }
 
   made-here : (k n : Model) (a : At k) → made_at n.history a.tables.site.0 ≡ made_at k.history a.tables.site.0 → made_at n.history site.0 ≡ made_at k.history site.0
@@ -182,7 +182,7 @@ module _ (publication : Publication) (says : Saying) (site : SiteId) where
       uploading-settles count (sub_last_closed s + 1) v e
       (subst (λ (x : SiteId). UpTo (sub_last_closed s + 1) (made_at v.world.history x.0)) (same-site u.world j.at) (subst (λ (made : List MadeChange). UpTo (sub_last_closed s + 1) made) (sym l.made) all)) (omega (arith, up, is, t))))
 
-  uploads-settle : (u : Session Model) → Joins u.world → Settles Uploaded (all_uploads (model publication says) site u)
+  pub uploads-settle : (u : Session Model) → Joins u.world → Settles Uploaded (all_uploads (model publication says) site u)
   uploads-settle u j = first-settles (unsent_generations (model publication says) site u.world) u j
       (ap (λ (found : Option SubscriberTables). unwrap_or (option_map (λ (x : SubscriberTables). x.gens.filling.last_closed + 2 - x.received) found) 0) j.at.here)
 
@@ -231,7 +231,7 @@ module _ (publication : Publication) (says : Saying) (site : SiteId) where
     held = (let held = l.held in let within = l.within in let up = l.up in let last = l.last in omega (arith, held, within, up, last, all));
   }
 
-  fetch-settles : (Q : Model → Type 0) (next : Downloaded → Session Model → Session Model) (u : Session Model) (d : Downloaded) → last_message (model publication says) site u.world ≡ Some (Replies (reply.Downloaded d))
+  pub fetch-settles : (Q : Model → Type 0) (next : Downloaded → Session Model → Session Model) (u : Session Model) (d : Downloaded) → last_message (model publication says) site u.world ≡ Some (Replies (reply.Downloaded d))
       → Settles Q (next d u) → Settles Q (after_download (model publication says) site next u)
   fetch-settles Q next u d last holds =
       subst (λ (found : Option Message). Settles Q (let v : Session Model = elim (downloaded_in (model publication says) site found) [ None ↦ u | Some m ↦ next m u ] in v)) (sym last) holds
@@ -262,7 +262,7 @@ module _ (publication : Publication) (says : Saying) (site : SiteId) where
       downloading-settles count target v (fetches-after target k n f.uploaded g l still) (omega (arith, more, held, from, enough)))))))
       (λ n g rests. absurd rests)
 
-  downloads-settle : (u : Session Model) → Uploaded u.world → Settles Fetched (all_downloads (model publication says) site u)
+  pub downloads-settle : (u : Session Model) → Uploaded u.world → Settles Fetched (all_downloads (model publication says) site u)
   unfolding fetches-after
   downloads-settle u f =
       let k : Model = u.world in
@@ -293,7 +293,7 @@ module _ (publication : Publication) (says : Saying) (site : SiteId) where
       (λ v f. asking-settles (range_asks (model publication says) site v.world) v f))
       downloads-settle
 
-  settled : (k : Model) (f : Fetched k) → IsSettled publication k f.fetches.uploaded.joins.at.tables
+  pub settled : (k : Model) (f : Fetched k) → IsSettled publication k f.fetches.uploaded.joins.at.tables
   settled k f =
       let a : At k = f.fetches.uploaded.joins.at in record {
         is_here = own k a;

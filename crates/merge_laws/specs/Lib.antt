@@ -22,3 +22,8 @@ pub mod TablesAgree
 pub mod Deciding
 pub mod ActsOnce
 pub mod Accounts
+pub mod Effects
+pub mod Promised
+pub mod RestsOn
+pub mod Leavings
+pub mod Rounds

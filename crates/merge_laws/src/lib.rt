@@ -2,8 +2,14 @@
 //! are the laws.
 #![tactic(auto)]
 
+mod effects;
 mod laws;
+mod leavings;
+mod promised;
+mod rests_on;
+mod rounds;
 
+pub use effects::no_generation_takes_effect_twice;
 pub use laws::{
     downloads_stay_in_the_partition, finished_sessions_settle_their_sites,
     identity_values_are_taken_once, joined_sites_take_for_received_what_has_acted,
@@ -14,3 +20,7 @@ pub use laws::{
     received_numbers_are_the_generations_that_acted, settled_sites_hold_their_partitions,
     subscribers_decide_as_their_changes_do, uploads_take_effect_once, watermarks_are_held,
 };
+pub use leavings::{purges_and_joins_take_nothing_owed, rows_leave_where_a_step_saw_it};
+pub use promised::{promises_hold, valid_publications_have_values};
+pub use rests_on::runs_keep_what_laws_rest_on;
+pub use rounds::rounds_settle_all_sites;

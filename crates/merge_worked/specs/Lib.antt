@@ -1,4 +1,5 @@
 pub mod Worked
+pub mod StepsFail
 pub mod ARowGoesOver
 pub mod FirstUpdateStays
 pub mod HigherPriorityWins

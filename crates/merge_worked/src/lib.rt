@@ -2,8 +2,10 @@
 //! No crate stands on this one.
 #![tactic(auto)]
 
+mod failing;
 mod rows;
 
+pub use failing::steps_fail;
 pub use rows::{
     a_row_goes_over, both_changes_sum, children_follow, column_update_stays, columns_merge,
     days_work, decided_by_one_value, decided_by_two_values, equal_priorities, everything_happens,
