@@ -1,8 +1,8 @@
 -- What a message that breaks no rule has.
-use Rattle.std.proofs.Common.{◌≡◌, ℕ, Bool, true, [], ◌∷◌, Option, Some, None, option_map, slice_get, refl, arith, suc, ◌-◌, ◌^◌, ◌<◌, ◌≤◌, ◌==◌, ◌||◌, nat_lt, nat_le, length, inl, inr}
+use Rattle.std.proofs.Common.{◌≡◌, ℕ, Bool, true, [], ◌∷◌, Option, Some, None, option_map, slice_get, refl, arith, suc, ◌-◌, ◌^◌, ◌<◌, ◌≤◌, ◌==◌, ◌||◌, ◌&&◌, not, false, nat_lt, nat_le, length, inl, inr}
 use Rattle.std.proofs.lemmas.Bool.Decides.{nat_tests}
 use Rattle.std.proofs.lemmas.Bool.{cases_lt}
-use Rattle.merge_units.specs.Version.{has_news}
+use Rattle.merge_units.specs.Version.{has_news_over}
 use Rattle.merge_schema.specs.declared.publication.Publication.{Publication}
 use Rattle.merge_batch.specs.declared.standing.Standing.{Standing}
 use Rattle.merge_batch.specs.declared.request.Upload.{Upload}
@@ -11,11 +11,20 @@ use Rattle.merge_batch.specs.declared.reply.DownloadItem.{DownloadItem}
 use Rattle.merge_batch.specs.declared.reply.Downloaded.{Downloaded}
 use Rattle.merge_batch.specs.Search.{first_broken, broken_at, broken_by_message, broken_by_items, is_above}
 use Rattle.merge_batch.specs.Known.{Known, received_of, received_number_of}
+use Rattle.merge_batch.specs.Lineages.{has_tops}
 use Rattle.merge_batch.specs.Uploads.{row_of, row_rises, row_fits, lineage_fits, is_in_interval, tops_are_known, has_maker, lineage_is_honest, identity_is_right, upload_rules, item_rules, broken_by_upload, has_generations, has_few_generations, has_few_items, numbers_go_on}
 use Rattle.merge_batch.specs.Replies.{interval_fits, received_fits, downloaded_fits, broken_by_misfit, broken_by_download, row_of as download_row, row_rises as download_rises, item_rules as download_rules}
 use Rattle.merge_batch.specs.Laws.{item_before, IsValidUpload, IsFittingDownload, IsValidItem, ValidUpload, IsFittingItem, FittingDownload}
 use Rattle.merge_batch.proofs.Firsts.{none_found, all-at, above-before}
 use Rattle.merge_batch.proofs.AllMet.{all_met, none_broken, both_met, not-false, none_both, met-at, not-true, none_first, none_second, none_mapped, rows_rise, all_good}
+
+and-first : (a b : Bool) → (a && b) ≡ true → a ≡ true
+and-first true b both = refl
+and-first false b both = both
+
+and-second : (a b : Bool) → (a && b) ≡ true → b ≡ true
+and-second true b both = both
+and-second false b both = absurd cc
 
 -- a rule at a place of an item's list is met
 item_met : (publication : Publication) (known : Known) (upload : Upload) (before : Option UploadItem) (item : UploadItem)
@@ -38,7 +47,8 @@ item-valid publication known upload before item none =
       lineage = met 2 (7, lineage_fits publication upload item) refl;
       above_from = grind (arith, nat_tests, within);
       up_to = grind (arith, nat_tests, within);
-      tops = not-true (has_news item.version item.version) (met 4 (9, tops_are_known item) refl);
+      tops = not-true (has_news_over item.version item.version) (and-second (has_tops publication item.version.body) (not (has_news_over item.version item.version)) (met 4 (9, tops_are_known publication item) refl));
+      made = and-first (has_tops publication item.version.body) (not (has_news_over item.version item.version)) (met 4 (9, tops_are_known publication item) refl);
       maker = met 5 (10, has_maker publication known upload item) refl;
       honest = met 6 (11, lineage_is_honest known upload item) refl;
       identity = met 7 (12, identity_is_right publication known item) refl;
@@ -67,7 +77,7 @@ item_rules-met : (publication : Publication) (known : Known) (upload : Upload) (
     → row_rises before item ≡ true → IsValidItem publication known upload item → first_broken (item_rules publication known upload before item) ≡ None
 item_rules-met publication known upload before item rises valid =
     let within : is_in_interval upload item ≡ true = grind (arith, nat_tests, valid.above_from, valid.up_to) in
-    let tops : tops_are_known item ≡ true = not-false (has_news item.version item.version) valid.tops in
+    let tops : tops_are_known publication item ≡ true = both_met valid.made (not-false (has_news_over item.version item.version) valid.tops) in
     none_broken (item_rules publication known upload before item)
     (both_met rises (both_met valid.fits (both_met valid.lineage (both_met within (both_met tops
     (both_met valid.maker (both_met valid.honest (both_met valid.identity refl))))))))

@@ -2,13 +2,14 @@
 use Rattle.std.specs.Prelude.{ℕ, ◌==◌, ◌&&◌, Bool, true, false, nat_le, List, [], ◌∷◌, length, slice_get, Option, Some, None, is_some}
 use Rattle.std.specs.List.{list_all, flat_map}
 use Rattle.std.specs.Option.{option_map_or}
+use Rattle.merge_types.specs.Fitting.{has_type, is_short}
+use Rattle.merge_types.specs.Limits.{row_limit}
 use Rattle.merge_types.specs.declared.ColType.{ColType}
-use Rattle.merge_types.specs.declared.ColType.TheVariants as column
 use Rattle.merge_types.specs.declared.Column.{Column}
 use Rattle.merge_types.specs.declared.Tracking.{Tracking}
 use Rattle.merge_types.specs.declared.Tracking.TheVariants as tracking
 use Rattle.merge_types.specs.declared.Value.{Value}
-use Rattle.merge_types.specs.declared.Value.TheVariants.{Null, Int, Bit, Text, Day, Guid, Bytes}
+use Rattle.merge_types.specs.declared.Value.TheVariants.{Null}
 use Rattle.merge_units.specs.declared.version.Cell.{Cell}
 use Rattle.merge_units.specs.declared.version.Body.{Body}
 use Rattle.merge_units.specs.declared.version.Body.TheVariants.{Live, Dead}
@@ -16,28 +17,9 @@ use Rattle.merge_units.specs.Length.{stored_length}
 use Rattle.merge_schema.specs.declared.publication.Publication.{Publication}
 use Rattle.merge_schema.specs.declared.publication.Article.{Article}
 use Rattle.merge_schema.specs.declared.publication.Identity.{Identity}
+use Rattle.merge_schema.specs.Places.{article_at}
 
--- the article at a place of the publication
-abbrev pub article_at : Publication → ℕ → Option Article
-article_at publication place = slice_get publication.articles place
-
--- a Null, or a value of the column's type
-unfoldable pub has_type : ColType → Value → Bool
-has_type ty Null = true
-has_type column.Int (Int number) = true
-has_type column.Bit (Bit bit) = true
-has_type column.Text (Text text) = true
-has_type column.Day (Day day) = true
-has_type column.Guid (Guid guid) = true
-has_type column.Bytes (Bytes bytes) = true
-has_type _ _ = false
-
--- a text or bytes of at most 4,000 bytes, or a value of another type
-abbrev pub is_short : Value → Bool
-is_short (Text text) = nat_le (length text) 4000
-is_short (Bytes bytes) = nat_le (length bytes) 4000
-is_short _ = true
-
+-- a Null, or a value of the column's type, and short where it is a text or bytes
 abbrev pub value_fits : ColType → Value → Bool
 value_fits ty value = has_type ty value && is_short value
 
@@ -75,7 +57,7 @@ abbrev pub cells_fit : Article → List Cell → Bool
 cells_fit article cells =
     cells_fit_tracking article.tracking cells
     && values_fit article.columns (row_values cells)
-    && nat_le (stored_length cells) 8000
+    && nat_le (stored_length cells) row_limit
     && identity_is_set article.identity (row_values cells)
 
 -- of a deleted row nothing is asked

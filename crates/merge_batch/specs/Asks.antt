@@ -1,21 +1,22 @@
 -- When a join and a range request are valid. Rules are numbered as the refusal of a bad batch tells them.
-use Rattle.std.specs.Prelude.{ℕ, ◌^◌, ◌&&◌, Bool, false, nat_lt, nat_le, [], ◌∷◌, map, Option, is_some}
+use Rattle.std.specs.Prelude.{ℕ, ◌&&◌, Bool, false, nat_lt, nat_le, [], ◌∷◌, map, Option, is_some}
 use Rattle.std.specs.List.{list_all}
 use Rattle.std.specs.Option.{option_map_or}
+use Rattle.merge_types.specs.Limits.{number_limit}
 use Rattle.merge_ident.specs.Grants.{granted_to}
 use Rattle.merge_schema.specs.declared.publication.Publication.{Publication}
 use Rattle.merge_schema.specs.declared.publication.Article.{Article}
+use Rattle.merge_schema.specs.Places.{article_at}
 use Rattle.merge_batch.specs.declared.rules.BrokenRule.{BrokenRule}
 use Rattle.merge_batch.specs.declared.request.Join.{Join}
 use Rattle.merge_batch.specs.declared.request.RangeAsk.{RangeAsk}
 use Rattle.merge_batch.specs.declared.request.Want.{Want}
 use Rattle.merge_batch.specs.Search.{broken_by_message, are_distinct}
 use Rattle.merge_batch.specs.Known.{Known}
-use Rattle.merge_batch.specs.Articles.{article_at}
 
 -- rule 4: the numbers of a join are below 2^62
 abbrev pub join_numbers_fit : Join → Bool
-join_numbers_fit join = nat_lt join.seq (2 ^ 62) && nat_lt join.generation (2 ^ 62) && nat_lt join.number (2 ^ 62)
+join_numbers_fit join = nat_lt join.seq number_limit && nat_lt join.generation number_limit && nat_lt join.number number_limit
 
 -- what a join breaks
 unfoldable pub broken_by_join : Join → Option BrokenRule

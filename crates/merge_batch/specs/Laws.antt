@@ -1,5 +1,6 @@
 -- What it means that a message is valid, and that a fault is the first one.
-use Rattle.std.specs.Prelude.{◌≡◌, ℕ, zero, suc, ◌+◌, ◌^◌, ◌<◌, ◌≤◌, Bool, true, List, length, slice_get, Option, Some, None, MatchOption, All, AllPairs, ◌↔◌}
+use Rattle.std.specs.Prelude.{◌≡◌, ℕ, zero, suc, ◌+◌, ◌<◌, ◌≤◌, Bool, true, List, length, slice_get, Option, Some, None, MatchOption, All, AllPairs, ◌↔◌}
+use Rattle.merge_types.specs.Limits.{generation_limit, item_limit, number_limit}
 use Rattle.merge_types.specs.declared.Dot.{Dot}
 use Rattle.merge_types.specs.Rows.{IsMadeBy}
 use Rattle.merge_units.specs.declared.version.Body.{Body}
@@ -16,6 +17,7 @@ use Rattle.merge_batch.specs.Search.{first_broken, broken_by_items, is_below}
 use Rattle.merge_batch.specs.Makers.{maker_of}
 use Rattle.merge_batch.specs.Known.{Known, received_of, received_number_of}
 use Rattle.merge_batch.specs.Articles.{body_fits}
+use Rattle.merge_batch.specs.Lineages.{has_tops}
 use Rattle.merge_batch.specs.Uploads.{row_of, row_fits, lineage_fits, has_maker, lineage_is_honest, identity_is_right, item_rules, broken_by_upload}
 use Rattle.merge_batch.specs.Replies.{act_fits, maker_fits, broken_by_download}
 use Rattle.merge_batch.specs.Replies.{row_of as download_row, item_rules as download_rules}
@@ -59,6 +61,7 @@ pub record IsValidItem (publication : Publication) (known : Known) (upload : Upl
   pub above_from : upload.from < item.generation
   pub up_to : item.generation ≤ upload.to
   pub tops : KnowsItsTops item.version
+  pub made : has_tops publication item.version.body ≡ true
   pub maker : has_maker publication known upload item ≡ true
   pub honest : lineage_is_honest known upload item ≡ true
   pub identity : identity_is_right publication known item ≡ true
@@ -66,10 +69,10 @@ pub record IsValidItem (publication : Publication) (known : Known) (upload : Upl
 -- what a valid upload has, and what makes it valid: each row once, in order
 pub record IsValidUpload (publication : Publication) (known : Known) (upload : Upload) : Type 0 where
   pub generations : upload.from < upload.to
-  pub few_generations : upload.to ≤ upload.from + 100
-  pub few_items : length upload.items ≤ 2000
-  pub to_fits : upload.to < 2 ^ 62
-  pub through_fits : upload.through < 2 ^ 62
+  pub few_generations : upload.to ≤ upload.from + generation_limit
+  pub few_items : length upload.items ≤ item_limit
+  pub to_fits : upload.to < number_limit
+  pub through_fits : upload.through < number_limit
   pub goes_on : received_of known upload.site.0 < upload.to → received_number_of known upload.site.0 ≤ upload.through
   pub rows_rise : AllPairs (λ (a b : UploadItem). is_below (row_of a) (row_of b) ≡ true) upload.items
   pub items : All (IsValidItem publication known upload) upload.items
@@ -87,12 +90,12 @@ pub record IsFittingDownload (publication : Publication) (own : Standing) (from 
   pub begins : downloaded.from ≡ from
   pub forward : downloaded.from ≤ downloaded.to
   pub closed : downloaded.to ≤ downloaded.last
-  pub last_fits : downloaded.last < 2 ^ 62
-  pub few_generations : downloaded.to ≤ downloaded.from + 100
+  pub last_fits : downloaded.last < number_limit
+  pub few_generations : downloaded.to ≤ downloaded.from + generation_limit
   pub goes_on : downloaded.from < downloaded.last → downloaded.from < downloaded.to
   pub no_less : own.received ≤ downloaded.received
   pub no_more : downloaded.received ≤ own.closed
-  pub few_items : length downloaded.items ≤ 2000
+  pub few_items : length downloaded.items ≤ item_limit
   pub rows_rise : AllPairs (λ (a b : DownloadItem). is_below (download_row a) (download_row b) ≡ true) downloaded.items
   pub items : All (IsFittingItem publication own) downloaded.items
 

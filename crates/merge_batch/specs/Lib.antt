@@ -1,5 +1,6 @@
 pub mod Refusals
 pub mod Search
+pub mod LocalChanges
 pub mod Makers
 pub mod Known
 pub mod Articles
@@ -7,5 +8,7 @@ pub mod Lineages
 pub mod Uploads
 pub mod Asks
 pub mod Replies
+pub mod Heads
+pub mod Orders
 pub mod Opened
 pub mod Laws

@@ -1,7 +1,8 @@
 -- Which replies fit the message that they answer.
-use Rattle.std.specs.Prelude.{ℕ, ◌+◌, ◌-◌, ◌^◌, ◌==◌, ◌&&◌, ◌||◌, Bool, true, false, not, nat_lt, nat_le, int_le, List, [], ◌∷◌, length, map, Option, None, option_map}
+use Rattle.std.specs.Prelude.{ℕ, ◌+◌, ◌-◌, ◌==◌, ◌&&◌, ◌||◌, Bool, true, false, not, nat_lt, nat_le, int_le, List, [], ◌∷◌, length, map, Option, None, option_map}
 use Rattle.std.specs.List.{list_all}
 use Rattle.std.specs.Option.{option_or, option_map_or}
+use Rattle.merge_types.specs.Limits.{generation_limit, item_limit, number_limit}
 use Rattle.merge_types.specs.declared.Dot.{Dot}
 use Rattle.merge_units.specs.declared.version.Body.TheVariants.{Live}
 use Rattle.merge_schema.specs.declared.publication.Publication.{Publication}
@@ -21,11 +22,11 @@ use Rattle.merge_batch.specs.declared.reply.Act.TheVariants.{Put}
 use Rattle.merge_batch.specs.Search.{broken_by_message, broken_by_items, is_above, are_distinct}
 use Rattle.merge_batch.specs.Makers.{maker_of}
 use Rattle.merge_batch.specs.Articles.{has_article, fits_article}
-use Rattle.merge_batch.specs.Lineages.{is_well_formed, knows_tops}
+use Rattle.merge_batch.specs.Lineages.{is_well_formed, has_tops, knows_tops}
 
--- the publisher took what was sent, and no generation that the site has not closed
+-- the publisher took what was sent, no fewer generations than the site knows of, and none that the site has not closed
 abbrev pub uploaded_fits : Standing → ℕ → Uploaded → Bool
-uploaded_fits own to uploaded = nat_le to uploaded.received && nat_le uploaded.received own.closed
+uploaded_fits own to uploaded = nat_le to uploaded.received && nat_le own.received uploaded.received && nat_le uploaded.received own.closed
 
 -- how many ranges the site heard of, for each article that it asked for
 abbrev pub Heard : Type 0
@@ -50,8 +51,8 @@ interval_fits from downloaded =
     downloaded.from == from
     && nat_le downloaded.from downloaded.to
     && nat_le downloaded.to downloaded.last
-    && nat_lt downloaded.last (2 ^ 62)
-    && nat_le (downloaded.to - downloaded.from) 100
+    && nat_lt downloaded.last number_limit
+    && nat_le (downloaded.to - downloaded.from) generation_limit
     && (nat_le downloaded.last downloaded.from || nat_lt downloaded.from downloaded.to)
 
 -- it says of the site's own generations no less than the site knows, and no more than it closed
@@ -60,7 +61,7 @@ received_fits own downloaded = nat_le own.received downloaded.received && nat_le
 
 -- and it has at most 2,000 items
 abbrev pub downloaded_fits : Standing → ℕ → Downloaded → Bool
-downloaded_fits own from downloaded = interval_fits from downloaded && received_fits own downloaded && nat_le (length downloaded.items) 2000
+downloaded_fits own from downloaded = interval_fits from downloaded && received_fits own downloaded && nat_le (length downloaded.items) item_limit
 
 -- the item is above the one before it, by article and row
 abbrev pub row_of : DownloadItem → ℕ × ℕ
@@ -73,11 +74,12 @@ row_rises before item = is_above (option_map row_of before) (row_of item)
 abbrev pub was_made : Standing → Dot → Bool
 was_made own dot = not (dot.site.0 == own.site.0) || nat_le dot.number own.changes
 
--- the article exists. The cells and values of a row that is put fit it, its lineage is well formed, knows each top, and no change of the site that it did not make
+-- the article exists. The cells and values of a row that is put fit it, its lineage is well formed, its tops are changes of the publisher or of subscriptions and known by the lineage, and the lineage knows no change of the site that it did not make
 abbrev pub act_fits : Publication → Standing → ℕ → Act → Bool
 act_fits publication own article (Put lineage live) =
     fits_article publication article (Live live)
     && is_well_formed publication lineage
+    && has_tops publication (Live live)
     && knows_tops lineage (Live live)
     && list_all (was_made own) lineage
 act_fits publication own article _ = has_article publication article

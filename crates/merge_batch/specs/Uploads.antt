@@ -1,26 +1,27 @@
 -- When an upload is valid. Rules are numbered as the refusal of a bad batch tells them.
-use Rattle.std.specs.Prelude.{ℕ, ℤ, ◌-◌, ◌^◌, ◌==◌, ◌&&◌, ◌||◌, Bool, true, false, nat_lt, nat_le, if◌then◌else◌, List, [], ◌∷◌, length, slice_get, Option, Some, None, option_map}
-use Rattle.std.specs.List.{list_any, list_all}
+use Rattle.std.specs.Prelude.{ℕ, ℤ, ◌-◌, ◌==◌, ◌&&◌, ◌||◌, Bool, true, false, nat_lt, nat_le, if◌then◌else◌, List, [], ◌∷◌, length, slice_get, Option, Some, None, option_map}
+use Rattle.std.specs.List.{list_all}
 use Rattle.std.specs.Option.{option_or, option_map_or}
 use Rattle.std.specs.Ordering.{int_eq}
+use Rattle.merge_types.specs.Limits.{generation_limit, item_limit, number_limit}
 use Rattle.merge_types.specs.declared.Dot.{Dot}
 use Rattle.merge_types.specs.declared.Value.{Value}
 use Rattle.merge_types.specs.declared.Value.TheVariants.{Int}
 use Rattle.merge_units.specs.declared.version.Body.{Body}
 use Rattle.merge_units.specs.declared.version.Body.TheVariants.{Live, Dead}
-use Rattle.merge_ident.specs.declared.grants.Grant.{Grant}
-use Rattle.merge_ident.specs.Grants.{is_of, is_in}
+use Rattle.merge_ident.specs.Grants.{is_granted}
 use Rattle.merge_schema.specs.declared.publication.Publication.{Publication}
 use Rattle.merge_schema.specs.declared.publication.Article.{Article}
 use Rattle.merge_schema.specs.declared.publication.Identity.{Identity}
+use Rattle.merge_schema.specs.Places.{article_at, is_subscription}
 use Rattle.merge_batch.specs.declared.rules.BrokenRule.{BrokenRule}
 use Rattle.merge_batch.specs.declared.request.Upload.{Upload}
 use Rattle.merge_batch.specs.declared.request.UploadItem.{UploadItem}
 use Rattle.merge_batch.specs.Search.{broken_by_message, broken_by_items, is_above}
 use Rattle.merge_batch.specs.Makers.{maker_of}
 use Rattle.merge_batch.specs.Known.{Known, received_of, received_number_of, seen_of}
-use Rattle.merge_batch.specs.Articles.{article_at, row_values, fits_article}
-use Rattle.merge_batch.specs.Lineages.{is_subscription, is_well_formed, has_pair_of, knows_tops}
+use Rattle.merge_batch.specs.Articles.{row_values, fits_article}
+use Rattle.merge_batch.specs.Lineages.{is_well_formed, has_pair_of, has_tops, knows_tops}
 
 -- rule 1: the interval has a generation
 abbrev pub has_generations : Upload → Bool
@@ -28,17 +29,17 @@ has_generations upload = nat_lt upload.from upload.to
 
 -- rule 2: it has at most 100
 abbrev pub has_few_generations : Upload → Bool
-has_few_generations upload = nat_le (upload.to - upload.from) 100
+has_few_generations upload = nat_le (upload.to - upload.from) generation_limit
 
 -- rule 3: there are at most 2,000 items
 abbrev pub has_few_items : Upload → Bool
-has_few_items upload = nat_le (length upload.items) 2000
+has_few_items upload = nat_le (length upload.items) item_limit
 
 -- rule 4: both numbers are below 2^62, and where the batch has generations that were not taken yet, the last change number does not fall
 abbrev pub numbers_go_on : Known → Upload → Bool
 numbers_go_on known upload =
-    nat_lt upload.to (2 ^ 62)
-    && nat_lt upload.through (2 ^ 62)
+    nat_lt upload.to number_limit
+    && nat_lt upload.through number_limit
     && (nat_le upload.to (received_of known upload.site.0) || nat_le (received_number_of known upload.site.0) upload.through)
 
 -- rule 5: the item is above the one before it, by article and row
@@ -60,9 +61,9 @@ lineage_fits publication upload item = is_well_formed publication item.version.l
 abbrev pub is_in_interval : Upload → UploadItem → Bool
 is_in_interval upload item = nat_lt upload.from item.generation && nat_le item.generation upload.to
 
--- rule 9: each top is known by the item's lineage
-abbrev pub tops_are_known : UploadItem → Bool
-tops_are_known item = knows_tops item.version.lineage item.version.body
+-- rule 9: each top is a change of the publisher or of a subscription, and is known by the item's lineage
+abbrev pub tops_are_known : Publication → UploadItem → Bool
+tops_are_known publication item = has_tops publication item.version.body && knows_tops item.version.lineage item.version.body
 
 -- rule 10: the row has a maker that the publisher can have heard of: a change of its own that it made, a change of the uploader, or a change of another subscription that was taken
 abbrev pub maker_is_heard_of : Publication → Known → ℕ → Dot → Bool
@@ -99,10 +100,7 @@ identity_in (Dead top) article = None
 abbrev pub identity_value : Publication → ℕ → Body → Option ℤ
 identity_value publication place body = option_map_or (identity_in body) (article_at publication place) None
 
--- a value of an article was granted to a site
-abbrev pub is_granted : ℕ → ℕ → ℤ → List Grant → Bool
-is_granted article site value grants = list_any (λ (grant : Grant). is_of article site grant && is_in value grant.range) grants
-
+-- the value of an article was granted to the maker
 abbrev pub was_granted_to : Known → ℕ → ℤ → Option Dot → Bool
 was_granted_to known article value None = false
 was_granted_to known article value (Some maker) = is_granted article maker.site.0 value known.grants
@@ -133,7 +131,7 @@ item_rules publication known upload before item =
     ∷ (6, row_fits publication item)
     ∷ (7, lineage_fits publication upload item)
     ∷ (8, is_in_interval upload item)
-    ∷ (9, tops_are_known item)
+    ∷ (9, tops_are_known publication item)
     ∷ (10, has_maker publication known upload item)
     ∷ (11, lineage_is_honest known upload item)
     ∷ (12, identity_is_right publication known item)

@@ -8,15 +8,15 @@ ghost use Rattle.merge_batch.specs.Replies.{uploaded_fits, grant_fits, ranged_fi
 
 use crate::article::{cells_fit_article, has_article};
 use crate::distinct::articles_differ;
-use crate::lineage::{NUMBER_LIMIT, is_well_formed, knows_tops};
+use crate::lineage::{each_has_top, is_well_formed, knows_tops};
 use crate::maker::maker;
 use crate::order::is_below;
-use crate::upload::{GENERATION_LIMIT, ITEM_LIMIT};
 use crate::{
     Act, BrokenRule, DownloadItem, Downloaded, HeardRanges, Outstanding, RangeGrant, Ranged, Reply,
     Standing, Uploaded,
 };
 use merge_schema::Publication;
+use merge_types::limits::{GENERATION_LIMIT, ITEM_LIMIT, NUMBER_LIMIT};
 use merge_types::{Dot, RowId};
 
 /// What does not fit in the reply to the outstanding message: the reply as a whole, or its first
@@ -59,7 +59,7 @@ fn misfit(fits: bool) -> Option<BrokenRule>
 fn uploaded_fits(own: &Standing, to: u64, uploaded: &Uploaded) -> bool
     ensures { result ≡ uploaded_fits own.now to uploaded.now }
 {
-    to <= uploaded.received && uploaded.received <= own.closed
+    to <= uploaded.received && own.received <= uploaded.received && uploaded.received <= own.closed
 }
 
 fn ranged_fits<R: HeardRanges>(ranges: &R, ranged: &Ranged) -> bool
@@ -182,6 +182,7 @@ fn act_fits(publication: &Publication, own: &Standing, article: u8, act: &Act) -
             let cells = live.as_slice();
             cells_fit_article(publication, article, cells)
                 && is_well_formed(publication, lineage)
+                && each_has_top(publication, cells)
                 && knows_tops(lineage, cells)
                 && were_made(own, lineage.dots())
         }

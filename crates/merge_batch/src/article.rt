@@ -1,37 +1,25 @@
 //! Whether rows fit their article.
 ghost use Rattle.std.specs.Prelude.{◌≡◌, length, slice_get};
 ghost use Rattle.std.specs.Option.{option_copied};
-ghost use Rattle.merge_batch.specs.Articles.{article_at, has_type, is_short, value_fits, values_fit, cells_fit_tracking, row_values, is_set, identity_is_set, cells_fit, body_fits, has_article, fits_article};
+ghost use Rattle.merge_batch.specs.Articles.{value_fits, values_fit, cells_fit_tracking, row_values, is_set, identity_is_set, cells_fit, body_fits, has_article, fits_article};
 
 use merge_schema::{Article, Identity, Publication};
+use merge_types::limits::ROW_LIMIT;
 use merge_types::{ColType, Column, Tracking, Value};
 use merge_units::{Body, Cell, fits_tracking, stored_length};
-
-// The most bytes of a text or bytes.
-const VALUE_LIMIT: usize = 4000;
-
-// The most bytes of a row.
-const ROW_LIMIT: u64 = 8000;
-
-// The article at a place of the publication.
-pub fn article_at(publication: &Publication, place: u8) -> Option<&Article>
-    ensures { option_copied result ≡ article_at publication.now place }
-{
-    publication.articles.as_slice().get(place as usize)
-}
 
 // Whether the article exists.
 pub fn has_article(publication: &Publication, place: u8) -> bool
     ensures { result ≡ has_article publication.now place }
 {
-    article_at(publication, place).is_some()
+    publication.article_at(place).is_some()
 }
 
 // Whether the article exists and the row fits it.
 pub fn fits_article(publication: &Publication, place: u8, body: &Body) -> bool
     ensures { result ≡ fits_article publication.now place body.now }
 {
-    match article_at(publication, place) {
+    match publication.article_at(place) {
         Some(article) => body_fits(body, article),
         None => false,
     }
@@ -41,7 +29,7 @@ pub fn fits_article(publication: &Publication, place: u8, body: &Body) -> bool
 pub fn cells_fit_article(publication: &Publication, place: u8, cells: &[Cell]) -> bool
     ensures { result ≡ fits_article publication.now place (Body.Live cells.now) }
 {
-    match article_at(publication, place) {
+    match publication.article_at(place) {
         Some(article) => cells_fit(article, cells),
         None => false,
     }
@@ -108,34 +96,7 @@ fn each_fits(columns: &[Column], values: &[Value]) -> bool
 fn value_fits(ty: ColType, value: &Value) -> bool
     ensures { result ≡ value_fits ty value.now }
 {
-    has_type(ty, value) && is_short(value)
-}
-
-// Whether the value is a Null or of the type.
-#[tactic(auto, unfolding(crate::specs::Articles::has_type))]
-fn has_type(ty: ColType, value: &Value) -> bool
-    ensures { result ≡ has_type ty value.now }
-{
-    matches!(
-        (ty, value),
-        (_, Value::Null)
-            | (ColType::Int, Value::Int(_))
-            | (ColType::Bit, Value::Bit(_))
-            | (ColType::Text, Value::Text(_))
-            | (ColType::Day, Value::Day(_))
-            | (ColType::Guid, Value::Guid(_))
-            | (ColType::Bytes, Value::Bytes(_))
-    )
-}
-
-fn is_short(value: &Value) -> bool
-    ensures { result ≡ is_short value.now }
-{
-    match value {
-        Value::Text(text) => text.len() <= VALUE_LIMIT,
-        Value::Bytes(bytes) => bytes.len() <= VALUE_LIMIT,
-        _ => true,
-    }
+    value.has_type(ty) && value.is_short()
 }
 
 // Whether the value of the identity column is there, where there is such a column.

@@ -3,12 +3,11 @@ ghost use Rattle.std.specs.Prelude.{◌≡◌};
 ghost use Rattle.std.specs.List.{list_all};
 ghost use Rattle.merge_batch.specs.Asks.{join_numbers_fit, broken_by_join, has_identity, want_fits, wants_fit, broken_by_ranges};
 
-use crate::article::article_at;
 use crate::distinct::articles_differ;
-use crate::lineage::NUMBER_LIMIT;
 use crate::{BrokenRule, Holdings, Join, RangeAsk, Want};
 use merge_schema::Publication;
 use merge_types::SiteId;
+use merge_types::limits::NUMBER_LIMIT;
 
 /// What a join breaks. None where the join is valid. It takes no memory.
 #[tactic(auto, unfolding(crate::specs::Asks::broken_by_join))]
@@ -72,7 +71,7 @@ fn want_fits<H: Holdings>(publication: &Publication, holdings: &H, site: SiteId,
 fn has_identity(publication: &Publication, place: u8) -> bool
     ensures { result ≡ has_identity publication.now place }
 {
-    match article_at(publication, place) {
+    match publication.article_at(place) {
         Some(article) => article.identity.is_some(),
         None => false,
     }

@@ -1,7 +1,6 @@
 //! What the publisher and a subscriber hold, as far as the rules of a message ask for it.
 ghost use Rattle.std.specs.Prelude.{◌≡◌};
-ghost use Rattle.merge_ident.specs.Grants.{granted_to};
-ghost use Rattle.merge_batch.specs.Uploads.{is_granted};
+ghost use Rattle.merge_ident.specs.Grants.{granted_to, is_granted};
 
 use merge_gens::SiteState;
 use merge_types::{RowId, SiteId};

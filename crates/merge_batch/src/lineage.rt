@@ -1,32 +1,21 @@
 //! What is asked of the lineage of a row.
 ghost use Rattle.std.specs.Prelude.{◌≡◌};
 ghost use Rattle.std.specs.List.{list_any, list_all};
+ghost use Rattle.merge_lineage.specs.Lineage.{knows};
 ghost use Rattle.merge_units.specs.declared.version.Body.TheVariants.{Live};
 ghost use Rattle.merge_units.specs.Version.{is_new};
-ghost use Rattle.merge_batch.specs.Lineages.{is_subscription, is_site, is_change_number, is_pair, is_well_formed, has_pair_of, knows_tops};
+ghost use Rattle.merge_batch.specs.Lineages.{is_site, is_change_number, is_pair, is_well_formed, has_pair_of, is_top, has_top, has_tops, knows_tops};
 
 use merge_lineage::Lineage;
 use merge_schema::Publication;
+use merge_types::limits::NUMBER_LIMIT;
 use merge_types::{Dot, SiteId};
-use merge_units::Cell;
-
-// Numbers of changes lie below this.
-pub const NUMBER_LIMIT: u64 = 1 << 62;
-
-// Whether the site subscribes.
-pub fn is_subscription(publication: &Publication, site: SiteId) -> bool
-    ensures { result ≡ is_subscription publication.now site.0 }
-{
-    let subscriptions = publication.subscriptions.as_slice();
-    subscriptions
-        .iter()
-        .any(|subscription| subscription.site.0 == site.0)
-}
+use merge_units::{Body, Cell};
 
 fn is_site(publication: &Publication, site: SiteId) -> bool
     ensures { result ≡ is_site publication.now site.0 }
 {
-    site.0 == 0 || is_subscription(publication, site)
+    site.0 == 0 || publication.is_subscription(site)
 }
 
 fn is_pair(publication: &Publication, dot: Dot) -> bool
@@ -56,6 +45,29 @@ pub fn has_pair_of(lineage: &Lineage, site: SiteId) -> bool
     lineage.dots().iter().any(|dot| dot.site.0 == site.0)
 }
 
+// Whether each top is a change of the publisher or of a subscription.
+pub fn has_tops(publication: &Publication, body: &Body) -> bool
+    ensures { result ≡ has_tops publication.now body.now }
+{
+    match body {
+        Body::Live(cells) => each_has_top(publication, cells.as_slice()),
+        Body::Dead(top) => is_top(publication, *top),
+    }
+}
+
+// The same, of live cells.
+pub fn each_has_top(publication: &Publication, cells: &[Cell]) -> bool
+    ensures { result ≡ list_all (has_top publication.now) cells.now }
+{
+    cells.iter().all(|cell| is_top(publication, cell.top))
+}
+
+fn is_top(publication: &Publication, dot: Dot) -> bool
+    ensures { result ≡ is_top publication.now dot }
+{
+    is_site(publication, dot.site) && dot.number > 0
+}
+
 // Whether the lineage knows each top of live cells.
 pub fn knows_tops(lineage: &Lineage, cells: &[Cell]) -> bool
     ensures { result ≡ knows_tops lineage.now (Live cells.now) }
@@ -65,7 +77,7 @@ pub fn knows_tops(lineage: &Lineage, cells: &[Cell]) -> bool
 
 // Whether a top is not known.
 fn any_new(lineage: &Lineage, cells: &[Cell]) -> bool
-    ensures { result ≡ list_any (λ cell. is_new lineage.now cell.top) cells.now }
+    ensures { result ≡ list_any (λ cell. is_new (knows lineage.now) cell.top) cells.now }
 {
     cells.iter().any(|cell| !lineage.knows(cell.top))
 }

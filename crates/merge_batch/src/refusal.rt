@@ -1,7 +1,7 @@
 //! Why a call is refused.
-ghost use Rattle.std.specs.Prelude.{◌≡◌, IfOk};
+ghost use Rattle.std.specs.Prelude.{◌≡◌, [], IfOk, IsOk};
 ghost use Rattle.merge_batch.specs.declared.reply.Reply.TheVariants as told;
-ghost use Rattle.merge_batch.specs.Refusals.{number_of, reply_to};
+ghost use Rattle.merge_batch.specs.Refusals.{number_of, reply_to, told_fields};
 
 use crate::Reply;
 use merge_types::{Exact, Listing, Moment, NoMemory, Octets, SiteId, Words};
@@ -124,10 +124,12 @@ impl Refusal {
     }
 
     /// The reply that tells the refusal. None for a refusal that the publisher tells no subscriber:
-    /// 7 to 11, 13 to 15, 18 and want of memory. For these no memory is taken.
+    /// 7 to 11, 13 to 15, 18 and want of memory. For these, and where a refusal has no fields, no
+    /// memory is taken.
     pub fn reply(&self, alloc: Global) -> Result<Option<Reply>, NoMemory>
         ensures told { IfOk result (λ reply. reply ≡ reply_to self.now) }
         ensures untold { reply_to self.now ≡ None → result ≡ Ok None }
+        ensures bare { told_fields self.now ≡ Some [] → IsOk result }
     {
         Ok(match self {
             Refusal::UnknownSite { site } => Some(self.told(alloc, &[site.0 as u64])?),
@@ -138,9 +140,19 @@ impl Refusal {
             Refusal::WrongWatermark { from, last } => Some(self.told(alloc, &[*from, *last])?),
             Refusal::TooManyRows { count } => Some(self.told(alloc, &[*count])?),
             Refusal::CounterEnd { value } => Some(self.told(alloc, &[*value])?),
-            Refusal::NotJoined => Some(self.told(alloc, &[])?),
+            Refusal::NotJoined => Some(self.told_bare(alloc)),
             _ => None,
         })
+    }
+
+    // The reply with the refusal's number alone.
+    fn told_bare(&self, alloc: Global) -> Reply
+        ensures { result ≡ told.Refused (number_of self.now) [] }
+    {
+        Reply::Refused {
+            number: self.number(),
+            values: Listing::empty(alloc),
+        }
     }
 
     // The reply with the refusal's number and these fields.

@@ -1,8 +1,15 @@
 //! What the publisher answers.
+ghost use Rattle.std.specs.Prelude.{◌≡◌, false, IfOk, IsOk};
+ghost use Rattle.std.specs.Option.{option_copied};
+ghost use Rattle.merge_units.specs.Version.{cells_of};
+ghost use Rattle.merge_batch.specs.Heads.{answered_seq, answered_kind};
+ghost use Rattle.merge_batch.specs.Orders.{order_by, is_put};
+
+use crate::Kind;
 use merge_lineage::Lineage;
-use merge_types::{Exact, Listing, RowId};
-use merge_units::Cells;
-use std::alloc::AllocError;
+use merge_types::{Exact, Listing, NoMemory, RowId};
+use merge_units::{Body, Cells, Version};
+use std::alloc::{AllocError, Global};
 
 /// The answer to a message. Each but a refusal carries the sequence number of its message.
 #[derive(Debug, Drop)]
@@ -96,6 +103,69 @@ pub enum Act {
     RemoveDeleted,
     /// The row lives outside the site's partition: a tombstone of type 5.
     RemoveLeft,
+}
+
+impl Reply {
+    /// The sequence number of the message that is answered. A refusal has none.
+    pub fn seq(&self) -> Option<u64>
+        ensures { result ≡ answered_seq self.now }
+    {
+        match self {
+            Reply::Joined(joined) => Some(joined.seq),
+            Reply::Uploaded(uploaded) => Some(uploaded.seq),
+            Reply::Ranged(ranged) => Some(ranged.seq),
+            Reply::Downloaded(downloaded) => Some(downloaded.seq),
+            Reply::Refused { .. } => None,
+        }
+    }
+
+    /// The form of the reply: that of the message that it answers, or a refusal.
+    pub fn kind(&self) -> Kind
+        ensures { result ≡ answered_kind self.now }
+    {
+        match self {
+            Reply::Joined(_) => Kind::Join,
+            Reply::Uploaded(_) => Kind::Upload,
+            Reply::Ranged(_) => Kind::Ranges,
+            Reply::Downloaded(_) => Kind::Download,
+            Reply::Refused { .. } => Kind::Refused,
+        }
+    }
+}
+
+impl Act {
+    /// What a site does with a row of which the publisher holds this version, if any: whether it is
+    /// in the site's partition decides between putting it and removing it.
+    pub fn by(alloc: Global, is_in: bool, version: Option<&Version>) -> Result<Act, NoMemory>
+        ensures order { IfOk result (λ act. act ≡ order_by is_in (option_copied version.entry)) }
+
+        // What takes no memory is not refused.
+        ensures nothing { is_put is_in (option_copied version.entry) ≡ false → IsOk result }
+    {
+        let Some(version) = version else {
+            return Ok(Act::RemoveDeleted);
+        };
+        if is_in {
+            return Ok(Act::Put {
+                lineage: version.lineage.clone()?,
+                live: cells(alloc, &version.body)?,
+            });
+        }
+        if version.is_live() {
+            return Ok(Act::RemoveLeft);
+        }
+        Ok(Act::RemoveDeleted)
+    }
+}
+
+// The cells of a row, which are none where it was deleted.
+fn cells(alloc: Global, body: &Body) -> Result<Cells, NoMemory>
+    ensures { IfOk result (λ cells. cells ≡ cells_of body.now) }
+{
+    match body {
+        Body::Live(cells) => Ok(cells.clone()?),
+        Body::Dead(_) => Ok(Listing::empty(alloc)),
+    }
 }
 
 impl Clone for Reply {

@@ -1,4 +1,7 @@
 //! What a subscriber asks of the publisher.
+ghost use Rattle.std.specs.Prelude.{◌≡◌};
+ghost use Rattle.merge_batch.specs.Heads.{site_of, seq_of, kind_of};
+
 use merge_types::{Exact, Listing, RowId, SiteId};
 use merge_units::Version;
 use std::alloc::AllocError;
@@ -94,6 +97,44 @@ pub enum Outstanding {
     Upload { from: u64, to: u64 },
     Ranges,
     Download { from: u64 },
+}
+
+impl Request {
+    /// The site that asks.
+    pub fn site(&self) -> SiteId
+        ensures { result ≡ site_of self.now }
+    {
+        match self {
+            Request::Join(join) => join.site,
+            Request::Upload(upload) => upload.site,
+            Request::Ranges(ask) => ask.site,
+            Request::Download(download) => download.site,
+        }
+    }
+
+    /// The sequence number of the message among those of its site.
+    pub fn seq(&self) -> u64
+        ensures { result ≡ seq_of self.now }
+    {
+        match self {
+            Request::Join(join) => join.seq,
+            Request::Upload(upload) => upload.seq,
+            Request::Ranges(ask) => ask.seq,
+            Request::Download(download) => download.seq,
+        }
+    }
+
+    /// The kind of reply that answers the message, where it is not refused.
+    pub fn kind(&self) -> Kind
+        ensures { result ≡ kind_of self.now }
+    {
+        match self {
+            Request::Join(_) => Kind::Join,
+            Request::Upload(_) => Kind::Upload,
+            Request::Ranges(_) => Kind::Ranges,
+            Request::Download(_) => Kind::Download,
+        }
+    }
 }
 
 impl Clone for Request {

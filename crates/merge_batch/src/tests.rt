@@ -3,8 +3,8 @@ ghost use Rattle.std.specs.Prelude.{◌≡◌};
 
 use crate::{
     Act, BrokenRule, Download, DownloadItem, DownloadItems, Downloaded, EndedRanges, HeardRanges,
-    Holdings, Join, Joined, Outstanding, RangeAsk, RangeGrant, RangeGrants, Ranged, Refusal, Reply,
-    Request, Standing, Upload, UploadItem, UploadItems, Uploaded, Want, Wants, join_fault,
+    Holdings, Join, Joined, Kind, Outstanding, RangeAsk, RangeGrant, RangeGrants, Ranged, Refusal,
+    Reply, Request, Standing, Upload, UploadItem, UploadItems, Uploaded, Want, Wants, join_fault,
     ranges_fault, reply_fault, upload_fault,
 };
 use merge_gens::SiteState;
@@ -180,9 +180,20 @@ fn upload(
     generation: u64,
     number: i64,
 ) -> Result<Upload, Fail> {
+    let body = Body::Live(cells(alloc, 8, number)?);
+    upload_of(rt, alloc, interval, generation, body)
+}
+
+fn upload_of(
+    rt: &impl Abort,
+    alloc: Global,
+    interval: (u64, u64, u64),
+    generation: u64,
+    body: Body,
+) -> Result<Upload, Fail> {
     let version = Version {
         lineage: lineage(rt, alloc, 8)?,
-        body: Body::Live(cells(alloc, 8, number)?),
+        body,
     };
     let mut items = UploadItems::empty(alloc);
     items.push(UploadItem {
@@ -220,6 +231,28 @@ fn uploads(rt: HostRuntime) -> Result<(), Fail> {
         let upload = upload(&rt, rt.alloc(), *interval, *generation, *number)?;
         assert_eq!(rt; upload_fault(&publication, &TABLES, &upload), *expected);
     }
+    Ok(())
+}
+
+// No change has the number 0, and none is of a site that is not there: a lineage knows both.
+#[test]
+fn forged_tops(rt: HostRuntime) -> Result<(), Fail> {
+    let publication = publication(rt.alloc())?;
+    for top in [
+        own_dot(0),
+        Dot {
+            site: SiteId(500),
+            number: 0,
+        },
+    ] {
+        let dead = upload_of(&rt, rt.alloc(), (2, 4, 9), 3, Body::Dead(top))?;
+        assert_eq!(rt; upload_fault(&publication, &TABLES, &dead), broken(1, 9));
+    }
+    let body = Body::Live(cells(rt.alloc(), 0, 5)?);
+    let live = upload_of(&rt, rt.alloc(), (2, 4, 9), 3, body)?;
+    assert_eq!(rt; upload_fault(&publication, &TABLES, &live), broken(1, 9));
+    let dead = upload_of(&rt, rt.alloc(), (2, 4, 9), 3, Body::Dead(own_dot(8)))?;
+    assert_eq!(rt; upload_fault(&publication, &TABLES, &dead), None);
     Ok(())
 }
 
@@ -302,6 +335,7 @@ fn replies(rt: HostRuntime) -> Result<(), Fail> {
         (8, 1, broken(0, 0)),
         (8, 5, broken(0, 0)),
         (9, 2, broken(1, 0)),
+        (0, 2, broken(1, 0)),
     ] {
         let reply = downloaded(&rt, rt.alloc(), *top, *received)?;
         assert_eq!(rt;
@@ -336,6 +370,20 @@ fn replies_of_each_kind(rt: HostRuntime) -> Result<(), Fail> {
         reply_fault(&publication, &OWN, &TABLES, upload, &uploaded),
         None
     );
+    let earlier = Reply::Uploaded(Uploaded {
+        seq: 9,
+        received: 1,
+    });
+    assert_eq!(rt;
+        reply_fault(
+            &publication,
+            &OWN,
+            &TABLES,
+            Outstanding::Upload { from: 0, to: 1 },
+            &earlier
+        ),
+        broken(0, 0)
+    );
     assert_eq!(rt;
         reply_fault(&publication, &OWN, &TABLES, Outstanding::Join, &joined),
         None
@@ -348,6 +396,41 @@ fn replies_of_each_kind(rt: HostRuntime) -> Result<(), Fail> {
         reply_fault(&publication, &OWN, &TABLES, upload, &refused),
         None
     );
+    Ok(())
+}
+
+#[test]
+fn heads(rt: HostRuntime) -> Result<(), Fail> {
+    let request = Request::Upload(upload(&rt, rt.alloc(), (2, 4, 9), 3, 5)?);
+    assert_eq!(rt; (request.site(), request.seq()), (SiteId(1), 9));
+    assert_eq!(rt; request.kind(), Kind::Upload);
+    let reply = ranged(rt.alloc(), 2)?;
+    assert_eq!(rt; (reply.seq(), reply.kind()), (Some(9), Kind::Ranges));
+    let refused = Reply::Refused {
+        number: 17,
+        values: Listing::empty(rt.alloc()),
+    };
+    assert_eq!(rt; (refused.seq(), refused.kind()), (None, Kind::Refused));
+    Ok(())
+}
+
+#[test]
+fn orders(rt: HostRuntime) -> Result<(), Fail> {
+    let live = Version {
+        lineage: lineage(&rt, rt.alloc(), 8)?,
+        body: Body::Live(cells(rt.alloc(), 8, 5)?),
+    };
+    let dead = Version {
+        lineage: lineage(&rt, rt.alloc(), 8)?,
+        body: Body::Dead(own_dot(8)),
+    };
+    let Act::Put { lineage, live: put } = Act::by(rt.alloc(), true, Some(&live))? else {
+        return Err(Fail::from("not put"));
+    };
+    assert_eq!(rt; (lineage.dots().len(), put.len()), (1, 1));
+    assert!(rt; matches!(Act::by(rt.alloc(), false, Some(&live))?, Act::RemoveLeft));
+    assert!(rt; matches!(Act::by(rt.alloc(), false, Some(&dead))?, Act::RemoveDeleted));
+    assert!(rt; matches!(Act::by(rt.alloc(), true, None)?, Act::RemoveDeleted));
     Ok(())
 }
 

@@ -5,23 +5,18 @@ ghost use Rattle.std.specs.Option.{option_copied};
 ghost use Rattle.merge_batch.specs.Search.{first_broken, broken_by_items};
 ghost use Rattle.merge_batch.specs.Makers.{maker_of};
 ghost use Rattle.merge_batch.specs.Known.{received_of, received_number_of, seen_of};
-ghost use Rattle.merge_batch.specs.Uploads.{numbers_go_on, row_rises, lineage_fits, maker_is_heard_of, has_maker, was_seen, lineage_is_honest, identity_value, was_granted_to, is_kept, identity_is_right, upload_rules, item_rules, broken_by_upload};
+ghost use Rattle.merge_batch.specs.Uploads.{numbers_go_on, row_rises, lineage_fits, tops_are_known, maker_is_heard_of, has_maker, was_seen, lineage_is_honest, identity_value, was_granted_to, is_kept, identity_is_right, upload_rules, item_rules, broken_by_upload};
 
-use crate::article::{article_at, fits_article, value_at};
-use crate::lineage::{NUMBER_LIMIT, has_pair_of, is_subscription, is_well_formed};
+use crate::article::{fits_article, value_at};
+use crate::lineage::{has_pair_of, has_tops, is_well_formed};
 use crate::maker::maker;
 use crate::order::is_below;
 use crate::{BrokenRule, Holdings, Upload, UploadItem};
 use merge_lineage::Lineage;
 use merge_schema::Publication;
+use merge_types::limits::{GENERATION_LIMIT, ITEM_LIMIT, NUMBER_LIMIT};
 use merge_types::{Dot, RowId, SiteId, Value};
 use merge_units::Body;
-
-// The most generations of a batch.
-pub const GENERATION_LIMIT: u64 = 100;
-
-// The most items of a batch.
-pub const ITEM_LIMIT: usize = 2000;
 
 /// What an upload breaks: a rule of the message, else the first item that breaks a rule of items.
 /// None where the upload is valid. It takes no memory.
@@ -133,7 +128,7 @@ fn item_rule<H: Holdings>(
         Some(7)
     } else if item.generation <= upload.from || item.generation > upload.to {
         Some(8)
-    } else if item.version.has_news_over(&item.version) {
+    } else if !tops_are_known(publication, item) {
         Some(9)
     } else if !has_maker(publication, holdings, upload, item) {
         Some(10)
@@ -168,6 +163,12 @@ fn lineage_fits(publication: &Publication, upload: &Upload, item: &UploadItem) -
     is_well_formed(publication, lineage) && has_pair_of(lineage, upload.site)
 }
 
+fn tops_are_known(publication: &Publication, item: &UploadItem) -> bool
+    ensures { result ≡ tops_are_known publication.now item.now }
+{
+    has_tops(publication, &item.version.body) && !item.version.has_news_over(&item.version)
+}
+
 fn has_maker<H: Holdings>(
     publication: &Publication,
     holdings: &H,
@@ -193,7 +194,7 @@ fn maker_is_heard_of<H: Holdings>(
     if maker.site.0 == 0 {
         return maker.number <= holdings.changes();
     }
-    is_subscription(publication, maker.site)
+    publication.is_subscription(maker.site)
         && (maker.site.0 == uploader.0 || maker.number <= received_number(holdings, maker.site))
 }
 
@@ -239,7 +240,7 @@ fn identity_is_right<H: Holdings>(
 fn identity_value(publication: &Publication, place: u8, body: &Body) -> Option<i64>
     ensures { result ≡ identity_value publication.now place body.now }
 {
-    let article = article_at(publication, place)?;
+    let article = publication.article_at(place)?;
     let identity = article.identity?;
     match body {
         Body::Live(cells) => match value_at(cells.as_slice(), identity.column as usize) {

@@ -15,3 +15,4 @@ pub mod Place
 pub mod Cut
 pub mod UniqueWords
 pub mod UniqueAnswers
+pub mod BracketedNames

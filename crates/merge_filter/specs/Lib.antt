@@ -6,6 +6,7 @@ pub mod Words
 pub mod Quoting
 pub mod Tokens
 pub mod Names
+pub mod Faults
 pub mod Form
 pub mod Types
 pub mod Grammar

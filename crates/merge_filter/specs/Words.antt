@@ -1,6 +1,6 @@
 -- The words of a text.
-use Rattle.std.specs.Prelude.{◌≡◌, ◌≢◌, ℕ, ℤ, ◌-◌, ◌≤◌, Bool, true, false, ◌&&◌, ◌==◌, nat_eq, nat_le, List, [], ◌∷◌, ◌++◌, length, take, drop, map, Option, Some, None, MatchOption, Ok, codes, FitsSigned, if◌then◌else◌}
-use Rattle.std.specs.List.{flat_map, list_all}
+use Rattle.std.specs.Prelude.{◌≡◌, ◌≢◌, ℕ, ℤ, ◌-◌, ◌≤◌, Bool, true, ◌&&◌, ◌==◌, nat_eq, List, [], ◌∷◌, ◌++◌, length, take, drop, map, Option, Some, None, MatchOption, Ok, codes, FitsSigned, if◌then◌else◌}
+use Rattle.std.specs.List.{flat_map}
 use Rattle.std.specs.Cmp.Lexicographic.{pointwise}
 use Rattle.std.specs.Char.{to_ascii_lowercase}
 use Rattle.std.specs.Fmt.{signed_decimal}
@@ -14,7 +14,9 @@ use Rattle.merge_filter.specs.declared.word.Word.{Word}
 use Rattle.merge_filter.specs.declared.word.Word.TheVariants as w
 use Rattle.merge_types.specs.Day.{IsDayText}
 use Rattle.merge_types.specs.Guid.{IsGuidText}
-use Rattle.merge_filter.specs.Runs.{is_letter, is_name_byte, behind_blanks, kind_of, run_len}
+use Rattle.merge_types.specs.Limits.{name_limit}
+use Rattle.merge_types.specs.Names.{is_name_text}
+use Rattle.merge_filter.specs.Runs.{behind_blanks, kind_of, run_len}
 
 -- whether two texts are one but for the case of letters of ASCII
 abbrev pub is_same_word : List ℕ → List ℕ → Bool
@@ -72,22 +74,14 @@ IsTextWord bytes word =
     (day : Option ℤ) × (guid : Option ℕ) × IsUtf8 bytes × IsReadAs IsDayText bytes day × IsReadAs IsGuidText bytes guid
     × (word ≡ w.Text bytes day guid)
 
--- a letter or `_`, then letters, digits or `_`, at most 64 bytes
-abbrev pub begins_named : List ℕ → Bool
-begins_named [] = false
-begins_named (c ∷ cs) = is_letter c
-
-abbrev pub is_name : List ℕ → Bool
-is_name t = begins_named t && list_all is_name_byte t && nat_le (length t) 64
-
 -- these bytes, a word of this kind at this place, are the word
 abbrev pub Spells : Kind → ℕ → List ℕ → Word → Type 0
-Spells kinds.Name place t word = (length t ≤ 64) × (word ≡ named t (keyword_of t))
+Spells kinds.Name place t word = (length t ≤ name_limit) × (word ≡ named t (keyword_of t))
 Spells kinds.Number place t word = (z : ℤ) × FitsSigned w64 z × (t ≡ signed_decimal z) × (word ≡ w.Int z)
 Spells kinds.Hex place t word = (bytes : List ℕ) × (decode_of (drop 2 t) ≡ Ok bytes) × (word ≡ w.Bytes bytes)
 Spells kinds.Quoted place t word = (bytes : List ℕ) × (t ≡ quoted bytes) × IsTextWord bytes word
 Spells kinds.Bracketed place t word =
-    (name : List ℕ) × (t ≡ 91 ∷ (name ++ 93 ∷ [])) × (is_name name ≡ true) × (word ≡ w.Name name)
+    (name : List ℕ) × (t ≡ 91 ∷ (name ++ 93 ∷ [])) × (is_name_text name ≡ true) × (word ≡ w.Name name)
 Spells kinds.Mark place t word = mark_of place t ≡ Some word
 
 -- the word at the front of a part of the text

@@ -1,4 +1,7 @@
 //! Why a text is no filter.
+ghost use Rattle.std.specs.Prelude.{◌≡◌};
+ghost use Rattle.merge_filter.specs.Faults.{number_of};
+
 use merge_types::NoMemory;
 use thiserror::Error;
 
@@ -22,6 +25,23 @@ pub enum FilterFault {
     TooDeep,
     #[error("no memory")]
     NoMemory,
+}
+
+impl FilterFault {
+    /// The number under which notes tell the fault, and none for want of memory, which is no fault
+    /// of the text.
+    pub fn number(&self) -> Option<u8>
+        ensures { result ≡ number_of self.now }
+    {
+        match self {
+            FilterFault::BadToken { .. } => Some(1),
+            FilterFault::BadForm { .. } => Some(2),
+            FilterFault::UnknownColumn { .. } => Some(3),
+            FilterFault::TypeMismatch { .. } => Some(4),
+            FilterFault::TooDeep => Some(5),
+            FilterFault::NoMemory => None,
+        }
+    }
 }
 
 impl From<NoMemory> for FilterFault {

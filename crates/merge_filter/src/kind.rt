@@ -1,6 +1,10 @@
 //! Kinds of words, and how long a word is.
 ghost use Rattle.std.specs.Prelude.{◌≡◌, ◌≤◌, ◌<◌, ◌+◌, length, drop, take_while};
-ghost use Rattle.merge_filter.specs.Runs.{is_letter, is_digit, is_name_byte, is_hex_digit, is_blank, behind_blanks, kind_of, begins_with, quoted_len, mark_len, bracketed_len, run_len};
+ghost use Rattle.std.specs.Char.{is_ascii_digit, is_ascii_hexdigit};
+ghost use Rattle.merge_types.specs.Names.{continues_name};
+ghost use Rattle.merge_filter.specs.Runs.{is_blank, behind_blanks, kind_of, begins_with, quoted_len, mark_len, bracketed_len, run_len};
+
+use merge_types::{begins_name, continues_name};
 
 /// What the first byte of a word says of it.
 #[derive(Clone, Copy, Debug, PartialEq, Eq)]
@@ -17,30 +21,6 @@ pub enum Kind {
     Bracketed,
     /// A sign or a parenthesis.
     Mark,
-}
-
-pub fn is_letter(byte: u8) -> bool
-    ensures { result ≡ is_letter byte }
-{
-    byte == b'_' || byte.is_ascii_alphabetic()
-}
-
-fn is_digit(byte: u8) -> bool
-    ensures { result ≡ is_digit byte }
-{
-    byte.is_ascii_digit()
-}
-
-pub fn is_name_byte(byte: u8) -> bool
-    ensures { result ≡ is_name_byte byte }
-{
-    is_letter(byte) || is_digit(byte)
-}
-
-fn is_hex_digit(byte: u8) -> bool
-    ensures { result ≡ is_hex_digit byte }
-{
-    byte.is_ascii_hexdigit()
 }
 
 fn is_blank(byte: u8) -> bool
@@ -74,24 +54,24 @@ pub fn behind_word(bytes: &[u8], len: usize) -> &[u8]
 }
 
 fn name_len(bytes: &[u8]) -> usize
-    ensures count { result ≡ length (take_while is_name_byte bytes.now) }
+    ensures count { result ≡ length (take_while continues_name bytes.now) }
     ensures within { result ≤ length bytes.now }
 {
-    bytes.iter().take_while(|b| is_name_byte(**b)).count()
+    bytes.iter().take_while(|b| continues_name(**b)).count()
 }
 
 fn digit_len(bytes: &[u8]) -> usize
-    ensures count { result ≡ length (take_while is_digit bytes.now) }
+    ensures count { result ≡ length (take_while is_ascii_digit bytes.now) }
     ensures within { result ≤ length bytes.now }
 {
-    bytes.iter().take_while(|b| is_digit(**b)).count()
+    bytes.iter().take_while(|b| b.is_ascii_digit()).count()
 }
 
 fn hex_len(bytes: &[u8]) -> usize
-    ensures count { result ≡ length (take_while is_hex_digit bytes.now) }
+    ensures count { result ≡ length (take_while is_ascii_hexdigit bytes.now) }
     ensures within { result ≤ length bytes.now }
 {
-    bytes.iter().take_while(|b| is_hex_digit(**b)).count()
+    bytes.iter().take_while(|b| b.is_ascii_hexdigit()).count()
 }
 
 /// The kind of the word at the front.
@@ -103,8 +83,8 @@ pub fn kind_of(bytes: &[u8]) -> Kind
         [b'\'', ..] => Kind::Quoted,
         [b'[', ..] => Kind::Bracketed,
         [b'-', ..] => Kind::Number,
-        [byte, ..] if is_digit(*byte) => Kind::Number,
-        [byte, ..] if is_letter(*byte) => Kind::Name,
+        [byte, ..] if byte.is_ascii_digit() => Kind::Number,
+        [byte, ..] if begins_name(*byte) => Kind::Name,
         _ => Kind::Mark,
     }
 }

@@ -2,23 +2,19 @@
 ghost use Rattle.std.specs.Prelude.{◌≡◌, ◌≤◌, ℕ, ℤ, List, length, take, true, IfOk, IfSome, IfNone, MatchOption, FitsSigned, option_map};
 ghost use Rattle.std.specs.Int.{w64};
 ghost use Rattle.std.specs.Fmt.{signed_decimal};
-ghost use Rattle.std.specs.List.{list_all};
 ghost use Rattle.std.specs.Str.{IsUtf8};
-ghost use Rattle.merge_filter.specs.Runs.{is_name_byte};
-ghost use Rattle.merge_filter.specs.Words.{begins_named, is_same_word, keyword_of, mark_of, is_name, IsTextWord, Spells};
+ghost use Rattle.merge_filter.specs.Words.{is_same_word, keyword_of, mark_of, IsTextWord, Spells};
 ghost use Rattle.merge_filter.specs.declared.word.Word.{Word};
 ghost use Rattle.merge_filter.specs.declared.kind.Kind.TheVariants as kinds;
 
-use crate::kind::{Kind, is_letter, is_name_byte};
+use crate::kind::Kind;
 use crate::quoted::unquoted;
 use crate::word::{Sign, Word};
 use hex::FromHexError;
-use merge_types::{NoMemory, Octets, Words, read_day, read_guid, read_int};
+use merge_types::limits::NAME_LIMIT;
+use merge_types::{NoMemory, Octets, Words, is_name, read_day, read_guid, read_int};
 use std::alloc::Global;
 use std::str;
-
-// Names have at most so many bytes.
-const NAME_LIMIT: usize = 64;
 
 fn is_same_word(piece: &[u8], word: &[u8]) -> bool
     ensures { result ≡ is_same_word piece.now word.now }
@@ -68,27 +64,6 @@ fn named(alloc: Global, piece: &[u8]) -> Result<Option<Word>, NoMemory>
         Some(word) => Ok(Some(word)),
         None => Ok(Some(Word::Name(octets_of(alloc, piece)?))),
     }
-}
-
-fn all_name_bytes(piece: &[u8]) -> bool
-    ensures { result ≡ list_all is_name_byte piece.now }
-{
-    piece.iter().all(|byte| is_name_byte(*byte))
-}
-
-fn begins_named(piece: &[u8]) -> bool
-    ensures { result ≡ begins_named piece.now }
-{
-    match piece {
-        [first, ..] => is_letter(*first),
-        [] => false,
-    }
-}
-
-fn is_name(piece: &[u8]) -> bool
-    ensures { result ≡ is_name piece.now }
-{
-    begins_named(piece) && all_name_bytes(piece) && piece.len() <= NAME_LIMIT
 }
 
 fn bracketed(alloc: Global, piece: &[u8]) -> Result<Option<Word>, NoMemory>

@@ -389,3 +389,19 @@ fn truths(rt: HostRuntime) -> Result<(), Fail> {
     }
     Ok(())
 }
+
+#[test]
+fn faults_have_numbers(rt: HostRuntime) -> Result<(), Fail> {
+    for (number, text) in [
+        (1, "qty # 1"),
+        (2, "region = "),
+        (3, "x = 1"),
+        (4, "qty = 'a'"),
+        (5, "((((((((((((((((((((((((((((((((((qty"),
+    ] {
+        let fault = fault_of(rt.alloc(), text)?.ok_or("no fault")?;
+        assert_eq!(rt; fault.number(), Some(number), "{text}");
+    }
+    assert_eq!(rt; FilterFault::NoMemory.number(), None);
+    Ok(())
+}

@@ -20,7 +20,8 @@ fn value_type(value: &Value) -> Option<ColType>
     }
 }
 
-fn column_type(columns: &[Column], place: usize) -> Option<ColType>
+/// The type of the column at a place.
+pub fn column_type(columns: &[Column], place: usize) -> Option<ColType>
     ensures { result ≡ column_type columns.now place }
 {
     match columns.get(place) {
@@ -39,7 +40,8 @@ fn operand_type(columns: &[Column], operand: &Operand) -> Option<ColType>
     }
 }
 
-fn are_alike(left: Option<ColType>, right: Option<ColType>) -> bool
+/// Whether both types are known and one.
+pub fn are_alike(left: Option<ColType>, right: Option<ColType>) -> bool
     ensures { result ≡ are_alike left right }
 {
     match (left, right) {

@@ -1,1 +1,3 @@
 pub mod Determined
+pub mod Suffix
+pub mod Puts

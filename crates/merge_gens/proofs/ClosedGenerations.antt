@@ -1,5 +1,5 @@
 -- Lists of closed generations.
-use Rattle.std.proofs.Common.{◌≡◌, ℕ, ◌+◌, ◌-◌, ◌<◌, ◌≤◌, nat_lt, nat_le, nat_eq, List, [], ◌∷◌, ◌++◌, map, length, get_or, zero, suc, Some, None, not, arith, refl, sym, ap, ◌∙◌, subst, Ok, Err, append-nil, append_assoc, add-zero, add-one}
+use Rattle.std.proofs.Common.{◌≡◌, ℕ, ◌+◌, ◌-◌, ◌<◌, ◌≤◌, nat_lt, nat_le, nat_eq, Bool, List, [], ◌∷◌, ◌++◌, map, length, get_or, zero, suc, Some, None, not, arith, refl, sym, ap, ◌∙◌, subst, Ok, Err, append-nil, append_assoc, add-zero, add-one}
 use Rattle.std.specs.List.{filter, find, count_by, All, AllPairs, range_with_len}
 use Rattle.std.specs.List.Sorted.{IsBinarySearchResult, IsNonDecreasingBy}
 use Rattle.std.specs.Option.{option_map}
@@ -15,14 +15,12 @@ use Rattle.std.proofs.lemmas.Bool.Decides.{nat_tests}
 use Rattle.merge_types.specs.declared.Moment.{Moment}
 use Rattle.merge_gens.specs.declared.filling.Filling.{Filling}
 use Rattle.merge_gens.specs.declared.closings.Closing.{Closing}
-use Rattle.merge_gens.specs.Filling.{entry_limit}
-use Rattle.merge_gens.specs.Book.{Book, IsSound, closing_at, closings_between, moved_to, moment_of, purged}
+use Rattle.merge_types.specs.Limits.{entry_limit}
+use Rattle.merge_gens.specs.Book.{Book, IsSound, closing_at, closings_between, moved_to, moment_of}
 
 -- what is dropped and what is kept make up the list
-pub count_kept : (cutoff : ℕ) (xs : List Closing) → length (filter (λ (c : Closing). nat_le cutoff c.moment.0) xs) + count_by (λ (c : Closing). nat_lt c.moment.0 cutoff) xs ≡ length xs
-count_kept cutoff xs =
-    let other : (c : Closing) → nat_lt c.moment.0 cutoff ≡ not (nat_le cutoff c.moment.0) = λ c. grind (arith, nat_tests) in
-    rw (← length-filter (λ (c : Closing). nat_lt c.moment.0 cutoff) xs) (length-filter_both _ _ other xs)
+pub count_kept : (kept dropped : Closing → Bool) → ((c : Closing) → dropped c ≡ not (kept c)) → (xs : List Closing) → length (filter kept xs) + count_by dropped xs ≡ length xs
+count_kept kept dropped other xs = rw (← length-filter dropped xs) (length-filter_both _ _ other xs)
 
 -- in an ascending list the one that stands at a place is found
 pub find_at_place : (generation : ℕ) (xs : List Closing) (i : ℕ) (d : Closing) → i < length xs → AllPairs (λ (a b : Closing). a.generation < b.generation) xs
@@ -92,11 +90,11 @@ sound_moved book filling moment sound unfilled onward =
     }
 
 -- a book that forgets some generations stays sound
-pub sound_purged : (book : Book) (cutoff : Moment) → IsSound book → IsSound (purged book cutoff)
-sound_purged book cutoff sound = record {
+pub sound_kept : (book : Book) (p : Closing → Bool) → IsSound book → IsSound (record { filling = book.filling; closings = filter p book.closings })
+sound_kept book p sound = record {
   unfilled = sound.unfilled;
-  ascending = AllPairs-filter (λ (a b : Closing). a.generation < b.generation) (λ (c : Closing). nat_le cutoff.0 c.moment.0) book.closings sound.ascending;
-  closed = All-filter (λ (c : Closing). nat_le cutoff.0 c.moment.0) (λ (c : Closing). c.generation ≤ book.filling.last_closed) book.closings sound.closed;
+  ascending = AllPairs-filter (λ (a b : Closing). a.generation < b.generation) p book.closings sound.ascending;
+  closed = All-filter p (λ (c : Closing). c.generation ≤ book.filling.last_closed) book.closings sound.closed;
 }
 
 -- one more generation behind those that were added

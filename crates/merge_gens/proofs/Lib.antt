@@ -1,4 +1,5 @@
 pub mod ClosedGenerations
+pub mod Moments
 pub mod Plans
 pub mod Sets
 pub mod EntryLists

@@ -6,7 +6,7 @@ use Rattle.merge_gens.specs.declared.closings.Closing.{Closing}
 use Rattle.merge_gens.specs.declared.plan.GenChange.{GenChange}
 use Rattle.merge_gens.specs.declared.plan.GenChange.TheVariants.{Enter, Close}
 use Rattle.merge_gens.specs.declared.plan.GenPlan.{GenPlan}
-use Rattle.merge_gens.specs.Filling.{entry_limit}
+use Rattle.merge_types.specs.Limits.{entry_limit}
 use Rattle.merge_gens.specs.Book.{Book, IsSound, closings_between}
 use Rattle.merge_gens.specs.Plan.{filling_after, closing_moment, book_after, book_after_all, book_of, settled}
 use Rattle.merge_gens.proofs.ClosedGenerations.{sound_moved}

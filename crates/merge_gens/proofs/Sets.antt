@@ -1,5 +1,5 @@
 -- The set of a table's keys.
-use Rattle.std.proofs.Common.{◌≡◌, true, false, Bool, ◌||◌, ◌&&◌, not, List, [], ◌∷◌, Option, None, is_some, cond, refl, sym, ap, ◌∙◌}
+use Rattle.std.proofs.Common.{◌≡◌, ◌+◌, length, add-one, true, false, Bool, ◌||◌, ◌&&◌, not, List, [], ◌∷◌, Option, None, is_some, cond, refl, sym, ap, ◌∙◌}
 use Rattle.std.specs.FinSet as set
 use Rattle.std.specs.declared.cmp.Ordering.{Ordering}
 use Rattle.std.specs.declared.cmp.Ordering.TheVariants.{Less, Equal, Greater}
@@ -14,49 +14,10 @@ use Rattle.std.specs.BTreeSet.{insert_key}
 use Rattle.std.proofs.lemmas.Map.{lookup-remove_entry}
 use Rattle.std.proofs.lemmas.Map.Keys.{IsDistinct-from_sorted}
 use Rattle.std.proofs.lemmas.Map.Made.{is_some-lookup}
-use Rattle.merge_table.proofs.Room.{AreAbove, all_above, has_room-insert_key}
+use Rattle.merge_table.proofs.Room.{has_room-insert_key, no_room_above}
 use Rattle.merge_table.proofs.Slots.{keys-insert_entry, keys-remove_entry}
 
 module _ {K : Type 0} (cmp : K → K → Ordering) (o : IsTotalOrder cmp) where
-  -- a key above all of a list's stays below them with one key more or fewer
-  above_insert : (a k : K) (ks : List K) → cmp a k ≡ Less → AreAbove cmp a ks → AreAbove cmp a (insert_key cmp ks k)
-  above_insert a k [] less above = (less, tt)
-  above_insert a k (x ∷ xs) less above =
-      elim (cmp k x) as (λ r. AreAbove cmp a (match_ordering r (k ∷ x ∷ xs) (x ∷ xs) (x ∷ insert_key cmp xs k))) [
-        | Less ↦ (less, above)
-        | Equal ↦ above
-        | Greater ↦ (above.0, above_insert a k xs less above.1)
-      ]
-
-  above_remove : (test : K → Bool) (a : K) (ks : List K) → AreAbove cmp a ks → AreAbove cmp a (remove_key test ks)
-  above_remove test a [] above = tt
-  above_remove test a (x ∷ xs) above = elim (test x) as (λ b. AreAbove cmp a (cond b xs (x ∷ remove_key test xs))) [ true ↦ above.1 | false ↦ (above.0, above_remove test a xs above.1) ]
-
-  sorted_insert_step : (k x : K) (xs : List K) → IsStrictlySortedBy cmp (x ∷ xs) → IsStrictlySortedBy cmp (insert_key cmp xs k)
-      → (r : Ordering) → cmp k x ≡ r → IsStrictlySortedBy cmp (match_ordering r (k ∷ x ∷ xs) (x ∷ xs) (x ∷ insert_key cmp xs k))
-  unfolding IsStrictlySortedBy
-  sorted_insert_step k x xs sorted rest Less is = (all_above cmp o k x xs sorted is, sorted)
-  sorted_insert_step k x xs sorted rest Equal is = sorted
-  sorted_insert_step k x xs sorted rest Greater is = (above_insert x k xs (o.antisymm x k ∙ ap ordering_reverse is) sorted.0, rest)
-
-  -- keys stay in order with one more, and with one fewer
-  sorted_insert : (k : K) (ks : List K) → IsStrictlySortedBy cmp ks → IsStrictlySortedBy cmp (insert_key cmp ks k)
-  unfolding IsStrictlySortedBy
-  sorted_insert k [] sorted = (tt, tt)
-  sorted_insert k (x ∷ xs) sorted = sorted_insert_step k x xs sorted (sorted_insert k xs sorted.1) (cmp k x) refl
-
-  sorted_remove : (test : K → Bool) (ks : List K) → IsStrictlySortedBy cmp ks → IsStrictlySortedBy cmp (remove_key test ks)
-  unfolding IsStrictlySortedBy
-  sorted_remove test [] sorted = tt
-  sorted_remove test (x ∷ xs) sorted =
-      elim (test x) as (λ b. IsStrictlySortedBy cmp (cond b xs (x ∷ remove_key test xs))) [ true ↦ sorted.1 | false ↦ (above_remove test x xs sorted.0, sorted_remove test xs sorted.1) ]
-
-  pub sorted_put : {V : Type 0} (k : K) (v : V) (es : List (K × V)) → IsStrictlySortedBy cmp (keys_of es) → IsStrictlySortedBy cmp (keys_of (insert_entry cmp es k v))
-  sorted_put k v es sorted = rw (keys-insert_entry cmp k v es) (sorted_insert k (keys_of es) sorted)
-
-  pub sorted_take : {V : Type 0} (k : K) (es : List (K × V)) → IsStrictlySortedBy cmp (keys_of es) → IsStrictlySortedBy cmp (keys_of (remove_entry (is_at (cmp k)) es))
-  sorted_take k es sorted = rw (keys-remove_entry (is_at (cmp k)) es) (sorted_remove (is_at (cmp k)) (keys_of es) sorted)
-
   none_taken : {V : Type 0} (b : Bool) (found : Option V) → is_some (cond b None found) ≡ (not b && is_some found)
   none_taken true found = refl
   none_taken false found = refl
@@ -71,6 +32,16 @@ module _ {K : Type 0} (cmp : K → K → Ordering) (o : IsTotalOrder cmp) where
       ∙ none_taken (is_at (cmp k) q) (lookup (eq_by_cmp cmp q) es)
       ∙ ap (λ b. not b && is_some (lookup (eq_by_cmp cmp q) es)) ((eq_by_cmp_equiv o).symm k q)
       ∙ ap (λ b. not (eq_by_cmp cmp q k) && b) (is_some-lookup (eq_by_cmp cmp q) es)
+
+  -- keys in order are as many as their set has
+  pub len-sorted : (ks : List K) → IsStrictlySortedBy cmp ks → set.len (set.from_list {R = cmp} ks) ≡ length ks
+  unfolding IsStrictlySortedBy
+  len-sorted [] sorted = set.len-empty cmp
+  len-sorted (k ∷ ks) sorted =
+      set.len-insert o (set.from_list {R = cmp} ks) k
+      ∙ ap (λ b. cond b (set.len (set.from_list {R = cmp} ks)) (set.len (set.from_list {R = cmp} ks) + 1)) (set.contains-from_list o ks k ∙ no_room_above cmp k ks sorted.0)
+      ∙ ap (λ n. n + 1) (len-sorted ks sorted.1)
+      ∙ add-one (length ks)
 
   module _ (exact : (x y : K) → cmp x y ≡ Equal → x ≡ y) where
     -- a row that is put adds its key to the set, and one that is taken removes it

@@ -1,12 +1,13 @@
 -- A site's generations, and what is kept of the closed ones.
-use Rattle.std.specs.Prelude.{ℕ, ◌+◌, ◌-◌, ◌<◌, ◌≤◌, ◌==◌, nat_le, List, ◌++◌, map, filter, find, All, AllPairs}
+use Rattle.std.specs.Prelude.{ℕ, ◌+◌, ◌-◌, ◌<◌, ◌≤◌, ◌==◌, Bool, nat_lt, nat_le, if◌then◌else◌, None, Some, List, [], ◌∷◌, ◌++◌, map, filter, find, All, AllPairs}
 use Rattle.std.specs.declared.option.Option.{Option}
-use Rattle.std.specs.Option.{option_map}
+use Rattle.std.specs.Option.{option_map, option_or}
 use Rattle.std.specs.List.{range_with_len}
 use Rattle.merge_types.specs.declared.Moment.{Moment}
 use Rattle.merge_gens.specs.declared.filling.Filling.{Filling}
 use Rattle.merge_gens.specs.declared.closings.Closing.{Closing}
-use Rattle.merge_gens.specs.Filling.{entry_limit, filled_by, closed}
+use Rattle.merge_types.specs.Limits.{entry_limit}
+use Rattle.merge_gens.specs.Filling.{filled_by, closed}
 
 -- where the filling stands, and the closed generations that are kept, in ascending order
 pub record Book : Type 0 where
@@ -56,3 +57,27 @@ purged book cutoff = record {
   filling = book.filling;
   closings = filter (λ c. nat_le cutoff.0 c.moment.0) book.closings;
 }
+
+-- the book without the generations up to one
+abbrev pub forgotten : Book → ℕ → Book
+forgotten book up_to = record {
+  filling = book.filling;
+  closings = filter (λ c. nat_lt up_to c.generation) book.closings;
+}
+
+-- where there is a generation
+abbrev pub forgotten_if_any : Book → Option ℕ → Book
+forgotten_if_any book None = book
+forgotten_if_any book (Some up_to) = forgotten book up_to
+
+abbrev pub closed_before : Moment → Closing → Bool
+closed_before cutoff closing = nat_lt closing.moment.0 cutoff.0
+
+-- the last kept generation that closed before the cutoff, none where none did
+abbrev pub last_before : Moment → List Closing → Option ℕ
+last_before cutoff [] = None
+last_before cutoff (closing ∷ closings) = option_or (last_before cutoff closings) (if closed_before cutoff closing then Some closing.generation else None)
+
+-- no generation closed at an earlier moment than one before it
+abbrev pub NeverFall : List Closing → Type 0
+NeverFall closings = AllPairs (λ a b. a.moment.0 ≤ b.moment.0) closings

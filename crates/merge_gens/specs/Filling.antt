@@ -1,11 +1,8 @@
 -- How entries fill generations. Entries are numbered from 0 as they are added.
 use Rattle.std.specs.Prelude.{◌≡◌, ℕ, ◌+◌, ◌/◌, ◌%◌, ◌==◌, List, map, if◌then◌else◌}
 use Rattle.std.specs.List.{range_with_len}
+use Rattle.merge_types.specs.Limits.{entry_limit}
 use Rattle.merge_gens.specs.declared.filling.Filling.{Filling}
-
--- with so many entries a generation closes by itself
-abbrev pub entry_limit : ℕ
-entry_limit = 1000
 
 -- the generation of the entry with this number: the open one takes entries up to the limit, the one behind it the next, and so on
 abbrev pub generation_of : Filling → ℕ → ℕ

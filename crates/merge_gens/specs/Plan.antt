@@ -1,5 +1,5 @@
 -- Changes of a book, and the plan of the changes of one step.
-use Rattle.std.specs.Prelude.{◌+◌, ◌-◌, ◌^◌, ◌<◌, ◌≤◌, List, [], ◌∷◌, ◌++◌, length}
+use Rattle.std.specs.Prelude.{◌≡◌, ◌+◌, ◌-◌, ◌^◌, ◌<◌, ◌≤◌, List, [], ◌∷◌, ◌++◌, length}
 use Rattle.merge_types.specs.declared.Moment.{Moment}
 use Rattle.merge_gens.specs.declared.filling.Filling.{Filling}
 use Rattle.merge_gens.specs.declared.plan.GenChange.{GenChange}
@@ -55,7 +55,8 @@ book_of plan = record { filling = plan.filling; closings = plan.closings }
 abbrev pub settled : Book → GenPlan → Book
 settled book plan = record { filling = plan.filling; closings = book.closings ++ plan.closings }
 
--- the plan was made for the book, which has the memory for it
+-- the plan is for the book as it stands: nothing was added and nothing closed since it was made. The book has the memory for it
 pub record IsPrepared (held : BookWithRoom) (plan : GenPlan) : Type 0 where
+  pub current : plan.before ≡ held.book.filling
   pub room : length plan.closings ≤ held.room
   pub sound : IsSound (settled held.book plan)

@@ -1,11 +1,16 @@
 //! A site's generations, and what is kept of the closed ones.
-ghost use Rattle.std.specs.Prelude.{◌≡◌, ◌+◌, ◌≤◌, ◌<◌, [], nat_lt, count_by, length, IfOk, IsOk, OnOk, OnErr};
-ghost use Rattle.merge_gens.specs.Filling.{entry_limit, generations_of, closed};
-ghost use Rattle.merge_gens.specs.Book.{IsSound, moved_to, entered, closed_now, moment_of, purged};
+ghost use Rattle.std.specs.Prelude.{◌≡◌, ◌+◌, ◌≤◌, ◌<◌, ◌↔◌, [], nat_lt, nat_le, IsTrue, count_by, length, IfOk, IsOk, OnOk, OnErr};
+ghost use Rattle.merge_types.specs.Limits.{entry_limit};
+ghost use Rattle.merge_gens.specs.Filling.{generations_of, closed};
+ghost use Rattle.merge_gens.specs.Book.{IsSound, NeverFall, moved_to, entered, closed_now, moment_of, purged, forgotten, last_before};
 ghost use Rattle.merge_gens.specs.Plan.{settled, IsPrepared, AreAllowed, answers_of, book_after_all};
 
-use crate::closings::{add_closings, append, keep_from, moment_at};
+use crate::closings::{
+    add_closings, append, count_before, each_closed, generations_rise, keep_above, keep_from,
+    last_before, moment_at, moments_never_fall,
+};
 use crate::{Closing, Closings, Filling, GenAnswers, GenChange, GenPlan};
+use merge_types::limits::ENTRY_LIMIT;
 use merge_types::{Listing, Moment, NoMemory};
 use std::alloc::Global;
 use std::marker::Model;
@@ -42,6 +47,16 @@ impl GenBook {
             },
             closings: Vec::new(alloc),
         }
+    }
+
+    /// Whether a book can have these parts: the open generation is not full, and the kept
+    /// generations ascend and have closed.
+    pub fn can_restore(filling: Filling, closings: &[Closing]) -> bool
+        ensures { IsTrue result ↔ IsSound (record { filling = filling; closings = closings.now }) }
+    {
+        filling.filled < ENTRY_LIMIT
+            && generations_rise(closings)
+            && each_closed(closings, filling.last_closed)
     }
 
     /// The book with these parts, with no memory taken.
@@ -142,13 +157,18 @@ impl GenBook {
         Ok((answers, plan))
     }
 
-    /// Makes the changes of a plan, which is the last one that was prepared. No memory is taken.
+    /// Makes the changes of a plan. The book stands where it stood when the plan was made: nothing
+    /// was added and nothing closed since. No memory is taken.
     pub fn settle(&mut self, plan: GenPlan)
         requires { IsPrepared self.old plan }
         ensures book { self.new.book ≡ settled self.old.book plan }
         ensures room { self.new.room + length plan.closings ≡ self.old.room }
     {
-        let GenPlan { filling, closings } = plan;
+        let GenPlan {
+            filling,
+            closings,
+            ..
+        } = plan;
         append(&mut self.closings, closings.as_slice());
         self.filling = filling;
     }
@@ -202,6 +222,40 @@ impl GenBook {
         (before - self.closings.len()) as u64
     }
 
+    /// Forgets each kept generation up to one, and gives their count.
+    pub fn forget(&mut self, up_to: u64) -> u64
+        ensures count { result ≡ count_by (λ c. nat_le c.generation up_to) self.old.book.closings }
+        ensures book { self.new.book ≡ forgotten self.old.book up_to }
+        ensures room { self.new.room ≡ self.old.room + result }
+    {
+        let before = self.closings.len();
+        keep_above(&mut self.closings, up_to);
+        (before - self.closings.len()) as u64
+    }
+
+    /// The last kept generation that closed before the cutoff. Where moments do not fall, a purge
+    /// forgets the generations up to it. The time grows with the generations that are kept.
+    pub fn last_before(&self, cutoff: Moment) -> Option<u64>
+        ensures { result ≡ last_before cutoff self.now.book.closings }
+    {
+        last_before(&self.closings, cutoff)
+    }
+
+    /// How many generations a purge will forget.
+    pub fn count_before(&self, cutoff: Moment) -> u64
+        ensures { result ≡ count_by (λ c. nat_lt c.moment.0 cutoff.0) self.now.book.closings }
+    {
+        count_before(&self.closings, cutoff)
+    }
+
+    /// Whether no kept generation closed at an earlier moment than one before it. At a subscriber
+    /// the moments are change numbers, which don't fall.
+    pub fn never_falls(&self) -> bool
+        ensures { IsTrue result ↔ NeverFall self.now.book.closings }
+    {
+        moments_never_fall(&self.closings)
+    }
+
     // Where the book takes its memory from.
     fn alloc(&self) -> Global {
         *self.closings.allocator()
@@ -226,6 +280,7 @@ impl GenBook {
         )?;
         self.closings.reserve(closings.len())?;
         Ok(GenPlan {
+            before: self.filling,
             filling,
             closings: Listing::new(closings),
         })

@@ -1,7 +1,7 @@
 //! Closed generations.
-ghost use Rattle.std.specs.Prelude.{◌≡◌, ◌+◌, ◌≤◌, ◌<◌, ◌++◌, nat_lt, nat_le, count_by, filter, length, AllPairs, OnOk, IsOk, vec_len};
+ghost use Rattle.std.specs.Prelude.{◌≡◌, ◌+◌, ◌≤◌, ◌<◌, ◌++◌, ◌↔◌, nat_lt, nat_le, count_by, filter, length, All, AllPairs, IsTrue, OnOk, IsOk, vec_len};
 ghost use Rattle.std.specs.Vec.{vec_capacity};
-ghost use Rattle.merge_gens.specs.Book.{closings_between, moment_of};
+ghost use Rattle.merge_gens.specs.Book.{closings_between, moment_of, last_before, NeverFall};
 
 use merge_types::{Exact, Listing, Moment, NoMemory};
 
@@ -72,4 +72,59 @@ pub(crate) fn keep_from(closings: &mut Vec<Closing>, cutoff: Moment)
     ensures capacity { vec_capacity closings.new ≡ vec_capacity closings.old }
 {
     closings.retain(|closing| closing.moment.0 >= cutoff.0);
+}
+
+// Drops the generations up to one.
+pub(crate) fn keep_above(closings: &mut Vec<Closing>, up_to: u64)
+    ensures items { closings.new.items ≡ filter (λ c. nat_lt up_to c.generation) closings.old.items }
+    ensures len { vec_len closings.new + count_by (λ c. nat_le c.generation up_to) closings.old.items ≡ vec_len closings.old }
+    ensures capacity { vec_capacity closings.new ≡ vec_capacity closings.old }
+{
+    closings.retain(|closing| closing.generation > up_to);
+}
+
+// The last generation that closed before the cutoff.
+pub(crate) fn last_before(closings: &[Closing], cutoff: Moment) -> Option<u64>
+    ensures { result ≡ last_before cutoff closings.now }
+{
+    let mut last = None;
+    for closing in closings {
+        if closing.moment.0 < cutoff.0 {
+            last = Some(closing.generation);
+        }
+    }
+    last
+}
+
+// How many generations closed before the cutoff.
+pub(crate) fn count_before(closings: &[Closing], cutoff: Moment) -> u64
+    ensures { result ≡ count_by (λ c. nat_lt c.moment.0 cutoff.0) closings.now }
+{
+    closings
+        .iter()
+        .filter(|closing| closing.moment.0 < cutoff.0)
+        .count() as u64
+}
+
+// Whether each generation is above those before it.
+pub(crate) fn generations_rise(closings: &[Closing]) -> bool
+    ensures { IsTrue result ↔ AllPairs (λ a b. a.generation < b.generation) closings.now }
+{
+    closings.is_sorted_by(|before, behind| before.generation < behind.generation)
+}
+
+// Whether each generation is at most the last closed one.
+pub(crate) fn each_closed(closings: &[Closing], last_closed: u64) -> bool
+    ensures { IsTrue result ↔ All (λ c. c.generation ≤ last_closed) closings.now }
+{
+    closings
+        .iter()
+        .all(|closing| closing.generation <= last_closed)
+}
+
+// Whether no moment is below one before it.
+pub(crate) fn moments_never_fall(closings: &[Closing]) -> bool
+    ensures { IsTrue result ↔ NeverFall closings.now }
+{
+    closings.is_sorted_by(|before, behind| before.moment.0 <= behind.moment.0)
 }

@@ -1,13 +1,11 @@
 //! How entries fill generations.
 ghost use Rattle.std.specs.Prelude.{◌≡◌, ◌+◌, ◌≤◌, ◌<◌, IfOk, IsOk};
-ghost use Rattle.merge_gens.specs.Filling.{generation_of, generations_of, filled_by, closed, entry_limit, FillsOneByOne};
+ghost use Rattle.merge_types.specs.Limits.{entry_limit};
+ghost use Rattle.merge_gens.specs.Filling.{generation_of, generations_of, filled_by, closed, FillsOneByOne};
 
+use merge_types::limits::ENTRY_LIMIT;
 use merge_types::{Exact, NoMemory};
 use std::alloc::Global;
-
-// How many entries a generation takes, as in SQL Server, whose setting for it
-// (`generation_leveling_threshold` of `sp_addmergepublication`) is 1000 by default.
-const ENTRY_LIMIT: u64 = 1000;
 
 /// Where a site stands in its generations, which are numbered from 1. The open generation is the
 /// one behind the last closed.

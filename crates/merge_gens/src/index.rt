@@ -1,38 +1,26 @@
 //! Rows by generation.
-ghost use Rattle.std.specs.Prelude.{◌≡◌, ◌≤◌, ◌↔◌, ℕ, IfOk, IsOk, IsTrue, OnOk, OnErr, Contains, map, filter};
+ghost use Rattle.std.specs.Prelude.{◌≡◌, ◌+◌, ◌≤◌, ◌↔◌, ◌++◌, List, IfOk, IsOk, IsTrue, OnOk, OnErr, Contains, length, map, filter};
 ghost use Rattle.std.specs.FinSet as set;
+ghost use Rattle.std.specs.BTreeSet.{insert_key};
 ghost use Rattle.std.specs.List.Sorted.{IsStrictlySortedBy};
 ghost use Rattle.std.specs.Map.{keys_of};
-ghost use Rattle.merge_types.specs.declared.RowId.{RowId as OneRow};
+ghost use Rattle.merge_types.specs.RowKeys.{key_cmp};
+ghost use Rattle.merge_types.specs.declared.row_key.RowKey.{RowKey as OneRow};
 ghost use Rattle.merge_table.specs.Contents.{has_room};
-ghost use Rattle.merge_table.specs.Edits.{rows_after_all, IsReady};
-ghost use Rattle.merge_gens.specs.Entries.{entry_cmp, row_cmp, row_of, is_between};
-ghost use Rattle.merge_gens.specs.Index.{AreRowsBetween, entries_after_all};
+ghost use Rattle.merge_table.specs.Edits.{rows_after_all, slots_for_all, IsReady};
+ghost use Rattle.merge_gens.specs.Entries.{entry_cmp, entry_of, row_of, is_between};
+ghost use Rattle.merge_gens.specs.Index.{AddsRowsBetween, IsCompact, entries_after_all};
 
 use merge_table::{Edit, Table, TableKey};
-use merge_types::{Exact, Listing, NoMemory, RowId};
+use merge_types::{Exact, Listing, NoMemory, RowId, RowKey};
 use std::alloc::Global;
 use std::marker::Model;
 
-/// A generation that a row has. An article is named by its place in the publication.
+/// A generation that a row has. Ordered by generation, then by row.
 #[derive(Clone, Copy, Debug, PartialEq, Eq, PartialOrd, Ord)]
 pub struct IndexEntry {
     pub generation: u64,
-    pub article: u8,
-    pub row: RowId,
-}
-
-impl IndexEntry {
-    /// The generation of the row of the article.
-    pub fn new(generation: u64, article: u8, row: RowId) -> Self
-        ensures { result ≡ record { generation = generation; article = article; row = row } }
-    {
-        IndexEntry {
-            generation,
-            article,
-            row,
-        }
-    }
+    pub key: RowKey,
 }
 
 impl Exact for IndexEntry {
@@ -88,7 +76,8 @@ impl Model for GenIndex {
 impl GenIndex {
     /// No entry.
     pub fn new(alloc: Global) -> Self
-        ensures { result.entries ≡ set.empty }
+        ensures entries { result.entries ≡ set.empty }
+        ensures compact { IsCompact result }
     {
         GenIndex {
             entries: Table::new(alloc),
@@ -96,30 +85,33 @@ impl GenIndex {
     }
 
     /// Adds the generation of the row.
-    pub fn put(&mut self, generation: u64, article: u8, row: RowId) -> Result<(), NoMemory>
-        ensures ok { OnOk result (self.new.entries ≡ set.insert self.old.entries (record { generation = generation; article = article; row = row })) }
-        ensures err { OnErr result (self.new.entries ≡ self.old.entries) }
+    pub fn put(&mut self, generation: u64, key: RowKey) -> Result<(), NoMemory>
+        ensures ok { OnOk result (self.new.entries ≡ set.insert self.old.entries (entry_of generation key)) }
+        ensures slots { OnOk result (self.new.slots ≡ insert_key entry_cmp self.old.slots (entry_of generation key)) }
+        ensures err { OnErr result (self.new ≡ self.old) }
 
         // What takes no memory is not refused.
-        ensures room { IsTrue (has_room entry_cmp self.old.slots (record { generation = generation; article = article; row = row })) → IsOk result }
+        ensures room { IsTrue (has_room entry_cmp self.old.slots (entry_of generation key)) → IsOk result }
     {
-        self.entries
-            .insert(IndexEntry::new(generation, article, row), ())?;
+        self.entries.insert(IndexEntry { generation, key }, ())?;
         Ok(())
     }
 
-    /// Takes the generation of the row away, where it is there.
-    pub fn take(&mut self, generation: u64, article: u8, row: RowId)
-        ensures { self.new.entries ≡ set.remove self.old.entries (record { generation = generation; article = article; row = row }) }
+    /// Takes the generation of the row away, where it is there. Spare memory goes back, also that
+    /// of a plan which is not settled yet.
+    pub fn take(&mut self, generation: u64, key: RowKey)
+        ensures entries { self.new.entries ≡ set.remove self.old.entries (entry_of generation key) }
+        ensures compact { IsCompact self.new }
     {
-        self.entries
-            .remove(&IndexEntry::new(generation, article, row));
+        self.entries.remove(&IndexEntry { generation, key });
+        self.entries.sweep_if_due();
     }
 
     /// Takes the memory for several changes, and gives the plan. The index stays as it is.
     pub fn prepare(&mut self, changes: IndexChanges) -> Result<IndexPlan, NoMemory>
         ensures plan { IfOk result (λ plan. plan.changes ≡ changes) }
         ensures ready { IfOk result (λ plan. IsReady entry_cmp self.new.slots plan.changes) }
+        ensures slots { OnOk result (self.new.slots ≡ slots_for_all entry_cmp self.old.slots changes) }
         ensures same { self.new.entries ≡ self.old.entries }
 
         // What takes no memory is not refused.
@@ -130,67 +122,70 @@ impl GenIndex {
     }
 
     /// Makes the changes of a plan in their order, which is the last one that was prepared. No
-    /// memory is taken, and spare memory may go back.
+    /// memory is taken, and spare memory goes back.
     pub fn settle(&mut self, plan: IndexPlan)
         requires { IsReady entry_cmp self.old.slots plan.changes }
-        ensures { self.new.entries ≡ entries_after_all self.old.entries plan.changes }
+        ensures entries { self.new.entries ≡ entries_after_all self.old.entries plan.changes }
+        ensures compact { IsCompact self.new }
     {
-        apply(&mut self.entries, plan.changes.into_vec());
+        self.entries.apply_and_sweep(plan.changes.into_vec());
     }
 
-    /// The rows with a generation behind `from`, up to `to`, each once, by article and row. The
-    /// time grows with the entries between, which are sorted, and the logarithm of all.
-    pub fn between(&self, alloc: Global, from: u64, to: u64) -> Result<Vec<(u8, RowId)>, NoMemory>
-        ensures rows { IfOk result (λ rows. AreRowsBetween self.now.entries from to rows.items) }
+    /// Adds the rows with a generation behind `from`, up to `to`, behind a list, which `sort_rows`
+    /// brings in order once all are found. The time grows with these rows, and with the logarithm
+    /// of all entries.
+    pub fn between(&self, from: u64, to: u64, rows: &mut Vec<RowKey>) -> Result<(), NoMemory>
+        ensures rows { OnOk result (AddsRowsBetween self.now.entries from to rows.old.items rows.new.items) }
+        ensures err { OnErr result (rows.new.items ≡ rows.old.items) }
         ensures nothing { to ≤ from → IsOk result }
     {
-        let mut rows = rows_between(alloc, &self.entries, from, to)?;
-        sort_distinct(&mut rows);
-        Ok(rows)
-    }
-}
-
-// Makes the changes in their order, and lets go of spare slots once they are the most.
-fn apply(entries: &mut Table<IndexEntry, ()>, changes: Vec<IndexChange>)
-    requires { IsReady entry_cmp entries.old.slots changes.items }
-    ensures { entries.new.rows ≡ rows_after_all entry_cmp entries.old.rows changes.items }
-{
-    entries.apply(changes);
-    if entries.spare() > entries.len() {
-        entries.sweep();
-    }
-}
-
-// The rows with a generation between, for each of these once, by generation.
-fn rows_between(
-    alloc: Global,
-    entries: &Table<IndexEntry, ()>,
-    from: u64,
-    to: u64,
-) -> Result<Vec<(u8, RowId)>, NoMemory>
-    requires { IsStrictlySortedBy entry_cmp (keys_of entries.now.rows) }
-    ensures nothing { to ≤ from → IsOk result }
-    ensures rows { IfOk result (λ rows. rows.items ≡ map row_of (filter (is_between from to) (keys_of entries.now.rows))) }
-{
-    let mut rows = Vec::new(alloc);
-    if from >= to {
-        return Ok(rows);
-    }
-    let first = IndexEntry::new(from + 1, 0, RowId(0));
-    for (entry, _) in entries.range(first..) {
-        if entry.generation > to {
-            return Ok(rows);
+        let found = rows.len();
+        match add_rows_between(&self.entries, from, to, rows) {
+            Ok(()) => Ok(()),
+            Err(refused) => {
+                rows.truncate(found);
+                Err(refused)
+            }
         }
-        rows.push((entry.article, entry.row))?;
     }
-    Ok(rows)
 }
 
-// Sorts the rows, and leaves each once.
-fn sort_distinct(rows: &mut Vec<(u8, RowId)>)
-    ensures ascending { IsStrictlySortedBy row_cmp rows.new.items }
-    ensures same { (row : ℕ × OneRow) → Contains rows.new.items row ↔ Contains rows.old.items row }
+/// Sorts rows by article and identifier, and leaves each once.
+pub fn sort_rows(rows: &mut Vec<RowKey>)
+    ensures ascending { IsStrictlySortedBy key_cmp rows.new.items }
+    ensures same { (key : OneRow) → Contains rows.new.items key ↔ Contains rows.old.items key }
 {
     rows.sort_unstable();
     rows.dedup();
+}
+
+// Adds the rows with a generation between, by generation.
+fn add_rows_between(
+    entries: &Table<IndexEntry, ()>,
+    from: u64,
+    to: u64,
+    rows: &mut Vec<RowKey>,
+) -> Result<(), NoMemory>
+    requires { IsStrictlySortedBy entry_cmp (keys_of entries.now.rows) }
+    ensures nothing { to ≤ from → IsOk result }
+    ensures rows { OnOk result (rows.new.items ≡ rows.old.items ++ map row_of (filter (is_between from to) (keys_of entries.now.rows))) }
+    ensures kept { (more : List OneRow) × (rows.new.items ≡ rows.old.items ++ more) }
+{
+    if from >= to {
+        return Ok(());
+    }
+    let first = IndexEntry {
+        generation: from + 1,
+        key: RowKey {
+            article: 0,
+            row: RowId(0),
+        },
+    };
+    for (entry, _) in entries.range(first..) {
+        if entry.generation > to {
+            return Ok(());
+        }
+        rows.push(entry.key)?;
+    }
+    Ok(())
 }

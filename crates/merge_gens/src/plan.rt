@@ -1,6 +1,6 @@
 //! Changes of a book, and the plan of the changes of one step.
 ghost use Rattle.std.specs.Prelude.{◌≡◌, ◌<◌, [], IfOk, IsOk};
-ghost use Rattle.merge_gens.specs.Filling.{entry_limit};
+ghost use Rattle.merge_types.specs.Limits.{entry_limit};
 ghost use Rattle.merge_gens.specs.Plan.{filling_after, closing_moment, answer_of, answers_of, book_after_all, book_of, IsAllowed, AreAllowed};
 
 use crate::closings::add_closings;
@@ -75,6 +75,8 @@ pub type GenAnswers = Listing<GenAnswer>;
 /// What changes of a book come to.
 #[derive(Debug, Drop)]
 pub struct GenPlan {
+    /// Where the filling stood when the plan was made.
+    pub before: Filling,
     /// Where the filling stands afterwards.
     pub filling: Filling,
     /// The generations that close, in ascending order.
@@ -92,6 +94,7 @@ impl GenPlan {
         requires allowed { AreAllowed filling changes.now }
         ensures answers { IfOk result (λ planned. planned.0 ≡ answers_of filling changes.now) }
         ensures nothing { changes.now ≡ [] → IsOk result }
+        ensures before { IfOk result (λ planned. planned.1.before ≡ filling) }
         ensures plan { IfOk result (λ planned. book_of planned.1 ≡ book_after_all (record { filling = filling; closings = [] }) changes.now) }
     {
         let mut answers = Listing::empty(alloc);
@@ -109,6 +112,7 @@ impl GenPlan {
             reached = after;
         }
         let plan = GenPlan {
+            before: filling,
             filling: reached,
             closings: Listing::new(closings),
         };

@@ -1,8 +1,9 @@
 //! The happy path of each call, with figures from the rules.
 use crate::{
     Closing, Filling, GenAnswer, GenBook, GenChange, GenIndex, IndexChange, IndexEntry, expired,
+    sort_rows,
 };
-use merge_types::{Listing, Moment, RowId};
+use merge_types::{Listing, Moment, RowId, RowKey};
 use std::test::Fail;
 
 // A thousand entries close a generation, and each entry has the generation that was open.
@@ -92,34 +93,121 @@ fn a_site_expires_behind_the_retention(rt: HostRuntime) {
     }
 }
 
+// A subscriber forgets what the publisher has taken, and a purge is known before it is made.
+#[test]
+fn closings_are_forgotten_up_to_a_generation(rt: HostRuntime) -> Result<(), Fail> {
+    let closing = |generation, moment| Closing {
+        generation,
+        moment: Moment(moment),
+    };
+    let filling = Filling {
+        last_closed: 4,
+        filled: 0,
+    };
+    let closings = [closing(1, 4), closing(2, 4), closing(3, 7), closing(4, 9)];
+    assert!(rt; GenBook::can_restore(filling, &closings));
+    let mut book = GenBook::restore(filling, Listing::new(closings.to_vec(rt.alloc())?));
+    assert!(rt; book.never_falls());
+    assert_eq!(rt; book.last_before(Moment(4)), None);
+    assert_eq!(rt; book.last_before(Moment(8)), Some(3));
+    assert_eq!(rt; book.count_before(Moment(8)), 3);
+    assert_eq!(rt; book.forget(2), 2);
+    assert_eq!(rt; book.forget(2), 0);
+    assert_eq!(rt; book.kept(), 2);
+    assert_eq!(rt; book.closed_at(2), None);
+    assert_eq!(rt; book.closed_at(3), Some(7));
+    Ok(())
+}
+
+// A start asks before it restores a book.
+#[test]
+fn unsound_books_are_told(rt: HostRuntime) {
+    let filling = |last_closed, filled| Filling {
+        last_closed,
+        filled,
+    };
+    let closing = |generation, moment| Closing {
+        generation,
+        moment: Moment(moment),
+    };
+    let closings = [closing(3, 9), closing(5, 8)];
+    assert!(rt; GenBook::can_restore(filling(5, 999), &closings));
+    assert!(rt; !GenBook::can_restore(filling(4, 999), &closings));
+    assert!(rt; !GenBook::can_restore(filling(5, 1000), &closings));
+    assert!(rt; !GenBook::can_restore(filling(9, 0), &[closing(5, 8), closing(5, 9)]));
+}
+
+fn key(article: u8, row: u128) -> RowKey {
+    RowKey {
+        article,
+        row: RowId(row),
+    }
+}
+
+fn between(rt: &HostRuntime, index: &GenIndex, from: u64, to: u64) -> Result<Vec<RowKey>, Fail> {
+    let mut rows = Vec::new(rt.alloc());
+    index.between(from, to, &mut rows)?;
+    sort_rows(&mut rows);
+    Ok(rows)
+}
+
 // A row is found once, at each of its generations, and the lower end is outside.
 #[test]
 fn rows_are_found_by_generation(rt: HostRuntime) -> Result<(), Fail> {
     let mut index = GenIndex::new(rt.alloc());
-    index.put(5, 1, RowId(8))?;
-    index.put(6, 1, RowId(8))?;
-    index.put(6, 0, RowId(9))?;
+    index.put(5, key(1, 8))?;
+    index.put(6, key(1, 8))?;
+    index.put(6, key(0, 9))?;
     assert_eq!(rt;
-        index.between(rt.alloc(), 4, 6)?.as_slice(),
-        [(0, RowId(9)), (1, RowId(8))].as_slice()
+        between(&rt, &index, 4, 6)?.as_slice(),
+        [key(0, 9), key(1, 8)].as_slice()
     );
     assert_eq!(rt;
-        index.between(rt.alloc(), 4, 5)?.as_slice(),
-        [(1, RowId(8))].as_slice()
+        between(&rt, &index, 4, 5)?.as_slice(),
+        [key(1, 8)].as_slice()
     );
-    index.take(6, 1, RowId(8));
+    index.take(6, key(1, 8));
     assert_eq!(rt;
-        index.between(rt.alloc(), 5, 6)?.as_slice(),
-        [(0, RowId(9))].as_slice()
+        between(&rt, &index, 5, 6)?.as_slice(),
+        [key(0, 9)].as_slice()
     );
     let mut changes = Listing::empty(rt.alloc());
-    changes.push(IndexChange::Take(IndexEntry::new(6, 0, RowId(9))))?;
-    changes.push(IndexChange::Put(IndexEntry::new(7, 0, RowId(9)), ()))?;
+    changes.push(IndexChange::Take(IndexEntry {
+        generation: 6,
+        key: key(0, 9),
+    }))?;
+    changes.push(IndexChange::Put(
+        IndexEntry {
+            generation: 7,
+            key: key(0, 9),
+        },
+        (),
+    ))?;
     let plan = index.prepare(changes)?;
     index.settle(plan);
     assert_eq!(rt;
-        index.between(rt.alloc(), 5, u64::MAX)?.as_slice(),
-        [(0, RowId(9))].as_slice()
+        between(&rt, &index, 5, u64::MAX)?.as_slice(),
+        [key(0, 9)].as_slice()
     );
+    Ok(())
+}
+
+// The rows of two indexes go behind one another, and are sorted once.
+#[test]
+fn two_indexes_share_a_list(rt: HostRuntime) -> Result<(), Fail> {
+    let mut changed = GenIndex::new(rt.alloc());
+    changed.put(3, key(2, 1))?;
+    let mut moved = GenIndex::new(rt.alloc());
+    moved.put(2, key(2, 1))?;
+    moved.put(3, key(1, 7))?;
+    let mut rows = Vec::new(rt.alloc());
+    changed.between(0, 3, &mut rows)?;
+    moved.between(0, 3, &mut rows)?;
+    assert_eq!(rt;
+        rows.as_slice(),
+        [key(2, 1), key(2, 1), key(1, 7)].as_slice()
+    );
+    sort_rows(&mut rows);
+    assert_eq!(rt; rows.as_slice(), [key(1, 7), key(2, 1)].as_slice());
     Ok(())
 }

@@ -1,4 +1,7 @@
 pub mod Added
+pub mod SlotLists
+pub mod Lasts
+pub mod Stored
 pub mod Order
 pub mod Places
 pub mod Plans

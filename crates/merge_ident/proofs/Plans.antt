@@ -12,7 +12,7 @@ use Rattle.std.specs.List.{AllByRecursion}
 use Rattle.merge_ident.specs.declared.grants.Grant.{Grant}
 use Rattle.merge_ident.specs.declared.grants.Rule.{Rule}
 use Rattle.merge_ident.specs.declared.grants.Ask.{Ask}
-use Rattle.merge_ident.specs.declared.grants.Planned.{Planned}
+use Rattle.merge_ident.specs.declared.grants.GrantPlan.{GrantPlan}
 use Rattle.merge_ident.specs.declared.grants.IdentFault.{IdentFault}
 use Rattle.merge_ident.specs.declared.grants.IdentFault.TheVariants.{NoRange}
 use Rattle.merge_ident.specs.declared.grants.GrantAnswer.TheVariants.{Granted}
@@ -89,7 +89,7 @@ new_count_le : (o : Option Grant) → new_count o ≤ 1
 new_count_le None = omega arith
 new_count_le (Some g) = omega arith
 
-pub room_for_le : (planned : Planned) → room_for planned ≤ 1
+pub room_for_le : (planned : GrantPlan) → room_for planned ≤ 1
 room_for_le planned = new_count_le (new_grant planned.ask planned.answer)
 
 pub next_if_some : (grants : List Grant) (o : Option Grant) (g : Grant) → o ≡ Some g → IsNextIfAny grants o → IsNext grants g
@@ -98,11 +98,11 @@ next_if_some grants (Some h) g is next =
     let P : Grant → Type 0 = IsNext grants in
     let same : h ≡ g = cc in subst P same next
 
-pub grants_with_all-push : (grants : List Grant) (plans : List Planned) (p : Planned) → grants_with_all grants (plans ++ p ∷ []) ≡ grants_with (grants_with_all grants plans) p
+pub grants_with_all-push : (grants : List Grant) (plans : List GrantPlan) (p : GrantPlan) → grants_with_all grants (plans ++ p ∷ []) ≡ grants_with (grants_with_all grants plans) p
 grants_with_all-push grants [] p = refl
 grants_with_all-push grants (q ∷ plans) p = grants_with_all-push (grants_with grants q) plans p
 
-room_for_all-push : (plans : List Planned) (p : Planned) → room_for_all (plans ++ p ∷ []) ≡ room_for_all plans + room_for p
+room_for_all-push : (plans : List GrantPlan) (p : GrantPlan) → room_for_all (plans ++ p ∷ []) ≡ room_for_all plans + room_for p
 room_for_all-push [] p = omega arith
 room_for_all-push (q ∷ plans) p = omega (arith, room_for_all-push plans p)
 
@@ -120,7 +120,7 @@ ranges-push_any grants news None all next = rw append-nil all
 ranges-push_any grants news (Some g) all next = All-push IsGranted news g all next.values
 
 -- the plans of the first asks, and the grants that they make
-pub record ArePlanned (rules : List Rule) (grants : List Grant) (asks : List Ask) (plans : List Planned) (news : List Grant) (at : ℕ) : Type 0 where
+pub record ArePlanned (rules : List Rule) (grants : List Grant) (asks : List Ask) (plans : List GrantPlan) (news : List Grant) (at : ℕ) : Type 0 where
   pub plans_are : plans ++ plans_of rules (with_grants grants news) (drop at asks) ≡ plans_of rules grants asks
   pub book : IsBook rules (with_grants grants news)
   pub ranges : All IsGranted news
@@ -132,10 +132,10 @@ planned_none rules grants asks book = record { plans_are = refl; book = book; ra
 next_ask : (asks : List Ask) (at : ℕ) (d : Ask) → at < length asks → drop at asks ≡ get_or asks at d ∷ drop (at + 1) asks
 next_ask asks at d in_asks = rw add-one (drop-cons asks at d in_asks)
 
-pub planned_all : (rules : List Rule) (grants : List Grant) (asks : List Ask) (plans : List Planned) (news : List Grant) (at : ℕ) → length asks ≤ at → ArePlanned rules grants asks plans news at → plans ≡ plans_of rules grants asks
+pub planned_all : (rules : List Rule) (grants : List Grant) (asks : List Ask) (plans : List GrantPlan) (news : List Grant) (at : ℕ) → length asks ≤ at → ArePlanned rules grants asks plans news at → plans ≡ plans_of rules grants asks
 planned_all rules grants asks plans news at all so_far = grind (arith, common_steps, so_far.plans_are)
 
-pub planned_more : (rules : List Rule) (grants : List Grant) (asks : List Ask) (plans : List Planned) (news : List Grant) (at : ℕ) (d : Ask) → at < length asks → ArePlanned rules grants asks plans news at
+pub planned_more : (rules : List Rule) (grants : List Grant) (asks : List Ask) (plans : List GrantPlan) (news : List Grant) (at : ℕ) (d : Ask) → at < length asks → ArePlanned rules grants asks plans news at
     → let p = plan_of rules (with_grants grants news) (get_or asks at d) in ArePlanned rules grants asks (plans ++ p ∷ []) (news ++ option_to_list (new_grant p.ask p.answer)) (at + 1)
 planned_more rules grants asks plans news at d in_asks so_far =
     let ask = get_or asks at d in

@@ -7,7 +7,7 @@ use Rattle.merge_types.specs.declared.identifiers.SiteId.{SiteId}
 use Rattle.merge_ident.specs.declared.grants.Grant.{Grant}
 use Rattle.merge_ident.specs.declared.grants.Rule.{Rule}
 use Rattle.merge_ident.specs.declared.grants.Ask.{Ask}
-use Rattle.merge_ident.specs.declared.grants.Planned.{Planned}
+use Rattle.merge_ident.specs.declared.grants.GrantPlan.{GrantPlan}
 use Rattle.merge_ident.specs.declared.grants.GrantAnswer.{GrantAnswer}
 use Rattle.merge_ident.specs.declared.grants.GrantAnswer.TheVariants.{Granted, Kept, NotDue}
 use Rattle.merge_ident.specs.declared.grants.IdentFault.{IdentFault}
@@ -92,18 +92,18 @@ abbrev pub IsAnswer : Answer → Answer → Type 0
 IsAnswer answer owed = (answer ≡ owed) ⊎ ((answer ≡ Err NoMemory) × NeedsMemory owed)
 
 -- an ask with what it is answered
-abbrev pub plan_of : List Rule → List Grant → Ask → Planned
+abbrev pub plan_of : List Rule → List Grant → Ask → GrantPlan
 plan_of rules grants ask = record { ask = ask; answer = answer_of rules grants ask }
 
 -- the grants after what was planned for one ask, and after what was planned for several
-abbrev pub grants_with : List Grant → Planned → List Grant
+abbrev pub grants_with : List Grant → GrantPlan → List Grant
 grants_with grants planned = grants_after grants planned.ask planned.answer
 
-abbrev pub grants_with_all : List Grant → List Planned → List Grant
+abbrev pub grants_with_all : List Grant → List GrantPlan → List Grant
 grants_with_all grants [] = grants
 grants_with_all grants (planned ∷ plans) = grants_with_all (grants_with grants planned) plans
 
 -- the plans of several asks, each over the grants that those before it leave
-abbrev pub plans_of : List Rule → List Grant → List Ask → List Planned
+abbrev pub plans_of : List Rule → List Grant → List Ask → List GrantPlan
 plans_of rules grants [] = []
 plans_of rules grants (ask ∷ asks) = plan_of rules grants ask ∷ plans_of rules (grants_with grants (plan_of rules grants ask)) asks

@@ -2,7 +2,7 @@
 use Rattle.std.specs.Prelude.{◌≡◌, ℕ, ◌+◌, ◌-◌, ◌≤◌, ◌≤ℤ◌, pos, List, [], ◌∷◌, All, Option, Some, None}
 use Rattle.merge_ident.specs.declared.grants.Grant.{Grant}
 use Rattle.merge_ident.specs.declared.grants.Rule.{Rule}
-use Rattle.merge_ident.specs.declared.grants.Planned.{Planned}
+use Rattle.merge_ident.specs.declared.grants.GrantPlan.{GrantPlan}
 use Rattle.merge_ident.specs.Grants.{AreGrants, AreInOrder, natural, greatest_end, granted_to, IsGranted}
 use Rattle.merge_ident.specs.Answers.{new_grant, grants_with, grants_with_all}
 
@@ -39,29 +39,29 @@ abbrev pub new_count : Option Grant → ℕ
 new_count None = 0
 new_count (Some grant) = 1
 
-abbrev pub room_for : Planned → ℕ
+abbrev pub room_for : GrantPlan → ℕ
 room_for planned = new_count (new_grant planned.ask planned.answer)
 
-abbrev pub room_for_all : List Planned → ℕ
+abbrev pub room_for_all : List GrantPlan → ℕ
 room_for_all [] = 0
 room_for_all (planned ∷ plans) = room_for planned + room_for_all plans
 
 -- what was planned can be made over these grants
-abbrev pub Follows : List Grant → Planned → Type 0
+abbrev pub Follows : List Grant → GrantPlan → Type 0
 Follows grants planned = IsNextIfAny grants (new_grant planned.ask planned.answer)
 
-abbrev pub AllFollow : List Grant → List Planned → Type 0
+abbrev pub AllFollow : List Grant → List GrantPlan → Type 0
 AllFollow grants [] = Unit {0}
 AllFollow grants (planned ∷ plans) = Follows grants planned × AllFollow (grants_with grants planned) plans
 
 -- the book has the room for what was planned, and nothing was granted since
-pub record IsReady (book : Book) (plans : List Planned) : Type 0 where
+pub record IsReady (book : Book) (plans : List GrantPlan) : Type 0 where
   pub room : room_for_all plans ≤ book.room
   pub follows : AllFollow book.grants plans
 
 -- the book with what was planned
-abbrev pub book_with : Book → Planned → Book
+abbrev pub book_with : Book → GrantPlan → Book
 book_with book planned = record { rules = book.rules; grants = grants_with book.grants planned; room = book.room - room_for planned }
 
-abbrev pub book_with_all : Book → List Planned → Book
+abbrev pub book_with_all : Book → List GrantPlan → Book
 book_with_all book plans = record { rules = book.rules; grants = grants_with_all book.grants plans; room = book.room - room_for_all plans }

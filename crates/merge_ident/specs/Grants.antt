@@ -1,6 +1,6 @@
 -- Lists of grants.
-use Rattle.std.specs.Prelude.{◌≡◌, ℕ, ℤ, pos, negsuc, ◌≤◌, ◌≤ℤ◌, ◌<ℤ◌, Bool, ◌&&◌, ◌==◌, if◌then◌else◌, List, [], ◌∷◌, max, All, count_by, nat_le, int_le}
-use Rattle.std.specs.List.{AllByRecursion}
+use Rattle.std.specs.Prelude.{◌≡◌, ℕ, ℤ, pos, negsuc, ◌<◌, ◌≤◌, ◌≤ℤ◌, ◌<ℤ◌, Bool, ◌&&◌, ◌==◌, if◌then◌else◌, List, [], ◌∷◌, max, All, Contains, count_by, nat_le, int_le}
+use Rattle.std.specs.List.{AllByRecursion, list_any}
 use Rattle.merge_ident.specs.declared.grants.Range.{Range}
 use Rattle.merge_ident.specs.declared.grants.Grant.{Grant}
 
@@ -29,6 +29,10 @@ is_numbered article site number grant = is_of article site grant && (grant.numbe
 abbrev pub gives : ℕ → ℤ → Grant → Bool
 gives article value grant = (grant.article == article) && is_in value grant.range
 
+-- a value of an article was granted to a site
+abbrev pub is_granted : ℕ → ℕ → ℤ → List Grant → Bool
+is_granted article site value grants = list_any (λ (grant : Grant). is_of article site grant && is_in value grant.range) grants
+
 -- the values begin at 1 and are some
 pub record IsGranted (grant : Grant) : Type 0 where
   pub from_one : pos 1 ≤ℤ grant.range.begin
@@ -42,16 +46,22 @@ AreDisjoint grants = (article : ℕ) (value : ℤ) → count_by (gives article v
 abbrev pub AreNumbered : List Grant → Type 0
 AreNumbered grants = (article site number : ℕ) → count_by (is_numbered article site number) grants ≡ (if nat_le 1 number && nat_le number (granted_to article site grants) then 1 else 0)
 
+-- of an article's grants to a site, one that begins later has a greater number
+abbrev pub AreRising : List Grant → Type 0
+AreRising grants = (x y : Grant) → Contains grants x → Contains grants y → x.article ≡ y.article → x.site.0 ≡ y.site.0 → x.range.begin <ℤ y.range.begin → x.number < y.number
+
 -- what holds of all grants of a book, in whatever order
 pub record AreGrants (grants : List Grant) : Type 0 where
   pub ranges : All IsGranted grants
   pub disjoint : AreDisjoint grants
   pub numbered : AreNumbered grants
+  pub rising : AreRising grants
 
--- the second is of a later article, or of the same one and begins behind the first
+-- the second is of a later article, or of the same one and begins behind the first. Where it is to the same site too, it has a greater number
 pub record Precedes (first second : Grant) : Type 0 where
   pub by_article : first.article ≤ second.article
   pub behind : first.article ≡ second.article → first.range.end <ℤ second.range.begin
+  pub numbered : first.article ≡ second.article → first.site.0 ≡ second.site.0 → first.number < second.number
 
 -- by article and begin: each grant precedes all later ones
 abbrev pub AreInOrder : List Grant → Type 0

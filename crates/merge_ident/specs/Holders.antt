@@ -1,5 +1,5 @@
 -- What a site holds of the ranges of an article that it received.
-use Rattle.std.specs.Prelude.{◌≡◌, ℕ, ℤ, pos, ◌+◌, ◌*◌, ◌-◌, ◌≤◌, ◌+ℤ◌, ◌-ℤ◌, ◌≤ℤ◌, Bool, true, List, [], ◌∷◌, ◌++◌, length, drop, map, filter, Result, Ok, Err, nat_le, nat_lt, slice_get}
+use Rattle.std.specs.Prelude.{◌≡◌, ℕ, ℤ, pos, ◌+◌, ◌*◌, ◌-◌, ◌≤◌, ◌+ℤ◌, ◌-ℤ◌, ◌≤ℤ◌, Bool, true, All, List, [], ◌∷◌, ◌++◌, length, drop, map, filter, Result, Ok, Err, nat_le, nat_lt, slice_get}
 use Rattle.std.specs.Option.{option_map}
 use Rattle.std.specs.List.{AllByRecursion}
 use Rattle.merge_ident.specs.declared.grants.Range.{Range}
@@ -107,3 +107,9 @@ held_from (first ∷ rest) next = record { range = first; used = natural (next -
 abbrev pub IsNextIn : List Range → ℤ → Type 0
 IsNextIn [] next = next ≡ pos 0
 IsNextIn (first ∷ rest) next = (first.begin ≤ℤ next) × (next ≤ℤ first.end)
+
+-- ranges as they are kept: two at most, each with values, and the next value
+pub record AreKept (ranges : List Range) (next : ℤ) : Type 0 where
+  pub two : length ranges ≤ 2
+  pub values : All HasValues ranges
+  pub next_in : IsNextIn ranges next

@@ -1,4 +1,6 @@
 pub mod Grants
+pub mod Lasts
+pub mod Stored
 pub mod Answers
 pub mod Books
 pub mod Holders

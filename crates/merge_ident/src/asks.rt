@@ -1,11 +1,12 @@
 //! What an ask is answered: reads of the grants, and of those that are planned.
-ghost use Rattle.std.specs.Prelude.{◌≡◌, ◌<◌, ◌≤◌, ◌+◌, ◌++◌, length, max, find, All, IsSome, IfOk, OnOk, Some, ◌^◌};
+ghost use Rattle.std.specs.Prelude.{◌≡◌, ◌<◌, ◌≤◌, ◌+◌, ◌++◌, length, max, find, All, ◌↔◌, IsTrue, IsSome, IfOk, IsOk, OnOk, Some, [], ◌^◌};
 ghost use Rattle.std.specs.Option.{option_or, option_to_list};
-ghost use Rattle.merge_ident.specs.Grants.{granted_to, is_numbered, greatest_end, with_grants, AreNumbered, IsGranted};
+ghost use Rattle.merge_ident.specs.Grants.{granted_to, is_numbered, greatest_end, with_grants, AreInOrder, AreNumbered, IsGranted};
 ghost use Rattle.merge_ident.specs.Answers.{answer_of, rule_of, kept_answer, next_answer, new_grant, plans_of};
 ghost use Rattle.merge_ident.specs.Books.{IsRule, IsBook, AllFollow, room_for_all};
 
-use crate::{Answer, Ask, Grant, GrantAnswer, IdentFault, Planned, Range, Rule};
+use crate::halving::{granted, greatest};
+use crate::{Answer, Ask, Grant, GrantAnswer, GrantPlan, IdentFault, Range, Rule};
 use merge_types::NoMemory;
 use std::alloc::Global;
 use std::cmp::Ordering;
@@ -46,6 +47,18 @@ fn greatest_of(grants: &[Grant], article: u8) -> u64
         }
     }
     greatest
+}
+
+// Whether the article has a rule.
+pub fn has_rule(rules: &[Rule], article: u8) -> bool
+    ensures { IsTrue result ↔ IsSome (rule_of rules.now article) }
+{
+    for rule in rules {
+        if rule.article == article {
+            return true;
+        }
+    }
+    false
 }
 
 // The rule of an article that has one.
@@ -98,20 +111,23 @@ fn next_range(rule: &Rule, greatest: u64, ask: Ask) -> Answer
 
 // How many grants of the article the site has.
 fn granted_in(grants: &[Grant], planned: &[Grant], ask: Ask) -> u64
+    requires order { AreInOrder grants.now }
+    requires numbered { AreNumbered grants.now }
     ensures granted { result ≡ granted_to ask.article ask.site.0 (with_grants grants.now planned.now) }
     ensures bound { result + 1 < 2 ^ 64 }
 {
-    (granted_of(grants, ask) + granted_of(planned, ask)) as u64
+    granted(grants, ask.article, ask.site) + granted_of(planned, ask) as u64
 }
 
 // The greatest end of the article's ranges.
 fn greatest_in(grants: &[Grant], planned: &[Grant], article: u8) -> u64
+    requires order { AreInOrder grants.now }
     requires grants { All IsGranted grants.now }
     requires planned { All IsGranted planned.now }
     ensures greatest { result ≡ greatest_end article (with_grants grants.now planned.now) }
     ensures bound { result < 2 ^ 63 }
 {
-    greatest_of(grants, article).max(greatest_of(planned, article))
+    greatest(grants, article).max(greatest_of(planned, article))
 }
 
 // The grant of the article and the site with a number, in either list.
@@ -140,8 +156,7 @@ fn kept(grants: &[Grant], planned: &[Grant], ask: Ask) -> Answer
 // What an ask is answered over the grants and those that are planned.
 pub fn answer(rules: &[Rule], grants: &[Grant], planned: &[Grant], ask: Ask) -> Answer
     requires rule { IsSome (rule_of rules.now ask.article) }
-    requires rules { All IsRule rules.now }
-    requires grants { All IsGranted grants.now }
+    requires book { IsBook rules.now grants.now }
     requires planned { All IsGranted planned.now }
     requires numbered { AreNumbered (with_grants grants.now planned.now) }
     ensures { result ≡ answer_of rules.now (with_grants grants.now planned.now) ask }
@@ -159,7 +174,7 @@ pub fn answer(rules: &[Rule], grants: &[Grant], planned: &[Grant], ask: Ask) -> 
 }
 
 // The grant that an answer makes.
-pub fn new_grant(planned: &Planned) -> Option<Grant>
+pub fn new_grant(planned: &GrantPlan) -> Option<Grant>
     ensures { result ≡ new_grant planned.now.ask planned.now.answer }
 {
     match planned.answer {
@@ -190,9 +205,10 @@ pub fn plans(
     rules: &[Rule],
     grants: &[Grant],
     asks: &[Ask],
-) -> Result<(Vec<Planned>, usize), NoMemory>
+) -> Result<(Vec<GrantPlan>, usize), NoMemory>
     requires ruled { All (λ ask. IsSome (rule_of rules.now ask.article)) asks.now }
     requires book { IsBook rules.now grants.now }
+    ensures nothing { asks.now ≡ [] → IsOk result }
     ensures plans { IfOk result (λ out. out.0.items ≡ plans_of rules.now grants.now asks.now) }
     ensures count { IfOk result (λ out. out.1 ≡ room_for_all out.0.items) }
     ensures follow { IfOk result (λ out. AllFollow grants.now out.0.items) }
@@ -200,7 +216,7 @@ pub fn plans(
     let mut plans = Vec::new(alloc);
     let mut planned = Vec::new(alloc);
     for ask in asks {
-        let plan = Planned {
+        let plan = GrantPlan {
             ask: *ask,
             answer: answer(rules, grants, &planned, *ask),
         };

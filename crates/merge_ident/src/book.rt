@@ -1,11 +1,12 @@
 //! The publisher's book of grants.
-ghost use Rattle.std.specs.Prelude.{◌≡◌, ◌<◌, ◌≤◌, ◌+◌, ◌∷◌, [], All, length, insert, vec_len, vec_capacity, IsSome, IfOk, OnErr, IsPermutation};
-ghost use Rattle.merge_ident.specs.declared.grants.Grant.{Grant};
-ghost use Rattle.merge_ident.specs.Grants.{with_grant, AreGrants, AreInOrder};
+ghost use Rattle.std.specs.Prelude.{◌≡◌, ◌<◌, ◌≤◌, ◌+◌, ◌∷◌, ◌↔◌, [], All, vec_len, vec_capacity, IsSome, IsTrue, IfOk, IsOk, OnErr, IsPermutation};
+ghost use Rattle.merge_ident.specs.Grants.{granted_to, is_granted, with_grant, AreGrants, AreInOrder};
 ghost use Rattle.merge_ident.specs.Answers.{ask_of, answer_of, grants_after, rule_of, plan_of, plans_of, IsAnswer, NeedsMemory};
 ghost use Rattle.merge_ident.specs.Books.{IsRule, IsReady, book_with, book_with_all};
 
-use crate::{Ask, Grant, GrantAnswer, Grants, IdentFault, Planned, Plans, Rules, asks};
+use crate::{
+    Ask, Grant, GrantAnswer, GrantPlan, GrantPlans, Grants, IdentFault, Rules, asks, halving,
+};
 use merge_types::{Listing, NoMemory, SiteId};
 use std::alloc::Global;
 use std::marker::Model;
@@ -84,16 +85,16 @@ impl RangeBook {
             have,
             due,
         };
-        let planned = self.plan(ask)?;
-        self.make(&planned);
-        planned.answer
+        let plan = self.prepare(ask)?;
+        self.settle(&plan);
+        plan.answer
     }
 
     /// Works out the answer to an ask, takes the memory for it, and grants nothing yet.
-    pub fn plan(&mut self, ask: Ask) -> Result<Planned, NoMemory>
+    pub fn prepare(&mut self, ask: Ask) -> Result<GrantPlan, NoMemory>
         requires { IsSome (rule_of self.old.rules ask.article) }
-        ensures planned { IfOk result (λ planned. planned ≡ plan_of self.old.rules self.old.grants ask) }
-        ensures ready { IfOk result (λ planned. IsReady self.new (planned ∷ [])) }
+        ensures plan { IfOk result (λ plan. plan ≡ plan_of self.old.rules self.old.grants ask) }
+        ensures ready { IfOk result (λ plan. IsReady self.new (plan ∷ [])) }
         ensures memory { OnErr result (NeedsMemory (answer_of self.old.rules self.old.grants ask)) }
         ensures room { OnErr result (self.old.room ≡ 0) }
         ensures grants { self.new.grants ≡ self.old.grants }
@@ -103,27 +104,30 @@ impl RangeBook {
         if let Ok(GrantAnswer::Granted { .. }) = answer {
             self.grants.reserve(1)?;
         }
-        Ok(Planned { ask, answer })
+        Ok(GrantPlan { ask, answer })
     }
 
     /// Grants what was planned for one ask. It takes no memory.
-    pub fn make(&mut self, planned: &Planned)
-        requires { IsReady self.old (planned.now ∷ []) }
-        ensures { self.new ≡ book_with self.old planned.now }
+    pub fn settle(&mut self, plan: &GrantPlan)
+        requires { IsReady self.old (plan.now ∷ []) }
+        ensures { self.new ≡ book_with self.old plan.now }
     {
-        if let Some(grant) = asks::new_grant(planned) {
+        if let Some(grant) = asks::new_grant(plan) {
             put(&mut self.grants, grant);
         }
     }
 
     /// Works out the answers to the asks of one step, each as if those before it were granted,
     /// takes the memory for them all, and grants nothing yet.
-    pub fn plan_all(&mut self, asks: &[Ask]) -> Result<Plans, NoMemory>
+    pub fn prepare_all(&mut self, asks: &[Ask]) -> Result<GrantPlans, NoMemory>
         requires { All (λ ask. IsSome (rule_of self.old.rules ask.article)) asks.now }
-        ensures planned { IfOk result (λ plans. plans ≡ plans_of self.old.rules self.old.grants asks.now) }
+        ensures plans { IfOk result (λ plans. plans ≡ plans_of self.old.rules self.old.grants asks.now) }
         ensures ready { IfOk result (λ plans. IsReady self.new plans) }
         ensures grants { self.new.grants ≡ self.old.grants }
         ensures rules { self.new.rules ≡ self.old.rules }
+
+        // What takes no memory is not refused.
+        ensures nothing { asks.now ≡ [] → IsOk result }
     {
         let alloc = *self.grants.allocator();
         let (plans, count) = asks::plans(alloc, self.rules.as_slice(), &self.grants, asks)?;
@@ -132,13 +136,35 @@ impl RangeBook {
     }
 
     /// Grants what was planned for the asks of one step. It takes no memory.
-    pub fn make_all(&mut self, plans: &[Planned])
+    pub fn settle_all(&mut self, plans: &[GrantPlan])
         requires { IsReady self.old plans.now }
         ensures { self.new ≡ book_with_all self.old plans.now }
     {
-        for planned in plans {
-            self.make(planned);
+        for plan in plans {
+            self.settle(plan);
         }
+    }
+
+    /// How many ranges of the article were granted to the site.
+    pub fn granted(&self, article: u8, site: SiteId) -> u64
+        ensures { result ≡ granted_to article site.0 self.now.grants }
+    {
+        halving::granted(&self.grants, article, site)
+    }
+
+    /// Whether a value of the article lies in a range that was granted to the site. The time grows
+    /// with the logarithm of all grants.
+    pub fn has_granted(&self, article: u8, site: SiteId, value: i64) -> bool
+        ensures { result ≡ is_granted article site.0 value self.now.grants }
+    {
+        halving::has_granted(&self.grants, article, site, value)
+    }
+
+    /// Whether the article has a rule, as an ask of it must.
+    pub fn has_rule(&self, article: u8) -> bool
+        ensures { IsTrue result ↔ IsSome (rule_of self.now.rules article) }
+    {
+        asks::has_rule(self.rules.as_slice(), article)
     }
 }
 
@@ -152,15 +178,6 @@ fn sort(grants: &mut [Grant])
     grants.sort_unstable_by_key(|grant| (grant.article, grant.range.begin));
 }
 
-// Where a new grant of the article goes.
-fn place(grants: &[Grant], article: u8) -> usize
-    requires { AreInOrder grants.now }
-    ensures bound { result ≤ length grants.now }
-    ensures place { (new : Grant) → new.article ≡ article → insert grants.now result new ≡ with_grant grants.now new }
-{
-    grants.partition_point(|grant| grant.article <= article)
-}
-
 // Writes a grant down where there is room for it.
 fn put(grants: &mut Vec<Grant>, grant: Grant)
     requires room { vec_len grants.old < vec_capacity grants.old }
@@ -169,6 +186,6 @@ fn put(grants: &mut Vec<Grant>, grant: Grant)
     ensures len { vec_len grants.new ≡ vec_len grants.old + 1 }
     ensures capacity { vec_capacity grants.new ≡ vec_capacity grants.old }
 {
-    let at = place(grants, grant.article);
+    let at = halving::place(grants, grant.article);
     grants.insert(at, grant).unwrap();
 }

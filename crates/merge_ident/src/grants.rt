@@ -1,5 +1,6 @@
 //! Ranges, the grants of them, and what is asked and answered.
-ghost use Rattle.std.specs.Prelude.{◌≡◌};
+ghost use Rattle.std.specs.Prelude.{◌≡◌, ◌↔◌, IsTrue};
+ghost use Rattle.merge_ident.specs.Books.{IsRule};
 
 use merge_types::{Exact, Listing, NoMemory, SiteId};
 use thiserror::Error;
@@ -32,6 +33,16 @@ pub struct Rule {
     pub range: u32,
     pub pub_range: u32,
     pub greatest: i64,
+}
+
+impl Rule {
+    /// Whether a book can have the rule: values begin at 1 and do not end below, and ranges have
+    /// some.
+    pub fn is_sound(&self) -> bool
+        ensures { IsTrue result ↔ IsRule self.now }
+    {
+        self.seed >= 1 && self.range >= 1 && self.pub_range >= 1 && self.greatest >= 1
+    }
 }
 
 /// The rules of the articles that have an identity column.
@@ -85,15 +96,15 @@ impl From<NoMemory> for IdentFault {
 /// What a call of the book answers.
 pub type Answer = Result<GrantAnswer, IdentFault>;
 
-/// An ask with its answer, worked out before the book is changed.
+/// An ask with its answer, for which a book has taken the memory.
 #[derive(Clone, Copy, Debug, PartialEq, Eq)]
-pub struct Planned {
+pub struct GrantPlan {
     pub ask: Ask,
     pub answer: Answer,
 }
 
 /// The asks of one step with their answers, one after the other.
-pub type Plans = Listing<Planned>;
+pub type GrantPlans = Listing<GrantPlan>;
 
 impl Exact for Range {
     ghost use Rattle.std.proofs.Common.{rules};

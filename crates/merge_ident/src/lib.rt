@@ -6,7 +6,9 @@
 
 mod asks;
 mod book;
+mod first_bad;
 mod grants;
+mod halving;
 pub mod laws;
 mod ranges;
 mod slots;
@@ -14,7 +16,8 @@ mod slots;
 mod tests;
 
 pub use book::RangeBook;
+pub use first_bad::first_bad_grant;
 pub use grants::{
-    Answer, Ask, Grant, GrantAnswer, Grants, IdentFault, Planned, Plans, Range, Rule, Rules,
+    Answer, Ask, Grant, GrantAnswer, GrantPlan, GrantPlans, Grants, IdentFault, Range, Rule, Rules,
 };
-pub use ranges::{Holding, IdentityUsedUp, RangeEvent, Ranges, RangesPlan};
+pub use ranges::{Holding, IdentityUsedUp, RangeEvent, Ranges};

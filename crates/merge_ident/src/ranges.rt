@@ -1,12 +1,10 @@
 //! The ranges of an article that a site holds.
-ghost use Rattle.std.specs.Prelude.{◌≡◌, ◌≤◌, ◌+◌, ◌++◌, All, length, IfOk, OnOk};
-ghost use Rattle.merge_ident.specs.Runs.{answer_to_event, answers_to, after_event, after_all, EventFits, EventsFit};
-ghost use Rattle.merge_ident.specs.Holders.{new_holder, held_from, answer_to_take, after_take, after_receive, is_due, holding_of, HasValues, IsNextIn, AreHeld};
+ghost use Rattle.std.specs.Prelude.{◌≡◌, ◌+◌, ◌↔◌, IsTrue};
+ghost use Rattle.merge_ident.specs.Holders.{new_holder, held_from, answer_to_take, after_take, after_receive, is_due, holding_of, HasValues, AreKept, AreHeld};
 
 use crate::Range;
 use crate::slots::{self, Slots};
-use merge_types::{Exact, Listing, NoMemory};
-use std::alloc::{AllocError, Global};
+use merge_types::Exact;
 use std::marker::Model;
 use thiserror::Error;
 
@@ -33,8 +31,9 @@ pub enum RangeEvent {
     Receive { number: u64, range: Range },
 }
 
-/// The ranges of an article that a site received and still holds, two at most.
-#[derive(Debug, Drop)]
+/// The ranges of an article that a site received and still holds, two at most. What several calls
+/// will answer is worked out on a copy.
+#[derive(Clone, Copy, Debug, PartialEq, Eq)]
 pub struct Ranges {
     threshold: u8,
     have: u64,
@@ -43,40 +42,26 @@ pub struct Ranges {
 }
 
 impl Model for Ranges {
+    ghost use Rattle.std.proofs.Common.{ap};
+    ghost use Rattle.merge_ident.specs.declared.slots.Slots.{Slots as TheSlots};
     ghost use Rattle.merge_ident.specs.Holders.{Holder};
-    ghost use Rattle.merge_ident.specs.Slots.{held_in, AreSlots};
+    ghost use Rattle.merge_ident.specs.Slots.{held_in, slots_from, slots_back, AreSlots};
 
     ghost Value = { Holder };
 
     ghost view = { λ r. record { threshold = r.threshold; have = r.have; last_end = r.last_end; held = held_in r.slots } };
 
     ghost invariant = { λ r. AreSlots r.slots };
-}
 
-/// What the calls of one step will answer, and the ranges after them.
-#[derive(Debug, Drop)]
-pub struct RangesPlan {
-    pub answers: Listing<Result<i64, IdentityUsedUp>>,
-    pub after: Ranges,
-}
+    ghost inverse = { λ h. record { threshold = h.threshold; have = h.have; last_end = h.last_end; slots = slots_from h.held } };
 
-impl Clone for Ranges {
-    ghost use Rattle.std.specs.Prelude.{◌≡◌};
-
-    ghost is_clone = { λ old new. new ≡ old };
-
-    fn clone(&self) -> Result<Ranges, AllocError> {
-        Ok(Ranges {
-            threshold: self.threshold,
-            have: self.have,
-            last_end: self.last_end,
-            slots: self.slots,
-        })
-    }
+    ghost inverse_ok = { λ r held. ap (λ (s : TheSlots). record { threshold = r.threshold; have = r.have; last_end = r.last_end; slots = s }) (slots_back r.slots) };
 }
 
 impl Exact for Ranges {
-    ghost exact = { λ value copy same. same };
+    ghost use Rattle.std.proofs.Common.{rules};
+
+    ghost exact = { Prim.search rules };
 }
 
 impl Ranges {
@@ -92,12 +77,18 @@ impl Ranges {
         }
     }
 
+    /// Whether ranges can be held with this next value: there are two at most, each has a value,
+    /// and the next value lies in the first, or is 0 where none is held.
+    pub fn can_restore(held: &[Range], next: i64) -> bool
+        ensures { IsTrue result ↔ AreKept held.now next }
+    {
+        held.len() <= 2 && slots::have_values(held) && slots::is_next_in(held, next)
+    }
+
     /// The ranges as they were kept: how many were received, the end of the last one, those that
     /// are held, and the next value, 0 where none is held.
     pub fn restore(threshold: u8, have: u64, last_end: i64, held: &[Range], next: i64) -> Self
-        requires count { length held.now ≤ 2 }
-        requires ranges { All HasValues held.now }
-        requires next { IsNextIn held.now next }
+        requires { AreKept held.now next }
         ensures { result ≡ record { threshold = threshold; have = have; last_end = last_end; held = held_from held.now next } }
     {
         Ranges {
@@ -163,54 +154,5 @@ impl Ranges {
         ensures { result ≡ self.now.last_end }
     {
         self.last_end
-    }
-
-    /// Works out what the calls of one step will answer, takes the memory for it, and changes
-    /// nothing. For one call no memory is wanted: `next` tells what `take` will answer, and
-    /// `receive` answers nothing.
-    pub fn plan(&self, alloc: Global, events: &[RangeEvent]) -> Result<RangesPlan, NoMemory>
-        requires { EventsFit self.now.have events.now }
-        ensures answers { IfOk result (λ plan. plan.answers ≡ answers_to self.now events.now) }
-        ensures after { IfOk result (λ plan. plan.after ≡ after_all self.now events.now) }
-    {
-        let mut after = self.clone()?;
-        let mut answers = Vec::new(alloc);
-        for event in events {
-            step(&mut after, &mut answers, *event)?;
-        }
-        Ok(RangesPlan {
-            answers: Listing::new(answers),
-            after,
-        })
-    }
-
-    /// Makes the calls that were planned. It takes no memory.
-    pub fn make(&mut self, plan: RangesPlan)
-        ensures { self.new ≡ plan.after }
-    {
-        *self = plan.after;
-    }
-}
-
-// Makes one call, and adds its answer.
-fn step(
-    ranges: &mut Ranges,
-    answers: &mut Vec<Result<i64, IdentityUsedUp>>,
-    event: RangeEvent,
-) -> Result<(), NoMemory>
-    requires { EventFits ranges.old.have event }
-    ensures ranges { OnOk result (ranges.new ≡ after_event ranges.old event) }
-    ensures answers { OnOk result (answers.new.items ≡ answers.old.items ++ answer_to_event ranges.old event) }
-{
-    match event {
-        RangeEvent::Take => {
-            let answer = ranges.take();
-            answers.push(answer)?;
-            Ok(())
-        }
-        RangeEvent::Receive { number, range } => {
-            ranges.receive(number, range);
-            Ok(())
-        }
     }
 }

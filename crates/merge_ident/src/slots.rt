@@ -1,23 +1,23 @@
 //! The two ranges of a site as they are kept.
-ghost use Rattle.std.specs.Prelude.{◌≡◌, ◌≤◌, ◌<◌, ◌^◌, ◌≤ℤ◌, ◌-ℤ◌, All, length, slice_get};
+ghost use Rattle.std.specs.Prelude.{◌≡◌, ◌+◌, ◌<◌, pos, ◌+ℤ◌, ◌≤ℤ◌, ◌-ℤ◌, ◌↔◌, IsTrue, All, nat_lt, slice_get};
 ghost use Rattle.std.specs.Option.{option_map};
 ghost use Rattle.merge_ident.specs.Grants.{natural};
-ghost use Rattle.merge_ident.specs.Holders.{answer_by_held, held_after_take, held_after_receive, held_from, is_due_by, size_of, next_of, range_of, HasValues, AreHeld, IsNextIn};
+ghost use Rattle.merge_ident.specs.Holders.{answer_by_held, held_after_take, held_after_receive, held_from, is_due_by, size_of, next_of, range_of, HasValues, AreHeld, AreKept, IsNextIn};
 ghost use Rattle.merge_ident.specs.Slots.{held_in, AreSlots};
 
 use crate::{IdentityUsedUp, Range};
 
-/// No range, one with its next value, or two of which the first has a next value.
-#[derive(Clone, Copy, Debug)]
+/// No range, one, or two. Of the first so many values were used.
+#[derive(Clone, Copy, Debug, PartialEq, Eq)]
 pub enum Slots {
     Empty,
     One {
         range: Range,
-        next: i64,
+        used: u64,
     },
     Two {
         first: Range,
-        next: i64,
+        used: u64,
         second: Range,
     },
 }
@@ -29,8 +29,17 @@ pub fn next(slots: Slots, last_end: i64) -> Result<i64, IdentityUsedUp>
 {
     match slots {
         Slots::Empty => Err(IdentityUsedUp { end: last_end }),
-        Slots::One { next, .. } | Slots::Two { next, .. } => Ok(next),
+        Slots::One { range, used } => Ok(value(range, used)),
+        Slots::Two { first, used, .. } => Ok(value(first, used)),
     }
+}
+
+// The value of a range behind so many.
+fn value(range: Range, used: u64) -> i64
+    requires { used < size_of range }
+    ensures { result ≡ range.begin +ℤ pos used }
+{
+    (range.begin as i128 + used as i128) as i64
 }
 
 /// The slots without the next value.
@@ -41,25 +50,33 @@ pub fn without_next(slots: Slots) -> Slots
 {
     match slots {
         Slots::Empty => Slots::Empty,
-        Slots::One { range, next } if next < range.end => Slots::One {
+        Slots::One { range, used } if has_more(range, used) => Slots::One {
             range,
-            next: next + 1,
+            used: used + 1,
         },
         Slots::One { .. } => Slots::Empty,
         Slots::Two {
             first,
-            next,
+            used,
             second,
-        } if next < first.end => Slots::Two {
+        } if has_more(first, used) => Slots::Two {
             first,
-            next: next + 1,
+            used: used + 1,
             second,
         },
         Slots::Two { second, .. } => Slots::One {
             range: second,
-            next: second.begin,
+            used: 0,
         },
     }
+}
+
+// Whether a range has a value behind the next one.
+fn has_more(range: Range, used: u64) -> bool
+    requires { HasValues range }
+    ensures { result ≡ nat_lt (used + 1) (size_of range) }
+{
+    (used as u128 + 1) < size(range)
 }
 
 /// The slots with one more range.
@@ -70,18 +87,15 @@ pub fn with_range(slots: Slots, range: Range) -> Slots
     ensures fit { AreSlots result }
 {
     match slots {
-        Slots::Empty => Slots::One {
-            range,
-            next: range.begin,
-        },
-        Slots::One { range: first, next } => Slots::Two {
+        Slots::Empty => Slots::One { range, used: 0 },
+        Slots::One { range: first, used } => Slots::Two {
             first,
-            next,
+            used,
             second: range,
         },
         Slots::Two { second, .. } => Slots::Two {
             first: second,
-            next: second.begin,
+            used: 0,
             second: range,
         },
     }
@@ -89,9 +103,7 @@ pub fn with_range(slots: Slots, range: Range) -> Slots
 
 /// The slots of the ranges that were kept, with the next value of the first one.
 pub fn of(held: &[Range], next: i64) -> Slots
-    requires count { length held.now ≤ 2 }
-    requires ranges { All HasValues held.now }
-    requires next { IsNextIn held.now next }
+    requires { AreKept held.now next }
     ensures held { held_in result ≡ held_from held.now next }
     ensures fit { AreSlots result }
 {
@@ -99,17 +111,34 @@ pub fn of(held: &[Range], next: i64) -> Slots
         [] => Slots::Empty,
         [range] => Slots::One {
             range: *range,
-            next,
+            used: used(*range, next),
         },
         [first, second, ..] => Slots::Two {
             first: *first,
-            next,
+            used: used(*first, next),
             second: *second,
         },
     }
 }
 
-// How many values a range has.
+/// Whether each range has values.
+pub fn have_values(held: &[Range]) -> bool
+    ensures { IsTrue result ↔ All HasValues held.now }
+{
+    held.iter().all(|range| range.begin <= range.end)
+}
+
+/// Whether the next value lies in the first range, or is 0 where there is none.
+pub fn is_next_in(held: &[Range], next: i64) -> bool
+    ensures { IsTrue result ↔ IsNextIn held.now next }
+{
+    match held {
+        [] => next == 0,
+        [first, ..] => first.begin <= next && next <= first.end,
+    }
+}
+
+// How many values a range has: up to 2^64.
 fn size(range: Range) -> u128
     requires { HasValues range }
     ensures { result ≡ size_of range }
@@ -118,12 +147,13 @@ fn size(range: Range) -> u128
 }
 
 // How many values of a range come before the next one.
-fn used(range: Range, next: i64) -> u128
-    requires { range.begin ≤ℤ next }
+fn used(range: Range, next: i64) -> u64
+    requires from { range.begin ≤ℤ next }
+    requires to { next ≤ℤ range.end }
     ensures used { result ≡ natural (next -ℤ range.begin) }
-    ensures bound { result < 2 ^ 64 }
+    ensures some { result < size_of range }
 {
-    (next as i128 - range.begin as i128) as u128
+    (next as i128 - range.begin as i128) as u64
 }
 
 /// Whether another range is due.
@@ -133,11 +163,7 @@ pub fn is_due(slots: Slots, threshold: u8) -> bool
 {
     match slots {
         Slots::Empty | Slots::One { .. } => true,
-        Slots::Two { first, next, .. } => {
-            let size = size(first);
-            let used = used(first, next);
-            threshold as u128 * size <= used * 100
-        }
+        Slots::Two { first, used, .. } => threshold as u128 * size(first) <= used as u128 * 100,
     }
 }
 
@@ -151,11 +177,11 @@ pub fn parts(slots: Slots) -> (Option<i64>, Option<Range>, Option<Range>)
 {
     match slots {
         Slots::Empty => (None, None, None),
-        Slots::One { range, next } => (Some(next), Some(range), None),
+        Slots::One { range, used } => (Some(value(range, used)), Some(range), None),
         Slots::Two {
             first,
-            next,
+            used,
             second,
-        } => (Some(next), Some(first), Some(second)),
+        } => (Some(value(first, used)), Some(first), Some(second)),
     }
 }

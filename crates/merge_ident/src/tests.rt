@@ -3,11 +3,12 @@ ghost use Rattle.merge_ident.specs.Answers.{rule_of};
 ghost use Rattle.merge_ident.specs.Holders.{HasValues};
 
 use crate::{
-    Answer, Ask, Grant, GrantAnswer, Holding, IdentFault, IdentityUsedUp, Range, RangeBook,
-    RangeEvent, Ranges, Rule,
+    Answer, Ask, Grant, GrantAnswer, Holding, IdentFault, IdentityUsedUp, Range, RangeBook, Ranges,
+    Rule, first_bad_grant,
 };
 use merge_types::{Listing, SiteId};
 use std::alloc::{AllocError, Global};
+use std::process::Abort;
 use std::test::Fail;
 
 // A book with one article, whose ranges have two values each.
@@ -83,6 +84,24 @@ fn grants_in_turn(rt: HostRuntime) -> Result<(), Fail> {
         grant_of(1, 3, 7, 8),
     ];
     assert_eq!(rt; book.grants(), grants.as_slice());
+    assert_eq!(rt;
+        (book.granted(0, SiteId(1)), book.granted(0, SiteId(2))),
+        (3, 0)
+    );
+    for (site, value, granted) in [
+        (1, 0, false),
+        (1, 1, true),
+        (1, 4, true),
+        (1, 5, false),
+        (0, 6, true),
+        (1, 7, true),
+        (1, 9, false),
+    ] {
+        assert_eq!(rt; book.has_granted(0, SiteId(site), value), granted);
+    }
+    assert!(rt; !book.has_granted(1, SiteId(1), 1));
+    assert!(rt; book.has_rule(0));
+    assert!(rt; !book.has_rule(1));
     Ok(())
 }
 
@@ -112,13 +131,13 @@ fn plans_the_asks_of_a_step(rt: HostRuntime) -> Result<(), Fail> {
         have: 0,
         due: true,
     };
-    let plans = book.plan_all(&[ask, ask, Ask { have: 1, ..ask }])?;
+    let plans = book.prepare_all(&[ask, ask, Ask { have: 1, ..ask }])?;
     assert_eq!(rt; book.grants().len(), 0);
     let answers = [granted(1, 1, 2), kept(1, 1, 2), granted(2, 3, 4)];
     for (planned, answer) in plans.as_slice().iter().zip(answers) {
         assert_eq!(rt; planned.answer, answer);
     }
-    book.make_all(plans.as_slice());
+    book.settle_all(plans.as_slice());
     assert_eq!(rt; book.grants().len(), 2);
     Ok(())
 }
@@ -159,28 +178,85 @@ fn takes_what_was_received(rt: HostRuntime) -> Result<(), Fail> {
     Ok(())
 }
 
+// Ranges that were kept, as a start restores them once it has asked.
+fn restored(
+    rt: &impl Abort,
+    threshold: u8,
+    have: u64,
+    last_end: i64,
+    held: &[Range],
+    next: i64,
+) -> Ranges
+    ensures { result.have ≡ have }
+{
+    assert!(rt; Ranges::can_restore(held, next));
+    Ranges::restore(threshold, have, last_end, held, next)
+}
+
 #[test]
-fn restores_what_was_kept(rt: HostRuntime) -> Result<(), Fail> {
-    let mut ranges = Ranges::restore(
-        100,
-        3,
-        6,
-        &[Range { begin: 3, end: 4 }, Range { begin: 5, end: 6 }],
-        4,
-    );
-    let events = [
-        RangeEvent::Take,
-        RangeEvent::Receive {
-            number: 4,
-            range: Range { begin: 9, end: 9 },
-        },
-        RangeEvent::Take,
-    ];
-    let plan = ranges.plan(rt.alloc(), &events)?;
-    assert_eq!(rt; plan.answers.as_slice(), [Ok(4), Ok(5)].as_slice());
+fn restores_what_was_kept(rt: HostRuntime) {
+    let held = [Range { begin: 3, end: 4 }, Range { begin: 5, end: 6 }];
+    let mut ranges = restored(&rt, 100, 3, 6, &held, 4);
+    let mut after = ranges;
+    assert_eq!(rt; after.take(), Ok(4));
+    after.receive(4, Range { begin: 9, end: 9 });
+    assert_eq!(rt; after.take(), Ok(5));
     assert_eq!(rt; ranges.next(), Ok(4));
-    ranges.make(plan);
+    ranges = after;
     assert_eq!(rt; ranges.next(), Ok(6));
     assert_eq!(rt; ranges.last_end(), 9);
-    Ok(())
+}
+
+// A start asks before it restores.
+#[test]
+fn unsound_ranges_are_told(rt: HostRuntime) {
+    let range = Range { begin: 3, end: 4 };
+    assert!(rt; Ranges::can_restore(&[], 0));
+    assert!(rt; !Ranges::can_restore(&[], 1));
+    assert!(rt; Ranges::can_restore(&[range, only(7)], 4));
+    assert!(rt; !Ranges::can_restore(&[range, only(7)], 5));
+    assert!(rt; !Ranges::can_restore(&[range, range, range], 3));
+    assert!(rt; !Ranges::can_restore(&[Range { begin: 4, end: 3 }], 4));
+}
+
+// The widest range has 2^64 values, and a count of 2^64 - 1 is as good as any.
+#[test]
+fn bears_the_widest_range(rt: HostRuntime) {
+    let widest = Range {
+        begin: i64::MIN,
+        end: i64::MAX,
+    };
+    let held = [widest, only(0)];
+    for (threshold, next, due) in [
+        (1, i64::MIN, false),
+        (50, -1, false),
+        (50, 0, true),
+        (100, i64::MAX, false),
+    ] {
+        let ranges = restored(&rt, threshold, u64::MAX, 0, &held, next);
+        assert_eq!(rt; ranges.due(), due);
+        assert_eq!(rt; ranges.next(), Ok(next));
+    }
+}
+
+// The first grant is told that breaks what a book's grants have, with those before it.
+#[test]
+fn the_first_bad_grant_is_told(rt: HostRuntime) {
+    let good = [
+        grant_of(0, 1, 5, 6),
+        grant_of(1, 1, 1, 2),
+        grant_of(1, 2, 3, 4),
+        grant_of(1, 3, 7, 8),
+    ];
+    assert_eq!(rt; first_bad_grant(&good), None);
+    for (bad, place) in [
+        ([grant_of(0, 1, 5, 6), grant_of(1, 1, 6, 7)], 1),
+        ([grant_of(1, 1, 5, 6), grant_of(1, 2, 1, 2)], 1),
+        ([grant_of(1, 1, 5, 6), grant_of(1, 3, 7, 8)], 1),
+        ([grant_of(1, 2, 5, 6), grant_of(1, 3, 7, 8)], 0),
+        ([grant_of(1, 1, 6, 5), grant_of(1, 2, 7, 8)], 0),
+        ([grant_of(1, 1, 0, 5), grant_of(1, 2, 7, 8)], 0),
+    ] {
+        assert_eq!(rt; first_bad_grant(&bad), Some(place));
+    }
 }

@@ -1,125 +1,91 @@
--- What changes come to.
-use Rattle.std.proofs.Common.{◌≡◌, ℕ, Bool, true, false, cond, ◌&&◌, ◌==◌, List, [], ◌∷◌, eq-eqb, refl, sym, ap, ◌∙◌}
-use Rattle.std.specs.Cmp.{IsTotalOrder, Equal-is, then_total, on_total, nat_cmp_total}
-use Rattle.std.specs.BTreeMap.{is_at}
+-- The keys of a table of entries after its changes.
+use Rattle.std.proofs.Common.{◌≡◌, Bool, true, false, cond, ◌||◌, List, [], ◌∷◌, ◌++◌, map, refl, sym, ap, ◌∙◌, subst}
+use Rattle.std.specs.List.{list_any}
+use Rattle.std.specs.List.Sorted.{IsStrictlySortedBy}
+use Rattle.std.specs.Map.{keys_of, remove_entry}
+use Rattle.std.specs.BTreeMap.{is_at, insert_entry}
 use Rattle.std.specs.BTreeSet.{insert_key}
 use Rattle.std.specs.Set.{remove_key}
-use Rattle.std.proofs.lemmas.Cmp.{tied_itself}
-use Rattle.std.proofs.lemmas.Map.Views.{exact_unsigned_eq}
-use Rattle.merge_types.specs.declared.RowId.{RowId}
-use Rattle.merge_types.specs.declared.values.Value.{Value}
-use Rattle.merge_types.specs.declared.values.Value.TheVariants as values
-use Rattle.merge_join.specs.declared.groups.Group.{Group}
-use Rattle.merge_join.specs.declared.key.JoinKey.{JoinKey}
-use Rattle.merge_join.specs.declared.plan.JoinChange.{JoinChange}
-use Rattle.merge_join.specs.declared.plan.JoinChange.TheVariants.{Insert, Remove}
-use Rattle.merge_join.specs.declared.plan.JoinEntry.{JoinEntry}
-use Rattle.merge_join.specs.Rows.{row_cmp}
-use Rattle.merge_join.specs.Same.{same_value, is_null}
-use Rattle.merge_join.specs.Groups.{children_in, with_child, without_child}
-use Rattle.merge_join.specs.Keys.{key_cmp, key_exact, key_of}
-use Rattle.merge_join.specs.Index.{seen, entry_of, rows_after, children_after, groups_after, ArePut}
-use Rattle.merge_join.proofs.SameValues.{same_exact, same_itself, same_through}
+use Rattle.merge_table.specs.declared.edit.Edit.{Edit}
+use Rattle.merge_table.specs.declared.edit.Edit.TheVariants.{Put, Take}
+use Rattle.merge_table.specs.Edits.{rows_after, rows_after_all}
+use Rattle.merge_table.proofs.Room.{has_room-insert_key}
+use Rattle.merge_table.proofs.Slots.{keys-insert_entry, keys-remove_entry}
+use Rattle.merge_table.proofs.Sorted.{sorted_after}
+use Rattle.merge_join.specs.declared.entry.JoinEntry.{JoinEntry}
+use Rattle.merge_join.specs.Entries.{entry_cmp}
+use Rattle.merge_join.specs.Index.{has, puts, set_after, set_after_all}
+use Rattle.merge_join.proofs.Members.{entry_total}
 
--- one group of a list that changes
-module _ (f : List RowId → List RowId) (value v : Value) (g : Group) (groups more : List Group)
-    (ih : children_in more v ≡ cond (same_value value v) (f (children_in groups v)) (children_in groups v)) where
-  group_step : (s t u : Bool) → same_value g.value value ≡ s → same_value g.value v ≡ t → same_value value v ≡ u
-      → children_in (cond s (record { value = g.value; children = f g.children } ∷ groups) (g ∷ more)) v ≡ cond u (f (cond t g.children (children_in groups v))) (cond t g.children (children_in groups v))
-  group_step true true true es et eu = rw et refl
-  group_step true true false es et eu = let no : true ≡ false = sym et ∙ same_through g.value value v es ∙ eu in absurd cc
-  group_step true false true es et eu = let no : false ≡ true = sym et ∙ same_through g.value value v es ∙ eu in absurd cc
-  group_step true false false es et eu = rw et refl
-  group_step false true true es et eu =
-      let same : value ≡ g.value = same_exact value v eu ∙ sym (same_exact g.value v et) in
-      let no : false ≡ true = sym es ∙ ap (same_value g.value) same ∙ same_itself g.value in absurd cc
-  group_step false true false es et eu = rw et refl
-  group_step false false true es et eu = rw et (ih ∙ rw eu refl)
-  group_step false false false es et eu = rw et (ih ∙ rw eu refl)
+keys_after : {V : Type 0} (rows : List (JoinEntry × V)) (change : Edit JoinEntry V) → keys_of (rows_after entry_cmp rows change) ≡ set_after (keys_of rows) change
+keys_after rows (Put e v) = keys-insert_entry entry_cmp e v rows
+keys_after rows (Take e) = keys-remove_entry (is_at (entry_cmp e)) rows
 
-  group_changed : children_in (cond (same_value g.value value) (record { value = g.value; children = f g.children } ∷ groups) (g ∷ more)) v
-      ≡ cond (same_value value v) (f (children_in (g ∷ groups) v)) (children_in (g ∷ groups) v)
-  group_changed = group_step (same_value g.value value) (same_value g.value v) (same_value value v) refl refl refl
+pub keys_after_all : {V : Type 0} (rows : List (JoinEntry × V)) (changes : List (Edit JoinEntry V)) → keys_of (rows_after_all entry_cmp rows changes) ≡ set_after_all (keys_of rows) changes
+keys_after_all rows [] = refl
+keys_after_all rows (change ∷ changes) = keys_after_all (rows_after entry_cmp rows change) changes ∙ ap (λ (set : List JoinEntry). set_after_all set changes) (keys_after rows change)
 
-children-with_child : (groups : List Group) (value v : Value) (child : RowId)
-    → children_in (with_child groups value child) v ≡ cond (same_value value v) (insert_key row_cmp (children_in groups v) child) (children_in groups v)
-children-with_child [] value v child = refl
-children-with_child (g ∷ groups) value v child = group_changed (λ (rows : List RowId). insert_key row_cmp rows child) value v g groups (with_child groups value child) (children-with_child groups value v child)
+abbrev units : List JoinEntry → List (JoinEntry × Unit {0})
+units [] = []
+units (e ∷ es) = (e, tt) ∷ units es
 
-either_way : (b : Bool) (rows : List RowId) → rows ≡ cond b rows rows
-either_way true rows = refl
-either_way false rows = refl
+keys_of-units : (set : List JoinEntry) → keys_of (units set) ≡ set
+keys_of-units [] = refl
+keys_of-units (e ∷ es) = ap (λ (ks : List JoinEntry). e ∷ ks) (keys_of-units es)
 
-children-without_child : (groups : List Group) (value v : Value) (child : RowId)
-    → children_in (without_child groups value child) v ≡ cond (same_value value v) (remove_key (is_at (row_cmp child)) (children_in groups v)) (children_in groups v)
-children-without_child [] value v child = either_way (same_value value v) []
-children-without_child (g ∷ groups) value v child = group_changed (remove_key (is_at (row_cmp child))) value v g groups (without_child groups value child) (children-without_child groups value v child)
+-- a set stays in order through its changes
+pub sorted-set : {V : Type 0} (set : List JoinEntry) (change : Edit JoinEntry V) → IsStrictlySortedBy entry_cmp set → IsStrictlySortedBy entry_cmp (set_after set change)
+sorted-set set (Put e v) sorted =
+    subst (IsStrictlySortedBy entry_cmp) (keys-insert_entry entry_cmp e tt (units set) ∙ ap (λ (ks : List JoinEntry). insert_key entry_cmp ks e) (keys_of-units set))
+    (sorted_after entry_cmp entry_total (units set) (Put e tt) (subst (IsStrictlySortedBy entry_cmp) (sym (keys_of-units set)) sorted))
+sorted-set set (Take e) sorted =
+    subst (IsStrictlySortedBy entry_cmp) (keys-remove_entry (is_at (entry_cmp e)) (units set) ∙ ap (remove_key (is_at (entry_cmp e))) (keys_of-units set))
+    (sorted_after entry_cmp entry_total (units set) (Take e) (subst (IsStrictlySortedBy entry_cmp) (sym (keys_of-units set)) sorted))
 
--- the children in the groups after a change
-children-after : (change : JoinChange) (groups : List Group) (v : Value)
-    → children_in (groups_after change groups) v ≡ cond (same_value (entry_of change).value v) (rows_after change (children_in groups v)) (children_in groups v)
-children-after (Insert entry) groups v = children-with_child groups entry.value v entry.child
-children-after (Remove entry) groups v = children-without_child groups entry.value v entry.child
+pub sorted-set_all : {V : Type 0} (set : List JoinEntry) (changes : List (Edit JoinEntry V)) → IsStrictlySortedBy entry_cmp set → IsStrictlySortedBy entry_cmp (set_after_all set changes)
+sorted-set_all set [] sorted = sorted
+sorted-set_all set (change ∷ changes) sorted = sorted-set_all (set_after set change) changes (sorted-set set change sorted)
 
-pub key_total : IsTotalOrder key_cmp
-key_total =
-    then_total (on_total (λ (k : JoinKey). k.join) nat_cmp_total)
-    (then_total (on_total (λ (k : JoinKey). k.kind) nat_cmp_total)
-    (then_total (on_total (λ (k : JoinKey). k.length) nat_cmp_total)
-    (then_total (on_total (λ (k : JoinKey). k.first) nat_cmp_total) (on_total (λ (k : JoinKey). k.sum) nat_cmp_total))))
+-- the entries after one change more
+pub set_after_all-push : {V : Type 0} (set : List JoinEntry) (changes : List (Edit JoinEntry V)) (change : Edit JoinEntry V) → set_after_all set (changes ++ change ∷ []) ≡ set_after (set_after_all set changes) change
+set_after_all-push set [] change = refl
+set_after_all-push set (first ∷ changes) change = set_after_all-push (set_after set first) changes change
 
-pub at_same : (q key : JoinKey) → is_at (key_cmp q) key ≡ true → q ≡ key
-at_same q key at = key_exact q key ((Equal-is (key_cmp q key)).0 at)
+or_swap : (a b : Bool) → (a || b) ≡ true → (b || a) ≡ true
+or_swap true true h = refl
+or_swap true false h = refl
+or_swap false true h = refl
+or_swap false false h = h
 
-pub at_itself : (q key : JoinKey) → q ≡ key → is_at (key_cmp q) key ≡ true
-at_itself q key same = ap (λ (k : JoinKey). is_at (key_cmp q) k) (sym same) ∙ (rw (tied_itself key_total q) refl)
+or_left : (a b : Bool) → a ≡ true → (a || b) ≡ true
+or_left true b h = refl
+or_left false b h = absurd cc
 
--- a key tells the join
-key_join : (join : ℕ) (value : Value) → (key_of join value).join ≡ join
-key_join join values.Null = refl
-key_join join (values.Int z) = refl
-key_join join (values.Bit b) = refl
-key_join join (values.Text bytes) = refl
-key_join join (values.Day z) = refl
-key_join join (values.Guid n) = refl
-key_join join (values.Bytes bytes) = refl
+or_more : (a b : Bool) → b ≡ true → (a || b) ≡ true
+or_more true b h = refl
+or_more false b h = h
 
-both : (p q : Bool) → (p && q) ≡ true → (p ≡ true) × (q ≡ true)
-both true q h = (refl, h)
-both false q h = absurd cc
+less_step : (test : JoinEntry → Bool) (x : JoinEntry) (xs left : List JoinEntry) (q : JoinEntry) → (has left q ≡ true → has xs q ≡ true) → (b : Bool) → has (cond b xs (x ∷ left)) q ≡ true → (is_at (entry_cmp q) x || has xs q) ≡ true
+less_step test x xs left q ih true h = or_more (is_at (entry_cmp q) x) (has xs q) h
+less_step test x xs left q ih false h = elim (is_at (entry_cmp q) x) as (λ b. (b || has left q) ≡ true → (b || has xs q) ≡ true) [ true ↦ λ g. refl | false ↦ ih ] h
 
-module _ (before after : JoinKey → List Group) (change : JoinChange) (put : ArePut before after (key_of (entry_of change).join (entry_of change).value) (groups_after change (before (key_of (entry_of change).join (entry_of change).value)))) (join : ℕ) (v : Value) where
-  abbrev changed : JoinEntry
-  changed = entry_of change
+-- what is there after a removal was there
+has-less : (test : JoinEntry → Bool) (set : List JoinEntry) (q : JoinEntry) → has (remove_key test set) q ≡ true → has set q ≡ true
+has-less test [] q h = h
+has-less test (x ∷ xs) q h = less_step test x xs (remove_key test xs) q (has-less test xs q) (test x) h
 
-  abbrev place : JoinKey
-  place = key_of changed.join changed.value
+put_or_there : {V : Type 0} (set : List JoinEntry) (change : Edit JoinEntry V) (q : JoinEntry) → has (set_after set change) q ≡ true → (has set q || puts q change) ≡ true
+put_or_there set (Put e v) q h = or_swap (is_at (entry_cmp q) e) (has set q) (sym (has_room-insert_key entry_cmp entry_total e q set) ∙ h)
+put_or_there set (Take e) q h = or_left (has set q) false (has-less (is_at (entry_cmp e)) set q h)
 
-  not_of : (b : Bool) → ((changed.join == join) && same_value changed.value v) ≡ b → is_at (key_cmp (key_of join v)) place ≡ false → ((changed.join == join) && same_value changed.value v) ≡ false
-  not_of true of apart =
-      let parts = both (changed.join == join) (same_value changed.value v) of in
-      let joined : changed.join ≡ join = exact_unsigned_eq changed.join join parts.0 in
-      let same : changed.value ≡ v = same_exact changed.value v parts.1 in
-      let no : false ≡ true = sym apart ∙ at_itself (key_of join v) place (ap (λ (j : ℕ). key_of j v) (sym joined) ∙ ap (key_of changed.join) (sym same)) in
-      absurd cc
-  not_of false of apart = of
+join_ors : (now before one later : Bool) → (now ≡ true → (before || one) ≡ true) → (now || later) ≡ true → (before || (one || later)) ≡ true
+join_ors now true one later was h = refl
+join_ors now false true later was h = refl
+join_ors true false false later was h = let bad : false ≡ true = was refl in absurd cc
+join_ors false false false later was h = h
 
-  changed_at : (b : Bool) → is_at (key_cmp (key_of join v)) place ≡ b
-      → cond b (children_in (groups_after change (before place)) v) (children_in (before (key_of join v)) v)
-      ≡ cond ((changed.join == join) && same_value changed.value v) (rows_after change (children_in (before (key_of join v)) v)) (children_in (before (key_of join v)) v)
-  changed_at true at =
-      let same : key_of join v ≡ place = at_same (key_of join v) place at in
-      let joined : (changed.join == join) ≡ true = eq-eqb changed.join join (sym (key_join changed.join changed.value) ∙ ap (λ (k : JoinKey). k.join) (sym same) ∙ key_join join v) in
-      children-after change (before place) v
-      ∙ ap (λ (k : JoinKey). cond (same_value changed.value v) (rows_after change (children_in (before k) v)) (children_in (before k) v)) (sym same)
-      ∙ ap (λ (b : Bool). cond (b && same_value changed.value v) (rows_after change (children_in (before (key_of join v)) v)) (children_in (before (key_of join v)) v)) (sym joined)
-  changed_at false at =
-      ap (λ (b : Bool). cond b (rows_after change (children_in (before (key_of join v)) v)) (children_in (before (key_of join v)) v)) (sym (not_of ((changed.join == join) && same_value changed.value v) refl at))
-
-  changed_null : (null : Bool) → is_null v ≡ null → seen after join v ≡ children_after change join v (seen before join v)
-  changed_null true is = rw is refl
-  changed_null false is = rw is (put (key_of join v) v ∙ changed_at (is_at (key_cmp (key_of join v)) place) refl)
-
-  -- where a change's groups are put at its key, its value's children change, and no others
-  pub seen-changed : seen after join v ≡ children_after change join v (seen before join v)
-  seen-changed = changed_null (is_null v) refl
+-- what is there after changes was there, or is put in by one of them
+pub put-or_there : {V : Type 0} (set : List JoinEntry) (changes : List (Edit JoinEntry V)) (q : JoinEntry) → has (set_after_all set changes) q ≡ true → (has set q || list_any (puts q) changes) ≡ true
+put-or_there set [] q h = or_left (has set q) false h
+put-or_there set (change ∷ changes) q h =
+    join_ors (has (set_after set change) q) (has set q) (puts q change) (list_any (puts q) changes) (put_or_there set change q) (put-or_there (set_after set change) changes q h)

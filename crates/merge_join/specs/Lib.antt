@@ -1,7 +1,3 @@
-pub mod Groups
+pub mod Entries
 pub mod Index
-pub mod Keys
 pub mod Laws
-pub mod Plan
-pub mod Rows
-pub mod Same

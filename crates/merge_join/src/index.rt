@@ -1,19 +1,17 @@
 //! The index.
-ghost use Rattle.std.specs.Prelude.{◌≡◌, [], ◌∷◌, Contains, IfOk, IsOk, IsTrue, OnOk, OnErr};
-ghost use Rattle.std.specs.List.{list_any};
+ghost use Rattle.std.specs.Prelude.{◌≡◌, ◌<◌, ◌≤◌, ◌^◌, ◌*◌, [], length, IfOk, IsOk, IsTrue, OnOk, OnErr};
 ghost use Rattle.std.specs.List.Sorted.{IsStrictlySortedBy};
+ghost use Rattle.std.specs.Map.{keys_of};
 ghost use Rattle.std.specs.BTreeMap.{is_at};
-ghost use Rattle.merge_types.specs.declared.values.Value.TheVariants.{Null};
-ghost use Rattle.merge_join.specs.declared.plan.JoinChange.TheVariants.{Insert, Remove};
-ghost use Rattle.merge_join.specs.Rows.{row_cmp};
-ghost use Rattle.merge_join.specs.Index.{children_of, IsChanged, IsUnchanged};
-ghost use Rattle.merge_join.specs.Plan.{IsReady};
+ghost use Rattle.std.specs.BTreeSet.{insert_key};
+ghost use Rattle.std.specs.Set.{remove_key};
+ghost use Rattle.merge_table.specs.Contents.{has_room};
+ghost use Rattle.merge_table.specs.Edits.{IsReady};
+ghost use Rattle.merge_join.specs.Entries.{entry_cmp};
+ghost use Rattle.merge_join.specs.Index.{of_value, set_after_all};
 
-use crate::lists::{Lists, make_room, place, sweep, taken};
-use crate::plan::{planned, settle};
-use crate::same::is_null;
-use crate::{JoinChanges, JoinKey, JoinPlan};
-use merge_table::Table;
+use crate::{JoinChange, JoinEntry};
+use merge_table::{Rows, Table};
 use merge_types::{NoMemory, RowId, Value};
 use std::alloc::Global;
 use std::marker::Model;
@@ -21,112 +19,117 @@ use std::marker::Model;
 /// A set of children, each with the value that it has by a join. The children of a value are
 /// found without a look at the others.
 ///
-/// A join is named by a number. Contracts see what `children_of` gives, for each join and value,
-/// and the room that there is.
+/// Contracts see the entries, in order and each once, and those that the memory is there for.
 ///
-/// A look-up and a change cost the logarithm of the number of values. A change moves those of the
-/// value's children too that stand behind, and a plan copies the children of each value that it
-/// changes, once.
+/// A look-up and a change cost the logarithm of the number of entries.
 #[derive(Debug, Drop)]
 pub struct JoinIndex {
-    alloc: Global,
-    lists: Lists,
+    entries: Table<JoinEntry, ()>,
 }
 
 impl Model for JoinIndex {
-    ghost use Rattle.std.specs.Prelude.{List};
-    ghost use Rattle.merge_table.specs.Contents.{Contents};
-    ghost use Rattle.merge_join.specs.declared.groups.Group.{Group};
-    ghost use Rattle.merge_join.specs.declared.key.JoinKey.{JoinKey as Key};
+    ghost use Rattle.std.specs.Map.{keys_of};
+    ghost use Rattle.merge_join.specs.Index.{Entries};
 
-    ghost Value = { Contents Key (List Group) };
+    ghost Value = { Entries };
 
-    ghost view = { λ i. i.lists };
+    ghost view = { λ i. record { set = keys_of i.entries.rows; room = i.entries.slots } };
 }
 
 impl JoinIndex {
-    /// No child.
+    /// No entry.
     pub fn new(alloc: Global) -> Self
-        ensures { (join : _) (value : _) → children_of result join value ≡ [] }
+        ensures { result.set ≡ [] }
     {
         JoinIndex {
-            alloc,
-            lists: Table::new(alloc),
+            entries: Table::new(alloc),
         }
     }
 
-    /// The children that have the value by the join, each once, by row. A Null has none.
-    pub fn children_of<'a>(&'a self, join: usize, value: &Value) -> &'a [RowId]
-        ensures children { result.now ≡ children_of self.now join value.now }
-        ensures ascending { IsStrictlySortedBy row_cmp result.now }
+    /// Tells that the entries are in order. It does nothing.
+    pub fn is_ordered(&self)
+        ensures { IsStrictlySortedBy entry_cmp self.now.set }
     {
-        if is_null(value) {
-            return &[];
-        }
-        match self.lists.get(&JoinKey::of(join, value)) {
-            Some(groups) => groups.children_of(value),
-            None => &[],
-        }
+        self.entries.is_ordered();
     }
 
-    /// Adds a child to those of the value by the join. A Null gets none.
-    pub fn insert(&mut self, join: usize, value: &Value, child: RowId) -> Result<(), NoMemory>
-        ensures ok { OnOk result (IsChanged self.old (Insert (record { join = join; value = value.now; child = child }) ∷ []) self.new) }
-        ensures err { OnErr result (IsUnchanged self.old self.new) }
+    /// How many entries there are, known without a walk.
+    pub fn len(&self) -> usize
+        ensures { result ≡ length self.now.set }
+    {
+        self.entries.len()
+    }
+
+    /// All entries, in order.
+    pub fn iter(&self) -> Rows<'_, JoinEntry, ()>
+        ensures { keys_of result ≡ self.now.set }
+    {
+        self.entries.iter()
+    }
+
+    /// The entries of the value by the join, by child. Memory is taken for two copies of the value.
+    pub fn children_of(
+        &self,
+        join: usize,
+        value: &Value,
+    ) -> Result<Rows<'_, JoinEntry, ()>, NoMemory>
+        requires { join < 2 ^ 63 }
+        ensures { IfOk result (λ rows. keys_of rows ≡ of_value self.now.set join value.now) }
+    {
+        let first = first_of(join, value)?;
+        let behind = first_of(join + 1, value)?;
+        Ok(self.entries.range(first..behind))
+    }
+
+    /// Puts the entry in, whether it is there or not.
+    pub fn insert(&mut self, entry: JoinEntry) -> Result<(), NoMemory>
+        ensures ok { OnOk result (self.new.set ≡ insert_key entry_cmp self.old.set entry) }
+        ensures err { OnErr result (self.new.set ≡ self.old.set) }
 
         // What takes no memory is not refused.
-        ensures null { value.now ≡ Null → IsOk result }
-        ensures there { IsTrue (list_any (is_at (row_cmp child)) (children_of self.old join value.now)) → IsOk result }
+        ensures room { IsTrue (has_room entry_cmp self.old.room entry) → IsOk result }
     {
-        if is_null(value) {
-            return Ok(());
-        }
-        let key = JoinKey::of(join, value);
-        make_room(&mut self.lists, key)?;
-        let mut groups = taken(self.alloc, &mut self.lists, &key);
-        let inserted = groups.insert(value, child);
-        place(&mut self.lists, &key, groups);
-        inserted
+        self.entries.insert(entry, ())?;
+        Ok(())
     }
 
-    /// Takes a child away from those of the value by the join, where it is there.
-    pub fn remove(&mut self, join: usize, value: &Value, child: RowId)
-        ensures changed { IsChanged self.old (Remove (record { join = join; value = value.now; child = child }) ∷ []) self.new }
-        ensures gone { Contains (children_of self.new join value.now) child → ⊥ }
+    /// Takes the entry out, where it is there.
+    pub fn remove(&mut self, entry: &JoinEntry)
+        ensures { self.new.set ≡ remove_key (is_at (entry_cmp entry.now)) self.old.set }
     {
-        if is_null(value) {
-            return;
-        }
-        let key = JoinKey::of(join, value);
-        if self.lists.get(&key).is_none() {
-            return;
-        }
-        let mut groups = taken(self.alloc, &mut self.lists, &key);
-        groups.remove(value, child);
-        place(&mut self.lists, &key, groups);
-        sweep(&mut self.lists);
+        self.entries.remove(entry);
     }
 
-    /// Takes the memory for several changes, and gives the plan. Each value keeps its children.
-    pub fn prepare(&mut self, changes: JoinChanges) -> Result<JoinPlan, NoMemory>
-        ensures plan { IfOk result (λ plan. plan.changes ≡ changes) }
-        ensures ready { IfOk result (λ plan. IsReady self.new plan) }
-        ensures same { IsUnchanged self.old self.new }
+    /// Takes the memory for several changes. The entries stay as they are.
+    pub fn prepare(&mut self, changes: &[JoinChange]) -> Result<(), NoMemory>
+        ensures same { self.new.set ≡ self.old.set }
+        ensures ready { OnOk result (IsReady entry_cmp self.new.room changes.now) }
 
         // What takes no memory is not refused.
-        ensures nothing { changes ≡ [] → IsOk result }
+        ensures room { IsReady entry_cmp self.old.room changes.now → IsOk result }
     {
-        let lists = planned(self.alloc, &mut self.lists, changes.as_slice())?;
-        Ok(JoinPlan { changes, lists })
+        self.entries.prepare(changes)?;
+        Ok(())
     }
 
-    /// Makes the changes of a plan, which is the last one that was prepared. No memory is taken,
-    /// and spare memory may go back.
-    pub fn settle(&mut self, plan: JoinPlan)
-        requires { IsReady self.old plan }
-        ensures { IsChanged self.old plan.changes self.new }
+    /// Makes the changes in their order. No memory is taken, and spare memory goes back once it is
+    /// the most.
+    pub fn settle(&mut self, changes: Vec<JoinChange>)
+        requires { IsReady entry_cmp self.old.room changes.items }
+        ensures entries { self.new.set ≡ set_after_all self.old.set changes.items }
+        ensures spare { length self.new.room ≤ 2 * length self.new.set }
     {
-        settle(&mut self.lists, plan.lists);
-        sweep(&mut self.lists);
+        self.entries.apply_and_sweep(changes);
     }
+}
+
+// What stands before all entries of the value by the join.
+fn first_of(join: usize, value: &Value) -> Result<JoinEntry, NoMemory>
+    ensures { IfOk result (λ entry. entry ≡ record { value = value.now; join = join; child = record { 0 = 0 } }) }
+{
+    Ok(JoinEntry {
+        value: value.clone()?,
+        join,
+        child: RowId(0),
+    })
 }

@@ -28,19 +28,24 @@ use Rattle.merge_model.specs.PublisherLocal.{Drawn, local_refusal, made_locally,
 use Rattle.merge_model.specs.PublisherPurge.{purge}
 use Rattle.merge_model.specs.Reinit.{discarded, reinitialised}
 use Rattle.merge_model.specs.Subscriber.{is_joining, sub_at_moment, sub_last_closed, sub_local_refusal, sub_made_locally, sub_next_dot, sub_version_at, with_version_if}
-use Rattle.merge_model.specs.Tables.{Key, PublisherTables, SubscriberTables}
-use Rattle.merge_model.specs.World.{Asks, Letter, Message, Replies, World, subscriber_at, with_publisher, with_subscriber}
+use Rattle.merge_types.specs.declared.row_key.RowKey.{RowKey as Key}
+use Rattle.merge_model.specs.Tables.{PublisherTables, SubscriberTables}
+use Rattle.merge_model.specs.World.{World, subscriber_at, with_publisher, with_subscriber}
+use Rattle.merge_model.specs.declared.letter.Message.TheVariants.{Asks, Replies}
+use Rattle.merge_model.specs.declared.letter.Letter.{Letter}
+use Rattle.merge_model.specs.declared.letter.Message.{Message}
 use Rattle.merge_laws.specs.Accepted.{Accepted, IsUpTo, SendsInserts}
 use Rattle.merge_laws.specs.Knowledge.{AllKnow, AreNumbered, Known, changes_of, same_dot, was_made}
 use Rattle.merge_laws.specs.KnownMakers.{Ascend, KnownMakers, KnowsMaker}
-use Rattle.merge_laws.specs.LineagesStand.{OfMessage, is_given_up}
+use Rattle.merge_model.specs.Promises.{is_given_up}
+use Rattle.merge_laws.specs.LineagesStand.{OfMessage}
 use Rattle.merge_laws.specs.Numbered.{Numbered}
 use Rattle.merge_laws.proofs.AcceptedOrder.{was-below}
 use Rattle.merge_laws.proofs.AcceptedParts.{PastFits, SiteFits, all-fit, count-on, lines-accept, nothing-fits, others-accepted, publisher-accepted, send-on}
 use Rattle.merge_laws.proofs.Arrivals.{first-none}
-use Rattle.merge_laws.proofs.Finding.{found-named}
+use Rattle.merge_model.proofs.Finding.{found-named}
 use Rattle.merge_laws.proofs.Ground.{Ground}
-use Rattle.merge_laws.proofs.KeyLookUps.{keys-same}
+use Rattle.merge_model.proofs.KeyLookUps.{keys-same}
 use Rattle.merge_laws.proofs.Knowing.{after-known}
 use Rattle.merge_laws.proofs.KnownCounts.{own-count}
 use Rattle.merge_laws.proofs.KnownRows.{past-knows}
@@ -49,7 +54,7 @@ use Rattle.merge_laws.proofs.PastLists.{drop-ascends, each-dropped, each-put}
 use Rattle.merge_laws.proofs.PastLookUps.{all-sites, put-here, put-there}
 use Rattle.merge_laws.proofs.Publishing.{same-sites}
 use Rattle.merge_laws.proofs.Steps.{joined-flag}
-use Rattle.merge_laws.proofs.Tests.{either}
+use Rattle.merge_model.proofs.Tests.{either}
 use Rattle.merge_laws.proofs.Through.{order-within}
 use Rattle.merge_laws.proofs.UnsentKept.{version-site}
 use Rattle.merge_laws.proofs.Walking.{here, own_noted}

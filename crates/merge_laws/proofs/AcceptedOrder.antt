@@ -10,10 +10,10 @@ use Rattle.merge_model.specs.Tables.{SubscriberTables}
 use Rattle.merge_model.specs.World.{World}
 use Rattle.merge_laws.specs.Knowledge.{AreNumbered, same_dot, was_made}
 use Rattle.merge_laws.specs.Numbered.{InOrder, Numbered, is_up_to, last_of}
-use Rattle.merge_laws.proofs.Finding.{all-weaker}
+use Rattle.merge_model.proofs.Finding.{all-weaker}
 use Rattle.merge_laws.proofs.Knowing.{fresh-above, fresh-anywhere}
-use Rattle.merge_laws.proofs.Lists.{all-both, all-passing}
-use Rattle.merge_laws.proofs.Tests.{dots-same}
+use Rattle.merge_model.proofs.Lists.{all-both, all-passing}
+use Rattle.merge_laws.proofs.DotTests.{dots-same}
 use Rattle.merge_laws.proofs.Through.{each-within, last-older, order-within}
 
 -- Generations and numbers.

@@ -18,23 +18,29 @@ use Rattle.merge_model.specs.Acts.{key_of_item}
 use Rattle.merge_model.specs.ByHistory.{by_made, by_past, changed_between_by_made, is_between_made, with_change_of}
 use Rattle.merge_model.specs.History.{History, MadeChange, Past, has, made_at, past_in, pasts_at, pasts_with}
 use Rattle.merge_model.specs.Judge.{PublisherJudge}
-use Rattle.merge_model.specs.Keys.{key_cmp, row_at, same_key}
+use Rattle.merge_types.specs.RowKeys.{key_cmp}
+use Rattle.merge_model.specs.Keys.{row_at, same_key}
 use Rattle.merge_model.specs.Model.{past_of_item, with_letter}
 use Rattle.merge_model.specs.PublisherDownload.{asked, reply_to}
 use Rattle.merge_model.specs.Sending.{upload_item, upload_sent}
 use Rattle.merge_model.specs.Subscriber.{sub_at_moment, sub_closed}
-use Rattle.merge_model.specs.Tables.{Key, PublisherTables, SubscriberRow, SubscriberTables}
-use Rattle.merge_model.specs.World.{Asks, Message, Replies, World, subscriber_at, with_publisher, with_subscriber}
+use Rattle.merge_types.specs.declared.row_key.RowKey.{RowKey as Key}
+use Rattle.merge_units.specs.declared.site_row.SubscriberRow.{SubscriberRow}
+use Rattle.merge_model.specs.Tables.{PublisherTables, SubscriberTables}
+use Rattle.merge_model.specs.World.{World, subscriber_at, with_publisher, with_subscriber}
+use Rattle.merge_model.specs.declared.letter.Message.TheVariants.{Asks, Replies}
+use Rattle.merge_model.specs.declared.letter.Message.{Message}
 use Rattle.merge_laws.specs.Accepted.{Accepted, IsUpTo}
 use Rattle.merge_laws.specs.KnownMakers.{IsAfterMaker, KnownMakers}
-use Rattle.merge_laws.specs.LineagesStand.{is_given_up, OthersAccepted}
+use Rattle.merge_model.specs.Promises.{is_given_up}
+use Rattle.merge_laws.specs.LineagesStand.{OthersAccepted}
 use Rattle.merge_laws.proofs.AcceptedOrder.{StandsBelow, of-site, order-below}
 use Rattle.merge_laws.proofs.AcceptedParts.{PastFits, all-fit, nothing-fits, past-among, post-accepted, publisher-accepted, put-rows, sent-rows, subscriber-accepted}
-use Rattle.merge_laws.proofs.Finding.{all-weaker, found-named}
+use Rattle.merge_model.proofs.Finding.{all-weaker, found-named}
 use Rattle.merge_laws.proofs.Ground.{Ground}
-use Rattle.merge_laws.proofs.KeyLookUps.{key-itself, keys-same, keys-tied}
-use Rattle.merge_laws.proofs.KnownRows.{all-put}
-use Rattle.merge_laws.proofs.Lists.{all-filter, all-of, all-three, any-leads}
+use Rattle.merge_model.proofs.KeyLookUps.{key-itself, keys-same, keys-tied}
+use Rattle.merge_model.proofs.EntryLists.{all-put}
+use Rattle.merge_model.proofs.Lists.{all-filter, all-of, all-three, any-leads}
 use Rattle.merge_laws.proofs.Publishing.{asked-same}
 use Rattle.merge_laws.proofs.Walking.{here}
 

@@ -18,7 +18,8 @@ use Rattle.merge_model.specs.Sending.{join_of, want_of, with_message}
 use Rattle.merge_model.specs.Steps.{Action}
 use Rattle.merge_model.specs.Subscriber.{sub_at_moment, sub_closed}
 use Rattle.merge_model.specs.Tables.{PublisherTables, SubscriberTables}
-use Rattle.merge_model.specs.World.{Asks, Replies, Saying, World, empty_world, subscriber_at, with_publisher, with_subscriber}
+use Rattle.merge_model.specs.World.{Saying, World, empty_world, subscriber_at, with_publisher, with_subscriber}
+use Rattle.merge_model.specs.declared.letter.Message.TheVariants.{Asks, Replies}
 use Rattle.merge_laws.specs.Accepted.{Accepted, AllAccepted}
 use Rattle.merge_laws.specs.KnownMakers.{KnownMakers}
 use Rattle.merge_laws.specs.LetterOrder.{LetterOrder}

@@ -22,22 +22,27 @@ use Rattle.merge_model.specs.Pasts.{decided_dots, past_by}
 use Rattle.merge_model.specs.Publisher.{last_closed}
 use Rattle.merge_model.specs.PublisherUpload.{brings_news, upload_refusal}
 use Rattle.merge_model.specs.Steps.{kept_decisions, upload_questions}
-use Rattle.merge_model.specs.Tables.{Key, PublisherTables}
-use Rattle.merge_model.specs.World.{Asks, Letter, Message, Replies, Saying, World, letter_at, with_publisher}
+use Rattle.merge_types.specs.declared.row_key.RowKey.{RowKey as Key}
+use Rattle.merge_model.specs.Tables.{PublisherTables}
+use Rattle.merge_model.specs.World.{Saying, World, letter_at, with_publisher}
+use Rattle.merge_model.specs.declared.letter.Message.TheVariants.{Asks, Replies}
+use Rattle.merge_model.specs.declared.letter.Letter.{Letter}
+use Rattle.merge_model.specs.declared.letter.Message.{Message}
 use Rattle.merge_laws.specs.Accepted.{Accepted, IsUpTo, SendsAccepted, SendsInserts}
 use Rattle.merge_laws.specs.Knowledge.{AllKnow, changes_of, was_made}
 use Rattle.merge_laws.specs.KnownMakers.{KnownMakers, KnowsMaker}
-use Rattle.merge_laws.specs.LineagesStand.{OwnKnown, UploadCounts, is_given_up, OthersAccepted}
+use Rattle.merge_model.specs.Promises.{is_given_up}
+use Rattle.merge_laws.specs.LineagesStand.{OwnKnown, UploadCounts, OthersAccepted}
 use Rattle.merge_laws.proofs.AcceptedChanges.{inserts-on, new-up-to}
 use Rattle.merge_laws.proofs.AcceptedNews.{accepts-items, accepts-more, after, noted, placed, reaches, upload-counts}
 use Rattle.merge_laws.proofs.AcceptedParts.{CountsGo, PastFits, SiteFits, accepted-fits, all-fit, counts-go, past-among, send-on}
 use Rattle.merge_laws.proofs.ChangeDots.{IsAlone, are-alone}
-use Rattle.merge_laws.proofs.Finding.{all-at, all-weaker, found-named, letter-zip}
+use Rattle.merge_model.proofs.Finding.{all-at, all-weaker, found-named, letter-zip}
 use Rattle.merge_laws.proofs.GivenUp.{knows_of, upload-accepts}
 use Rattle.merge_laws.proofs.Ground.{Ground}
 use Rattle.merge_laws.proofs.Knowing.{made-was}
 use Rattle.merge_laws.proofs.KnownRows.{held-knows, letter-knows, past-knows}
-use Rattle.merge_laws.proofs.Lists.{all-both, all-every, all-of, all-three, any-among, zip-second}
+use Rattle.merge_model.proofs.Lists.{all-both, all-every, all-of, all-three, any-among, zip-second}
 use Rattle.merge_laws.proofs.MakerUploads.{FateAbove, FateMakes, acts-made, from-above, letters-stay, upload-makers}
 use Rattle.merge_laws.proofs.Noted.{DecidesAsOwn, NotesKeep, acts-keep, acts-own, lines-keep}
 use Rattle.merge_laws.proofs.NotesLeave.{fold-leave}
@@ -47,7 +52,7 @@ use Rattle.merge_laws.proofs.PastLookUps.{rows_in}
 use Rattle.merge_laws.proofs.PastNotes.{ActKeeps, acts-items, acts-pasts, by-knows, fate_past, put_by}
 use Rattle.merge_laws.proofs.Publishing.{done-joins, upload-joined}
 use Rattle.merge_laws.proofs.Tellings.{lined, uploaded-alike}
-use Rattle.merge_laws.proofs.Tests.{either}
+use Rattle.merge_model.proofs.Tests.{either}
 use Rattle.merge_laws.proofs.Walking.{acts_in, comes, here}
 
 -- The publisher's pasts, as an item acts whose past is accepted.

@@ -14,14 +14,18 @@ use Rattle.merge_schema.specs.declared.publication.Publication.{Publication}
 use Rattle.merge_batch.specs.declared.request.UploadItem.{UploadItem}
 use Rattle.merge_model.specs.Acts.{Fate, Met, New, Unknown, case_met, decision_for, fate_by, is_new_row, key_of_item, version_by}
 use Rattle.merge_model.specs.ByHistory.{by_past}
-use Rattle.merge_model.specs.Cases.{case_by, is_conflict, result_by, tops_of}
+use Rattle.merge_units.specs.Cases.{case_by, is_conflict}
+use Rattle.merge_units.specs.Results.{result_by}
+use Rattle.merge_units.specs.Version.{tops_of}
 use Rattle.merge_model.specs.History.{Chains, History, MadeChange, Past, has, past_at, past_in}
 use Rattle.merge_model.specs.Keys.{at_number, same_key}
 use Rattle.merge_model.specs.Noting
 use Rattle.merge_model.specs.Pasts.{cell_count, past_by}
 use Rattle.merge_model.specs.Promises.{InRow, Place}
-use Rattle.merge_model.specs.Tables.{Key, PublisherRow, SubscriberTables}
-use Rattle.merge_model.specs.World.{Letter}
+use Rattle.merge_types.specs.declared.row_key.RowKey.{RowKey as Key}
+use Rattle.merge_units.specs.declared.site_row.PublisherRow.{PublisherRow}
+use Rattle.merge_model.specs.Tables.{SubscriberTables}
+use Rattle.merge_model.specs.declared.letter.Letter.{Letter}
 use Rattle.merge_laws.specs.Accounts.{Accounts, GrownAlone, IsSafe, IsTraced, is_kept_elsewhere, is_made_at, is_past, is_settled, makes}
 use Rattle.merge_laws.specs.Knowledge.{Knows, is_made}
 use Rattle.merge_laws.proofs.AccountElements.{IsIn}
@@ -30,7 +34,7 @@ use Rattle.merge_laws.proofs.AccountLetters.{IsOfSite}
 use Rattle.merge_laws.proofs.AccountMeetings.{IsNew, decided_new, knows-either, lost-keeps, lost-last, lost_after, meeting-is, met-grown, met-holds, own_dot, past-stays}
 use Rattle.merge_laws.proofs.AccountRows.{KeepsLost, at-key, at-other, gone_on, in-new, lost-accounts, lost-goes, more-elsewhere, row-accounts, row-goes}
 use Rattle.merge_laws.proofs.ChangeDots.{AreDistinct, made-distinct}
-use Rattle.merge_laws.proofs.KeyLookUps.{keys-same}
+use Rattle.merge_model.proofs.KeyLookUps.{keys-same}
 use Rattle.merge_laws.proofs.Knowing.{IsFresh, fresh-above}
 use Rattle.merge_laws.proofs.KnownNotes.{Reached}
 use Rattle.merge_laws.proofs.KnownRows.{held-knows, past-knows}

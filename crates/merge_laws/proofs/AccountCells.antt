@@ -11,7 +11,8 @@ use Rattle.merge_units.specs.declared.case.Side.TheVariants as side
 use Rattle.merge_units.specs.declared.result.Decision.{Decision}
 use Rattle.merge_units.specs.declared.result.Decision.TheVariants.{Custom, KeepPublisher, TakeSubscriber}
 use Rattle.merge_units.specs.declared.version.Cell.{Cell}
-use Rattle.merge_model.specs.Cases.{Knowing, side_of}
+use Rattle.merge_units.specs.Version.{Knowing}
+use Rattle.merge_units.specs.Cases.{side_of}
 use Rattle.merge_model.specs.History.{MadeChange, has}
 use Rattle.merge_model.specs.Pasts.{merged_chain, merged_chains}
 use Rattle.merge_laws.specs.Accounts.{CellGrown}

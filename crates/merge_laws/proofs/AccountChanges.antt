@@ -14,15 +14,15 @@ use Rattle.merge_types.specs.declared.values.Value.{Value}
 use Rattle.merge_units.specs.Changes.{cell_after, cells_after, new_cell, set_value, whole_row_after}
 use Rattle.merge_units.specs.declared.version.Body.TheVariants.{Dead, Live}
 use Rattle.merge_units.specs.declared.version.Cell.{Cell}
-use Rattle.merge_model.specs.Changes.{new_cells}
+use Rattle.merge_units.specs.Changes.{new_cells}
 use Rattle.merge_model.specs.Keys.{same_key}
 use Rattle.merge_model.specs.History.{MadeChange, OfCells, OfDead, has}
 use Rattle.merge_model.specs.Pasts.{chain_after, set_cells}
-use Rattle.merge_model.specs.Tables.{Key}
+use Rattle.merge_types.specs.declared.row_key.RowKey.{RowKey as Key}
 use Rattle.merge_laws.specs.Accounts.{CellGrown, Grown, GrownAlone, is_set}
 use Rattle.merge_laws.specs.Knowledge.{KnowsItsPast, same_dot}
 use Rattle.merge_laws.proofs.AccountChains.{chain_at, rooted-known, rooted-later, set-later}
-use Rattle.merge_laws.proofs.Tests.{dots-same, dot-itself}
+use Rattle.merge_laws.proofs.DotTests.{dots-same, dot-itself}
 
 -- how many cells a row of an article has
 abbrev pub count_by_tracking : Tracking → List Column → ℕ

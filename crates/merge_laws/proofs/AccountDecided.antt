@@ -14,12 +14,13 @@ use Rattle.merge_units.specs.declared.result.Decision.TheVariants.{Custom}
 use Rattle.merge_units.specs.declared.version.Body.{Body}
 use Rattle.merge_units.specs.declared.version.Body.TheVariants.{Dead, Live}
 use Rattle.merge_units.specs.declared.version.Cell.{Cell}
-use Rattle.merge_model.specs.Acts.{both_place, conflicting_places}
-use Rattle.merge_model.specs.Cases.{Knowing, bodies_case, side_of, sides_of}
+use Rattle.merge_resolve.specs.Questions.{both_place, conflicting_places}
+use Rattle.merge_units.specs.Version.{Knowing}
+use Rattle.merge_units.specs.Cases.{bodies_case, side_of, sides_of}
 use Rattle.merge_model.specs.History.{Chains, MadeChange, OfCells, OfDead, has}
 use Rattle.merge_model.specs.Pasts.{chains_by, merged_chain, merged_chains}
 use Rattle.merge_model.specs.Promises.{InCell, descends}
-use Rattle.merge_model.specs.Tables.{Key}
+use Rattle.merge_types.specs.declared.row_key.RowKey.{RowKey as Key}
 use Rattle.merge_laws.specs.Accounts.{Grown}
 use Rattle.merge_laws.proofs.AccountCells.{AreFour, are-four}
 use Rattle.merge_laws.proofs.AccountChains.{chain_at}

@@ -16,7 +16,7 @@ use Rattle.merge_laws.specs.Accounts.{IsSafe, OfAccounts, is_kept_elsewhere, is_
 use Rattle.merge_laws.specs.LineagesStand.{is_of}
 use Rattle.merge_laws.specs.Numbered.{Numbered}
 use Rattle.merge_laws.proofs.AccountElements.{IsIn, all-in, any-in, each-in, made-in, places-all}
-use Rattle.merge_laws.proofs.KeyLookUps.{key-itself}
+use Rattle.merge_model.proofs.KeyLookUps.{key-itself}
 
 module _ (publication : Publication) (w : World) (h : History) (n : Numbered w h) (a : OfAccounts publication w h) where
   abbrev m : Model

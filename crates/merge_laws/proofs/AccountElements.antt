@@ -7,9 +7,9 @@ use Rattle.merge_model.specs.History.{MadeChange}
 use Rattle.merge_model.specs.Promises.{InCell, InRow, Place, places_of}
 use Rattle.merge_laws.specs.Accounts.{is_made_at, makes}
 use Rattle.merge_laws.proofs.AccountChains.{at-later}
-use Rattle.merge_laws.proofs.KeyLookUps.{key-itself}
-use Rattle.merge_laws.proofs.Lists.{any-behind, any-first}
-use Rattle.merge_laws.proofs.Tests.{dot-itself}
+use Rattle.merge_model.proofs.KeyLookUps.{key-itself}
+use Rattle.merge_model.proofs.Lists.{any-behind, any-first}
+use Rattle.merge_laws.proofs.DotTests.{dot-itself}
 
 abbrev pub IsIn : {X : Type 0} → X → List X → Type 0
 IsIn x [] = ⊥

@@ -22,14 +22,15 @@ use Rattle.merge_units.specs.declared.version.Body.TheVariants.{Dead, Live}
 use Rattle.merge_units.specs.declared.version.Cell.{Cell}
 use Rattle.merge_units.specs.declared.version.Version.{Version}
 use Rattle.merge_schema.specs.declared.publication.Publication.{Publication}
-use Rattle.merge_model.specs.Cases.{tops_of}
-use Rattle.merge_model.specs.Changes.{change_refusal, fits_type, is_insert, key_of, new_row, new_value, no_row, sets_identity, settings_of, version_after, wrong_type}
+use Rattle.merge_units.specs.Version.{tops_of}
+use Rattle.merge_units.specs.Changes.{new_row}
+use Rattle.merge_model.specs.Changes.{change_refusal, fits_type, is_insert, key_of, new_value, new_values, no_row, sets_identity, settings_of, version_after, wrong_type}
 use Rattle.merge_model.specs.History.{Chains, History, MadeChange, OfCells, OfDead, Past, has, past_at}
 use Rattle.merge_model.specs.Noting
 use Rattle.merge_model.specs.Pasts.{all_chains, cell_chains, cell_count, past_after, set_cells}
 use Rattle.merge_model.specs.Promises.{InRow}
 use Rattle.merge_model.specs.Publications.{columns_at, identity_column, tracking_at, types_at}
-use Rattle.merge_model.specs.Tables.{Key}
+use Rattle.merge_types.specs.declared.row_key.RowKey.{RowKey as Key}
 use Rattle.merge_laws.specs.Accounts.{CellGrown, Ends, Grown, GrownAlone, Holds, Traced, is_made_at, is_past}
 use Rattle.merge_laws.specs.Knowledge.{KnowsItsPast}
 use Rattle.merge_laws.proofs.AccountChains.{cells-known, chain_at}
@@ -37,8 +38,8 @@ use Rattle.merge_laws.proofs.AccountChanges.{count_by_tracking, deleted-grown, i
 use Rattle.merge_laws.proofs.AccountHolds.{AreCells, deleted-ends, deleted-holds, held-past, inserted-ends, inserted-holds, updated-ends, updated-holds, updated-past}
 use Rattle.merge_laws.proofs.Arrivals.{first-none}
 use Rattle.merge_laws.proofs.ChangeDots.{AreDistinct}
-use Rattle.merge_laws.proofs.Finding.{some_same}
-use Rattle.merge_laws.proofs.KeyLookUps.{key-itself}
+use Rattle.merge_model.proofs.Finding.{some_same}
+use Rattle.merge_model.proofs.KeyLookUps.{key-itself}
 use Rattle.merge_laws.proofs.Knowing.{IsFresh}
 use Rattle.merge_laws.proofs.Telling.{no-refusal}
 
@@ -108,7 +109,7 @@ made_of publication dot generation change identity past = Noting.made_change pub
 module _ (publication : Publication) (h : History) (dot : Dot) (generation : ℕ) (identity : Value) (fresh : IsFresh h.made dot) (past : Past) where
   -- a new row
   inserted-fits : (article : ℕ) (values : List Setting) → ((other : Dot) → has past.known other ≡ false)
-      → (let change : Change = Insert article values in ChangeFits publication h (key_of dot change) past (made_of publication dot generation change identity past) (new_row publication article dot identity values))
+      → (let change : Change = Insert article values in ChangeFits publication h (key_of dot change) past (made_of publication dot generation change identity past) (new_row dot (new_values publication article identity values) (tracking_at publication article)))
   inserted-fits article values none =
       let change : Change = Insert article values in
       let key : Key = key_of dot change in
@@ -175,7 +176,7 @@ module _ (publication : Publication) (h : History) (dot : Dot) (generation : ℕ
   pub change-fits : (change : Change) (held : Option Version) (rows : ℕ) → change_refusal publication dot change held rows ≡ None → (is_insert change ≡ true → (other : Dot) → has past.known other ≡ false) → IsHeld publication h (key_of dot change) past held
       → (version : Version) → version_after publication dot identity change held ≡ Some version → ChangeFits publication h (key_of dot change) past (made_of publication dot generation change identity past) version
   change-fits (Insert article values) held rows fine new i version is =
-      subst (λ (v : Version). ChangeFits publication h (key_of dot (Insert article values)) past (made_of publication dot generation (Insert article values) identity past) v) (some_same (new_row publication article dot identity values) version is) (inserted-fits article values (new refl))
+      subst (λ (v : Version). ChangeFits publication h (key_of dot (Insert article values)) past (made_of publication dot generation (Insert article values) identity past) v) (some_same (new_row dot (new_values publication article identity values) (tracking_at publication article)) version is) (inserted-fits article values (new refl))
   change-fits (Update article row values) None rows fine new i version is = absurd cc
   change-fits (Update article row values) (Some held) rows fine new i version is =
       let change : Change = Update article row values in

@@ -7,19 +7,20 @@ use Rattle.std.proofs.Common.{arith, subst, sym, ap}
 use Rattle.std.proofs.lemmas.Bool.Decides.{nat_tests}
 use Rattle.merge_types.specs.declared.identifiers.Dot.{Dot}
 use Rattle.merge_units.specs.declared.version.Body.{Body}
-use Rattle.merge_gens.proofs.Sets.{sorted_put}
+use Rattle.merge_table.proofs.Sorted.{sorted_put}
 use Rattle.merge_model.proofs.Sorted.{key_total}
 use Rattle.merge_model.specs.History.{Chains, History, MadeChange, Past, has, past_at, past_in, pasts_at}
-use Rattle.merge_model.specs.Keys.{at_number, has_key, key_cmp, put_number, put_row}
+use Rattle.merge_types.specs.RowKeys.{key_cmp}
+use Rattle.merge_model.specs.Keys.{at_number, has_key, put_number, put_row}
 use Rattle.merge_model.specs.Promises.{InRow, Place}
-use Rattle.merge_model.specs.Tables.{Key}
+use Rattle.merge_types.specs.declared.row_key.RowKey.{RowKey as Key}
 use Rattle.merge_laws.specs.Accounts.{Grown, GrownAlone, IsSafe, IsTraced, Traced, is_kept_elsewhere, is_made_at, is_past}
 use Rattle.merge_laws.specs.Knowledge.{is_made, same_dot}
 use Rattle.merge_laws.specs.LineagesStand.{is_of}
 use Rattle.merge_laws.proofs.AccountChains.{alone-later, grown-later}
 use Rattle.merge_laws.proofs.Knowing.{IsFresh, fresh-any}
 use Rattle.merge_laws.proofs.PastLookUps.{put-here, put-there}
-use Rattle.merge_laws.proofs.Tests.{dots-same}
+use Rattle.merge_laws.proofs.DotTests.{dots-same}
 
 -- How a history goes on: what is kept elsewhere stays so, and what the publisher knows, and which deletes are past there, stay so too, unless
 -- the row is purged.

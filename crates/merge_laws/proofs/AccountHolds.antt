@@ -9,14 +9,14 @@ use Rattle.merge_model.specs.History.{Chains, MadeChange, OfCells, OfDead, Past,
 use Rattle.merge_model.specs.Keys.{has_key}
 use Rattle.merge_model.specs.Pasts.{all_chains, cell_chains, chain_after, deleted_past, inserted_past, updated_past}
 use Rattle.merge_model.specs.Promises.{InCell, InRow, Place, descends}
-use Rattle.merge_model.specs.Tables.{Key}
+use Rattle.merge_types.specs.declared.row_key.RowKey.{RowKey as Key}
 use Rattle.merge_laws.specs.Accounts.{CellGrown, Ends, Holds, is_kept_elsewhere, is_made_at, is_past, makes}
 use Rattle.merge_laws.specs.Knowledge.{same_dot}
 use Rattle.merge_laws.proofs.AccountChains.{fresh-at, set-kept}
 use Rattle.merge_laws.proofs.AccountChanges.{all-set, chain-in-all, changed-has, changed-keeps, new-at}
 use Rattle.merge_laws.proofs.ChangeDots.{AreDistinct}
 use Rattle.merge_laws.proofs.Knowing.{IsFresh}
-use Rattle.merge_laws.proofs.Tests.{dots-same}
+use Rattle.merge_laws.proofs.DotTests.{dots-same}
 
 -- a row that lives
 abbrev pub AreCells : Chains → Type 0

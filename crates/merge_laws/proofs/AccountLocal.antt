@@ -7,7 +7,7 @@ use Rattle.merge_types.specs.declared.identifiers.Dot.{Dot}
 use Rattle.merge_types.specs.declared.identifiers.SiteId.{SiteId}
 use Rattle.merge_types.specs.declared.values.Value.{Value}
 use Rattle.merge_units.specs.declared.version.Version.{Version}
-use Rattle.merge_gens.proofs.Sets.{sorted_put}
+use Rattle.merge_table.proofs.Sorted.{sorted_put}
 use Rattle.merge_ident.specs.Holders.{Holder}
 use Rattle.merge_schema.specs.declared.publication.Publication.{Publication}
 use Rattle.merge_batch.specs.declared.request.Request.TheVariants as request
@@ -15,14 +15,20 @@ use Rattle.merge_model.proofs.Sorted.{key_total}
 use Rattle.merge_model.specs.ByNumbers.{received_by_number}
 use Rattle.merge_model.specs.Changes.{change_refusal, is_insert, key_of, no_row, version_after}
 use Rattle.merge_model.specs.History.{History, MadeChange, Past, has, past_at, past_in, pasts_at}
-use Rattle.merge_model.specs.Keys.{at_number, key_cmp, put_number, put_row, same_key}
+use Rattle.merge_types.specs.RowKeys.{key_cmp}
+use Rattle.merge_model.specs.Keys.{at_number, put_number, put_row, same_key}
 use Rattle.merge_model.specs.Noting
 use Rattle.merge_model.specs.Pasts.{cell_count}
 use Rattle.merge_model.specs.PublisherLocal.{version_at}
 use Rattle.merge_model.specs.Refusals.{counter_end}
 use Rattle.merge_model.specs.Subscriber.{generations_at, is_joining, sub_at_moment, sub_counters, sub_last_closed, sub_local_refusal, sub_made_locally, sub_next_dot, sub_version_at, with_open, with_version, with_version_if}
-use Rattle.merge_model.specs.Tables.{Key, SubscriberRow, SubscriberTables}
-use Rattle.merge_model.specs.World.{Asks, Letter, Message, Replies, World, subscriber_at, with_subscriber}
+use Rattle.merge_types.specs.declared.row_key.RowKey.{RowKey as Key}
+use Rattle.merge_units.specs.declared.site_row.SubscriberRow.{SubscriberRow}
+use Rattle.merge_model.specs.Tables.{SubscriberTables}
+use Rattle.merge_model.specs.World.{World, subscriber_at, with_subscriber}
+use Rattle.merge_model.specs.declared.letter.Message.TheVariants.{Asks, Replies}
+use Rattle.merge_model.specs.declared.letter.Letter.{Letter}
+use Rattle.merge_model.specs.declared.letter.Message.{Message}
 use Rattle.merge_laws.specs.Accounts.{Accounts, GrownAlone, OfAccounts, SendsAll, Traced, is_settled}
 use Rattle.merge_laws.specs.Knowledge.{is_made}
 use Rattle.merge_laws.specs.LineagesStand.{is_of}
@@ -35,12 +41,12 @@ use Rattle.merge_laws.proofs.AccountHistory.{traced-new}
 use Rattle.merge_laws.proofs.AccountSending.{received-safe, site-away}
 use Rattle.merge_laws.proofs.AccountSites.{held-made, received-own, sent-made, sub-accounts}
 use Rattle.merge_laws.proofs.Arrivals.{first-none}
-use Rattle.merge_laws.proofs.Finding.{all-weaker, some_same}
+use Rattle.merge_model.proofs.Finding.{all-weaker, some_same}
 use Rattle.merge_laws.proofs.Ground.{Ground}
-use Rattle.merge_laws.proofs.KeyLookUps.{key-itself, keys-same}
+use Rattle.merge_model.proofs.KeyLookUps.{key-itself, keys-same}
 use Rattle.merge_laws.proofs.Knowing.{IsFresh}
 use Rattle.merge_laws.proofs.KnownRows.{held-knows}
-use Rattle.merge_laws.proofs.Lists.{zip-first}
+use Rattle.merge_model.proofs.Lists.{zip-first}
 use Rattle.merge_laws.proofs.OwnKnowing.{NoneOf}
 use Rattle.merge_laws.proofs.OwnLocal.{sub-fresh, sub-none}
 use Rattle.merge_laws.proofs.PastLookUps.{past-put}

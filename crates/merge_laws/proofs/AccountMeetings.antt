@@ -11,14 +11,15 @@ use Rattle.merge_units.specs.declared.case.Case.{Case}
 use Rattle.merge_units.specs.declared.result.Decision.{Decision}
 use Rattle.merge_units.specs.declared.result.Decision.TheVariants.{Custom, KeepPublisher, TakeSubscriber}
 use Rattle.merge_units.specs.declared.version.Body.{Body}
-use Rattle.merge_resolve.specs.Losers.{publisher_site}
-use Rattle.merge_model.specs.Cases.{case_by, has_news, is_conflict, tops_of}
+use Rattle.merge_conflict.specs.Losers.{publisher_site}
+use Rattle.merge_units.specs.Cases.{case_by, is_conflict}
+use Rattle.merge_units.specs.Version.{has_news, tops_of}
 use Rattle.merge_model.specs.History.{History, MadeChange, Past, has}
 use Rattle.merge_model.specs.Keys.{has_key, same_key}
 use Rattle.merge_model.specs.Noting
 use Rattle.merge_model.specs.Pasts.{chains_by, past_by}
 use Rattle.merge_model.specs.Promises.{InCell, InRow, Place, descends}
-use Rattle.merge_model.specs.Tables.{Key}
+use Rattle.merge_types.specs.declared.row_key.RowKey.{RowKey as Key}
 use Rattle.merge_laws.specs.Accounts.{Grown, GrownAlone, Holds, Traced, is_kept_elsewhere, is_lost_at, is_made_at, is_past, makes}
 use Rattle.merge_laws.specs.Knowledge.{KnowsItsPast, same_dot}
 use Rattle.merge_laws.proofs.AccountCells.{OwnGrown, loses}
@@ -30,7 +31,7 @@ use Rattle.merge_laws.proofs.AccountMerges.{case-grown, case-holds, case-stays}
 use Rattle.merge_laws.proofs.AccountRows.{KeepsLost, gone_on}
 use Rattle.merge_laws.proofs.ChangeDots.{AreDistinct}
 use Rattle.merge_laws.proofs.Knowing.{IsFresh}
-use Rattle.merge_laws.proofs.Tests.{dot-itself, dots-same}
+use Rattle.merge_laws.proofs.DotTests.{dot-itself, dots-same}
 
 -- what a meeting adds to the publisher's conflict table
 abbrev pub lost_after : Bool → Decision → Key → Past → Past → List (ℕ × (Key × Past)) → List (ℕ × (Key × Past))

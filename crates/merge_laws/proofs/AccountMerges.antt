@@ -14,17 +14,18 @@ use Rattle.merge_units.specs.declared.result.Decision.TheVariants.{Custom, KeepP
 use Rattle.merge_units.specs.declared.version.Body.{Body}
 use Rattle.merge_units.specs.declared.version.Body.TheVariants.{Dead, Live}
 use Rattle.merge_units.specs.declared.version.Cell.{Cell}
-use Rattle.merge_model.specs.Cases.{Knowing, bodies_case, has_news, is_conflict, side_of, sides_of, tops_of}
+use Rattle.merge_units.specs.Version.{Knowing, has_news, tops_of}
+use Rattle.merge_units.specs.Cases.{bodies_case, is_conflict, side_of, sides_of}
 use Rattle.merge_model.specs.History.{Chains, MadeChange, OfCells, OfDead, has}
 use Rattle.merge_model.specs.Pasts.{chains_by}
 use Rattle.merge_model.specs.Promises.{InCell, InRow, Place, descends}
-use Rattle.merge_model.specs.Tables.{Key}
+use Rattle.merge_types.specs.declared.row_key.RowKey.{RowKey as Key}
 use Rattle.merge_laws.specs.Accounts.{CellGrown, Grown, GrownAlone, is_made_at, is_set}
 use Rattle.merge_laws.specs.Knowledge.{KnowsItsPast, same_dot}
 use Rattle.merge_laws.proofs.AccountCells.{AreFour, Follows, OwnGrown, are-four, cells-hold, loses, results-grown}
 use Rattle.merge_laws.proofs.AccountChains.{body-known, rooted-known, set-kept, tops-known}
 use Rattle.merge_laws.proofs.ChangeDots.{AreDistinct}
-use Rattle.merge_laws.proofs.Tests.{dots-same}
+use Rattle.merge_laws.proofs.DotTests.{dots-same}
 
 -- a version with no news, of a row that lives
 follows-known : (made : List MadeChange) (there : List Dot) (cells : List Cell) (chains : List (List Dot)) (d : Dot) → AllZip (CellGrown made) cells chains → AllByRecursion (KnowsItsPast there) made → Follows (has there) cells chains d (has there d)

@@ -10,13 +10,15 @@ use Rattle.merge_model.specs.History.{History, Line, MadeChange, Past, is_done, 
 use Rattle.merge_model.specs.Model.{pasts_in, with_letter}
 use Rattle.merge_model.specs.Noting
 use Rattle.merge_model.specs.Pasts.{cell_count}
-use Rattle.merge_model.specs.Tables.{Key, SubscriberTables}
-use Rattle.merge_model.specs.World.{Letter, Message}
+use Rattle.merge_types.specs.declared.row_key.RowKey.{RowKey as Key}
+use Rattle.merge_model.specs.Tables.{SubscriberTables}
+use Rattle.merge_model.specs.declared.letter.Letter.{Letter}
+use Rattle.merge_model.specs.declared.letter.Message.{Message}
 use Rattle.merge_laws.specs.Accounts.{Accounts, GrownAlone, IsSafe, IsTraced, SendsAll, is_settled, received_of}
 use Rattle.merge_laws.specs.LineagesStand.{OfMessage, is_of}
 use Rattle.merge_laws.proofs.AccountSites.{nothing-traced}
-use Rattle.merge_laws.proofs.Finding.{all-more}
-use Rattle.merge_laws.proofs.Lists.{all-both, zip-more}
+use Rattle.merge_model.proofs.Finding.{all-more}
+use Rattle.merge_model.proofs.Lists.{all-both, zip-more}
 use Rattle.merge_laws.proofs.OwnPasts.{lines-on}
 use Rattle.merge_laws.proofs.Publishing.{done-joins, in_reach}
 use Rattle.merge_laws.proofs.Telling.{decided}

@@ -13,7 +13,8 @@ use Rattle.merge_model.specs.Noting
 use Rattle.merge_model.specs.Publisher.{counters, last_closed}
 use Rattle.merge_model.specs.PublisherLocal.{Drawn, changing_locally, local_refusal, made_locally, next_dot, version_at, with_draw}
 use Rattle.merge_model.specs.Refusals.{counter_end}
-use Rattle.merge_model.specs.Tables.{Key, PublisherTables}
+use Rattle.merge_types.specs.declared.row_key.RowKey.{RowKey as Key}
+use Rattle.merge_model.specs.Tables.{PublisherTables}
 use Rattle.merge_model.specs.World.{World, with_publisher}
 use Rattle.merge_laws.specs.Accounts.{Accounts, OfAccounts}
 use Rattle.merge_laws.specs.Knowledge.{changes_of}
@@ -27,7 +28,7 @@ use Rattle.merge_laws.proofs.AccountSites.{held-made}
 use Rattle.merge_laws.proofs.Arrivals.{first-none}
 use Rattle.merge_laws.proofs.ChangeDots.{made-distinct}
 use Rattle.merge_laws.proofs.Ground.{Ground}
-use Rattle.merge_laws.proofs.KeyLookUps.{key-itself}
+use Rattle.merge_model.proofs.KeyLookUps.{key-itself}
 use Rattle.merge_laws.proofs.Knowing.{IsFresh}
 use Rattle.merge_laws.proofs.KnownRows.{held-knows}
 use Rattle.merge_laws.proofs.OwnLocal.{own-fresh, own-none}

@@ -7,21 +7,24 @@ use Rattle.std.proofs.Common.{arith, subst, sym, ap, ◌∙◌}
 use Rattle.std.proofs.lemmas.Bool.Decides.{nat_tests}
 use Rattle.merge_types.specs.declared.identifiers.Dot.{Dot}
 use Rattle.merge_units.specs.declared.version.Version.{Version}
-use Rattle.merge_gens.proofs.Sets.{sorted_take}
+use Rattle.std.specs.BTreeMap.{is_at}
+use Rattle.merge_table.proofs.Sorted.{sorted_take}
 use Rattle.merge_schema.specs.declared.publication.Publication.{Publication}
 use Rattle.merge_model.proofs.Sorted.{key_total}
 use Rattle.merge_model.specs.History.{History, MadeChange, Past, has, no_past, past_at, past_in, pasts_at}
-use Rattle.merge_model.specs.Keys.{at_number, drop_row, has_key, key_cmp, row_at, same_key}
+use Rattle.merge_types.specs.RowKeys.{key_cmp}
+use Rattle.merge_model.specs.Keys.{at_number, drop_row, has_key, row_at, same_key}
 use Rattle.merge_model.specs.Noting
 use Rattle.merge_model.specs.Pasts.{cell_count}
-use Rattle.merge_model.specs.Tables.{Key, SubscriberTables}
-use Rattle.merge_model.specs.World.{Letter}
+use Rattle.merge_types.specs.declared.row_key.RowKey.{RowKey as Key}
+use Rattle.merge_model.specs.Tables.{SubscriberTables}
+use Rattle.merge_model.specs.declared.letter.Letter.{Letter}
 use Rattle.merge_laws.specs.Accounts.{Accounts, Grown, GrownAlone, IsSafe, IsTraced, is_past, is_settled}
 use Rattle.merge_laws.specs.LineagesStand.{is_of}
 use Rattle.merge_laws.proofs.AccountHistory.{Goes, SortedAt, goes-safe, goes-traced}
 use Rattle.merge_laws.proofs.AccountSites.{nothing-traced}
-use Rattle.merge_laws.proofs.Finding.{all-weaker, at_put_same, found-named}
-use Rattle.merge_laws.proofs.KeyLookUps.{key-itself, keys-same, row-dropped}
+use Rattle.merge_model.proofs.Finding.{all-weaker, at_put_same, found-named}
+use Rattle.merge_model.proofs.KeyLookUps.{key-itself, keys-same, row-dropped}
 use Rattle.merge_laws.proofs.PastLookUps.{past-left, put-there}
 use Rattle.merge_laws.proofs.ToldRows.{drop_version}
 
@@ -77,7 +80,7 @@ module _ (publication : Publication) (found : Key → Option Version) (sites : L
   sorted-left n true is =
       let zero_site : 0 ≡ n = grind (arith, nat_tests, is) in
       subst (λ (k : ℕ). SortedAt after.pasts k) zero_site
-      (subst (λ (o : Option (List (Key × Past))). IsStrictlySortedBy key_cmp (keys_of (unwrap_or o []))) (sym (at_put_same 0 (drop_row (pasts_at h 0) key) h.pasts)) (sorted_take key_cmp key_total key (pasts_at h 0) (a.sorted 0)))
+      (subst (λ (o : Option (List (Key × Past))). IsStrictlySortedBy key_cmp (keys_of (unwrap_or o []))) (sym (at_put_same 0 (drop_row (pasts_at h 0) key) h.pasts)) (sorted_take key_cmp key_total (is_at (key_cmp key)) (pasts_at h 0) (a.sorted 0)))
   sorted-left n false is = subst (λ (es : List (Key × Past)). IsStrictlySortedBy key_cmp (keys_of es)) (sym (put-there h.pasts 0 (drop_row (pasts_at h 0) key) n (λ same. grind (arith, nat_tests, is, same)))) (a.sorted n)
 
   held-own : (q : Key) (b : Bool) → same_key q key ≡ b → IsTraced after q (past_at after 0 q)

@@ -21,9 +21,14 @@ use Rattle.merge_model.specs.Noting
 use Rattle.merge_model.specs.Pasts.{cell_count}
 use Rattle.merge_model.specs.PublisherLocal.{version_at}
 use Rattle.merge_model.specs.Subscriber.{sub_at_moment}
-use Rattle.merge_model.specs.Tables.{Key, SubscriberRow, SubscriberTables}
+use Rattle.merge_types.specs.declared.row_key.RowKey.{RowKey as Key}
+use Rattle.merge_units.specs.declared.site_row.SubscriberRow.{SubscriberRow}
+use Rattle.merge_model.specs.Tables.{SubscriberTables}
 use Rattle.merge_model.specs.Taking.{key_of_download, seq_of, taken, with_item, with_order, with_received}
-use Rattle.merge_model.specs.World.{Letter, Message, Replies, World, subscriber_at, with_subscriber}
+use Rattle.merge_model.specs.World.{World, subscriber_at, with_subscriber}
+use Rattle.merge_model.specs.declared.letter.Letter.{Letter}
+use Rattle.merge_model.specs.declared.letter.Message.{Message}
+use Rattle.merge_model.specs.declared.letter.Message.TheVariants.{Replies}
 use Rattle.merge_laws.specs.Accounts.{Accounts, GrownAlone, IsSafe, IsTraced, OfAccounts, is_settled}
 use Rattle.merge_laws.specs.Behind.{TellsActed}
 use Rattle.merge_laws.specs.LineagesStand.{OfMessage, OfOrder, is_of}
@@ -33,10 +38,10 @@ use Rattle.merge_laws.proofs.AccountNotes.{none-traced}
 use Rattle.merge_laws.proofs.AccountSending.{received-safe, site-away, stays-accounts}
 use Rattle.merge_laws.proofs.AccountSites.{held-made, sent-made, site-accounts}
 use Rattle.merge_laws.proofs.AccountTaking.{Takes, alike-accounts, order-takes, put-twice}
-use Rattle.merge_laws.proofs.Finding.{at_put_other, at_put_same, letter-zip, pool-at}
+use Rattle.merge_model.proofs.Finding.{at_put_other, at_put_same, letter-zip, pool-at}
 use Rattle.merge_laws.proofs.Ground.{Ground}
 use Rattle.merge_laws.proofs.KnownRows.{letter-knows, past-knows}
-use Rattle.merge_laws.proofs.Lists.{all-both}
+use Rattle.merge_model.proofs.Lists.{all-both}
 use Rattle.merge_laws.proofs.Replying.{downloaded-least, uploaded-least}
 use Rattle.merge_laws.proofs.ToldReplies.{versions-above}
 use Rattle.merge_laws.proofs.Unsending.{received-sorted}

@@ -12,19 +12,22 @@ use Rattle.merge_model.specs.History.{History, Line, MadeChange, Past, has, past
 use Rattle.merge_model.specs.Keys.{at_number, has_key, same_key}
 use Rattle.merge_model.specs.Pasts.{cell_count}
 use Rattle.merge_model.specs.Promises.{InRow, Place, descends}
-use Rattle.merge_model.specs.Tables.{Key, SubscriberTables}
-use Rattle.merge_model.specs.World.{Asks, Letter, Message, Replies}
+use Rattle.merge_types.specs.declared.row_key.RowKey.{RowKey as Key}
+use Rattle.merge_model.specs.Tables.{SubscriberTables}
+use Rattle.merge_model.specs.declared.letter.Message.TheVariants.{Asks, Replies}
+use Rattle.merge_model.specs.declared.letter.Letter.{Letter}
+use Rattle.merge_model.specs.declared.letter.Message.{Message}
 use Rattle.merge_laws.specs.Accounts.{Grown, GrownAlone, Holds, IsSafe, IsTraced, Accounts, SendsAll, is_kept_elsewhere, is_made_at, is_past, is_settled}
 use Rattle.merge_laws.specs.Knowledge.{AllKnow, Knowledge, is_made}
 use Rattle.merge_laws.specs.LineagesStand.{OfMessage, is_of, is_sent}
 use Rattle.merge_laws.proofs.AccountElements.{IsIn, all-in, each-in}
 use Rattle.merge_laws.proofs.AccountHistory.{Goes, OfNew, all-new, alone-new, at-other-site, goes-safe, goes-traced, grown-new, others-new, put_pasts, sorted-at, traced-new, with_new}
 use Rattle.merge_laws.proofs.AccountLetters.{IsOfSite, message-weaker}
-use Rattle.merge_laws.proofs.Finding.{all-weaker, found-named, some_same}
-use Rattle.merge_laws.proofs.KeyLookUps.{keys-same}
+use Rattle.merge_model.proofs.Finding.{all-weaker, found-named, some_same}
+use Rattle.merge_model.proofs.KeyLookUps.{keys-same}
 use Rattle.merge_laws.proofs.Knowing.{IsFresh}
 use Rattle.merge_laws.proofs.KnownRows.{held-knows, past-knows}
-use Rattle.merge_laws.proofs.Lists.{zip-first, zip-weaker}
+use Rattle.merge_model.proofs.Lists.{zip-first, zip-weaker}
 use Rattle.merge_laws.proofs.PastLookUps.{with-past-same}
 use Rattle.merge_laws.proofs.ToldRows.{put_version}
 

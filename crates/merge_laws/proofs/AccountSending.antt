@@ -17,8 +17,10 @@ use Rattle.merge_model.specs.Pasts.{cell_count}
 use Rattle.merge_model.specs.PublisherLocal.{version_at}
 use Rattle.merge_model.specs.Sending.{upload_sent}
 use Rattle.merge_model.specs.Subscriber.{sub_at_moment, sub_closed, sub_version_at}
-use Rattle.merge_model.specs.Tables.{Key, SubscriberTables}
-use Rattle.merge_model.specs.World.{Asks, World, subscriber_at, with_subscriber}
+use Rattle.merge_types.specs.declared.row_key.RowKey.{RowKey as Key}
+use Rattle.merge_model.specs.Tables.{SubscriberTables}
+use Rattle.merge_model.specs.World.{World, subscriber_at, with_subscriber}
+use Rattle.merge_model.specs.declared.letter.Message.TheVariants.{Asks}
 use Rattle.merge_laws.specs.Accounts.{Accounts, GrownAlone, IsSafe, IsTraced, OfAccounts, is_settled, received_of}
 use Rattle.merge_laws.specs.LineagesStand.{is_of, is_sent}
 use Rattle.merge_laws.specs.Unsent.{RowsTell, is_changed_above}
@@ -26,11 +28,11 @@ use Rattle.merge_laws.proofs.AccountBase.{Base}
 use Rattle.merge_laws.proofs.AccountElements.{IsIn, all-in, any-in, each-in, filter-in}
 use Rattle.merge_laws.proofs.AccountNotes.{none-traced, post-accounts}
 use Rattle.merge_laws.proofs.AccountSites.{site-accounts}
-use Rattle.merge_laws.proofs.Finding.{all-weaker, found-named}
+use Rattle.merge_model.proofs.Finding.{all-weaker, found-named}
 use Rattle.merge_laws.proofs.Ground.{Ground}
-use Rattle.merge_laws.proofs.KeyLookUps.{key-itself, keys-turned}
+use Rattle.merge_model.proofs.KeyLookUps.{key-itself, keys-turned}
 use Rattle.merge_laws.proofs.LetterPasts.{item-past, items-past}
-use Rattle.merge_laws.proofs.Lists.{any-mono}
+use Rattle.merge_model.proofs.Lists.{any-mono}
 use Rattle.merge_laws.proofs.OwnSending.{fold-reaches, gens-some, items-reach, reaches, version-some}
 use Rattle.merge_laws.proofs.ToldLetters.{sent-fit}
 use Rattle.merge_laws.proofs.ToldRows.{AllFit, HeldFits}

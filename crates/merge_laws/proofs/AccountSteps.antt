@@ -23,8 +23,11 @@ use Rattle.merge_model.specs.PublisherPurge.{is_old_tombstone, purge}
 use Rattle.merge_model.specs.PublisherRanges.{plans, ranged}
 use Rattle.merge_model.specs.Sending.{join_of, want_of, with_message}
 use Rattle.merge_model.specs.Subscriber.{sub_at_moment, sub_closed, sub_version_at}
-use Rattle.merge_model.specs.Tables.{Key, PublisherTables, SubscriberRow, SubscriberTables}
-use Rattle.merge_model.specs.World.{Asks, Replies, Saying, World, empty_world, with_publisher}
+use Rattle.merge_types.specs.declared.row_key.RowKey.{RowKey as Key}
+use Rattle.merge_units.specs.declared.site_row.SubscriberRow.{SubscriberRow}
+use Rattle.merge_model.specs.Tables.{PublisherTables, SubscriberTables}
+use Rattle.merge_model.specs.World.{Saying, World, empty_world, with_publisher}
+use Rattle.merge_model.specs.declared.letter.Message.TheVariants.{Asks, Replies}
 use Rattle.merge_laws.specs.Accounts.{Accounts, IsSafe, OfAccounts, is_settled, received_of}
 use Rattle.merge_laws.specs.LineagesStand.{is_of}
 use Rattle.merge_laws.specs.Received.{JoinFits, LetterFits, joined_at}
@@ -39,7 +42,7 @@ use Rattle.merge_laws.proofs.AccountReplies.{reply-accounts}
 use Rattle.merge_laws.proofs.AccountSending.{sending-accounts, stays-accounts}
 use Rattle.merge_laws.proofs.AccountSites.{nothing-traced}
 use Rattle.merge_laws.proofs.AccountUploads.{upload-accounts}
-use Rattle.merge_laws.proofs.Finding.{all-weaker, pool-at}
+use Rattle.merge_model.proofs.Finding.{all-weaker, pool-at}
 use Rattle.merge_laws.proofs.KnownMakers.{none-ascends}
 use Rattle.merge_laws.proofs.LetterNumbers.{named-begins}
 use Rattle.merge_laws.proofs.Models.{begins-with}

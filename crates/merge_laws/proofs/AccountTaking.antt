@@ -10,7 +10,7 @@ use Rattle.std.proofs.lemmas.Bool.Decides.{nat_tests}
 use Rattle.merge_types.specs.declared.identifiers.SiteId.{SiteId}
 use Rattle.merge_units.specs.declared.version.Body.TheVariants.{Live}
 use Rattle.merge_units.specs.declared.version.Version.{Version}
-use Rattle.merge_gens.proofs.Sets.{sorted_put, sorted_take}
+use Rattle.merge_table.proofs.Sorted.{sorted_put, sorted_take}
 use Rattle.merge_schema.specs.declared.publication.Publication.{Publication}
 use Rattle.merge_batch.specs.declared.reply.Act.{Act as Order}
 use Rattle.merge_batch.specs.declared.reply.Act.TheVariants as order
@@ -18,20 +18,23 @@ use Rattle.merge_model.proofs.Sorted.{key_total}
 use Rattle.merge_model.specs.ByHistory.{by_made}
 use Rattle.merge_model.specs.History.{History, MadeChange, Past, has, no_past, past_at, past_in, pasts_at}
 use Rattle.merge_model.specs.Judge.{SubscriberJudge}
-use Rattle.merge_model.specs.Keys.{at_number, drop_row, key_cmp, put_number, put_row, row_at, same_key}
+use Rattle.merge_types.specs.RowKeys.{key_cmp}
+use Rattle.merge_model.specs.Keys.{at_number, drop_row, put_number, put_row, row_at, same_key}
 use Rattle.merge_model.specs.Noting
 use Rattle.merge_model.specs.Pasts.{cell_count}
-use Rattle.merge_model.specs.Tables.{Key, SubscriberRow, SubscriberTables}
+use Rattle.merge_types.specs.declared.row_key.RowKey.{RowKey as Key}
+use Rattle.merge_units.specs.declared.site_row.SubscriberRow.{SubscriberRow}
+use Rattle.merge_model.specs.Tables.{SubscriberTables}
 use Rattle.merge_model.specs.Taking.{with_order}
-use Rattle.merge_model.specs.World.{Letter}
+use Rattle.merge_model.specs.declared.letter.Letter.{Letter}
 use Rattle.merge_laws.specs.Accounts.{Accounts, GrownAlone, IsSafe, IsTraced, is_settled, received_of}
 use Rattle.merge_laws.specs.LineagesStand.{OfOrder, is_of}
 use Rattle.merge_laws.proofs.AccountElements.{IsIn, any-in, each-in}
 use Rattle.merge_laws.proofs.AccountHistory.{goes-traced}
 use Rattle.merge_laws.proofs.AccountSites.{AreMade, HeldMade, SentMade, nothing-traced, site-goes, sub-accounts}
-use Rattle.merge_laws.proofs.Finding.{all-weaker, at_put, at_put_same, some_same}
-use Rattle.merge_laws.proofs.KeyLookUps.{key-itself, keys-same, row-dropped}
-use Rattle.merge_laws.proofs.Lists.{all-both}
+use Rattle.merge_model.proofs.Finding.{all-weaker, at_put, at_put_same, some_same}
+use Rattle.merge_model.proofs.KeyLookUps.{key-itself, keys-same, row-dropped}
+use Rattle.merge_model.proofs.Lists.{all-both}
 use Rattle.merge_laws.proofs.PastLookUps.{past-left, past-put, put-there}
 use Rattle.merge_laws.proofs.ToldRows.{found-dropped, found-put, found_in}
 use Rattle.merge_laws.proofs.ToldSites.{own_version}
@@ -206,7 +209,7 @@ module _ (publication : Publication) (found : Key → Option Version) (pool : Li
         subst (λ (p : Past). GrownAlone (cell_count publication q.article) h.made q v.body p.chains) (sym (past-left old_pasts key q differs)) (t.accounts.subscribers site.0 s q v t.at found_is)
 
     drop-takes : Takes (put_number sites site.0 (record s { rows = drop_row s.rows key })) (record s { rows = drop_row s.rows key }) (Noting.without_past site.0 key h)
-    drop-takes = item-takes (drop_row old_pasts key) (drop_row s.rows key) (λ q differs. past-left old_pasts key q differs) (sorted_take key_cmp key_total key old_pasts (t.accounts.sorted site.0)) (sorted_take key_cmp key_total key s.rows t.ascends)
+    drop-takes = item-takes (drop_row old_pasts key) (drop_row s.rows key) (λ q differs. past-left old_pasts key q differs) (sorted_take key_cmp key_total (is_at (key_cmp key)) old_pasts (t.accounts.sorted site.0)) (sorted_take key_cmp key_total (is_at (key_cmp key)) s.rows t.ascends)
         (subst (λ (p : Past). IsTraced h key p) (sym dropped-past) (nothing-traced h.made h.lost h.purged (past_at h 0 key) key)) (subst (λ (p : Past). AreMade h.made key p) (sym dropped-past) (λ dot is. absurd cc))
         (λ q v at. drop-grown q v (same_key q key) refl at)
 

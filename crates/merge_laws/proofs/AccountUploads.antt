@@ -21,8 +21,11 @@ use Rattle.merge_model.specs.Publisher.{last_closed}
 use Rattle.merge_model.specs.PublisherLocal.{version_at}
 use Rattle.merge_model.specs.PublisherUpload.{brings_news, changing_by, taken_in, upload_refusal, with_acts}
 use Rattle.merge_model.specs.Steps.{kept_decisions, upload_questions}
-use Rattle.merge_model.specs.Tables.{Key, PublisherTables}
-use Rattle.merge_model.specs.World.{Asks, Letter, Replies, Saying, World}
+use Rattle.merge_types.specs.declared.row_key.RowKey.{RowKey as Key}
+use Rattle.merge_model.specs.Tables.{PublisherTables}
+use Rattle.merge_model.specs.World.{Saying, World}
+use Rattle.merge_model.specs.declared.letter.Message.TheVariants.{Asks, Replies}
+use Rattle.merge_model.specs.declared.letter.Letter.{Letter}
 use Rattle.merge_model.specs.ByNumbers.{received_by_number}
 use Rattle.merge_laws.specs.Accounts.{Accounts, GrownAlone, IsSafe, IsTraced, OfAccounts, SendsAll, is_settled}
 use Rattle.merge_laws.specs.Knowledge.{changes_of}
@@ -33,11 +36,11 @@ use Rattle.merge_laws.proofs.AccountItems.{AllActed, IsBrought, IsReady, acts-ac
 use Rattle.merge_laws.proofs.AccountLetters.{IsOfSite, pasts-all, uploads-away}
 use Rattle.merge_laws.proofs.AccountNotes.{based-accounts, done-accounts, none-traced, post-accounts, same-accounts}
 use Rattle.merge_laws.proofs.Arrivals.{upload-known}
-use Rattle.merge_laws.proofs.Finding.{all-weaker, letter-zip, pool-at}
+use Rattle.merge_model.proofs.Finding.{all-weaker, letter-zip, pool-at}
 use Rattle.merge_laws.proofs.Ground.{Ground}
-use Rattle.merge_laws.proofs.KeyLookUps.{keys-same}
+use Rattle.merge_model.proofs.KeyLookUps.{keys-same}
 use Rattle.merge_laws.proofs.KnownRows.{letter-knows}
-use Rattle.merge_laws.proofs.Lists.{all-filter}
+use Rattle.merge_model.proofs.Lists.{all-filter}
 use Rattle.merge_laws.proofs.OwnPasts.{lines-on}
 use Rattle.merge_laws.proofs.Publishing.{in_reach}
 use Rattle.merge_laws.proofs.ToldItems.{filter-apart, items-apart}
@@ -142,5 +145,5 @@ module _ (publication : Publication) (says : Saying) (w : World) (h : History) (
         let k : History = Noting.with_acts_noted publication judge m acts incoming (here w) h in
         let q : PublisherTables = taken_in publication judge m acts (here w) in
         let same : Accounts publication (version_at q) w.subscribers w.pool k = same-accounts publication (fold put_version (version_at w.publisher) (versions_of acts)) w.subscribers w.pool k noted (version_at q)
-        (λ key. changed-versions publication judge (changing_by m acts) (with_acts publication judge m acts (here w)) key) in
+        (λ key. changed-versions publication judge (changing_by m acts) (with_acts publication m acts (here w)) key) in
         post-accounts publication (version_at q) w.subscribers w.pool k same m.site (Replies (reply.Uploaded (told_by judge m))) tt (none-traced publication (version_at q) w.subscribers w.pool k same) tt

@@ -1,8 +1,9 @@
 -- Every list of events keeps what is accounted for, so no change is lost.
 use Rattle.std.specs.Prelude.{[]}
 use Rattle.merge_schema.specs.declared.publication.Publication.{Publication}
-use Rattle.merge_model.proofs.Events.{events-keep}
-use Rattle.merge_model.specs.Events.{after}
+use Rattle.merge_model.specs.Failing.{faulty}
+use Rattle.merge_model.specs.Runs.{model_behind}
+use Rattle.merge_model.proofs.KeptFailing.{runs-keep}
 use Rattle.merge_model.specs.Model.{Model, empty_model, model}
 use Rattle.merge_model.specs.Promises.{AllAccounted}
 use Rattle.merge_laws.specs.Accounts.{OfAccounts}
@@ -10,7 +11,7 @@ use Rattle.merge_laws.specs.Laws.{OfEveryValidRun}
 use Rattle.merge_laws.proofs.AccountBase.{Base}
 use Rattle.merge_laws.proofs.AccountEach.{all-accounted}
 use Rattle.merge_laws.proofs.AccountSteps.{accounts-begin, accounts-keep}
-use Rattle.merge_laws.proofs.LineagesAlways.{Kept, ground, kept-always, kept-step, owns}
+use Rattle.merge_laws.proofs.LineagesAlways.{Kept, ground, kept-always, kept-step, kept-tallied, owns}
 use Rattle.merge_laws.proofs.Walking.{step-keeps}
 
 base : (publication : Publication) (m : Model) → Kept publication m → Base publication m.world m.history
@@ -20,11 +21,11 @@ abbrev IsAccounted : Publication → Model → Type 0
 IsAccounted publication m = Kept publication m × OfAccounts publication m.world m.history
 
 pub no-change-is-lost : OfEveryValidRun (λ publication says m. AllAccounted m)
-no-change-is-lost resolvers publication valid says tallies events =
-    let m : Model = after publication (model publication says) (empty_model publication tallies) events in
-    let all : IsAccounted publication m = events-keep publication (model publication says) (IsAccounted publication)
+no-change-is-lost resolvers publication valid says tallies slips events =
+    let m : Model = model_behind publication says tallies slips events in
+    let all : IsAccounted publication m = runs-keep publication (model publication says) (IsAccounted publication)
     (λ n action k. (
       kept-step publication n k.0 says action,
       step-keeps publication says (Base publication) (OfAccounts publication) (λ w h b. b.0.received) (accounts-keep publication says) n action (base publication n k.0) k.1,
-    )) events (empty_model publication tallies) (kept-always publication (resolvers, valid) says tallies [], accounts-begin publication tallies (resolvers, valid)) in
+    )) (λ n others k. (kept-tallied publication n others k.0, k.1)) events (faulty (empty_model publication tallies) slips) (kept-always publication (resolvers, valid) says tallies [] [], accounts-begin publication tallies (resolvers, valid)) in
     all-accounted publication m.world m.history (base publication m all.0).0.numbered all.1

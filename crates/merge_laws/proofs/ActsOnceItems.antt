@@ -1,5 +1,6 @@
 -- Items of generations that have acted do nothing: an upload does what it does without them.
 use Rattle.std.specs.Prelude.{◌≡◌, ◌+◌, ◌++◌, ℕ, List, [], ◌∷◌, Bool, true, false, not, Option, Some, None, refl, if◌then◌else◌, cond, filter, filter_map, map}
+use Rattle.merge_types.specs.declared.identifiers.SiteId.{SiteId}
 use Rattle.std.proofs.Common.{sym, subst, ap, ◌∙◌}
 use Rattle.merge_units.specs.declared.result.Decision.{Decision}
 use Rattle.merge_resolve.specs.Asked.{tallies_after}
@@ -9,7 +10,8 @@ use Rattle.merge_batch.specs.declared.refusal.Refusal.TheVariants.{Gap}
 use Rattle.merge_batch.specs.declared.refusal.Refusal.{Refusal}
 use Rattle.merge_batch.specs.declared.request.Upload.{Upload}
 use Rattle.merge_batch.specs.declared.request.UploadItem.{UploadItem}
-use Rattle.merge_model.specs.Acts.{Act, Question, acts_from, acts_of, question_of}
+use Rattle.merge_model.specs.Acts.{Act, acts_from, acts_of, question_of}
+use Rattle.merge_resolve.specs.declared.asking.Question.{Question}
 use Rattle.merge_model.specs.Faults.{fault_of, known_by, upload_fault}
 use Rattle.merge_model.specs.History.{History, is_done, pasts_with}
 use Rattle.merge_model.specs.Judge.{PublisherJudge}
@@ -18,9 +20,12 @@ use Rattle.merge_model.specs.Noting
 use Rattle.merge_model.specs.Publisher.{counters, site_refusal}
 use Rattle.merge_model.specs.PublisherUpload.{brings_news, taken_in, too_many_new}
 use Rattle.merge_model.specs.Refusals.{counter_end, first_refusal, refused_if}
-use Rattle.merge_model.specs.Steps.{Outcome, asked_of, kept_decisions}
+use Rattle.merge_model.specs.Steps.{kept_decisions}
+use Rattle.merge_resolve.specs.Questions.{question_of as asked_of}
+use Rattle.merge_model.specs.declared.outcome.Outcome.{Outcome}
 use Rattle.merge_model.specs.Tables.{PublisherTables}
-use Rattle.merge_model.specs.World.{Letter, Saying}
+use Rattle.merge_model.specs.World.{Saying}
+use Rattle.merge_model.specs.declared.letter.Letter.{Letter}
 use Rattle.merge_laws.specs.ActsOnce.{ActedItemsDoNothing, delivered, with_pool, without_acted}
 use Rattle.merge_laws.proofs.ActsOnceRules.{fewer-fine}
 use Rattle.merge_laws.proofs.ActsOnceSteps.{answer, delivered-by, judge, refusal, taken_by}
@@ -37,14 +42,14 @@ module _ {X : Type 0} (test : X → Bool) where
   filter-twice [] = refl
   filter-twice (x ∷ xs) = twice-step (test x) x (filter test xs) refl (filter-twice xs)
 
-module _ (publication : Publication) (says : Saying) (m : Model) (number : ℕ) (u : Upload) (pool : List Letter) where
+module _ (publication : Publication) (says : Saying) (m : Model) (number : ℕ) (site : SiteId) (u : Upload) (pool : List Letter) where
   abbrev acting : UploadItem → Bool
   acting item = not (is_done m.history u.site.0 item.generation)
 
   -- what comes of it by the items that act
   abbrev by_items : List UploadItem → Model
   by_items items =
-      let j : PublisherJudge = judge publication says m number u in
+      let j : PublisherJudge = judge publication says m number site u in
       let questions : List Question = filter_map (question_of publication j u.site (here m.world)) items in
       let decisions : List Decision = kept_decisions says m.world.tallies questions in
       let acts : List Act = acts_from j u.site (here m.world) (m.world.publisher.changes + 1) decisions items in
@@ -54,9 +59,9 @@ module _ (publication : Publication) (says : Saying) (m : Model) (number : ℕ) 
         world = record m.world {
           publisher = p;
           tallies = tallies_after m.world.tallies (map asked_of questions);
-          pool = pool ++ answer publication says m number u ∷ [];
+          pool = pool ++ answer publication says m number site u ∷ [];
         };
-        history = with_letter (answer publication says m number u) h;
+        history = with_letter (answer publication says m number site u) h;
       }
 
   -- what refuses nothing of the upload refuses nothing without them
@@ -64,10 +69,10 @@ module _ (publication : Publication) (says : Saying) (m : Model) (number : ℕ) 
   none-refuses None rest is none = none
   none-refuses (Some why) rest is none = absurd (cc is)
 
-  without-fine : refusal publication says m number u ≡ None → refusal publication says (with_pool pool m) number (without_acted m.history u) ≡ None
+  without-fine : refusal publication says m number site u ≡ None → refusal publication says (with_pool pool m) number site (without_acted m.history u) ≡ None
   without-fine fine =
       let p : PublisherTables = m.world.publisher in
-      let j : PublisherJudge = judge publication says m number u in
+      let j : PublisherJudge = judge publication says m number site u in
       let without : Upload = without_acted m.history u in
       let site : Option Refusal = site_refusal publication u.site u.seq m.world.moment p in
       let gap : Option Refusal = refused_if (j.is_gap u.site.0 u.from) (Gap u.from (j.received u.site.0)) in
@@ -84,16 +89,16 @@ module _ (publication : Publication) (says : Saying) (m : Model) (number : ℕ) 
 
   -- the same but for the pool
   abbrev Alike : Option Refusal → Option Refusal → Type 0
-  Alike why other = (let without : Model × Outcome = taken_by publication says (with_pool pool m) number (without_acted m.history u) other in without.0 ≡ with_pool without.0.world.pool (taken_by publication says m number u why).0)
+  Alike why other = (let without : Model × Outcome = taken_by publication says (with_pool pool m) number site (without_acted m.history u) other in without.0 ≡ with_pool without.0.world.pool (taken_by publication says m number site u why).0)
 
-  taken-alike : (why : Option Refusal) → refusal publication says m number u ≡ why → did_something (taken_by publication says m number u why).1 ≡ true → Alike why (refusal publication says (with_pool pool m) number (without_acted m.history u))
+  taken-alike : (why : Option Refusal) → refusal publication says m number site u ≡ why → did_something (taken_by publication says m number site u why).1 ≡ true → Alike why (refusal publication says (with_pool pool m) number site (without_acted m.history u))
   taken-alike (Some why) is did = absurd (cc did)
   taken-alike None is did = subst (λ (other : Option Refusal). Alike None other) (sym (without-fine is)) (ap by_items (filter-twice acting u.items))
 
 pub acted-items-do-nothing : ActedItemsDoNothing
 acted-items-do-nothing publication says m number site u pool at there =
     subst (λ (other : Model × Outcome). did_something (delivered publication says m number).1 ≡ true → other.0 ≡ with_pool other.0.world.pool (delivered publication says m number).0)
-    (sym (delivered-by publication says (with_pool pool m) number (without_acted m.history u) site there))
-    (subst (λ (done : Model × Outcome). (let other : Model × Outcome = taken_by publication says (with_pool pool m) number (without_acted m.history u) (refusal publication says (with_pool pool m) number (without_acted m.history u)) in
+    (sym (delivered-by publication says (with_pool pool m) number site (without_acted m.history u) there))
+    (subst (λ (done : Model × Outcome). (let other : Model × Outcome = taken_by publication says (with_pool pool m) number site (without_acted m.history u) (refusal publication says (with_pool pool m) number site (without_acted m.history u)) in
     did_something done.1 ≡ true → other.0 ≡ with_pool other.0.world.pool done.0))
-    (sym (delivered-by publication says m number u site at)) (taken-alike publication says m number u pool (refusal publication says m number u) refl))
+    (sym (delivered-by publication says m number site u at)) (taken-alike publication says m number site u pool (refusal publication says m number site u) refl))

@@ -11,14 +11,14 @@ use Rattle.merge_units.specs.declared.case.Case.{Case}
 use Rattle.merge_units.specs.declared.result.Decision.{Decision}
 use Rattle.merge_units.specs.declared.result.Decision.TheVariants.{Custom, KeepPublisher, TakeSubscriber}
 use Rattle.merge_units.specs.declared.version.Version.{Version}
-use Rattle.merge_conflict.specs.declared.case.ConflictCase.{ConflictCase}
+use Rattle.merge_conflict.specs.declared.losers.Conflict.{Conflict}
 use Rattle.merge_conflict.specs.declared.row.ConflictRow.{ConflictRow}
-use Rattle.merge_resolve.specs.Losers.{losing_rows}
+use Rattle.merge_conflict.specs.Losers.{losing_rows}
 use Rattle.merge_schema.specs.declared.publication.Publication.{Publication}
 use Rattle.merge_batch.specs.declared.request.Upload.{Upload}
 use Rattle.merge_batch.specs.declared.request.UploadItem.{UploadItem}
-use Rattle.merge_model.specs.Acts.{Act, Fate, Met, New, Unknown, act_of, acts_from, case_asked, key_of_item, left_by, lost_by, lost_from, made_by, version_by, version_of_act, versions_of}
-use Rattle.merge_model.specs.Cases.{is_conflict}
+use Rattle.merge_model.specs.Acts.{Act, Fate, Met, New, Unknown, act_of, acts_from, conflict_of, key_of_item, left_by, lost_by, lost_from, made_by, version_by, version_of_act, versions_of}
+use Rattle.merge_units.specs.Cases.{is_conflict}
 use Rattle.merge_model.specs.Entries.{Entries, changing_entries, with_rows}
 use Rattle.merge_model.specs.History.{History, Line, MadeChange, Past, is_done, no_past, past_at, past_in, pasts_at}
 use Rattle.merge_model.specs.Judge.{PublisherJudge}
@@ -28,11 +28,13 @@ use Rattle.merge_model.specs.Pasts.{past_by}
 use Rattle.merge_model.specs.Promises.{key_of_conflict}
 use Rattle.merge_model.specs.Publisher.{last_closed}
 use Rattle.merge_model.specs.PublisherUpload.{changing_by, taken_in, with_acts}
-use Rattle.merge_model.specs.Tables.{Key, PublisherRow, PublisherTables}
+use Rattle.merge_types.specs.declared.row_key.RowKey.{RowKey as Key}
+use Rattle.merge_units.specs.declared.site_row.PublisherRow.{PublisherRow}
+use Rattle.merge_model.specs.Tables.{PublisherTables}
 use Rattle.merge_laws.specs.ActsOnce.{OfRow, of_row}
-use Rattle.merge_laws.proofs.Finding.{at_put_same}
-use Rattle.merge_laws.proofs.KeyLookUps.{row-put}
-use Rattle.merge_laws.proofs.Lists.{OfSome, all-append, all-filter_map}
+use Rattle.merge_model.proofs.Finding.{at_put_same}
+use Rattle.merge_model.proofs.KeyLookUps.{row-put}
+use Rattle.merge_model.proofs.Lists.{OfSome, all-append, all-filter_map}
 use Rattle.merge_laws.proofs.Noted.{DecidesAsOwn}
 
 -- What passes no test is filtered away.
@@ -93,36 +95,36 @@ module _ (q : Key) where
 
   -- What loses.
 
-  losing-apart : (number : ℕ) (case : ConflictCase) (ours theirs : Version) (decision : Decision) → same_key q (record { article = case.article; row = case.row }) ≡ false → AllByRecursion LosesApart (losing_rows number case ours theirs decision)
-  losing-apart number case ours theirs KeepPublisher other = (other, tt)
-  losing-apart number case ours theirs TakeSubscriber other = (other, tt)
-  losing-apart number case ours theirs (Custom values) other = (other, (other, tt))
+  losing-apart : (conflict : Conflict) (ours theirs : Version) (decision : Decision) → same_key q (record { article = conflict.article; row = conflict.row }) ≡ false → AllByRecursion LosesApart (losing_rows conflict ours theirs decision)
+  losing-apart conflict ours theirs KeepPublisher other = (other, tt)
+  losing-apart conflict ours theirs TakeSubscriber other = (other, tt)
+  losing-apart conflict ours theirs (Custom values) other = (other, (other, tt))
 
   if-apart : (b : Bool) (rows : List ConflictRow) → AllByRecursion LosesApart rows → AllByRecursion LosesApart (if b then rows else [])
   if-apart true rows all = all
   if-apart false rows all = tt
 
-  fate-apart : (publication : Publication) (judge : PublisherJudge) (site : SiteId) (moment : Moment) (number : ℕ) (act : Act) (fate : Fate) → Elsewhere act → AllByRecursion LosesApart (lost_by publication judge site moment number act fate)
-  fate-apart publication judge site moment number act New other = tt
-  fate-apart publication judge site moment number act Unknown other = (other, tt)
-  fate-apart publication judge site moment number act (Met held case decision dot) other =
-      let asked : ConflictCase = case_asked publication judge site moment act.key held act.incoming case in
-      if-apart (is_conflict case) (losing_rows number asked held act.incoming decision) (losing-apart number asked held act.incoming decision other)
+  fate-apart : (publication : Publication) (site : SiteId) (moment : Moment) (number : ℕ) (act : Act) (fate : Fate) → Elsewhere act → AllByRecursion LosesApart (lost_by publication site moment number act fate)
+  fate-apart publication site moment number act New other = tt
+  fate-apart publication site moment number act Unknown other = (other, tt)
+  fate-apart publication site moment number act (Met held case decision dot) other =
+      let conflict : Conflict = conflict_of publication site moment number act.key in
+      if-apart (is_conflict case) (losing_rows conflict held act.incoming decision) (losing-apart conflict held act.incoming decision other)
 
-  lost-apart : (publication : Publication) (judge : PublisherJudge) (site : SiteId) (moment : Moment) (number : ℕ) (acts : List Act) → AllByRecursion Elsewhere acts → AllByRecursion LosesApart (lost_from publication judge site moment number acts)
-  lost-apart publication judge site moment number [] all = tt
-  lost-apart publication judge site moment number (act ∷ acts) all =
-      let rows : List ConflictRow = lost_by publication judge site moment number act act.fate in
-      all-append LosesApart rows (lost_from publication judge site moment (number + length rows) acts) (fate-apart publication judge site moment number act act.fate all.0) (lost-apart publication judge site moment (number + length rows) acts all.1)
+  lost-apart : (publication : Publication) (site : SiteId) (moment : Moment) (number : ℕ) (acts : List Act) → AllByRecursion Elsewhere acts → AllByRecursion LosesApart (lost_from publication site moment number acts)
+  lost-apart publication site moment number [] all = tt
+  lost-apart publication site moment number (act ∷ acts) all =
+      let rows : List ConflictRow = lost_by publication site moment number act act.fate in
+      all-append LosesApart rows (lost_from publication site moment (number + length rows) acts) (fate-apart publication site moment number act act.fate all.0) (lost-apart publication site moment (number + length rows) acts all.1)
 
   pub tables-stay : (publication : Publication) (judge : PublisherJudge) (u : Upload) (acts : List Act) (p : PublisherTables) (h : History) → AllByRecursion Elsewhere acts → of_row (taken_in publication judge u acts p) h q ≡ of_row p h q
   tables-stay publication judge u acts p h all =
-      let entries : Entries = changing_entries publication judge (changing_by u acts) (with_acts publication judge u acts p) in
-      let lost : List ConflictRow = lost_from publication judge u.site p.latest (p.conflict_count + 1) acts in
+      let entries : Entries = changing_entries publication judge (changing_by u acts) (with_acts publication u acts p) in
+      let lost : List ConflictRow = lost_from publication u.site p.latest (p.conflict_count + 1) acts in
       let after : OfRow = of_row (taken_in publication judge u acts p) h q in
       ap (λ (held : Option PublisherRow). (let r : OfRow = record after { held = held } in r)) (rows-stay (versions_of acts) (map (λ (entry : Key × ℕ). entry.1) entries.changed) p.rows (versions-apart acts all))
       ∙ ap (λ (conflicts : List ConflictRow). (let r : OfRow = record (of_row p h q) { conflicts = conflicts } in r))
-      (filter-more (λ (row : ConflictRow). same_key q (key_of_conflict row)) p.conflicts lost (lost-apart publication judge u.site p.latest (p.conflict_count + 1) acts all))
+      (filter-more (λ (row : ConflictRow). same_key q (key_of_conflict row)) p.conflicts lost (lost-apart publication u.site p.latest (p.conflict_count + 1) acts all))
 
   -- What the history has.
 

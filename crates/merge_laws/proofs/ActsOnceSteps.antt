@@ -29,9 +29,15 @@ use Rattle.merge_model.specs.Noting
 use Rattle.merge_model.specs.Publisher.{counters, site_refusal}
 use Rattle.merge_model.specs.PublisherUpload.{brings_news, taken_in, too_many_new, upload_refusal, uploaded}
 use Rattle.merge_model.specs.Refusals.{counter_end, refused_if, unless}
-use Rattle.merge_model.specs.Steps.{NoLetter, Outcome, Posted, Refuses, asked_of, deliver_letter, kept_decisions, post, unless_refused, upload_questions}
-use Rattle.merge_model.specs.Tables.{Key, PublisherTables}
-use Rattle.merge_model.specs.World.{Letter, Replies, Saying, World}
+use Rattle.merge_model.specs.Steps.{deliver_letter, kept_decisions, post, unless_refused, upload_questions}
+use Rattle.merge_resolve.specs.Questions.{question_of as asked_of}
+use Rattle.merge_model.specs.declared.outcome.Outcome.TheVariants.{NoLetter, Posted, Refuses}
+use Rattle.merge_model.specs.declared.outcome.Outcome.{Outcome}
+use Rattle.merge_types.specs.declared.row_key.RowKey.{RowKey as Key}
+use Rattle.merge_model.specs.Tables.{PublisherTables}
+use Rattle.merge_model.specs.World.{Saying, World}
+use Rattle.merge_model.specs.declared.letter.Letter.{Letter}
+use Rattle.merge_model.specs.declared.letter.Message.TheVariants.{Replies}
 use Rattle.merge_laws.specs.ActsOnce.{ActedRowsStay, ActedUploadsOnlyAnswer, AllActed, IsUpload, OnlyAnswers, delivered, of_row, row_has_acted}
 use Rattle.merge_laws.proofs.ActsOnceRows.{acting-elsewhere, acts-elsewhere, noted-stays, tables-stay}
 use Rattle.merge_laws.proofs.Arrivals.{first-none}
@@ -56,7 +62,7 @@ module _ (publication : Publication) (known : Remembered) (u : Upload) where
     all_good (λ (item : UploadItem). is_in_interval u item ≡ true) (item_rules publication known u) item-inside 1 None u.items (none_second (broken_by_message (upload_rules known u)) (broken_by_items (item_rules publication known u) u.items) none),
   )
 
-module _ (publication : Publication) (says : Saying) (m : Model) (number : ℕ) (u : Upload) where
+module _ (publication : Publication) (says : Saying) (m : Model) (number : ℕ) (site : SiteId) (u : Upload) where
   abbrev pub judge : PublisherJudge
   judge = by_past m.history (pasts_with m.history number)
 
@@ -73,11 +79,11 @@ module _ (publication : Publication) (says : Saying) (m : Model) (number : ℕ) 
   world_after = uploaded_world publication says judge u (uploaded publication judge u decisions (here m.world)) m.world
 
   abbrev pub answer : Letter
-  answer = record { site = u.site; message = Replies (reply.Uploaded (told_by judge u)) }
+  answer = record { site = site; message = Replies (reply.Uploaded (told_by judge u)) }
 
   abbrev pub taken_by : Option Refusal → Model × Outcome
   taken_by (Some why) = (m, Refuses why)
-  taken_by None = (record { world = (post u.site answer.message world_after).0; history = with_letter answer noted_after }, Posted (length m.world.pool + 1))
+  taken_by None = (record { world = (post site answer.message world_after).0; history = with_letter answer noted_after }, Posted (length m.world.pool + 1))
 
   abbrev noted_done : World × Outcome → History → Model × Outcome
   noted_done done noted = (record { world = done.0; history = with_posted done.0 done.1 (noted_if (did_something done.1) noted m.history) }, done.1)
@@ -87,13 +93,13 @@ module _ (publication : Publication) (says : Saying) (m : Model) (number : ℕ) 
       (let noted : History = elim found [ None ↦ m.history | Some letter ↦ noted_letter publication says (by_history m.history) number m.world letter m.history ] in noted)
 
   taken-by : (why : Option Refusal)
-      → noted_done (unless_refused m.world (unless why (uploaded publication judge u decisions (here m.world), told_by judge u)) (λ (made : PublisherTables × Uploaded). post u.site (Replies (reply.Uploaded made.1)) (uploaded_world publication says judge u made.0 m.world))) noted_after
+      → noted_done (unless_refused m.world (unless why (uploaded publication judge u decisions (here m.world), told_by judge u)) (λ (made : PublisherTables × Uploaded). post site (Replies (reply.Uploaded made.1)) (uploaded_world publication says judge u made.0 m.world))) noted_after
       ≡ taken_by why
   taken-by (Some why) = refl
-  taken-by None = ap (λ (k : History). (let after : Model = record { world = (post u.site answer.message world_after).0; history = k } in (after, Posted (length m.world.pool + 1)))) (posted-noted u.site answer.message world_after noted_after)
+  taken-by None = ap (λ (k : History). (let after : Model = record { world = (post site answer.message world_after).0; history = k } in (after, Posted (length m.world.pool + 1)))) (posted-noted site answer.message world_after noted_after)
 
-  pub delivered-by : (site : SiteId) → IsUpload m number site u → delivered publication says m number ≡ taken_by refusal
-  delivered-by site at = ap stepped at ∙ taken-by refusal
+  pub delivered-by : IsUpload m number site u → delivered publication says m number ≡ taken_by refusal
+  delivered-by at = ap stepped at ∙ taken-by refusal
 
   pub is-fine : refusal ≡ None → (u.from < u.to) × All (λ (item : UploadItem). is_in_interval u item ≡ true) u.items
   is-fine fine =
@@ -143,7 +149,7 @@ module _ (publication : Publication) (says : Saying) (m : Model) (number : ℕ) 
     -- by whether it brings news, by its items that act, and by the generation that is told
     abbrev by_parts : Bool → List UploadItem → ℕ → Model
     by_parts news items told =
-        let letter : Letter = record { site = u.site; message = Replies (reply.Uploaded (record { seq = u.seq; received = told })) } in
+        let letter : Letter = record { site = site; message = Replies (reply.Uploaded (record { seq = u.seq; received = told })) } in
         let p : PublisherTables = if news then taken_in publication judge u (acts_in publication says judge u m.world) (here m.world) else here m.world in
         let h : History = if news then Noting.with_acts_noted publication judge u (acts_in publication says judge u m.world) (pasts_with m.history number) (here m.world) m.history else m.history in
         record {
@@ -155,7 +161,7 @@ module _ (publication : Publication) (says : Saying) (m : Model) (number : ℕ) 
           history = with_letter letter h;
         }
 
-    only-answer : (why : Option Refusal) → refusal ≡ why → OnlyAnswers u m (taken_by why)
+    only-answer : (why : Option Refusal) → refusal ≡ why → OnlyAnswers site u m (taken_by why)
     only-answer (Some why) is = refl
     only-answer None is =
         let fine = is-fine is in
@@ -167,9 +173,9 @@ module _ (publication : Publication) (says : Saying) (m : Model) (number : ℕ) 
         ∙ ap (λ (n : ℕ). by_parts false [] n) told
 
 pub acted-rows-stay : ActedRowsStay
-acted-rows-stay publication says m number site u key at acted = subst (λ (done : Model × Outcome). of_row done.0.world.publisher done.0.history key ≡ of_row m.world.publisher m.history key) (sym (delivered-by publication says m number u site at))
-    (row-stays publication says m number u key acted (refusal publication says m number u))
+acted-rows-stay publication says m number site u key at acted = subst (λ (done : Model × Outcome). of_row done.0.world.publisher done.0.history key ≡ of_row m.world.publisher m.history key) (sym (delivered-by publication says m number site u at))
+    (row-stays publication says m number site u key acted (refusal publication says m number site u))
 
 pub acted-uploads-only-answer : ActedUploadsOnlyAnswer
-acted-uploads-only-answer publication says m number site u at acted = subst (λ (done : Model × Outcome). OnlyAnswers u m done) (sym (delivered-by publication says m number u site at))
-    (only-answer publication says m number u acted (refusal publication says m number u) refl)
+acted-uploads-only-answer publication says m number site u at acted = subst (λ (done : Model × Outcome). OnlyAnswers site u m done) (sym (delivered-by publication says m number site u at))
+    (only-answer publication says m number site u acted (refusal publication says m number site u) refl)

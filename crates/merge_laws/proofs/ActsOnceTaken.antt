@@ -12,22 +12,28 @@ use Rattle.merge_batch.specs.declared.request.Join.{Join}
 use Rattle.merge_batch.specs.declared.request.Request.TheVariants as request
 use Rattle.merge_batch.specs.declared.request.Upload.{Upload}
 use Rattle.merge_batch.proofs.Values.{slice_get-append_within}
+use Rattle.merge_model.specs.Failing.{Slips, faulty}
+use Rattle.merge_model.specs.Runs.{model_behind, model_after}
 use Rattle.merge_model.specs.Acts.{Act}
 use Rattle.merge_model.specs.ByHistory.{by_made, by_past}
 use Rattle.merge_model.specs.Entries.{Entries}
-use Rattle.merge_model.specs.Events.{after}
 use Rattle.merge_model.specs.History.{History, is_done, pasts_with}
 use Rattle.merge_model.specs.Judge.{PublisherJudge}
 use Rattle.merge_model.specs.Keys.{put_number}
-use Rattle.merge_model.specs.Model.{Model, did_something, empty_model, model}
+use Rattle.merge_model.specs.Model.{Model, did_something, model}
 use Rattle.merge_model.specs.Noting
 use Rattle.merge_model.specs.Publisher.{last_closed}
 use Rattle.merge_model.specs.PublisherUpload.{brings_news}
-use Rattle.merge_model.specs.Steps.{Deliver, Outcome, kept_decisions, upload_questions}
+use Rattle.merge_model.specs.Steps.{Deliver, kept_decisions, upload_questions}
+use Rattle.merge_model.specs.declared.outcome.Outcome.{Outcome}
 use Rattle.merge_model.specs.Tables.{PublisherTables}
-use Rattle.merge_model.specs.World.{Asks, Letter, Message, Saying, World, letter_at}
+use Rattle.merge_model.specs.World.{Saying, World, letter_at}
+use Rattle.merge_model.specs.declared.letter.Message.TheVariants.{Asks}
+use Rattle.merge_model.specs.declared.letter.Letter.{Letter}
+use Rattle.merge_model.specs.declared.letter.Message.{Message}
 use Rattle.merge_model.specs.declared.event.Event.{Event}
-use Rattle.merge_model.proofs.Events.{events-keep}
+use Rattle.merge_model.proofs.KeptFailing.{runs-keep}
+use Rattle.merge_laws.proofs.Tallied.{received-tallied}
 use Rattle.merge_laws.specs.Laws.{OfEveryDecidedRun}
 use Rattle.merge_laws.specs.ActsOnce.{AllActed, DoneStays, LettersStay, TakenHaveActed, TakenOnlyAnswer, delivered}
 use Rattle.merge_laws.specs.Received.{Received}
@@ -115,58 +121,58 @@ module _ (before : Model) where
     }
 
 module _ (publication : Publication) (says : Saying) where
-  both-stay : (m : Model) → Received m.world m.history → (more : List Event)
-      → (let later : Model = after publication (model publication says) m more in Received later.world later.history × Stays m later.world later.history)
-  both-stay m r more = events-keep publication (model publication says) (λ (n : Model). Received n.world n.history × Stays m n.world n.history)
+  both-stay : (m : Model) → Received m.world m.history → (slips : Slips) (more : List Event)
+      → (let later : Model = model_after publication says m slips more in Received later.world later.history × Stays m later.world later.history)
+  both-stay m r slips more = runs-keep publication (model publication says) (λ (n : Model). Received n.world n.history × Stays m n.world n.history)
       (λ n action both. (
         model-fine publication says n action both.0,
         step-keeps publication says Received (Stays m) (λ w h r. r) (stays-keep m publication says) n action both.0 both.1,
-      )) more m (r, (λ number letter at. at, λ site generation is. is))
+      )) (λ n others both. (received-tallied n.world others n.history both.0, both.1)) more (faulty m slips) (r, (λ number letter at. at, λ site generation is. is))
 
   -- What was delivered has acted.
 
-  news-acted : (m : Model) (number : ℕ) (u : Upload) → Received m.world m.history → (news : Bool) → (let j : PublisherJudge = judge publication says m number u in brings_news j u ≡ news → u.from < u.to
+  news-acted : (m : Model) (number : ℕ) (site : SiteId) (u : Upload) → Received m.world m.history → (news : Bool) → (let j : PublisherJudge = judge publication says m number site u in brings_news j u ≡ news → u.from < u.to
       → (let h : History = if news then Noting.with_acts_noted publication j u (acts_in publication says j u m.world) (pasts_with m.history number) (here m.world) m.history else m.history in AllActed h u))
-  news-acted m number u r true is up generation above within =
-      let j : PublisherJudge = judge publication says m number u in
+  news-acted m number site u r true is up generation above within =
+      let j : PublisherJudge = judge publication says m number site u in
       let acts : List Act = acts_in publication says j u m.world in
       let entries : Entries = Noting.acts_entries publication j u acts (here m.world) in
       let acted : History = fold (Noting.with_act (pasts_with m.history number) entries) m.history acts in
       let lined : History = Noting.with_lines (Noting.lines_of_entries (last_closed (here m.world) + 1) entries) acted in
       grind (arith, nat_tests, done-joins lined u.site.0 u.from u.to u.site.0 generation (omega (arith, up)), above, within)
-  news-acted m number u r false is up generation above within =
+  news-acted m number site u r false is up generation above within =
       grind (arith, nat_tests, is, received-is m.history m.world.publisher u.site.0 r.done, r.done u.site.0 generation (omega (arith, above)), within)
 
-  taken-acted : (m : Model) (number : ℕ) (u : Upload) → Received m.world m.history → (why : Option Refusal) → refusal publication says m number u ≡ why
-      → (let done : Model × Outcome = taken_by publication says m number u why in did_something done.1 ≡ true → AllActed done.0.history u)
-  taken-acted m number u r (Some why) is did = absurd (cc did)
-  taken-acted m number u r None is did = news-acted m number u r (brings_news (judge publication says m number u) u) refl (is-fine publication says m number u is).0
+  taken-acted : (m : Model) (number : ℕ) (site : SiteId) (u : Upload) → Received m.world m.history → (why : Option Refusal) → refusal publication says m number site u ≡ why
+      → (let done : Model × Outcome = taken_by publication says m number site u why in did_something done.1 ≡ true → AllActed done.0.history u)
+  taken-acted m number site u r (Some why) is did = absurd (cc did)
+  taken-acted m number site u r None is did = news-acted m number site u r (brings_news (judge publication says m number site u) u) refl (is-fine publication says m number site u is).0
 
   delivered-acted : (m : Model) → Received m.world m.history → TakenHaveActed publication says m
-  delivered-acted m r number site u at = subst (λ (done : Model × Outcome). did_something done.1 ≡ true → AllActed done.0.history u) (sym (delivered-by publication says m number u site at))
-      (taken-acted m number u r (refusal publication says m number u) refl)
+  delivered-acted m r number site u at = subst (λ (done : Model × Outcome). did_something done.1 ≡ true → AllActed done.0.history u) (sym (delivered-by publication says m number site u at))
+      (taken-acted m number site u r (refusal publication says m number site u) refl)
 
   -- So another delivery is only answered.
 
   again-answers : (m : Model) → Received m.world m.history → TakenOnlyAnswer publication says m
-  again-answers m r number site u at did more =
+  again-answers m r number site u at did slips more =
       let done : Model = (delivered publication says m number).0 in
       let there = step-keeps publication says Received (Stays m) (λ w h r. r) (stays-keep m publication says) m (Deliver number) r (λ k letter is. is, λ n generation is. is) in
-      let later = both-stay done (model-fine publication says m (Deliver number) r) more in
+      let later = both-stay done (model-fine publication says m (Deliver number) r) slips more in
       let acted : AllActed done.history u = delivered-acted m r number site u at did in
-      acted-uploads-only-answer publication says (after publication (model publication says) done more) number site u (later.1.0 number (record { site = site; message = Asks (request.Upload u) }) (there.0 number (record { site = site; message = Asks (request.Upload u) }) at))
+      acted-uploads-only-answer publication says (model_after publication says done slips more) number site u (later.1.0 number (record { site = site; message = Asks (request.Upload u) }) (there.0 number (record { site = site; message = Asks (request.Upload u) }) at))
       (λ generation above within. later.1.1 u.site.0 generation (acted generation above within))
 
 pub taken-have-acted : OfEveryDecidedRun TakenHaveActed
-taken-have-acted publication says tallies events = delivered-acted publication says (after publication (model publication says) (empty_model publication tallies) events) (received-always publication says tallies events)
+taken-have-acted publication says tallies slips events = delivered-acted publication says (model_behind publication says tallies slips events) (received-always publication says tallies slips events)
 
 pub done-stays : OfEveryDecidedRun DoneStays
-done-stays publication says tallies events site generation acted more =
-    (both-stay publication says (after publication (model publication says) (empty_model publication tallies) events) (received-always publication says tallies events) more).1.1 site generation acted
+done-stays publication says tallies slips events site generation acted others more =
+    (both-stay publication says (model_behind publication says tallies slips events) (received-always publication says tallies slips events) others more).1.1 site generation acted
 
 pub letters-stay : OfEveryDecidedRun LettersStay
-letters-stay publication says tallies events number letter at more =
-    (both-stay publication says (after publication (model publication says) (empty_model publication tallies) events) (received-always publication says tallies events) more).1.0 number letter at
+letters-stay publication says tallies slips events number letter at others more =
+    (both-stay publication says (model_behind publication says tallies slips events) (received-always publication says tallies slips events) others more).1.0 number letter at
 
 pub taken-only-answer : OfEveryDecidedRun TakenOnlyAnswer
-taken-only-answer publication says tallies events = again-answers publication says (after publication (model publication says) (empty_model publication tallies) events) (received-always publication says tallies events)
+taken-only-answer publication says tallies slips events = again-answers publication says (model_behind publication says tallies slips events) (received-always publication says tallies slips events)

@@ -1,10 +1,10 @@
 -- An upload that comes in is refused alike, and does the same, by two ways to decide that agree on the sites and on its items.
-use Rattle.std.specs.Prelude.{◌≡◌, ◌+◌, ◌++◌, ℕ, List, [], ◌∷◌, Bool, true, Option, Some, None, Result, refl, if◌then◌else◌, is_some, length, map, max, nat_lt, option_map, filter_map}
+use Rattle.std.specs.Prelude.{◌≡◌, ◌+◌, ℕ, List, [], ◌∷◌, Bool, true, Option, Some, None, Result, refl, if◌then◌else◌, is_some, map, max, nat_lt, option_map, filter_map}
 use Rattle.std.specs.List.{AllByRecursion}
 use Rattle.std.proofs.Common.{ap, ◌∙◌}
 use Rattle.merge_types.specs.declared.identifiers.Moment.{Moment}
+use Rattle.merge_types.specs.declared.identifiers.SiteId.{SiteId}
 use Rattle.merge_units.specs.declared.result.Decision.{Decision}
-use Rattle.merge_conflict.specs.declared.row.ConflictRow.{ConflictRow}
 use Rattle.merge_gens.specs.declared.sites.SiteState.{SiteState}
 use Rattle.merge_resolve.specs.Asked.{tallies_after}
 use Rattle.merge_schema.specs.declared.publication.Publication.{Publication}
@@ -16,20 +16,25 @@ use Rattle.merge_batch.specs.declared.reply.Reply.TheVariants as reply
 use Rattle.merge_batch.specs.declared.reply.Uploaded.{Uploaded}
 use Rattle.merge_batch.specs.declared.request.Upload.{Upload}
 use Rattle.merge_batch.specs.declared.request.UploadItem.{UploadItem}
-use Rattle.merge_model.specs.Acts.{Act, Question, acting_items, acts_from, acts_of, changes_by, question_of}
+use Rattle.merge_model.specs.Acts.{Act, acting_items, acts_from, acts_of, question_of}
+use Rattle.merge_resolve.specs.declared.asking.Question.{Question}
 use Rattle.merge_model.specs.Entries.{Changing, changed_by}
 use Rattle.merge_model.specs.Faults.{fault_of, judged_state, known_by, upload_fault}
 use Rattle.merge_model.specs.Judge.{PublisherJudge}
 use Rattle.merge_model.specs.Keys.{at_number}
 use Rattle.merge_model.specs.Publisher.{at_moment, counters, site_refusal}
-use Rattle.merge_model.specs.PublisherUpload.{brings_news, changing_by, state_seeing, taken_in, too_many_new, upload_refusal, uploaded, with_acts, with_taken}
+use Rattle.merge_model.specs.PublisherUpload.{brings_news, changing_by, taken_in, too_many_new, upload_refusal, uploaded, with_acts}
 use Rattle.merge_model.specs.Refusals.{counter_end, first_refusal, refused_if, unless}
-use Rattle.merge_model.specs.Steps.{Outcome, asked_of, deliver_upload, kept_decisions, post, unless_refused, upload_questions}
-use Rattle.merge_model.specs.Tables.{Key, PublisherTables}
-use Rattle.merge_model.specs.World.{Replies, Saying, World}
-use Rattle.merge_laws.proofs.AlikeUploads.{ItemAgrees, acting-same, acts-from-same, lost-from-same, questions-same}
+use Rattle.merge_model.specs.Steps.{deliver_upload, kept_decisions, post, unless_refused, upload_questions}
+use Rattle.merge_resolve.specs.Questions.{question_of as asked_of}
+use Rattle.merge_model.specs.declared.outcome.Outcome.{Outcome}
+use Rattle.merge_types.specs.declared.row_key.RowKey.{RowKey as Key}
+use Rattle.merge_model.specs.Tables.{PublisherTables}
+use Rattle.merge_model.specs.World.{Saying, World}
+use Rattle.merge_model.specs.declared.letter.Message.TheVariants.{Replies}
+use Rattle.merge_laws.proofs.AlikeUploads.{ItemAgrees, acting-same, acts-from-same, questions-same}
 use Rattle.merge_laws.proofs.Arrivals.{first-none}
-use Rattle.merge_laws.proofs.Lists.{all-filter}
+use Rattle.merge_model.proofs.Lists.{all-filter}
 
 -- What two ways to decide agree on, of the sites that have joined and of moves.
 pub record SitesAgree (sites : List (ℕ × SiteState)) (one other : PublisherJudge) : Type 0 where
@@ -98,13 +103,7 @@ module _ (publication : Publication) (one other : PublisherJudge) (m : Upload) (
   taken-same now decisions all =
       let q : PublisherTables = at_moment now p in
       let acts : List Act = acts_of other m decisions q in
-      ap (λ (lost : List ConflictRow). changed_by publication one (changing_by m acts) (record q {
-        changes = q.changes + changes_by acts;
-        conflict_count = q.conflict_count + length lost;
-        conflicts = q.conflicts ++ lost;
-        sites = with_taken m (map (state_seeing acts) q.sites);
-      })) (lost-from-same publication one other m.site q q.latest (acting_items other m) (q.conflict_count + 1) (q.changes + 1) decisions (all-filter (ItemAgrees one other m.site p.rows) _ m.items all))
-      ∙ changed-same publication one other (changing_by m acts) (with_acts publication other m acts q) agree.has_left
+      changed-same publication one other (changing_by m acts) (with_acts publication m acts q) agree.has_left
 
   uploaded-same : (now : Moment) (decisions : List Decision) → Items → uploaded publication one m decisions (at_moment now p) ≡ uploaded publication other m decisions (at_moment now p)
   uploaded-same now decisions all =
@@ -127,7 +126,7 @@ module _ (publication : Publication) (one other : PublisherJudge) (m : Upload) (
       (λ sound. ap (λ (acts : List Act). first_refusal (too_many_new acts p ∷ counter_end (counters p) ∷ [])) (first-acts-same (items fine sound)))))
 
 -- The whole step.
-module _ (publication : Publication) (says : Saying) (one other : PublisherJudge) (m : Upload) (w : World) (agree : SitesAgree w.publisher.sites one other) where
+module _ (publication : Publication) (says : Saying) (one other : PublisherJudge) (site : SiteId) (m : Upload) (w : World) (agree : SitesAgree w.publisher.sites one other) where
   abbrev p : PublisherTables
   p = w.publisher
 
@@ -136,7 +135,7 @@ module _ (publication : Publication) (says : Saying) (one other : PublisherJudge
 
   abbrev answer : Option Refusal → List Question → PublisherTables → ℕ → World × Outcome
   answer refusal questions taken received = (let done : Result (PublisherTables × Uploaded) Refusal = unless refusal (taken, record { seq = m.seq; received = max m.to received }) in
-      unless_refused w done (λ (made : PublisherTables × Uploaded). post m.site (Replies (reply.Uploaded made.1)) (record w { publisher = made.0; tallies = tallies_after w.tallies (map asked_of questions) })))
+      unless_refused w done (λ (made : PublisherTables × Uploaded). post site (Replies (reply.Uploaded made.1)) (record w { publisher = made.0; tallies = tallies_after w.tallies (map asked_of questions) })))
 
   answer-same : (refusal : Option Refusal) (questions others : List Question) (taken after : PublisherTables) (received : ℕ) → (refusal ≡ None → questions ≡ others) → (refusal ≡ None → taken ≡ after)
       → answer refusal questions taken received ≡ answer refusal others after received
@@ -144,7 +143,7 @@ module _ (publication : Publication) (says : Saying) (one other : PublisherJudge
   answer-same None questions others taken after received asked did = ap (λ (qs : List Question). answer None qs taken received) (asked refl) ∙ ap (λ (q : PublisherTables). answer None others q received) (did refl)
 
   pub deliver-same : (site_refusal publication m.site m.seq w.moment p ≡ None → upload_fault publication other m p ≡ None → AllByRecursion (ItemAgrees one other m.site p.rows) m.items)
-      → deliver_upload publication says one m w ≡ deliver_upload publication says other m w
+      → deliver_upload publication says one site m w ≡ deliver_upload publication says other site m w
   deliver-same items =
       let asked : List Question = upload_questions publication one w.moment m p in
       let others : List Question = upload_questions publication other w.moment m p in

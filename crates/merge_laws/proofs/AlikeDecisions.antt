@@ -5,7 +5,7 @@ use Rattle.merge_schema.specs.declared.publication.Publication.{Publication}
 use Rattle.merge_model.specs.Bridge.{CaseDecidesAlike, PublisherDecidesAlike}
 use Rattle.merge_model.specs.History.{Past, past_at, past_in}
 use Rattle.merge_model.specs.Model.{Model}
-use Rattle.merge_model.specs.Tables.{Key}
+use Rattle.merge_types.specs.declared.row_key.RowKey.{RowKey as Key}
 use Rattle.merge_laws.specs.Seen.{Seen}
 use Rattle.merge_laws.proofs.AlikeCases.{Meets, case-same, news-same}
 use Rattle.merge_laws.proofs.AlikeFields.{acted-alike, gap-alike, left-alike, number-alike, received-alike, unmet-alike}

@@ -9,9 +9,9 @@ use Rattle.merge_model.specs.History.{History}
 use Rattle.merge_model.specs.Keys.{has_key}
 use Rattle.merge_model.specs.Model.{Model}
 use Rattle.merge_model.specs.PublisherDownload.{inside_keys}
-use Rattle.merge_model.specs.Tables.{Key}
+use Rattle.merge_types.specs.declared.row_key.RowKey.{RowKey as Key}
 use Rattle.merge_model.specs.World.{World}
-use Rattle.merge_laws.proofs.Downloads.{inside-held}
+use Rattle.merge_model.proofs.Downloads.{inside-held}
 use Rattle.merge_laws.proofs.Ground.{Ground}
 use Rattle.merge_laws.proofs.Models.{gap-is}
 use Rattle.merge_laws.proofs.Numbers.{unmet-by-number}

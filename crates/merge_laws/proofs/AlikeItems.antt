@@ -25,8 +25,10 @@ use Rattle.merge_model.specs.Judge.{PublisherJudge}
 use Rattle.merge_model.specs.Keys.{at_number, row_at}
 use Rattle.merge_model.specs.Model.{Model}
 use Rattle.merge_model.specs.Publisher.{later, site_refusal, state_refusal, unknown_site}
-use Rattle.merge_model.specs.Tables.{Key, PublisherRow}
-use Rattle.merge_model.specs.World.{Asks, World, letter_at}
+use Rattle.merge_types.specs.declared.row_key.RowKey.{RowKey as Key}
+use Rattle.merge_units.specs.declared.site_row.PublisherRow.{PublisherRow}
+use Rattle.merge_model.specs.World.{World, letter_at}
+use Rattle.merge_model.specs.declared.letter.Message.TheVariants.{Asks}
 use Rattle.merge_laws.specs.LineagesStand.{AllTold, LineagesStand, Owns, can_act}
 use Rattle.merge_laws.specs.Received.{joined_at}
 use Rattle.merge_laws.specs.Seen.{Seen, greatest_in}
@@ -36,7 +38,7 @@ use Rattle.merge_laws.proofs.AlikeFields.{acted-alike, gap-alike, left-alike, nu
 use Rattle.merge_laws.proofs.AlikeUploads.{ItemAgrees, MetAgrees}
 use Rattle.merge_laws.proofs.Arrivals.{first-none}
 use Rattle.merge_laws.proofs.Ground.{Ground}
-use Rattle.merge_laws.proofs.Lists.{all-both}
+use Rattle.merge_model.proofs.Lists.{all-both}
 use Rattle.merge_laws.proofs.ToldItems.{fault-none}
 use Rattle.merge_laws.proofs.WatermarkModels.{state-later}
 

@@ -15,9 +15,15 @@ use Rattle.merge_model.specs.ByNumbers.{by_numbers}
 use Rattle.merge_model.specs.History.{History, Past, pasts_with}
 use Rattle.merge_model.specs.Keys.{at_number}
 use Rattle.merge_model.specs.Model.{Model}
-use Rattle.merge_model.specs.Steps.{Action, CloseAt, Deliver, Forget, Make, MakeAnew, NoLetter, Outcome, Pass, Refuses, Send, deliver_letter, deliver_reply, deliver_request, make_anew, make_at, send_from, step_by}
-use Rattle.merge_model.specs.Tables.{Key, SubscriberTables}
-use Rattle.merge_model.specs.World.{Asks, Judges, Letter, Message, Replies, Saying, World, by_tables, letter_at, subscriber_at}
+use Rattle.merge_model.specs.Steps.{Action, CloseAt, Deliver, Forget, Look, Make, MakeAnew, Pass, Send, deliver_letter, deliver_reply, deliver_request, make_anew, make_at, send_from, step_by}
+use Rattle.merge_model.specs.declared.outcome.Outcome.TheVariants.{NoLetter, Refuses}
+use Rattle.merge_model.specs.declared.outcome.Outcome.{Outcome}
+use Rattle.merge_types.specs.declared.row_key.RowKey.{RowKey as Key}
+use Rattle.merge_model.specs.Tables.{SubscriberTables}
+use Rattle.merge_model.specs.World.{Judges, Saying, World, by_tables, letter_at, subscriber_at}
+use Rattle.merge_model.specs.declared.letter.Message.TheVariants.{Asks, Replies}
+use Rattle.merge_model.specs.declared.letter.Letter.{Letter}
+use Rattle.merge_model.specs.declared.letter.Message.{Message}
 use Rattle.merge_laws.specs.LineagesStand.{AllTold, LineagesStand, Owns}
 use Rattle.merge_laws.specs.Seen.{Seen}
 use Rattle.merge_laws.proofs.AlikeArrivals.{deliver-same}
@@ -67,7 +73,7 @@ module _ (publication : Publication) (says : Saying) (m : Model) (g : Ground pub
   request-alike : (number : ℕ) (site : SiteId) (r : Request) → letter_at w number ≡ Some (record { site = site; message = Asks r })
       → deliver_request publication says (by_numbers w.publisher) site r w ≡ deliver_request publication says (by_past h (pasts_with h number)) site r w
   request-alike number site (request.Join r) at = refl
-  request-alike number site (request.Upload r) at = deliver-same publication says (by_numbers w.publisher) (by_past h (pasts_with h number)) r w (sites-agree publication m g (pasts_with h number) seen)
+  request-alike number site (request.Upload r) at = deliver-same publication says (by_numbers w.publisher) (by_past h (pasts_with h number)) site r w (sites-agree publication m g (pasts_with h number) seen)
       (λ fine sound. items-agree publication m g told stand owns number site r at fine sound)
   request-alike number site (request.Ranges r) at = ranges-alike publication says w h (pasts_with h number) site r
   request-alike number site (request.Download r) at = download-alike publication says w h g (pasts_with h number) r site
@@ -91,6 +97,7 @@ module _ (publication : Publication) (says : Saying) (m : Model) (g : Ground pub
   action-alike (Deliver number) = letter-alike number (letter_at w number) refl
   action-alike (MakeAnew site) = found-alike w site (subscriber_at w site) (make_anew (by_tables w) w) (make_anew (by_history h) w) (λ s there. anew-alike m s (subscriber-alike site s there) w)
   action-alike Forget = refl
+  action-alike Look = refl
 
 pub steps-alike : (publication : Publication) (says : Saying) (m : Model) (action : Action) → Ground publication m.world m.history → AllTold m → LineagesStand m → Owns m → Seen m.world.publisher.sites m.history.accepted → StepsAlike publication says m action
 steps-alike publication says m action g told stand owns seen = action-alike publication says m g told stand owns seen action

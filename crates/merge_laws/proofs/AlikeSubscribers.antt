@@ -18,10 +18,14 @@ use Rattle.merge_model.specs.Model.{Model}
 use Rattle.merge_model.specs.Refusals.{counter_end, unless}
 use Rattle.merge_model.specs.Reinit.{reinitialised}
 use Rattle.merge_model.specs.Sending.{sending_refusal, upload_made}
-use Rattle.merge_model.specs.Steps.{Discards, SendDownload, SendJoin, SendRanges, SendUpload, Sending, Took, deliver_reply, make_anew, posted, send_from, unless_refused}
+use Rattle.merge_model.specs.Steps.{SendDownload, SendJoin, SendRanges, SendUpload, Sending, deliver_reply, make_anew, posted, send_from, unless_refused}
+use Rattle.merge_model.specs.declared.outcome.Outcome.TheVariants.{Discards, Took}
 use Rattle.merge_model.specs.Subscriber.{sub_at_moment, sub_counters}
-use Rattle.merge_model.specs.Tables.{Key, SubscriberTables}
-use Rattle.merge_model.specs.Taking.{Acted, Missed, Taken, met_by, seq_of, take_reply, taken}
+use Rattle.merge_types.specs.declared.row_key.RowKey.{RowKey as Key}
+use Rattle.merge_model.specs.Tables.{SubscriberTables}
+use Rattle.merge_model.specs.Taking.{met_by, seq_of, take_reply, taken}
+use Rattle.merge_model.specs.declared.outcome.Taken.TheVariants.{Acted, Missed}
+use Rattle.merge_model.specs.declared.outcome.Taken.{Taken}
 use Rattle.merge_model.specs.World.{World, by_tables, with_subscriber}
 use Rattle.merge_laws.proofs.Replying.{downloaded-least}
 

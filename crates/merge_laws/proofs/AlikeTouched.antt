@@ -14,19 +14,24 @@ use Rattle.merge_model.specs.ByNumbers.{by_numbers, mapping_at, moved_rows_by_ma
 use Rattle.merge_model.specs.Entries
 use Rattle.merge_model.specs.History.{History, Line, Past}
 use Rattle.merge_model.specs.Judge.{PublisherJudge}
-use Rattle.merge_model.specs.Keys.{at_row_site, has_key, row_at, row_site_cmp, same_key}
+use Rattle.merge_gens.specs.Moves.{row_site_cmp}
+use Rattle.merge_model.specs.Keys.{at_row_site, has_key, row_at, same_key}
 use Rattle.merge_model.specs.PublisherDownload.{TouchedRow, asked, download_refusal, inside_keys, reply_by, reply_to, touched_row, touched_rows}
 use Rattle.merge_model.specs.Refusals.{unless}
 use Rattle.merge_model.specs.Steps.{answered, deliver_request}
-use Rattle.merge_model.specs.Tables.{Key, Mapping, PublisherTables, RowSite}
+use Rattle.merge_types.specs.declared.row_key.RowKey.{RowKey as Key}
+use Rattle.merge_gens.specs.declared.moves.Mapping.{Mapping}
+use Rattle.merge_gens.specs.declared.moves.RowSite.{RowSite}
+use Rattle.merge_model.specs.Tables.{PublisherTables}
 use Rattle.merge_model.specs.World.{Saying, World}
 use Rattle.merge_laws.proofs.AlikeDownloads.{told-same}
 use Rattle.merge_laws.proofs.AlikeFields.{received-alike, touch-alike}
-use Rattle.merge_laws.proofs.Downloads.{inside-held}
+use Rattle.merge_model.proofs.Downloads.{inside-held}
 use Rattle.merge_laws.proofs.Ground.{Ground}
-use Rattle.merge_laws.proofs.LastLineGone.{keys-once, some-head, told-of}
-use Rattle.merge_laws.proofs.LastLineKeys.{place-is}
-use Rattle.merge_laws.proofs.Tests.{or-first, or-second}
+use Rattle.merge_model.proofs.KeyLists.{keys-once, some-head}
+use Rattle.merge_laws.proofs.LastLineGone.{told-of}
+use Rattle.merge_model.proofs.PlaceLookUps.{place-is}
+use Rattle.merge_model.proofs.Tests.{or-first, or-second}
 use Rattle.merge_laws.proofs.Walking.{here}
 
 -- A row that has a mapping or a line for a site is among the moved ones.

@@ -1,5 +1,5 @@
 -- An upload does the same by two ways to decide that agree on the sites and on its items.
-use Rattle.std.specs.Prelude.{◌≡◌, ◌+◌, ◌++◌, ℕ, List, [], ◌∷◌, Bool, true, false, Option, Some, None, refl, if◌then◌else◌, cond, filter, filter_map, length, not}
+use Rattle.std.specs.Prelude.{◌≡◌, ◌+◌, ℕ, List, [], ◌∷◌, Bool, Option, Some, None, refl, if◌then◌else◌, cond, filter, filter_map, not}
 use Rattle.std.specs.List.{AllByRecursion, cons_option}
 use Rattle.std.proofs.Common.{ap, ◌∙◌}
 use Rattle.merge_types.specs.declared.identifiers.Dot.{Dot}
@@ -8,18 +8,21 @@ use Rattle.merge_types.specs.declared.identifiers.SiteId.{SiteId}
 use Rattle.merge_units.specs.declared.case.Case.{Case}
 use Rattle.merge_units.specs.declared.result.Decision.{Decision}
 use Rattle.merge_units.specs.declared.version.Version.{Version}
-use Rattle.merge_conflict.specs.declared.case.ConflictCase.{ConflictCase}
-use Rattle.merge_conflict.specs.declared.row.ConflictRow.{ConflictRow}
-use Rattle.merge_resolve.specs.Losers.{losing_rows, publisher_site}
+use Rattle.merge_resolve.specs.Questions.{question_asked}
+use Rattle.merge_resolve.specs.declared.question.Meeting.{Meeting}
+use Rattle.merge_conflict.specs.Losers.{publisher_site}
 use Rattle.merge_schema.specs.declared.publication.Publication.{Publication}
 use Rattle.merge_batch.specs.declared.request.UploadItem.{UploadItem}
-use Rattle.merge_model.specs.Acts.{Act, Fate, Met, New, Question, Unknown, acting_items, act_of, acts_from, acts_of, case_asked, case_met, decision_for, fate_by, greatest_priority, is_new_row, key_of_item, left_by, lost_by, lost_from, made_by, question_of, question_on, questions_of}
-use Rattle.merge_model.specs.Cases.{is_conflict, new_tops}
+use Rattle.merge_model.specs.Acts.{Act, Fate, Met, New, Unknown, act_of, acts_from, asked_at, case_met, decision_for, fate_by, is_new_row, key_of_item, left_by, made_by, meeting_of, question_of, question_on}
+use Rattle.merge_resolve.specs.Priorities.{greatest_priority}
+use Rattle.merge_resolve.specs.declared.asking.Question.{Question}
+use Rattle.merge_units.specs.Cases.{is_conflict}
+use Rattle.merge_units.specs.Version.{new_tops}
 use Rattle.merge_model.specs.Judge.{PublisherJudge}
 use Rattle.merge_model.specs.Keys.{row_at}
-use Rattle.merge_model.specs.Publications.{identity_column, resolver_at, types_at}
-use Rattle.merge_model.specs.Tables.{Key, PublisherRow, PublisherTables}
-use Rattle.merge_model.specs.Acts
+use Rattle.merge_types.specs.declared.row_key.RowKey.{RowKey as Key}
+use Rattle.merge_units.specs.declared.site_row.PublisherRow.{PublisherRow}
+use Rattle.merge_model.specs.Tables.{PublisherTables}
 
 -- What two ways to decide agree on, of an item and the row that it meets.
 
@@ -39,27 +42,21 @@ pub record ItemAgrees (one other : PublisherJudge) (site : SiteId) (rows : List 
 module _ (publication : Publication) (one other : PublisherJudge) (site : SiteId) where
   -- Cases and questions.
 
-  asked-same : (moment : Moment) (key : Key) (held incoming : Version) (case : Case) → new_tops (one.knows_there key incoming) held.body ≡ new_tops (other.knows_there key incoming) held.body
-      → case_asked publication one site moment key held incoming case ≡ case_asked publication other site moment key held incoming case
-  asked-same moment key held incoming case news =
-      ap (λ (tops : List Dot). (let asked : ConflictCase = record (case_asked publication one site moment key held incoming case) { publisher_priority = greatest_priority publication tops } in asked)) news
+  meeting-same : (moment : Moment) (key : Key) (held incoming : Version) → new_tops (one.knows_there key incoming) held.body ≡ new_tops (other.knows_there key incoming) held.body
+      → meeting_of publication one site moment key held incoming ≡ meeting_of publication other site moment key held incoming
+  meeting-same moment key held incoming news =
+      ap (λ (tops : List Dot). (let meeting : Meeting = record (meeting_of publication one site moment key held incoming) { publisher_priority = greatest_priority publication tops } in meeting)) news
 
-  abbrev asking : Key → (Case → ConflictCase) → Case → Option Question
-  asking key asked case = if is_conflict case then Some (record {
-    place = resolver_at publication key.article;
-    case = asked case;
-    sides = Acts.sides_of_case case;
-    types = types_at publication key.article;
-    identity = identity_column publication key.article;
-  }) else None
+  abbrev asking : Key → Version → Version → Meeting → Case → Option Question
+  asking key held incoming meeting case = if is_conflict case then Some (question_asked meeting (asked_at publication key.article) held.body incoming.body case) else None
 
   question-on-same : (moment : Moment) (item : UploadItem) (found : Option PublisherRow) → MetAgrees one other item found
       → question_on publication one site moment (key_of_item item) item.version found ≡ question_on publication other site moment (key_of_item item) item.version found
   question-on-same moment item None met = refl
   question-on-same moment item (Some held) met =
-      ap (λ (asked : Case → ConflictCase). asking (key_of_item item) asked (case_met one (key_of_item item) held.version item.version))
-      (λ i case. asked-same moment (key_of_item item) held.version item.version case met.news i)
-      ∙ ap (asking (key_of_item item) (λ (case : Case). case_asked publication other site moment (key_of_item item) held.version item.version case)) met.case
+      ap (λ (meeting : Meeting). asking (key_of_item item) held.version item.version meeting (case_met one (key_of_item item) held.version item.version))
+      (meeting-same moment (key_of_item item) held.version item.version met.news)
+      ∙ ap (asking (key_of_item item) held.version item.version (meeting_of publication other site moment (key_of_item item) held.version item.version)) met.case
 
   -- Acts.
 
@@ -71,24 +68,6 @@ module _ (publication : Publication) (one other : PublisherJudge) (site : SiteId
   fate-same number decisions item None new met = ap new_or_not new
   fate-same number decisions item (Some held) new met =
       ap (λ (case : Case). Met held.version case (decision_for case decisions) (record { site = publisher_site; number = number })) met.case
-
-  -- What is lost.
-
-  new-lost : (moment : Moment) (number : ℕ) (act : Act) (b : Bool) → lost_by publication one site moment number act (new_or_not b) ≡ lost_by publication other site moment number act (new_or_not b)
-  new-lost moment number act true = refl
-  new-lost moment number act false = refl
-
-  abbrev losing : Act → Version → Decision → ℕ → Case → ConflictCase → List ConflictRow
-  losing act held decision number case asked = if is_conflict case then losing_rows number asked held act.incoming decision else []
-
-  lost-by-same : (moment : Moment) (number k : ℕ) (decisions : List Decision) (item : UploadItem) (found : Option PublisherRow) → MetAgrees one other item found
-      → (let act : Act = record { key = key_of_item item; incoming = item.version; fate = fate_by other site k decisions item found } in lost_by publication one site moment number act act.fate ≡ lost_by publication other site moment number act act.fate)
-  lost-by-same moment number k decisions item None met =
-      new-lost moment number (record { key = key_of_item item; incoming = item.version; fate = fate_by other site k decisions item None }) (is_new_row other site (key_of_item item))
-  lost-by-same moment number k decisions item (Some held) met =
-      let case : Case = case_met other (key_of_item item) held.version item.version in
-      let act : Act = record { key = key_of_item item; incoming = item.version; fate = fate_by other site k decisions item (Some held) } in
-      ap (losing act held.version (decision_for case decisions) number case) (asked-same moment (key_of_item item) held.version item.version case met.news)
 
   module _ (p : PublisherTables) where
     abbrev Agrees : UploadItem → Type 0
@@ -109,16 +88,6 @@ module _ (publication : Publication) (one other : PublisherJudge) (site : SiteId
         let act : Act = act_of other site p number decisions item in
         ap (λ (a : Act). a ∷ acts_from one site p (number + made_by a.fate) (left_by a.fate decisions) items) (act-same number decisions item all.0)
         ∙ ap (λ (acts : List Act). act ∷ acts) (acts-from-same items (number + made_by act.fate) (left_by act.fate decisions) all.1)
-
-    pub lost-from-same : (moment : Moment) (items : List UploadItem) (number k : ℕ) (decisions : List Decision) → AllByRecursion Agrees items
-        → lost_from publication one site moment number (acts_from other site p k decisions items) ≡ lost_from publication other site moment number (acts_from other site p k decisions items)
-    lost-from-same moment [] number k decisions all = refl
-    lost-from-same moment (item ∷ items) number k decisions all =
-        let act : Act = act_of other site p k decisions item in
-        let rest : List Act = acts_from other site p (k + made_by act.fate) (left_by act.fate decisions) items in
-        let lost : List ConflictRow = lost_by publication other site moment number act act.fate in
-        ap (λ (rows : List ConflictRow). rows ++ lost_from publication one site moment (number + length rows) rest) (lost-by-same moment number k decisions item (row_at p.rows (key_of_item item)) all.0.met)
-        ∙ ap (λ (rows : List ConflictRow). lost ++ rows) (lost-from-same moment items (number + length lost) (k + made_by act.fate) (left_by act.fate decisions) all.1)
 
     pub questions-same : (items : List UploadItem) → AllByRecursion Agrees items → filter_map (question_of publication one site p) items ≡ filter_map (question_of publication other site p) items
     questions-same [] all = refl

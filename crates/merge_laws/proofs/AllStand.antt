@@ -17,17 +17,20 @@ use Rattle.merge_model.specs.History.{MadeChange, Past, has, past_at, past_in, p
 use Rattle.merge_model.specs.Keys.{same_key}
 use Rattle.merge_model.specs.Model.{Model}
 use Rattle.merge_model.specs.Promises.{AllStand, lineages_in, lost_at, put_lineage}
-use Rattle.merge_model.specs.Promises.{StandsFor as IsStandIn, is_given_up as gave_up}
-use Rattle.merge_model.specs.Tables.{Key, PublisherRow, SubscriberRow}
+use Rattle.merge_model.specs.Promises.{StandsFor as IsStandIn, is_given_up}
+use Rattle.merge_types.specs.declared.row_key.RowKey.{RowKey as Key}
+use Rattle.merge_units.specs.declared.site_row.PublisherRow.{PublisherRow}
+use Rattle.merge_units.specs.declared.site_row.SubscriberRow.{SubscriberRow}
 use Rattle.merge_model.specs.Taking.{key_of_download}
-use Rattle.merge_model.specs.World.{Asks, Message, Replies}
+use Rattle.merge_model.specs.declared.letter.Message.TheVariants.{Asks, Replies}
+use Rattle.merge_model.specs.declared.letter.Message.{Message}
 use Rattle.merge_lineage.specs.Lineage.{knows}
 use Rattle.merge_laws.specs.LineagesStand.{LineagesStand, OfMessage, OfOrder, counts_in}
 use Rattle.merge_laws.specs.Standing.{StandsAt, StandsFor}
 use Rattle.merge_laws.specs.TablesAgree.{TablesAgree}
-use Rattle.merge_laws.proofs.Finding.{all-weaker}
-use Rattle.merge_laws.proofs.KeyLookUps.{keys-turned}
-use Rattle.merge_laws.proofs.Lists.{OfSome, all-filter_map, all-map}
+use Rattle.merge_model.proofs.Finding.{all-weaker}
+use Rattle.merge_model.proofs.KeyLookUps.{keys-turned}
+use Rattle.merge_model.proofs.Lists.{OfSome, all-filter_map, all-map}
 use Rattle.merge_laws.proofs.ToldLetters.{letter-fits}
 
 -- what is said of each item of a list that is made of another
@@ -45,7 +48,7 @@ module _ (m : Model) where
   Fact key version past = StandsFor m.history.made (counts_in m) key version.lineage past.known
 
   abbrev StandsPromised : Key → List Dot → Past → MadeChange → Type 0
-  StandsPromised key lineage past change = same_key change.key key ≡ true → gave_up m change.dot ≡ false → has past.known change.dot ≡ knows lineage change.dot
+  StandsPromised key lineage past change = same_key change.key key ≡ true → is_given_up m.world.publisher m.history change.dot ≡ false → has past.known change.dot ≡ knows lineage change.dot
 
   -- A lineage.
   stands : (key : Key) (lineage : List Dot) (past : Past) → StandsFor m.history.made (counts_in m) key lineage past.known → IsStandIn m key lineage past

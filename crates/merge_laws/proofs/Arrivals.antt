@@ -22,15 +22,17 @@ use Rattle.merge_model.specs.Publisher.{no_state, site_refusal, state_refusal, u
 use Rattle.merge_model.specs.PublisherJoin.{join_taken, join_acts}
 use Rattle.merge_model.specs.PublisherUpload.{upload_refusal}
 use Rattle.merge_model.specs.Subscriber.{sub_last_closed}
-use Rattle.merge_model.specs.World.{World, Message, Asks, Replies, with_publisher}
+use Rattle.merge_model.specs.World.{World, with_publisher}
+use Rattle.merge_model.specs.declared.letter.Message.{Message}
+use Rattle.merge_model.specs.declared.letter.Message.TheVariants.{Asks, Replies}
 use Rattle.merge_model.specs.History.{History, is_done}
 use Rattle.merge_model.specs.Noting
 use Rattle.merge_laws.specs.Received.{joined_at, MessageFits, LetterFits, SubscriberFits, DoneIsReceived, Received}
-use Rattle.merge_laws.proofs.Finding.{all-weaker}
+use Rattle.merge_model.proofs.Finding.{all-weaker}
 use Rattle.merge_laws.proofs.MessageFacts.{acts-later}
 use Rattle.merge_laws.proofs.Publishing.{done-joins, joined-received, joined-joined, upload-received, upload-joined, number_in, sites_taken}
 use Rattle.merge_laws.proofs.Subscribing.{number-decided, same_number}
-use Rattle.merge_laws.proofs.Tests.{numbers-same, numbers-turned}
+use Rattle.merge_model.proofs.Tests.{numbers-same, numbers-turned}
 
 -- A message says less where later joins have acted.
 message-later : (joined after : ℕ) (site : SiteId) (found : Option SubscriberTables) (message : Message) → joined ≤ after → MessageFits joined site found message → MessageFits after site found message

@@ -18,6 +18,8 @@ use Rattle.merge_batch.specs.declared.request.Outstanding.{Outstanding}
 use Rattle.merge_batch.specs.declared.request.Outstanding.TheVariants as ask
 use Rattle.merge_batch.specs.declared.request.Request.TheVariants as request
 use Rattle.merge_batch.specs.declared.request.Upload.{Upload}
+use Rattle.merge_model.specs.Failing.{Slips, faulty}
+use Rattle.merge_model.specs.Runs.{model_behind}
 use Rattle.merge_model.specs.Acts.{Act}
 use Rattle.merge_model.specs.ByHistory.{by_made, by_past}
 use Rattle.merge_model.specs.ByNumbers.{received_by_number}
@@ -38,22 +40,27 @@ use Rattle.merge_model.specs.PublisherUpload.{brings_news, taken_in}
 use Rattle.merge_model.specs.Reinit.{reinitialised}
 use Rattle.merge_model.specs.Sending.{join_of, sending_refusal, upload_end, upload_sent, want_of, with_message}
 use Rattle.merge_model.specs.Subscriber.{is_joining, sub_at_moment, sub_closed, sub_last_closed, sub_local_refusal, sub_made_locally, sub_next_dot, sub_version_at, with_version_if}
-use Rattle.merge_model.specs.Tables.{Key, PublisherTables, SubscriberTables}
+use Rattle.merge_types.specs.declared.row_key.RowKey.{RowKey as Key}
+use Rattle.merge_model.specs.Tables.{PublisherTables, SubscriberTables}
 use Rattle.merge_model.specs.Taking.{seq_of, taken}
-use Rattle.merge_model.specs.World.{Asks, Letter, Message, Replies, Saying, World, empty_world, letter_at, subscriber_at, with_publisher, with_subscriber}
+use Rattle.merge_model.specs.World.{Saying, World, empty_world, letter_at, subscriber_at, with_publisher, with_subscriber}
+use Rattle.merge_model.specs.declared.letter.Message.TheVariants.{Asks, Replies}
+use Rattle.merge_model.specs.declared.letter.Letter.{Letter}
+use Rattle.merge_model.specs.declared.letter.Message.{Message}
 use Rattle.merge_model.specs.declared.event.Event.{Event}
-use Rattle.merge_model.proofs.Events.{events-keep}
+use Rattle.merge_model.proofs.KeptFailing.{runs-keep}
+use Rattle.merge_laws.proofs.Tallied.{behind-tallied, received-tallied}
 use Rattle.merge_laws.specs.Behind.{Behind, StaysBehind, TellsActed}
 use Rattle.merge_laws.specs.Received.{JoinFits, MessageFits, Received, joined_at}
 use Rattle.merge_laws.proofs.Arrivals.{first-none, upload-known}
 use Rattle.merge_laws.proofs.Deliveries.{news-above}
-use Rattle.merge_laws.proofs.Finding.{all-at, all-more, all-weaker, at_put_other, at_put_same}
+use Rattle.merge_model.proofs.Finding.{all-at, all-more, all-weaker, at_put_other, at_put_same}
 use Rattle.merge_laws.proofs.MessageFacts.{acts-later, join-up, letter-fits}
 use Rattle.merge_laws.proofs.Models.{begins, begins-with, model-fine}
 use Rattle.merge_laws.proofs.Publishing.{SameNumbers, asked-same, joined-joined, joined-received, same-sites, upload-joined, upload-received}
 use Rattle.merge_laws.proofs.Steps.{joined-flag}
 use Rattle.merge_laws.proofs.Subscribing.{filling-stays, number-decided, same_number}
-use Rattle.merge_laws.proofs.Tests.{number-itself}
+use Rattle.merge_model.proofs.Tests.{number-itself}
 use Rattle.merge_laws.proofs.UnsentKept.{reply-site, version-site}
 use Rattle.merge_laws.proofs.Walking.{StepsKeep, acts_in, comes, here, step-keeps, told_by, uploaded_world}
 use Rattle.merge_laws.proofs.Worlds.{received-is}
@@ -284,9 +291,6 @@ module _ (publication : Publication) (says : Saying) where
       publisher-on w q (λ n. upload-rises w m acts judge n goes)
       (λ n s at. rises-behind (received_by_number w.publisher n) (joined_at w.publisher (record { 0 = n })) (received_by_number q n) (joined_at q (record { 0 = n })) s (upload-rises w m acts judge n goes) (sym (upload-joined m acts w.publisher.sites n)) (i.subscribers n s at)) i
 
-  with-tallies : (w : World) (tallies : List ℕ) → Behind w → Behind (record w { tallies = tallies })
-  with-tallies w tallies i = record { subscribers = i.subscribers; letters = i.letters }
-
   told-most : (to received after : ℕ) → to ≤ after → received ≤ after → max to received ≤ after
   told-most to received after first second = grind (arith, nat_tests, first, second)
 
@@ -337,11 +341,11 @@ module _ (publication : Publication) (says : Saying) where
         let sets = upload-sets w m acts judge (upload-known publication judge w.moment m w.publisher fine).0 in
         let is = received-is h w.publisher m.site.0 r.done in
         letter-put v m.site (Replies (reply.Uploaded (told_by judge m))) (told-most m.to (judge.received m.site.0) (received_by_number q m.site.0) (omega (arith, sets)) (omega (arith, sets, is, goes)))
-        (with-tallies (with_publisher q w) v.tallies (upload-kept w m acts judge i goes)));
+        (behind-tallied (with_publisher q w) v.tallies (upload-kept w m acts judge i goes)));
     uploads_again = λ w h number m r i at none. (let judge : PublisherJudge = by_past h (pasts_with h number) in let v : World = uploaded_world publication says judge m (here w) w in
         let is = received-is h w.publisher m.site.0 r.done in let low = not-above judge m none in
         letter-put v m.site (Replies (reply.Uploaded (told_by judge m))) (told-most m.to (judge.received m.site.0) (received_by_number w.publisher m.site.0) (omega (arith, low, is)) (omega (arith, is)))
-        (with-tallies (with_publisher (here w) w) v.tallies (publisher-same w (here w) (same-sites w.publisher (here w) refl) i)));
+        (behind-tallied (with_publisher (here w) w) v.tallies (publisher-same w (here w) (same-sites w.publisher (here w) refl) i)));
     answers_ranges = λ w h site m r i. (let q : PublisherTables = with_grants (plans publication m w.publisher) (here w) in
         letter-put (with_publisher q w) site (Replies (reply.Ranged (ranged m (plans publication m w.publisher)))) tt (publisher-same w q (same-sites w.publisher q refl) i));
     answers_ask = λ w h number site m r i at fine. (let q : PublisherTables = asked m (here w) in
@@ -372,8 +376,8 @@ behind-begins publication tallies = record {
   letters = tt;
 }
 
-pub behind-always : (publication : Publication) (says : Saying) (tallies : List ℕ) (events : List Event)
-    → (let m : Model = after publication (model publication says) (empty_model publication tallies) events in Received m.world m.history × Behind m.world)
-behind-always publication says tallies events = events-keep publication (model publication says) (λ (m : Model). Received m.world m.history × Behind m.world)
-    (λ m action i. (model-fine publication says m action i.0, step-keeps publication says Received OfWorlds (λ w h r. r) (behind-keeps publication says) m action i.0 i.1)) events (empty_model publication tallies)
+pub behind-always : (publication : Publication) (says : Saying) (tallies : List ℕ) (slips : Slips) (events : List Event)
+    → (let m : Model = model_behind publication says tallies slips events in Received m.world m.history × Behind m.world)
+behind-always publication says tallies slips events = runs-keep publication (model publication says) (λ (m : Model). Received m.world m.history × Behind m.world)
+    (λ m action i. (model-fine publication says m action i.0, step-keeps publication says Received OfWorlds (λ w h r. r) (behind-keeps publication says) m action i.0 i.1)) (λ m others i. (received-tallied m.world others m.history i.0, behind-tallied m.world others i.1)) events (faulty (empty_model publication tallies) slips)
     (begins publication tallies, behind-begins publication tallies)

@@ -5,10 +5,10 @@ use Rattle.std.proofs.Common.{arith, sym, ap, ◌∙◌}
 use Rattle.std.proofs.lemmas.Bool.Decides.{nat_tests}
 use Rattle.merge_model.specs.History.{History, MadeChange, no_history}
 use Rattle.merge_model.specs.Keys.{same_key}
-use Rattle.merge_model.specs.Tables.{Key}
+use Rattle.merge_types.specs.declared.row_key.RowKey.{RowKey as Key}
 use Rattle.merge_laws.specs.Knowledge.{AreNumbered, counts_down, is_made, number_of_change, same_dot}
 use Rattle.merge_laws.proofs.Knowing.{IsFresh, down-parts, fresh-above, fresh-any}
-use Rattle.merge_laws.proofs.Lists.{all-both}
+use Rattle.merge_model.proofs.Lists.{all-both}
 
 abbrev pub AreDistinct : List MadeChange → Type 0
 AreDistinct [] = Unit {0}

@@ -18,7 +18,8 @@ use Rattle.merge_batch.specs.declared.reply.Ranged.{Ranged}
 use Rattle.merge_batch.specs.declared.reply.Downloaded.{Downloaded}
 use Rattle.merge_schema.specs.declared.publication.Publication.{Publication}
 use Rattle.merge_resolve.specs.Asked.{tallies_after}
-use Rattle.merge_model.specs.Tables.{Key, PublisherTables, SubscriberTables}
+use Rattle.merge_types.specs.declared.row_key.RowKey.{RowKey as Key}
+use Rattle.merge_model.specs.Tables.{PublisherTables, SubscriberTables}
 use Rattle.merge_model.specs.Keys.{at_number, put_number}
 use Rattle.merge_model.specs.Refusals.{unless}
 use Rattle.merge_model.specs.Judge.{PublisherJudge}
@@ -31,14 +32,18 @@ use Rattle.merge_model.specs.PublisherJoin.{join, join_refusal, join_acts, join_
 use Rattle.merge_model.specs.PublisherUpload.{upload_refusal, uploaded, taken_in, brings_news}
 use Rattle.merge_model.specs.PublisherRanges.{ranges, plans, with_grants}
 use Rattle.merge_model.specs.PublisherDownload.{download}
-use Rattle.merge_model.specs.World.{World, Saying, Asks, Replies, with_publisher}
-use Rattle.merge_model.specs.Steps.{Outcome, post, answered, after_upload, kept_decisions, upload_questions, deliver_request}
+use Rattle.merge_model.specs.World.{World, Saying, with_publisher}
+use Rattle.merge_model.specs.declared.letter.Message.TheVariants.{Asks, Replies}
+use Rattle.merge_model.specs.Steps.{post, answered, after_upload, kept_decisions, upload_questions, deliver_request}
+use Rattle.merge_model.specs.declared.outcome.Outcome.{Outcome}
 use Rattle.merge_model.specs.History.{History, Past, Line}
 use Rattle.merge_model.specs.Noting
 use Rattle.merge_model.specs.Model.{noted_if, noted_request, did_something}
-use Rattle.merge_model.specs.Steps.{deliver_upload, asked_of}
+use Rattle.merge_model.specs.Steps.{deliver_upload}
+use Rattle.merge_resolve.specs.Questions.{question_of as asked_of}
 use Rattle.merge_model.proofs.Publishers.{ranges-ok, download-ok}
 use Rattle.merge_model.proofs.DoneOnce.{lines-done, acts-done}
+use Rattle.merge_laws.proofs.Tallied.{received-tallied}
 use Rattle.merge_laws.specs.Received.{joined_at, JoinFits, UploadFits, MessageFits, LetterFits, Received}
 use Rattle.merge_laws.proofs.Arrivals.{has_closed, join-fits, tells_all, upload-fits, upload-known}
 use Rattle.merge_laws.proofs.MessageFacts.{acts-later, join-site, upload-site}
@@ -49,9 +54,6 @@ use Rattle.merge_laws.proofs.Worlds.{history-same, posted-fits, publisher-same, 
 -- a step keeps it, with what it notes where it did something
 abbrev pub Keeps : World × Outcome → History → History → Type 0
 Keeps done after before = Received done.0 (noted_if (did_something done.1) after before)
-
-tallies-fine : (w : World) (h : History) (tallies : List ℕ) → Received w h → Received (record w { tallies = tallies }) h
-tallies-fine w h tallies r = record { subscribers = r.subscribers; letters = r.letters; done = r.done }
 
 -- the same generations join where the same have acted
 with_done-same : (site from to : ℕ) (k h : History) → k.done ≡ h.done → (Noting.with_done site from to k).done ≡ (Noting.with_done site from to h).done
@@ -134,15 +136,15 @@ module _ (w : World) (h : History) (r : Received w h) where
       let v : World = record w { publisher = q; tallies = tallies } in
       history-same (record v { pool = w.pool ++ record { site = m.site; message = Replies (reply.Uploaded told) } ∷ [] }) done (Noting.with_done m.site.0 m.from m.to noted) (with_done-same m.site.0 m.from m.to noted h same)
       (posted-fits v done (record { site = m.site; message = Replies (reply.Uploaded told) }) tt
-      (tallies-fine (with_publisher q w) done tallies (upload-fits m acts (with_publisher here w) q h refl known begins (news-above incoming m news) closed moved)))
+      (received-tallied (with_publisher q w) tallies done (upload-fits m acts (with_publisher here w) q h refl known begins (news-above incoming m news) closed moved)))
   upload-taken publication incoming m acts tallies told false none known begins closed =
       let v : World = record w { publisher = here; tallies = tallies } in
-      posted-fits v h (record { site = m.site; message = Replies (reply.Uploaded told) }) tt (tallies-fine (with_publisher here w) h tallies moved)
+      posted-fits v h (record { site = m.site; message = Replies (reply.Uploaded told) }) tt (received-tallied (with_publisher here w) tallies h moved)
 
   upload-answered : (publication : Publication) (says : Saying) (incoming : List (Key × Past)) (m : Upload) (decisions : List Decision) (told : Uploaded) (refusal : Option Refusal) → upload_refusal publication (by_past h incoming) w.moment m w.publisher ≡ refusal
       → has_closed m (at_number w.subscribers m.site.0)
       → (let judge : PublisherJudge = by_past h incoming in
-      Keeps (after_upload publication says judge m w (unless refusal (uploaded publication judge m decisions here, told))) (Noting.noted_upload publication judge m decisions incoming here h) h)
+      Keeps (after_upload publication says judge m.site m w (unless refusal (uploaded publication judge m decisions here, told))) (Noting.noted_upload publication judge m decisions incoming here h) h)
   upload-answered publication says incoming m decisions told (Some why) is closed = r
   upload-answered publication says incoming m decisions told None is closed =
       let judge : PublisherJudge = by_past h incoming in
@@ -152,13 +154,14 @@ module _ (w : World) (h : History) (r : Received w h) where
 
   upload-fine : (publication : Publication) (says : Saying) (incoming : List (Key × Past)) (m : Upload) (site : SiteId) → UploadFits site m (at_number w.subscribers site.0)
       → (let judge : PublisherJudge = by_past h incoming in
-      Keeps (deliver_upload publication says judge m w) (noted_request publication says judge incoming w (request.Upload m) h) h)
+      Keeps (deliver_upload publication says judge site m w) (noted_request publication says judge incoming w (request.Upload m) h) h)
   upload-fine publication says incoming m site fits =
       let judge : PublisherJudge = by_past h incoming in
       let same : m.site ≡ site = upload-site m site (at_number w.subscribers site.0) fits in
-      upload-answered publication says incoming m (kept_decisions says w.tallies (upload_questions publication judge w.moment m w.publisher)) (record { seq = m.seq; received = max m.to (judge.received m.site.0) })
+      subst (λ (x : SiteId). Keeps (deliver_upload publication says judge x m w) (noted_request publication says judge incoming w (request.Upload m) h) h) same
+      (upload-answered publication says incoming m (kept_decisions says w.tallies (upload_questions publication judge w.moment m w.publisher)) (record { seq = m.seq; received = max m.to (judge.received m.site.0) })
       (upload_refusal publication judge w.moment m w.publisher) refl
-      (subst (λ (x : SiteId). has_closed m (at_number w.subscribers x.0)) (sym same) (upload-closed m site (at_number w.subscribers site.0) fits))
+      (subst (λ (x : SiteId). has_closed m (at_number w.subscribers x.0)) (sym same) (upload-closed m site (at_number w.subscribers site.0) fits)))
 
   -- Every message.
 

@@ -9,7 +9,7 @@ use Rattle.merge_model.specs.ByNumbers.{last_between}
 use Rattle.merge_model.specs.History.{MadeChange}
 use Rattle.merge_model.specs.Keys.{same_key}
 use Rattle.merge_model.specs.Subscriber.{with_open}
-use Rattle.merge_model.specs.Tables.{Key}
+use Rattle.merge_types.specs.declared.row_key.RowKey.{RowKey as Key}
 use Rattle.merge_laws.specs.Numbered.{InOrder, last_of}
 use Rattle.merge_laws.specs.Unsent.{is_changed_above, last_made}
 use Rattle.merge_laws.proofs.Through.{last-older, order-within}

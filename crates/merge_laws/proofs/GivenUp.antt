@@ -31,15 +31,19 @@ use Rattle.merge_model.specs.PublisherJoin.{join_acts, join_taken}
 use Rattle.merge_model.specs.PublisherUpload.{brings_news, taken_in, upload_refusal}
 use Rattle.merge_model.specs.Refusals.{refused_if}
 use Rattle.merge_model.specs.Steps.{kept_decisions, upload_questions}
-use Rattle.merge_model.specs.Tables.{Key, PublisherTables, SubscriberTables}
-use Rattle.merge_model.specs.World.{Asks, Letter, Saying, World}
-use Rattle.merge_laws.specs.LineagesStand.{UploadCounts, can_act, counts_in, is_given_up}
+use Rattle.merge_types.specs.declared.row_key.RowKey.{RowKey as Key}
+use Rattle.merge_model.specs.Tables.{PublisherTables, SubscriberTables}
+use Rattle.merge_model.specs.World.{Saying, World}
+use Rattle.merge_model.specs.declared.letter.Message.TheVariants.{Asks}
+use Rattle.merge_model.specs.declared.letter.Letter.{Letter}
+use Rattle.merge_model.specs.Promises.{is_given_up}
+use Rattle.merge_laws.specs.LineagesStand.{UploadCounts, can_act, counts_in}
 use Rattle.merge_laws.specs.Numbered.{JoinTells, Numbered, last_of}
 use Rattle.merge_laws.specs.Received.{Received}
 use Rattle.merge_laws.proofs.Arrivals.{first-none, not-refused, upload-known}
 use Rattle.merge_laws.proofs.Deliveries.{news-above}
-use Rattle.merge_laws.proofs.Finding.{letter-zip}
-use Rattle.merge_laws.proofs.Lists.{any-among}
+use Rattle.merge_model.proofs.Finding.{letter-zip}
+use Rattle.merge_model.proofs.Lists.{any-among}
 use Rattle.merge_laws.proofs.MessageFacts.{acts-later, join-up, letter-fits}
 use Rattle.merge_laws.proofs.NotesLeave.{fate-leaves, lines-accepted}
 use Rattle.merge_laws.proofs.Numbers.{letter-tells, upload-says}

@@ -1,7 +1,8 @@
 -- What is known of every model that a list of events leads to, where the publication is one that a file can say: the base of further laws.
 use Rattle.merge_batch.specs.declared.request.Outstanding.TheVariants as ask
+use Rattle.merge_laws.proofs.Tallied.{behind-tallied, lineages-tallied, numbered-tallied, received-tallied}
 use Rattle.merge_laws.proofs.BehindKept.{behind-always, behind-keeps}
-use Rattle.merge_laws.proofs.Finding.{at_put_other}
+use Rattle.merge_model.proofs.Finding.{at_put_other}
 use Rattle.merge_laws.proofs.KnownCounts.{made-on}
 use Rattle.merge_laws.proofs.KnownSteps.{known-always, known-keeps}
 use Rattle.merge_laws.proofs.LastLineSteps.{LinesBase, last_lines-always, last_lines-keep}
@@ -13,20 +14,21 @@ use Rattle.merge_laws.proofs.UnsentKept.{Base, reply-site, unsent-always, unsent
 use Rattle.merge_laws.proofs.Walking.{StepsKeep, step-keeps}
 use Rattle.merge_laws.proofs.WatermarkModels.{watermarks-always, watermarks-keep}
 use Rattle.merge_laws.specs.Behind.{Behind}
-use Rattle.merge_laws.specs.Knowledge.{Known, changes_of}
+use Rattle.merge_laws.specs.Knowledge.{Known, changes_of, changes_of as changes_in}
 use Rattle.merge_laws.specs.LastLines.{LastLines}
-use Rattle.merge_laws.specs.Lineages.{LineagesAreMade}
+use Rattle.merge_laws.specs.Lineages.{IsOfMade, LineagesAreMade}
 use Rattle.merge_laws.specs.Numbered.{Numbered}
 use Rattle.merge_laws.specs.Purges.{IsInStep}
 use Rattle.merge_laws.specs.Received.{Received}
 use Rattle.merge_laws.specs.Unsent.{Unsent}
 use Rattle.merge_laws.specs.Watermarks.{HoldsWatermarks}
-use Rattle.merge_model.proofs.Events.{events-keep}
+use Rattle.merge_model.specs.Failing.{Slips, faulty}
+use Rattle.merge_model.specs.Runs.{model_behind}
+use Rattle.merge_model.proofs.KeptFailing.{runs-keep}
 use Rattle.merge_model.proofs.Runs.{publisher_stays_sorted}
 use Rattle.merge_model.proofs.Sorted.{step-sorted}
 use Rattle.merge_model.proofs.Subscribers.{step-sub-sorted}
 use Rattle.merge_model.specs.ByHistory.{by_history, by_made}
-use Rattle.merge_model.specs.Events.{after}
 use Rattle.merge_model.specs.History.{History, no_history}
 use Rattle.merge_model.specs.Keys.{at_number, put_number}
 use Rattle.merge_model.specs.Laws.{AreSorted, AreSubSorted}
@@ -132,25 +134,43 @@ none-begins publication tallies valid = at-map publication (by_site publication)
 
 pub ground-begins : (publication : Publication) (says : Saying) (tallies : List ℕ) → (resolvers : ℕ) × IsValid resolvers publication → Ground publication (empty_world publication tallies) no_history
 ground-begins publication says tallies valid =
-    let unsent = unsent-always publication says tallies [] in record {
+    let unsent = unsent-always publication says tallies [] [] in record {
       valid = valid;
       none = none-begins publication tallies valid;
       received = unsent.0.0;
       numbered = unsent.0.1.0;
       rows = unsent.0.1.1;
       unsent = unsent.1;
-      known = known-always publication says tallies [];
-      sorted = publisher_stays_sorted publication says tallies [];
-      lines = last_lines-always publication says tallies [];
-      behind = (behind-always publication says tallies []).1;
-      watermarks = watermarks-always publication says tallies [];
-      in_step = in_step-always publication says tallies [];
-      lineages = (lineages-always publication says tallies []).1;
+      known = known-always publication says tallies [] [];
+      sorted = publisher_stays_sorted publication says tallies [] [];
+      lines = last_lines-always publication says tallies [] [];
+      behind = (behind-always publication says tallies [] []).1;
+      watermarks = watermarks-always publication says tallies [] [];
+      in_step = in_step-always publication says tallies [] [];
+      lineages = (lineages-always publication says tallies [] []).1;
     }
 
--- What a further invariant needs: that each step keeps it over what is known, and that it holds where nothing has happened.
-pub grounded-always : (publication : Publication) (says : Saying) (tallies : List ℕ) (events : List Event) → (resolvers : ℕ) × IsValid resolvers publication → (P : World → History → Type 0)
-    → ((m : Model) (action : Action) → Ground publication m.world m.history → P m.world m.history → (let n : Model = (model_step publication says m action).0 in P n.world n.history)) → P (empty_world publication tallies) no_history
-    → (let m : Model = after publication (model publication says) (empty_model publication tallies) events in Ground publication m.world m.history × P m.world m.history)
-grounded-always publication says tallies events valid P keeps begins = events-keep publication (model publication says) (λ (m : Model). Ground publication m.world m.history × P m.world m.history)
-    (λ m action both. (ground-step publication says m action both.0, keeps m action both.0 both.1)) events (empty_model publication tallies) (ground-begins publication says tallies valid, begins)
+-- Other tallies keep it.
+pub ground-tallied : (publication : Publication) (w : World) (h : History) (tallies : List ℕ) → Ground publication w h → Ground publication (record w { tallies = tallies }) h
+ground-tallied publication w h tallies g = record {
+  valid = g.valid;
+  none = g.none;
+  received = received-tallied w tallies h g.received;
+  numbered = numbered-tallied w tallies h g.numbered;
+  rows = g.rows;
+  unsent = g.unsent;
+  known = g.known;
+  sorted = g.sorted;
+  lines = g.lines;
+  behind = behind-tallied w tallies g.behind;
+  watermarks = g.watermarks;
+  in_step = g.in_step;
+  lineages = lineages-tallied w tallies (IsOfMade (changes_in w)) g.lineages;
+}
+
+-- What a further invariant needs: that each step and other tallies keep it over what is known, and that it holds where nothing has happened.
+pub grounded-always : (publication : Publication) (says : Saying) (tallies : List ℕ) (slips : Slips) (events : List Event) → (resolvers : ℕ) × IsValid resolvers publication → (P : World → History → Type 0)
+    → ((m : Model) (action : Action) → Ground publication m.world m.history → P m.world m.history → (let n : Model = (model_step publication says m action).0 in P n.world n.history)) → ((w : World) (h : History) (others : List ℕ) → P w h → P (record w { tallies = others }) h) → P (empty_world publication tallies) no_history
+    → (let m : Model = model_behind publication says tallies slips events in Ground publication m.world m.history × P m.world m.history)
+grounded-always publication says tallies slips events valid P keeps stays begins = runs-keep publication (model publication says) (λ (m : Model). Ground publication m.world m.history × P m.world m.history)
+    (λ m action both. (ground-step publication says m action both.0, keeps m action both.0 both.1)) (λ m others both. (ground-tallied publication m.world m.history others both.0, stays m.world m.history others both.1)) events (faulty (empty_model publication tallies) slips) (ground-begins publication says tallies valid, begins)

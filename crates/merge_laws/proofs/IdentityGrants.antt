@@ -12,7 +12,7 @@ use Rattle.merge_ident.specs.declared.grants.Grant.{Grant}
 use Rattle.merge_ident.specs.declared.grants.GrantAnswer.TheVariants.{Granted, Kept, NotDue}
 use Rattle.merge_ident.specs.declared.grants.IdentFault.{IdentFault}
 use Rattle.merge_ident.specs.declared.grants.IdentFault.TheVariants.{NoRange, TooMany}
-use Rattle.merge_ident.specs.declared.grants.Planned.{Planned}
+use Rattle.merge_ident.specs.declared.grants.GrantPlan.{GrantPlan}
 use Rattle.merge_ident.specs.declared.grants.Range.{Range}
 use Rattle.merge_ident.specs.declared.grants.Rule.{Rule}
 use Rattle.merge_ident.specs.Answers.{Answer, answer_by, answer_of, grants_after, grants_with, grants_with_all, kept_answer, new_grant, next_begin, next_end, plan_of, plans_of, rule_of, ruled_answer, with_new}
@@ -22,7 +22,7 @@ use Rattle.merge_batch.specs.declared.reply.RangeGrant.{RangeGrant}
 use Rattle.merge_batch.specs.declared.request.Want.{Want}
 use Rattle.merge_model.specs.PublisherRanges.{ask_by, grant_of, granted_by}
 use Rattle.merge_laws.specs.Identities.{gives_numbered, IsTold}
-use Rattle.merge_laws.proofs.Finding.{all-weaker, some_same}
+use Rattle.merge_model.proofs.Finding.{all-weaker, some_same}
 use Rattle.merge_laws.proofs.IdentityCalls.{counts-cons}
 
 -- the counts of grants only rise
@@ -121,22 +121,22 @@ answer-told rules grants ask (Err fault) is told tells = absurd (grind (arith, t
 
 -- what the plans of a site's asks tell
 
-abbrev telling : Planned → Option RangeGrant
+abbrev telling : GrantPlan → Option RangeGrant
 telling plan = granted_by plan.ask.article plan.answer
 
-told-step : (grants : List Grant) (site : ℕ) (plan : Planned) (plans : List Planned) (told : Option RangeGrant) → telling plan ≡ told → ((t : RangeGrant) → told ≡ Some t → IsTold grants site t)
+told-step : (grants : List Grant) (site : ℕ) (plan : GrantPlan) (plans : List GrantPlan) (told : Option RangeGrant) → telling plan ≡ told → ((t : RangeGrant) → told ≡ Some t → IsTold grants site t)
     → AllByRecursion (IsTold grants site) (filter_map telling plans) → AllByRecursion (IsTold grants site) (filter_map telling (plan ∷ plans))
 told-step grants site plan plans None e is rest = rw e rest
 told-step grants site plan plans (Some t) e is rest = rw e (is t refl, rest)
 
 pub plans-told : (rules : List Rule) (grants : List Grant) (site : SiteId) (wants : List Want)
-    → (let planned : List Planned = plans_of rules grants (map (ask_by site) wants) in AllByRecursion (IsTold (grants_with_all grants planned) site.0) (filter_map telling planned))
+    → (let planned : List GrantPlan = plans_of rules grants (map (ask_by site) wants) in AllByRecursion (IsTold (grants_with_all grants planned) site.0) (filter_map telling planned))
 plans-told rules grants site [] = tt
 plans-told rules grants site (want ∷ wants) =
     let ask : Ask = ask_by site want in
-    let plan : Planned = plan_of rules grants ask in
+    let plan : GrantPlan = plan_of rules grants ask in
     let next : List Grant = grants_with grants plan in
-    let planned : List Planned = plans_of rules next (map (ask_by site) wants) in
+    let planned : List GrantPlan = plans_of rules next (map (ask_by site) wants) in
     told-step (grants_with_all next planned) site.0 plan planned (telling plan) refl
     (λ told tells. told-grows next (grants_with_all next planned) site.0 (all-grow rules next (map (ask_by site) wants)) told (answer-told rules grants ask (answer_of rules grants ask) refl told tells))
     (plans-told rules next site wants)

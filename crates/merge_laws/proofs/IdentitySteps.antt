@@ -3,7 +3,6 @@ use Rattle.std.specs.Prelude.{◌≤◌, ◌++◌, ◌∷◌, zero, suc, IfOk, A
 use Rattle.std.specs.BTreeMap.{is_at}
 use Rattle.std.specs.Ordering.{nat_cmp}
 use Rattle.std.proofs.Common.{arith, subst, sym, ap, ◌∙◌}
-use Rattle.std.proofs.lemmas.Bool.Decides.{nat_tests}
 use Rattle.std.proofs.lemmas.Option.{slice_get_past}
 use Rattle.merge_types.specs.declared.identifiers.SiteId.{SiteId}
 use Rattle.merge_types.specs.declared.changes.Change.{Change}
@@ -15,6 +14,7 @@ use Rattle.merge_ident.specs.declared.grants.Rule.{Rule}
 use Rattle.merge_ident.specs.Answers.{grants_with, grants_with_all, plan_of, plans_of}
 use Rattle.merge_ident.specs.Books.{IsBook, IsRule}
 use Rattle.merge_ident.specs.Holders.{Holder, new_holder}
+use Rattle.merge_ident.proofs.Stored.{no_grants}
 use Rattle.merge_ident.proofs.Plans.{book-with_plan}
 use Rattle.merge_schema.specs.declared.publication.Publication.{Publication}
 use Rattle.merge_schema.specs.declared.publication.Identity.{Identity}
@@ -29,8 +29,11 @@ use Rattle.merge_batch.specs.Uploads.{whole_number}
 use Rattle.merge_batch.specs.declared.request.Outstanding.{Outstanding}
 use Rattle.merge_batch.specs.declared.request.Outstanding.TheVariants as ask
 use Rattle.merge_batch.proofs.Values.{slice_get-append_past}
+use Rattle.merge_model.specs.Failing.{Slips, faulty}
+use Rattle.merge_model.specs.Runs.{model_behind}
 use Rattle.merge_model.specs.declared.event.Event.{Event}
-use Rattle.merge_model.specs.Tables.{Key, PublisherTables, SubscriberTables}
+use Rattle.merge_types.specs.declared.row_key.RowKey.{RowKey as Key}
+use Rattle.merge_model.specs.Tables.{PublisherTables, SubscriberTables}
 use Rattle.merge_model.specs.Keys.{put_number, at_number}
 use Rattle.merge_model.specs.Acts.{Act}
 use Rattle.merge_model.specs.Judge.{PublisherJudge, SubscriberJudge}
@@ -39,7 +42,10 @@ use Rattle.merge_model.specs.Publisher.{last_closed, new_holders}
 use Rattle.merge_model.specs.PublisherLocal.{Drawn, drawn, made_locally, next_dot}
 use Rattle.merge_model.specs.PublisherRanges.{ranged, plans, with_grants, ask_by}
 use Rattle.merge_model.specs.PublisherDownload.{asked, reply_to}
-use Rattle.merge_model.specs.World.{Asks, Letter, Message, Replies, Saying, World, subscriber_at, with_publisher, with_subscriber, empty_world, empty_subscribers}
+use Rattle.merge_model.specs.World.{Saying, World, subscriber_at, with_publisher, with_subscriber, empty_world, empty_subscribers}
+use Rattle.merge_model.specs.declared.letter.Message.TheVariants.{Asks, Replies}
+use Rattle.merge_model.specs.declared.letter.Letter.{Letter}
+use Rattle.merge_model.specs.declared.letter.Message.{Message}
 use Rattle.merge_model.specs.Steps.{Action, post}
 use Rattle.merge_model.specs.History.{History, Line, pasts_with, MadeChange, past_at}
 use Rattle.merge_model.specs.ByHistory.{by_history, by_past, by_made}
@@ -53,10 +59,11 @@ use Rattle.merge_model.specs.Reinit.{reinitialised}
 use Rattle.merge_model.specs.Sending.{join_of, upload_sent, want_of, with_message}
 use Rattle.merge_model.specs.Subscriber.{empty_subscriber, sub_at_moment, sub_closed, sub_drawn, sub_last_closed, sub_made_locally, sub_next_dot, sub_version_at, with_version, with_version_if}
 use Rattle.merge_model.specs.Taking.{taken}
-use Rattle.merge_model.proofs.Events.{events-keep}
+use Rattle.merge_model.proofs.KeptFailing.{runs-keep}
+use Rattle.merge_laws.proofs.Tallied.{received-tallied}
 use Rattle.merge_laws.specs.Identities.{Held, holder_in, held_at, holders_at, Identities, LetterTells, MessageTells}
 use Rattle.merge_laws.specs.Received.{Received}
-use Rattle.merge_laws.proofs.Finding.{all-more}
+use Rattle.merge_model.proofs.Finding.{all-more}
 use Rattle.merge_laws.proofs.IdentityCalls.{held-with, nothing-held}
 use Rattle.merge_laws.proofs.IdentityDraws.{draw-keeps, letters-grow}
 use Rattle.merge_laws.proofs.IdentityGrants.{Grows, all-grow, plans-told}
@@ -96,7 +103,7 @@ begins : (publication : Publication) → All IsRule (rules_of publication) → (
 begins publication fit tallies = record {
   book = record {
     rules_fit = fit;
-    grants_fit = record { ranges = λ k d within. absurd (omega arith); disjoint = λ article value. omega arith; numbered = λ article site number. grind (arith, nat_tests) };
+    grants_fit = no_grants;
     in_order = tt;
   };
   held = all-held publication;
@@ -294,9 +301,9 @@ module _ (publication : Publication) (says : Saying) where
 
 -- Every list of events.
 
-pub identities-always : (publication : Publication) → All IsRule (rules_of publication) → (says : Saying) (tallies : List ℕ) (events : List Event)
-    → (let m : Model = after publication (model publication says) (empty_model publication tallies) events in Apart publication m.world m.history.made)
-identities-always publication fit says tallies events =
-    (events-keep publication (model publication says) (λ (m : Model). Received m.world m.history × Apart publication m.world m.history.made)
-    (λ m action both. (model-fine publication says m action both.0, identities-step publication says m action both.0 both.1)) events (empty_model publication tallies)
-    (received-always publication says tallies [], begins publication fit tallies)).1
+pub identities-always : (publication : Publication) → All IsRule (rules_of publication) → (says : Saying) (tallies : List ℕ) (slips : Slips) (events : List Event)
+    → (let m : Model = model_behind publication says tallies slips events in Apart publication m.world m.history.made)
+identities-always publication fit says tallies slips events =
+    (runs-keep publication (model publication says) (λ (m : Model). Received m.world m.history × Apart publication m.world m.history.made)
+    (λ m action both. (model-fine publication says m action both.0, identities-step publication says m action both.0 both.1)) (λ m others both. (received-tallied m.world others m.history both.0, both.1)) events (faulty (empty_model publication tallies) slips)
+    (received-always publication says tallies [] [], begins publication fit tallies)).1

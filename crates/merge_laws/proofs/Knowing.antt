@@ -10,9 +10,9 @@ use Rattle.merge_types.specs.declared.changes.Change.TheVariants.{Delete, Insert
 use Rattle.merge_schema.specs.declared.publication.Publication.{Publication}
 use Rattle.merge_model.specs.History.{History, MadeChange, Past, has}
 use Rattle.merge_model.specs.Pasts.{past_after}
-use Rattle.merge_model.specs.Tables.{Key}
+use Rattle.merge_types.specs.declared.row_key.RowKey.{RowKey as Key}
 use Rattle.merge_laws.specs.Knowledge.{AreNumbered, KnowsItsPast, Knows, counts_down, is_made, number_of_change, same_dot, was_made}
-use Rattle.merge_laws.proofs.Lists.{all-of}
+use Rattle.merge_model.proofs.Lists.{all-of}
 
 -- A new change.
 

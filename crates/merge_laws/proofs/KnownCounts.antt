@@ -15,11 +15,12 @@ use Rattle.merge_model.specs.Changes.{key_of, version_after}
 use Rattle.merge_model.specs.Judge.{SubscriberJudge}
 use Rattle.merge_model.specs.Keys.{at_number, put_number}
 use Rattle.merge_model.specs.Subscriber.{sub_at_moment, sub_made_locally, sub_next_dot, sub_version_at, with_version_if}
-use Rattle.merge_model.specs.Tables.{Key, PublisherTables, SubscriberTables}
+use Rattle.merge_types.specs.declared.row_key.RowKey.{RowKey as Key}
+use Rattle.merge_model.specs.Tables.{PublisherTables, SubscriberTables}
 use Rattle.merge_model.specs.Taking.{taken}
 use Rattle.merge_model.specs.World.{World, with_publisher, with_subscriber}
 use Rattle.merge_laws.specs.Knowledge.{changes_of}
-use Rattle.merge_laws.proofs.Finding.{at_put_other, at_put_same}
+use Rattle.merge_model.proofs.Finding.{at_put_other, at_put_same}
 use Rattle.merge_laws.proofs.Subscribing.{number-decided, same_number}
 use Rattle.merge_laws.proofs.KnownNotes.{raised}
 

@@ -17,12 +17,13 @@ use Rattle.merge_model.specs.Model.{pasts_in, with_letter}
 use Rattle.merge_model.specs.Publications.{by_site}
 use Rattle.merge_model.specs.Publisher.{last_closed}
 use Rattle.merge_model.specs.Reinit.{discarded}
-use Rattle.merge_model.specs.Tables.{Key, PublisherTables, SubscriberTables}
+use Rattle.merge_types.specs.declared.row_key.RowKey.{RowKey as Key}
+use Rattle.merge_model.specs.Tables.{PublisherTables, SubscriberTables}
 use Rattle.merge_model.specs.Taking.{key_of_download}
-use Rattle.merge_model.specs.World.{Letter}
+use Rattle.merge_model.specs.declared.letter.Letter.{Letter}
 use Rattle.merge_model.specs.Noting
 use Rattle.merge_laws.specs.Knowledge.{AllKnow, Known}
-use Rattle.merge_laws.proofs.Finding.{all-more}
+use Rattle.merge_model.proofs.Finding.{all-more}
 use Rattle.merge_laws.proofs.KnownNotes.{Reached, dropped-known, lines-known, lost-known, others-known, past-known}
 use Rattle.merge_laws.proofs.KnownRows.{held-knows, message-knows, past-knows, put-sites}
 use Rattle.merge_laws.proofs.Walking.{join_noted}

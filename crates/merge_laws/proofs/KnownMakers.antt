@@ -24,17 +24,22 @@ use Rattle.merge_model.specs.PublisherLocal.{Drawn, changing_locally, local_refu
 use Rattle.merge_model.specs.PublisherPurge.{is_old_tombstone, purge}
 use Rattle.merge_model.specs.Reinit.{discarded, reinitialised}
 use Rattle.merge_model.specs.Subscriber.{generations_at, sub_at_moment, sub_last_closed, sub_local_refusal, sub_made_locally, sub_next_dot, sub_version_at, with_open, with_version_if}
-use Rattle.merge_model.specs.Tables.{Key, PublisherRow, PublisherTables, SubscriberRow, SubscriberTables}
-use Rattle.merge_model.specs.World.{Letter, Message, World, subscriber_at, with_publisher, with_subscriber}
+use Rattle.merge_types.specs.declared.row_key.RowKey.{RowKey as Key}
+use Rattle.merge_units.specs.declared.site_row.PublisherRow.{PublisherRow}
+use Rattle.merge_units.specs.declared.site_row.SubscriberRow.{SubscriberRow}
+use Rattle.merge_model.specs.Tables.{PublisherTables, SubscriberTables}
+use Rattle.merge_model.specs.World.{World, subscriber_at, with_publisher, with_subscriber}
+use Rattle.merge_model.specs.declared.letter.Letter.{Letter}
+use Rattle.merge_model.specs.declared.letter.Message.{Message}
 use Rattle.merge_laws.specs.Knowledge.{changes_of}
 use Rattle.merge_laws.specs.KnownMakers.{Ascend, HeldKnow, IsAfterMaker, KnownMakers, KnowsMaker}
 use Rattle.merge_laws.specs.LineagesStand.{OfMessage}
-use Rattle.merge_laws.proofs.Finding.{found-named}
+use Rattle.merge_model.proofs.Finding.{found-named}
 use Rattle.merge_laws.proofs.Ground.{Ground}
 use Rattle.merge_laws.proofs.HeldRows.{changed-held, held-put, one-version}
 use Rattle.merge_laws.proofs.KnownCounts.{own-count}
 use Rattle.merge_laws.proofs.KnownRows.{held-knows}
-use Rattle.merge_laws.proofs.Lists.{zip-more}
+use Rattle.merge_model.proofs.Lists.{zip-more}
 use Rattle.merge_laws.proofs.MakerChanges.{after-maker, knows-after, own-held, own-small, sub-held, sub-small}
 use Rattle.merge_laws.proofs.MakerSites.{know-more, purged-know}
 use Rattle.merge_laws.proofs.NotesLeave.{fold-leave}

@@ -1,10 +1,8 @@
 -- Rows with their pasts: what is known of each, where some are put, dropped and found.
 use Rattle.std.specs.Prelude.{◌≡◌, ℕ, zero, suc, List, [], ◌∷◌, Bool, true, false, Option, Some, None, refl, cond, map, filter_map, unwrap_or, slice_get}
 use Rattle.std.specs.List.{AllByRecursion}
-use Rattle.std.specs.BTreeMap.{insert_entry, is_at}
-use Rattle.std.specs.Ordering.{is_eq, match_ordering, nat_cmp}
-use Rattle.std.specs.declared.cmp.Ordering.{Ordering}
-use Rattle.std.specs.declared.cmp.Ordering.TheVariants.{Less, Equal, Greater}
+use Rattle.std.specs.BTreeMap.{is_at}
+use Rattle.std.specs.Ordering.{is_eq, nat_cmp}
 use Rattle.std.proofs.Common.{subst, sym, ap}
 use Rattle.merge_types.specs.declared.identifiers.SiteId.{SiteId}
 use Rattle.merge_batch.specs.declared.reply.Act.{Act as Order}
@@ -13,29 +11,20 @@ use Rattle.merge_batch.specs.declared.reply.DownloadItem.{DownloadItem}
 use Rattle.merge_batch.specs.declared.reply.Reply.TheVariants as reply
 use Rattle.merge_batch.specs.declared.request.Request.TheVariants as request
 use Rattle.merge_batch.specs.declared.request.UploadItem.{UploadItem}
+use Rattle.merge_model.proofs.EntryLists.{all-put}
 use Rattle.merge_model.specs.Acts.{key_of_item}
 use Rattle.merge_model.specs.History.{History, MadeChange, Past, no_past, past_at, past_in, pasts_at, pasts_with}
-use Rattle.merge_model.specs.Keys.{at_number, drop_row, key_cmp, put_number, put_row, row_at}
+use Rattle.merge_types.specs.RowKeys.{key_cmp}
+use Rattle.merge_model.specs.Keys.{at_number, drop_row, put_number, put_row, row_at}
 use Rattle.merge_model.specs.Model.{past_of_item, pasts_in, put_past}
-use Rattle.merge_model.specs.Tables.{Key}
+use Rattle.merge_types.specs.declared.row_key.RowKey.{RowKey as Key}
 use Rattle.merge_model.specs.Taking.{key_of_download}
-use Rattle.merge_model.specs.World.{Asks, Message, Replies}
+use Rattle.merge_model.specs.declared.letter.Message.TheVariants.{Asks, Replies}
+use Rattle.merge_model.specs.declared.letter.Message.{Message}
 use Rattle.merge_laws.specs.Knowledge.{AllKnow, Knowledge, Knows, RowKnows}
-use Rattle.merge_laws.proofs.Finding.{all-at}
-use Rattle.merge_laws.proofs.KeyLookUps.{keys-exact}
+use Rattle.merge_model.proofs.Finding.{all-at}
+use Rattle.merge_model.proofs.KeyLookUps.{keys-exact}
 use Rattle.merge_laws.proofs.Knowing.{knows-nothing}
-
--- What holds of all entries holds of them with one more, put in its place.
-
-put-test : {K X : Type 0} (P : K × X → Type 0) (found : Ordering) (k : K) (v : X) (e : K × X) (rest more : List (K × X)) → (found ≡ Equal → P (e.0, v)) → P (k, v) → P e → AllByRecursion P rest → AllByRecursion P more
-    → AllByRecursion P (match_ordering found ((k, v) ∷ e ∷ rest) ((e.0, v) ∷ rest) (e ∷ more))
-put-test P Less k v e rest more same new here all others = (new, (here, all))
-put-test P Equal k v e rest more same new here all others = (same refl, all)
-put-test P Greater k v e rest more same new here all others = (here, others)
-
-pub all-put : {K X : Type 0} (P : K × X → Type 0) (cmp : K → K → Ordering) (k : K) (v : X) → ((q : K) → cmp k q ≡ Equal → P (q, v)) → P (k, v) → (es : List (K × X)) → AllByRecursion P es → AllByRecursion P (insert_entry cmp es k v)
-all-put P cmp k v same new [] all = (new, tt)
-all-put P cmp k v same new (e ∷ es) all = put-test P (cmp k e.0) k v e es (insert_entry cmp es k v) (same e.0) new all.0 all.1 (all-put P cmp k v same new es all.1)
 
 drop-test : {X : Type 0} (P : X → Type 0) (b : Bool) (e : X) (rest more : List X) → P e → AllByRecursion P rest → AllByRecursion P more → AllByRecursion P (cond b rest (e ∷ more))
 drop-test P true e rest more here all others = all

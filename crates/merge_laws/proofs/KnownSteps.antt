@@ -16,8 +16,11 @@ use Rattle.merge_batch.specs.declared.request.Request.TheVariants as request
 use Rattle.merge_batch.specs.declared.reply.Reply.{Reply}
 use Rattle.merge_batch.specs.declared.reply.Reply.TheVariants as reply
 use Rattle.merge_batch.specs.declared.request.Outstanding.TheVariants as ask
+use Rattle.merge_model.specs.Failing.{Slips, faulty}
+use Rattle.merge_model.specs.Runs.{model_behind}
 use Rattle.merge_model.specs.declared.event.Event.{Event}
-use Rattle.merge_model.specs.Tables.{Key, PublisherTables, SubscriberTables}
+use Rattle.merge_types.specs.declared.row_key.RowKey.{RowKey as Key}
+use Rattle.merge_model.specs.Tables.{PublisherTables, SubscriberTables}
 use Rattle.merge_model.specs.Keys.{at_number}
 use Rattle.merge_model.specs.Acts.{Act, acting_items, changes_by}
 use Rattle.merge_model.specs.Judge.{PublisherJudge, SubscriberJudge}
@@ -29,18 +32,20 @@ use Rattle.merge_model.specs.PublisherUpload.{taken_in}
 use Rattle.merge_model.specs.PublisherRanges.{plans, ranged, with_grants}
 use Rattle.merge_model.specs.PublisherDownload.{asked, reply_to}
 use Rattle.merge_model.specs.Subscriber.{sub_at_moment, sub_last_closed, sub_made_locally, sub_next_dot, empty_subscriber, sub_closed}
-use Rattle.merge_model.specs.World.{Asks, Message, Replies, Saying, World, subscriber_at, with_publisher, with_subscriber, empty_subscribers, empty_world}
+use Rattle.merge_model.specs.World.{Saying, World, subscriber_at, with_publisher, with_subscriber, empty_subscribers, empty_world}
+use Rattle.merge_model.specs.declared.letter.Message.TheVariants.{Asks, Replies}
+use Rattle.merge_model.specs.declared.letter.Message.{Message}
 use Rattle.merge_model.specs.Steps.{kept_decisions, upload_questions}
 use Rattle.merge_model.specs.History.{History, Line, Past, pasts_with, no_history}
 use Rattle.merge_model.specs.ByHistory.{by_past, by_made}
 use Rattle.merge_model.specs.Noting
 use Rattle.merge_model.specs.Publications.{by_site}
 use Rattle.merge_model.specs.Model.{Model, empty_model, model}
-use Rattle.merge_model.specs.Events.{after}
 use Rattle.merge_model.specs.Reinit.{reinitialised}
 use Rattle.merge_model.specs.Sending.{join_of, upload_sent, want_of, with_message}
 use Rattle.merge_model.specs.Taking.{taken}
-use Rattle.merge_model.proofs.Events.{events-keep}
+use Rattle.merge_model.proofs.KeptFailing.{runs-keep}
+use Rattle.merge_laws.proofs.Tallied.{received-tallied}
 use Rattle.merge_laws.specs.Knowledge.{Known, changes_of, counts_down}
 use Rattle.merge_laws.specs.Received.{Received}
 use Rattle.merge_laws.proofs.Models.{begins, model-fine}
@@ -151,9 +156,9 @@ known-begins publication tallies = record {
   knowledge = record { held = tt; sent = tt; lost = tt; making = tt };
 }
 
-pub known-always : (publication : Publication) (says : Saying) (tallies : List ℕ) (events : List Event)
-    → (let m : Model = after publication (model publication says) (empty_model publication tallies) events in Known (changes_of m.world) m.history)
-known-always publication says tallies events =
-    (events-keep publication (model publication says) (λ (m : Model). Received m.world m.history × Known (changes_of m.world) m.history)
-    (λ m action both. (model-fine publication says m action both.0, step-keeps publication says Received OfChanges (λ w h r. r) (known-keeps publication says) m action both.0 both.1)) events (empty_model publication tallies)
+pub known-always : (publication : Publication) (says : Saying) (tallies : List ℕ) (slips : Slips) (events : List Event)
+    → (let m : Model = model_behind publication says tallies slips events in Known (changes_of m.world) m.history)
+known-always publication says tallies slips events =
+    (runs-keep publication (model publication says) (λ (m : Model). Received m.world m.history × Known (changes_of m.world) m.history)
+    (λ m action both. (model-fine publication says m action both.0, step-keeps publication says Received OfChanges (λ w h r. r) (known-keeps publication says) m action both.0 both.1)) (λ m others both. (received-tallied m.world others m.history both.0, both.1)) events (faulty (empty_model publication tallies) slips)
     (begins publication tallies, known-begins publication tallies)).1

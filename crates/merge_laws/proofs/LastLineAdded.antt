@@ -7,19 +7,26 @@ use Rattle.std.proofs.Common.{arith, subst, sym, ap, ◌∙◌}
 use Rattle.std.proofs.lemmas.Bool.Decides.{nat_tests}
 use Rattle.std.proofs.Math.Bool.{and-false}
 use Rattle.merge_table.proofs.LookUps.{lookup-insert_entry}
-use Rattle.merge_gens.proofs.Sets.{sorted_put}
+use Rattle.merge_table.proofs.Sorted.{sorted_put}
 use Rattle.merge_units.specs.declared.version.Version.{Version}
 use Rattle.merge_schema.specs.declared.publication.Publication.{Publication}
-use Rattle.merge_model.specs.Tables.{Key, RowSite, PublisherRow, MoveKind, Entered, Left, Mapping}
-use Rattle.merge_model.specs.Keys.{key_cmp, row_site_cmp, same_key, row_at, put_row, at_row_site, drop_row_site, put_row_site}
+use Rattle.merge_types.specs.declared.row_key.RowKey.{RowKey as Key}
+use Rattle.merge_gens.specs.declared.moves.RowSite.{RowSite}
+use Rattle.merge_units.specs.declared.site_row.PublisherRow.{PublisherRow}
+use Rattle.merge_gens.specs.declared.moves.MoveKind.{MoveKind}
+use Rattle.merge_gens.specs.declared.moves.MoveKind.TheVariants.{Entered, Left}
+use Rattle.merge_gens.specs.declared.moves.Mapping.{Mapping}
+use Rattle.merge_types.specs.RowKeys.{key_cmp}
+use Rattle.merge_gens.specs.Moves.{row_site_cmp}
+use Rattle.merge_model.specs.Keys.{same_key, row_at, put_row, at_row_site, drop_row_site, put_row_site}
 use Rattle.merge_model.specs.Entries.{with_move, with_rows}
 use Rattle.merge_model.specs.History.{Line, History}
 use Rattle.merge_model.specs.ByHistory.{is_line_for, is_change_of}
 use Rattle.merge_model.specs.Noting.{with_line, with_lines, changed_line, moved_line, gone_line}
 use Rattle.merge_model.proofs.Sorted.{key_total, row_site_total}
 use Rattle.merge_laws.specs.LastLines.{move_told, move_in, change_in, MappingsFit, RowsFit, subscribes, MovedForSubscribers}
-use Rattle.merge_laws.proofs.KeyLookUps.{key-test}
-use Rattle.merge_laws.proofs.LastLineKeys.{is_place, place-is, has_place, drop-head, at-dropped}
+use Rattle.merge_model.proofs.KeyLookUps.{key-test}
+use Rattle.merge_model.proofs.PlaceLookUps.{is_place, place-is, has_place, drop-head, at-dropped}
 
 abbrev pub added : List Line → Line → List Line
 added lines line = line ∷ lines

@@ -15,8 +15,14 @@ use Rattle.merge_units.specs.declared.version.Version.{Version}
 use Rattle.merge_gens.specs.Filling.{generations_of}
 use Rattle.merge_schema.specs.declared.publication.Publication.{Publication}
 use Rattle.merge_schema.specs.declared.publication.Subscription.{Subscription}
-use Rattle.merge_model.specs.Tables.{Key, RowSite, PublisherRow, MoveKind, Mapping, PublisherTables}
-use Rattle.merge_model.specs.Keys.{row_site_cmp, has_key, put_number, drop_row_site}
+use Rattle.merge_types.specs.declared.row_key.RowKey.{RowKey as Key}
+use Rattle.merge_gens.specs.declared.moves.RowSite.{RowSite}
+use Rattle.merge_units.specs.declared.site_row.PublisherRow.{PublisherRow}
+use Rattle.merge_gens.specs.declared.moves.MoveKind.{MoveKind}
+use Rattle.merge_gens.specs.declared.moves.Mapping.{Mapping}
+use Rattle.merge_model.specs.Tables.{PublisherTables}
+use Rattle.merge_gens.specs.Moves.{row_site_cmp}
+use Rattle.merge_model.specs.Keys.{has_key, put_number, drop_row_site}
 use Rattle.merge_model.specs.Judge.{PublisherJudge}
 use Rattle.merge_model.specs.Publications.{by_site}
 use Rattle.merge_model.specs.Entries as entry

@@ -4,28 +4,32 @@ use Rattle.std.specs.List.{fold, list_any}
 use Rattle.std.specs.Option.{option_map_or}
 use Rattle.std.specs.List.Sorted.{IsStrictlySortedBy}
 use Rattle.std.specs.Map.{keys_of}
-use Rattle.std.specs.BTreeMap.{is_at}
 use Rattle.std.proofs.Common.{subst, sym, ap, ◌∙◌}
 use Rattle.std.proofs.lemmas.List.Folds.{list_any-append}
-use Rattle.std.proofs.lemmas.Map.Made.{is_some-lookup}
-use Rattle.std.proofs.Math.Bool.{and-false, and-true, and_comm, and-or_distrib_right, or-false}
-use Rattle.merge_table.proofs.LookUps.{lookup-insert_entry}
+use Rattle.std.proofs.Math.Bool.{and-false, and-true, and_comm, and-or_distrib_right}
 use Rattle.merge_schema.proofs.Searches.{any_map}
 use Rattle.merge_types.specs.declared.identifiers.SiteId.{SiteId}
 use Rattle.merge_schema.specs.declared.publication.Publication.{Publication}
-use Rattle.merge_model.specs.Tables.{Key, RowSite, PublisherRow, Mapping, Entered, Left, is_left}
-use Rattle.merge_model.specs.Keys.{key_cmp, row_site_cmp, same_key, has_key, row_at, put_row, at_row_site}
+use Rattle.merge_types.specs.declared.row_key.RowKey.{RowKey as Key}
+use Rattle.merge_gens.specs.declared.moves.RowSite.{RowSite}
+use Rattle.merge_units.specs.declared.site_row.PublisherRow.{PublisherRow}
+use Rattle.merge_gens.specs.declared.moves.Mapping.{Mapping}
+use Rattle.merge_gens.specs.declared.moves.MoveKind.TheVariants.{Entered, Left}
+use Rattle.merge_gens.specs.Moves.{is_left, row_site_cmp}
+use Rattle.merge_types.specs.RowKeys.{key_cmp}
+use Rattle.merge_model.proofs.KeyLists.{some-head, keys-once}
+use Rattle.merge_model.specs.Keys.{same_key, has_key, row_at, at_row_site}
 use Rattle.merge_model.specs.Entries as entry
 use Rattle.merge_model.specs.History.{Line, LineKind, Changed, EnteredFor, LeftFor, GoneFor}
 use Rattle.merge_model.specs.ByHistory.{is_line_for, line_site, says_left, touched_outside}
 use Rattle.merge_model.specs.Noting.{gone_line, gone_for}
 use Rattle.merge_model.proofs.Sorted.{key_total, row_site_total}
 use Rattle.merge_laws.specs.LastLines.{move_told, move_in, MappingsFit, RowsFit, MovedForSubscribers}
-use Rattle.merge_laws.proofs.KeyLookUps.{key-test, keys-exact, keys-same}
+use Rattle.merge_model.proofs.KeyLookUps.{keys-exact, keys-same}
 use Rattle.merge_laws.proofs.LastLineAdded.{added, gone-last}
-use Rattle.merge_laws.proofs.LastLineKeys.{places-exact, is_place, has_place, kept, kept-found, lookup-filter}
-use Rattle.merge_laws.proofs.Lists.{any-same}
-use Rattle.merge_laws.proofs.Tests.{numbers-same, numbers-turned}
+use Rattle.merge_model.proofs.PlaceLookUps.{places-exact, is_place, has_place, kept, kept-found, lookup-filter}
+use Rattle.merge_model.proofs.Lists.{any-same}
+use Rattle.merge_model.proofs.Tests.{numbers-same, numbers-turned}
 
 -- What some member passes.
 
@@ -61,30 +65,6 @@ site-places keep site key n keys =
     ∙ any-key (λ (k : Key). keep k && is_place key n (gone_for site k)) key (keep key && (site.0 == n)) (λ k. key-head keep key k (site.0 == n) (same_key key k) refl) keys
 
 -- The rows of which a line tells for a site.
-
-put-head : (s o h : Bool) → ((s || o) || h) ≡ (o || (s || h))
-put-head true true h = refl
-put-head true false h = refl
-put-head false o h = refl
-
-pub some-head : {A : Type 0} (b : Bool) (v : A) (found : Option A) → is_some (let now : Option A = cond b (Some v) found in now) ≡ (b || is_some found)
-some-head true v found = refl
-some-head false v found = refl
-
-pub put-keys : (keys : List Key) (others : List (Key × Unit {0})) (key : Key)
-    → is_some (row_at (fold (λ (os : List (Key × Unit {0})) (k : Key). put_row os k tt) others keys) key) ≡ (is_some (row_at others key) || has_key keys key)
-put-keys [] others key = sym (or-false (is_some (row_at others key)))
-put-keys (k ∷ keys) others key =
-    let here : is_some (row_at (put_row others k tt) key) ≡ (same_key key k || is_some (row_at others key)) =
-    ap (λ (o : Option (Unit {0})). is_some o) (lookup-insert_entry key_cmp key_total k key tt others) ∙ some-head (is_at (key_cmp key) k) tt (row_at others key) ∙ ap (λ (b : Bool). b || is_some (row_at others key)) (key-test key k) in
-    put-keys keys (put_row others k tt) key ∙ ap (λ (b : Bool). b || has_key keys key) here ∙ put-head (same_key key k) (is_some (row_at others key)) (has_key keys key)
-
-pub row-key : (entries : List (Key × Unit {0})) (key : Key) → has_key (map (λ (e : Key × Unit {0}). e.0) entries) key ≡ is_some (row_at entries key)
-row-key entries key = any-same (same_key key) (is_at (key_cmp key)) (λ k. sym (key-test key k)) (map (λ (e : Key × Unit {0}). e.0) entries) ∙ sym (is_some-lookup (is_at (key_cmp key)) entries)
-
--- each once, however many lines it has
-pub keys-once : (keys : List Key) (key : Key) → has_key (entry.keys_of [] keys) key ≡ has_key keys key
-keys-once keys key = row-key (fold (λ (os : List (Key × Unit {0})) (k : Key). put_row os k tt) [] keys) key ∙ put-keys keys [] key
 
 some-any : (test : Line → Bool) (lines : List Line) → is_some (find test lines) ≡ list_any test lines
 some-any test [] = refl

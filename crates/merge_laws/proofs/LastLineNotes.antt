@@ -3,7 +3,8 @@ use Rattle.std.specs.Prelude.{◌≡◌, List, Option, Some, None, refl}
 use Rattle.std.specs.List.{fold}
 use Rattle.merge_types.specs.declared.identifiers.SiteId.{SiteId}
 use Rattle.merge_batch.specs.declared.reply.Reply.{Reply}
-use Rattle.merge_model.specs.Tables.{Key, SubscriberTables}
+use Rattle.merge_types.specs.declared.row_key.RowKey.{RowKey as Key}
+use Rattle.merge_model.specs.Tables.{SubscriberTables}
 use Rattle.merge_model.specs.Acts.{Act}
 use Rattle.merge_model.specs.Entries.{Entries}
 use Rattle.merge_model.specs.World.{Judges}

@@ -2,7 +2,8 @@
 use Rattle.std.specs.Prelude.{◌≡◌, ℕ, false, Option, Some, None, refl, option_map, unwrap_or}
 use Rattle.std.proofs.Common.{ap, ◌∙◌}
 use Rattle.merge_schema.specs.declared.publication.Publication.{Publication}
-use Rattle.merge_model.specs.Tables.{Mapping, is_left}
+use Rattle.merge_gens.specs.declared.moves.Mapping.{Mapping}
+use Rattle.merge_gens.specs.Moves.{is_left}
 use Rattle.merge_model.specs.ByNumbers.{touch_inside, touch_outside}
 use Rattle.merge_model.specs.ByHistory.{last_line, says_left, touched_inside, touched_outside}
 use Rattle.merge_model.specs.History.{Line, LineKind, Changed, EnteredFor, LeftFor, GoneFor}

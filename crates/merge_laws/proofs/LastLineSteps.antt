@@ -7,8 +7,15 @@ use Rattle.merge_types.specs.declared.changes.Change.{Change}
 use Rattle.merge_schema.specs.declared.publication.Publication.{Publication}
 use Rattle.merge_batch.specs.declared.request.Join.{Join}
 use Rattle.merge_batch.specs.declared.request.Upload.{Upload}
+use Rattle.merge_model.specs.Failing.{Slips, faulty}
+use Rattle.merge_model.specs.Runs.{model_behind}
 use Rattle.merge_model.specs.declared.event.Event.{Event}
-use Rattle.merge_model.specs.Tables.{Key, RowSite, PublisherRow, Mapping, PublisherTables, is_left}
+use Rattle.merge_types.specs.declared.row_key.RowKey.{RowKey as Key}
+use Rattle.merge_gens.specs.declared.moves.RowSite.{RowSite}
+use Rattle.merge_units.specs.declared.site_row.PublisherRow.{PublisherRow}
+use Rattle.merge_gens.specs.declared.moves.Mapping.{Mapping}
+use Rattle.merge_gens.specs.Moves.{is_left}
+use Rattle.merge_model.specs.Tables.{PublisherTables}
 use Rattle.merge_model.specs.Keys.{put_number}
 use Rattle.merge_model.specs.Acts.{Act}
 use Rattle.merge_model.specs.Judge.{PublisherJudge}
@@ -25,10 +32,10 @@ use Rattle.merge_model.specs.History.{History, Line, Past, pasts_with, no_histor
 use Rattle.merge_model.specs.ByHistory.{by_history, by_past, by_made}
 use Rattle.merge_model.specs.Noting
 use Rattle.merge_model.specs.Model.{Model, empty_model, model}
-use Rattle.merge_model.specs.Events.{after}
-use Rattle.merge_model.proofs.Events.{events-keep}
+use Rattle.merge_model.proofs.KeptFailing.{runs-keep}
 use Rattle.merge_model.proofs.Sorted.{step-sorted}
 use Rattle.merge_model.proofs.Runs.{publisher_stays_sorted}
+use Rattle.merge_laws.proofs.Tallied.{received-tallied}
 use Rattle.merge_laws.specs.LastLines.{LastLines}
 use Rattle.merge_laws.specs.Received.{Received}
 use Rattle.merge_laws.proofs.LastLineAdded.{added, lines-with, rows-past_gone}
@@ -85,7 +92,7 @@ module _ (publication : Publication) (w : World) (h : History) (sorted : AreSort
       let more : List Line = Noting.lines_of_entries (last_closed (here w) + 1) entries in
       let acted : History = fold (Noting.with_act incoming entries) h acts in
       subst (λ (ls : List Line). Fits publication (taken_in publication judge m acts (here w)) ls) (sym (lines-with more acted ∙ ap (λ (ls : List Line). fold added ls more) (acts-lines incoming entries acts h)))
-      (entries-fit publication judge (changing_by m acts) (with_acts publication judge m acts (here w)) (last_closed (here w) + 1) h.lines sorted.mappings_ascend fits)
+      (entries-fit publication judge (changing_by m acts) (with_acts publication m acts (here w)) (last_closed (here w) + 1) h.lines sorted.mappings_ascend fits)
 
   -- A purge.
 
@@ -133,12 +140,12 @@ module _ (publication : Publication) (says : Saying) where
 begins : (publication : Publication) (tallies : List ℕ) → OfLines publication (empty_world publication tallies) no_history
 begins publication tallies = record { moves = λ key site. refl; changes = λ key held. refl; sites = λ key site held. absurd cc }
 
-pub last_lines-always : (publication : Publication) (says : Saying) (tallies : List ℕ) (events : List Event)
-    → (let m : Model = after publication (model publication says) (empty_model publication tallies) events in Fits publication m.world.publisher m.history.lines)
-last_lines-always publication says tallies events =
-    (events-keep publication (model publication says) (λ (m : Model). LinesBase m.world m.history × OfLines publication m.world m.history)
+pub last_lines-always : (publication : Publication) (says : Saying) (tallies : List ℕ) (slips : Slips) (events : List Event)
+    → (let m : Model = model_behind publication says tallies slips events in Fits publication m.world.publisher m.history.lines)
+last_lines-always publication says tallies slips events =
+    (runs-keep publication (model publication says) (λ (m : Model). LinesBase m.world m.history × OfLines publication m.world m.history)
     (λ m action both. (
       (model-fine publication says m action both.0.0, step-sorted publication says (by_history m.history) m.world action both.0.1),
       step-keeps publication says LinesBase (OfLines publication) (λ w h b. b.0) (last_lines-keep publication says) m action both.0 both.1,
-    )) events (empty_model publication tallies)
-    ((received-always publication says tallies [], publisher_stays_sorted publication says tallies []), begins publication tallies)).1
+    )) (λ m others both. ((received-tallied m.world others m.history both.0.0, both.0.1), both.1)) events (faulty (empty_model publication tallies) slips)
+    ((received-always publication says tallies [] [], publisher_stays_sorted publication says tallies [] []), begins publication tallies)).1

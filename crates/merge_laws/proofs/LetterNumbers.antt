@@ -18,9 +18,12 @@ use Rattle.merge_model.specs.Sending.{upload_sent, with_message}
 use Rattle.merge_model.specs.Subscriber.{empty_subscriber, sub_at_moment, sub_closed, sub_made_locally}
 use Rattle.merge_model.specs.Tables.{SubscriberTables}
 use Rattle.merge_model.specs.Taking.{taken}
-use Rattle.merge_model.specs.World.{Asks, Letter, Message, Saying, World, empty_world, letter_at, subscriber_at}
+use Rattle.merge_model.specs.World.{Saying, World, empty_world, letter_at, subscriber_at}
+use Rattle.merge_model.specs.declared.letter.Message.TheVariants.{Asks}
+use Rattle.merge_model.specs.declared.letter.Letter.{Letter}
+use Rattle.merge_model.specs.declared.letter.Message.{Message}
 use Rattle.merge_laws.specs.LetterNumbers.{AreNamed, DownloadsAreNamed, IsForSubscriber, LettersAreNamed}
-use Rattle.merge_laws.proofs.Finding.{all-at, all-more, at_put_other, found-named}
+use Rattle.merge_model.proofs.Finding.{all-at, all-more, at_put_other, found-named}
 use Rattle.merge_laws.proofs.Ground.{Ground}
 use Rattle.merge_laws.proofs.Models.{at-map}
 use Rattle.merge_laws.proofs.Subscribing.{number-decided, same_number}

@@ -27,14 +27,19 @@ use Rattle.merge_model.specs.PublisherUpload.{taken_in}
 use Rattle.merge_model.specs.Reinit.{reinitialised}
 use Rattle.merge_model.specs.Sending.{join_of, upload_sent, want_of, with_message}
 use Rattle.merge_model.specs.Subscriber.{is_joining, sub_at_moment, sub_closed, sub_next_dot, sub_version_at, with_version_if}
-use Rattle.merge_model.specs.Tables.{Key, PublisherTables, SubscriberTables}
+use Rattle.merge_types.specs.declared.row_key.RowKey.{RowKey as Key}
+use Rattle.merge_model.specs.Tables.{PublisherTables, SubscriberTables}
 use Rattle.merge_model.specs.Taking.{taken}
-use Rattle.merge_model.specs.World.{Asks, Letter, Message, Replies, Saying, World, empty_world, subscriber_at, with_publisher, with_subscriber}
+use Rattle.merge_model.specs.World.{Saying, World, empty_world, subscriber_at, with_publisher, with_subscriber}
+use Rattle.merge_model.specs.declared.letter.Message.TheVariants.{Asks, Replies}
+use Rattle.merge_model.specs.declared.letter.Letter.{Letter}
+use Rattle.merge_model.specs.declared.letter.Message.{Message}
+use Rattle.merge_laws.proofs.Tallied.{order-tallied}
 use Rattle.merge_laws.specs.LetterOrder.{JoinIsLater, LetterOrder, last_upload, upload_seq}
 use Rattle.merge_laws.specs.Received.{LetterFits, MessageFits, Received, joined_at}
 use Rattle.merge_laws.proofs.Arrivals.{first-none, joined-rises}
-use Rattle.merge_laws.proofs.Finding.{all-more, all-weaker, at_put_other, at_put_same}
-use Rattle.merge_laws.proofs.Lists.{all-both}
+use Rattle.merge_model.proofs.Finding.{all-more, all-weaker, at_put_other, at_put_same}
+use Rattle.merge_model.proofs.Lists.{all-both}
 use Rattle.merge_laws.proofs.MessageFacts.{acts-later}
 use Rattle.merge_laws.proofs.Publishing.{SameNumbers, asked-same, same-sites, upload-joined}
 use Rattle.merge_laws.proofs.Steps.{joined-flag}
@@ -160,9 +165,6 @@ abbrev OfWorlds : World → History → Type 0
 OfWorlds w h = LetterOrder w
 
 module _ (publication : Publication) (says : Saying) where
-  with-tallies : (w : World) (tallies : List ℕ) → LetterOrder w → LetterOrder (record w { tallies = tallies })
-  with-tallies w tallies i = record { sent = i.sent; joins = i.joins }
-
   pub order-keeps : StepsKeep publication says Received OfWorlds
   order-keeps = record {
     moment = λ w h now r i. record { sent = i.sent; joins = i.joins };
@@ -193,11 +195,11 @@ module _ (publication : Publication) (says : Saying) where
         let acts : List Act = acts_in publication says judge m w in
         let q : PublisherTables = taken_in publication judge m acts (here w) in
         post-other (uploaded_world publication says judge m q w) m.site (Replies (reply.Uploaded (told_by judge m))) refl tt
-        (with-tallies (with_publisher q w) (uploaded_world publication says judge m q w).tallies (publisher-on w q (λ site. (let e = upload-joined m acts w.publisher.sites site.0 in omega (arith, e))) i)));
+        (order-tallied (with_publisher q w) (uploaded_world publication says judge m q w).tallies (publisher-on w q (λ site. (let e = upload-joined m acts w.publisher.sites site.0 in omega (arith, e))) i)));
     uploads_again = λ w h number m r i at none. (
         let judge : PublisherJudge = by_past h (pasts_with h number) in
         post-other (uploaded_world publication says judge m (here w) w) m.site (Replies (reply.Uploaded (told_by judge m))) refl tt
-        (with-tallies (with_publisher (here w) w) (uploaded_world publication says judge m (here w) w).tallies (publisher-same w (here w) (same-sites w.publisher (here w) refl) i)));
+        (order-tallied (with_publisher (here w) w) (uploaded_world publication says judge m (here w) w).tallies (publisher-same w (here w) (same-sites w.publisher (here w) refl) i)));
     answers_ranges = λ w h site m r i. (let q : PublisherTables = with_grants (plans publication m w.publisher) (here w) in
         post-other (with_publisher q w) site (Replies (reply.Ranged (ranged m (plans publication m w.publisher)))) refl tt (publisher-same w q (same-sites w.publisher q refl) i));
     answers_ask = λ w h number site m r i at fine. (let q : PublisherTables = asked m (here w) in let same = asked-same m (here w) in

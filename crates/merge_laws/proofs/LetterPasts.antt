@@ -11,13 +11,14 @@ use Rattle.merge_batch.specs.declared.reply.DownloadItem.{DownloadItem}
 use Rattle.merge_batch.specs.declared.request.UploadItem.{UploadItem}
 use Rattle.merge_model.specs.Acts.{key_of_item}
 use Rattle.merge_model.specs.History.{Past, no_past, past_in}
-use Rattle.merge_model.specs.Keys.{key_cmp, row_at, same_key}
+use Rattle.merge_types.specs.RowKeys.{key_cmp}
+use Rattle.merge_model.specs.Keys.{row_at, same_key}
 use Rattle.merge_model.specs.Model.{past_of_item, put_past}
-use Rattle.merge_model.specs.Tables.{Key}
+use Rattle.merge_types.specs.declared.row_key.RowKey.{RowKey as Key}
 use Rattle.merge_model.specs.Taking.{key_of_download}
 use Rattle.merge_laws.specs.LineagesStand.{OfOrder}
-use Rattle.merge_laws.proofs.KeyLookUps.{key-itself, key-test, keys-exact, keys-same}
-use Rattle.merge_laws.proofs.Lists.{all-both, each-found}
+use Rattle.merge_model.proofs.KeyLookUps.{key-itself, key-test, keys-exact, keys-same}
+use Rattle.merge_model.proofs.Lists.{all-both, each-found}
 
 -- What is found of a row that an item is made of.
 

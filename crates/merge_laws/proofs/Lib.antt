@@ -1,6 +1,5 @@
-pub mod Tests
-pub mod Finding
-pub mod Lists
+pub mod Tallied
+pub mod DotTests
 pub mod NotesLeave
 pub mod MessageFacts
 pub mod Subscribing
@@ -12,7 +11,6 @@ pub mod Steps
 pub mod Sendings
 pub mod Deliveries
 pub mod Models
-pub mod LastLineKeys
 pub mod LastLineAdded
 pub mod LastLineEntries
 pub mod LastLineGone
@@ -24,7 +22,6 @@ pub mod Through
 pub mod Telling
 pub mod Numbers
 pub mod Tellings
-pub mod KeyLookUps
 pub mod PastLookUps
 pub mod HeldRows
 pub mod LetterPasts
@@ -50,7 +47,6 @@ pub mod PurgeNotes
 pub mod PurgeSteps
 pub mod Shapes
 pub mod PurgeModels
-pub mod Downloads
 pub mod WatermarkLists
 pub mod WatermarkSites
 pub mod WatermarkModels
@@ -77,8 +73,6 @@ pub mod ToldReplies
 pub mod ToldWalk
 pub mod ToldSteps
 pub mod TouchLists
-pub mod TouchParts
-pub mod TouchMoves
 pub mod TouchEntries
 pub mod TouchCases
 pub mod TouchUploads

@@ -14,7 +14,7 @@ use Rattle.merge_lineage.proofs.Joined.{ascending-joined, joins-joined}
 use Rattle.merge_lineage.proofs.Numbers.{number-with_dot}
 use Rattle.merge_lineage.proofs.Rising.{ascending_with_dot}
 use Rattle.merge_laws.specs.Lineages.{IsOfMade}
-use Rattle.merge_laws.proofs.Lists.{OfSome}
+use Rattle.merge_model.proofs.Lists.{OfSome}
 
 -- Of what may be found.
 

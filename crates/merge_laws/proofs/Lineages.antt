@@ -17,31 +17,36 @@ use Rattle.merge_units.specs.declared.version.Version.{Version}
 use Rattle.merge_units.specs.Changes.{changed, removed}
 use Rattle.merge_units.specs.Results.{result_lineage}
 use Rattle.merge_units.specs.Version.{is_live}
-use Rattle.merge_conflict.specs.declared.case.ConflictCase.{ConflictCase}
+use Rattle.merge_conflict.specs.declared.losers.Conflict.{Conflict}
 use Rattle.merge_conflict.specs.declared.row.ConflictRow.{ConflictRow}
-use Rattle.merge_resolve.specs.Losers.{losing_rows, publisher_site}
+use Rattle.merge_conflict.specs.Losers.{losing_rows, publisher_site}
 use Rattle.merge_schema.specs.declared.publication.Publication.{Publication}
 use Rattle.merge_batch.specs.declared.reply.Act.{Act as Order}
 use Rattle.merge_batch.specs.declared.reply.Act.TheVariants as order
 use Rattle.merge_batch.specs.declared.reply.DownloadItem.{DownloadItem}
 use Rattle.merge_batch.specs.declared.request.UploadItem.{UploadItem}
-use Rattle.merge_model.specs.Acts.{Act, Fate, Met, New, Unknown, act_of, acts_from, case_asked, case_met, changes_by, decided_changes, decision_for, fate_by, is_new_row, key_of_item, left_by, lost_by, lost_from, made_by, version_by, version_of_act, versions_of}
-use Rattle.merge_model.specs.Cases.{is_conflict}
+use Rattle.merge_model.specs.Acts.{Act, Fate, Met, New, Unknown, act_of, acts_from, conflict_of, case_met, changes_by, decided_changes, decision_for, fate_by, is_new_row, key_of_item, left_by, lost_by, lost_from, made_by, version_by, version_of_act, versions_of}
+use Rattle.merge_units.specs.Cases.{is_conflict}
 use Rattle.merge_model.specs.Changes.{version_after}
 use Rattle.merge_model.specs.Entries.{with_rows}
 use Rattle.merge_model.specs.Judge.{PublisherJudge, SubscriberJudge}
-use Rattle.merge_model.specs.Keys.{key_cmp, put_row, row_at}
-use Rattle.merge_model.specs.PublisherDownload.{TouchedRow, item_of, order_by}
+use Rattle.merge_types.specs.RowKeys.{key_cmp}
+use Rattle.merge_model.specs.Keys.{put_row, row_at}
+use Rattle.merge_model.specs.PublisherDownload.{TouchedRow, item_of}
+use Rattle.merge_batch.specs.Orders.{order_by}
 use Rattle.merge_model.specs.PublisherLocal.{version_at}
 use Rattle.merge_model.specs.Publications.{tracking_at}
 use Rattle.merge_model.specs.Reinit.{discarded, numbered_from}
 use Rattle.merge_model.specs.Sending.{upload_item}
 use Rattle.merge_model.specs.Subscriber.{sub_version_at, with_version_if}
-use Rattle.merge_model.specs.Tables.{Key, PublisherRow, PublisherTables, SubscriberRow, SubscriberTables}
+use Rattle.merge_types.specs.declared.row_key.RowKey.{RowKey as Key}
+use Rattle.merge_units.specs.declared.site_row.PublisherRow.{PublisherRow}
+use Rattle.merge_units.specs.declared.site_row.SubscriberRow.{SubscriberRow}
+use Rattle.merge_model.specs.Tables.{PublisherTables, SubscriberTables}
 use Rattle.merge_model.specs.Taking.{key_of_download, row_above, with_item, with_order}
 use Rattle.merge_laws.specs.Lineages.{OfLost, OfOrder}
 use Rattle.merge_laws.proofs.LineageLists.{values-dropped, values-found, values-put}
-use Rattle.merge_laws.proofs.Lists.{OfSome, some-map, all-unit, all-map, all-filter_map, all-append}
+use Rattle.merge_model.proofs.Lists.{OfSome, some-map, all-unit, all-map, all-filter_map, all-append}
 
 -- Of a fact of lineages, in general.
 
@@ -111,28 +116,28 @@ module _ (Q : List Dot → Type 0) where
     versions-fit acts all = all-filter_map ActFits (λ (row : Key × Version). OfVersion row.1) version_of_act (λ act fits. version-fits act.key act.incoming act.fate fits.0 fits.1) acts all
 
   -- what they lose
-  losing-fits : (number : ℕ) (case : ConflictCase) (ours theirs : Version) (decision : Decision) → OfVersion ours → OfVersion theirs → OfLost Q (losing_rows number case ours theirs decision)
-  losing-fits number case ours theirs KeepPublisher first second = (second, tt)
-  losing-fits number case ours theirs TakeSubscriber first second = (first, tt)
-  losing-fits number case ours theirs (Custom values) first second = (first, (second, tt))
+  losing-fits : (conflict : Conflict) (ours theirs : Version) (decision : Decision) → OfVersion ours → OfVersion theirs → OfLost Q (losing_rows conflict ours theirs decision)
+  losing-fits conflict ours theirs KeepPublisher first second = (second, tt)
+  losing-fits conflict ours theirs TakeSubscriber first second = (first, tt)
+  losing-fits conflict ours theirs (Custom values) first second = (first, (second, tt))
 
   if-lost : (b : Bool) (rows : List ConflictRow) → OfLost Q rows → OfLost Q (if b then rows else [])
   if-lost true rows all = all
   if-lost false rows all = tt
 
-  lost-fits : (publication : Publication) (judge : PublisherJudge) (site : SiteId) (moment : Moment) (number : ℕ) (act : Act) (fate : Fate) → OfVersion act.incoming → FateFits fate → OfLost Q (lost_by publication judge site moment number act fate)
-  lost-fits publication judge site moment number act New first fits = tt
-  lost-fits publication judge site moment number act Unknown first fits = (first, tt)
-  lost-fits publication judge site moment number act (Met held case decision dot) first fits =
-      if-lost (is_conflict case) (losing_rows number (case_asked publication judge site moment act.key held act.incoming case) held act.incoming decision)
-      (losing-fits number (case_asked publication judge site moment act.key held act.incoming case) held act.incoming decision fits.0 first)
+  lost-fits : (publication : Publication) (site : SiteId) (moment : Moment) (number : ℕ) (act : Act) (fate : Fate) → OfVersion act.incoming → FateFits fate → OfLost Q (lost_by publication site moment number act fate)
+  lost-fits publication site moment number act New first fits = tt
+  lost-fits publication site moment number act Unknown first fits = (first, tt)
+  lost-fits publication site moment number act (Met held case decision dot) first fits =
+      let conflict : Conflict = conflict_of publication site moment number act.key in
+      if-lost (is_conflict case) (losing_rows conflict held act.incoming decision) (losing-fits conflict held act.incoming decision fits.0 first)
 
-  pub all-lost : (publication : Publication) (judge : PublisherJudge) (site : SiteId) (moment : Moment) (number : ℕ) (acts : List Act) → AllByRecursion ActFits acts → OfLost Q (lost_from publication judge site moment number acts)
-  all-lost publication judge site moment number [] all = tt
-  all-lost publication judge site moment number (act ∷ acts) all =
-      let rows : List ConflictRow = lost_by publication judge site moment number act act.fate in
-      all-append (λ (row : ConflictRow). Q row.losing.lineage) rows (lost_from publication judge site moment (number + length rows) acts) (lost-fits publication judge site moment number act act.fate all.0.0 all.0.1)
-      (all-lost publication judge site moment (number + length rows) acts all.1)
+  pub all-lost : (publication : Publication) (site : SiteId) (moment : Moment) (number : ℕ) (acts : List Act) → AllByRecursion ActFits acts → OfLost Q (lost_from publication site moment number acts)
+  all-lost publication site moment number [] all = tt
+  all-lost publication site moment number (act ∷ acts) all =
+      let rows : List ConflictRow = lost_by publication site moment number act act.fate in
+      all-append (λ (row : ConflictRow). Q row.losing.lineage) rows (lost_from publication site moment (number + length rows) acts) (lost-fits publication site moment number act act.fate all.0.0 all.0.1)
+      (all-lost publication site moment (number + length rows) acts all.1)
 
   -- acts of items and rows that fit, whose decided changes are numbered up to a top
   module _ (judge : PublisherJudge) (site : SiteId) (p : PublisherTables) (rows : OfRows p.rows) (top : ℕ) (knows : (number : ℕ) → number ≤ top → (l : List Dot) → Q l → Q (with_dot (record { site = publisher_site; number = number }) l)) where

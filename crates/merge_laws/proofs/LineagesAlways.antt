@@ -8,31 +8,37 @@ use Rattle.merge_batch.specs.declared.request.UploadItem.{UploadItem}
 use Rattle.merge_model.specs.Acts.{key_of_item}
 use Rattle.merge_model.specs.Bridge.{CaseDecidesAlike, PublisherDecidesAlike, StepsAlike}
 use Rattle.merge_model.specs.Events.{after, machine, machine_answers}
+use Rattle.merge_model.specs.Failing.{Slips, faulty}
 use Rattle.merge_model.specs.History.{past_in, pasts_with}
 use Rattle.merge_model.specs.Keys.{row_at}
 use Rattle.merge_model.specs.Model.{Model, empty_model, model, model_answers, model_step}
 use Rattle.merge_model.specs.Promises.{AllStand}
+use Rattle.merge_model.specs.Runs.{machine_says, model_behind, model_says, world_behind}
 use Rattle.merge_model.specs.Steps.{Action}
-use Rattle.merge_model.specs.Tables.{PublisherRow}
+use Rattle.merge_units.specs.declared.site_row.PublisherRow.{PublisherRow}
 use Rattle.merge_model.specs.World.{Saying, empty_world}
 use Rattle.merge_model.specs.declared.event.Event.{Event}
-use Rattle.merge_model.proofs.Events.{events-keep}
+use Rattle.merge_model.proofs.KeptFailing.{runs-keep}
 use Rattle.merge_laws.specs.Accepted.{AllAccepted}
 use Rattle.merge_laws.specs.Deciding.{CasesDecideAlike}
 use Rattle.merge_laws.specs.LineagesStand.{AllTold, LineagesStand, OwnKnown, Owns}
 use Rattle.merge_laws.specs.TablesAgree.{TablesAgree}
+use Rattle.merge_laws.proofs.AcceptedParts.{tallies-accepted}
 use Rattle.merge_laws.proofs.AcceptedSteps.{accepted-step, all-begin}
 use Rattle.merge_laws.proofs.AlikeCases.{Meets, held-meets, items-meet}
 use Rattle.merge_laws.proofs.AlikeDecisions.{case-decides-alike, publisher-decides-alike}
-use Rattle.merge_laws.proofs.AlikeRuns.{after-alike, answers-alike}
+use Rattle.merge_laws.proofs.AlikeRuns.{after-alike, answers-alike, failing-alike}
 use Rattle.merge_laws.proofs.AlikeSteps.{steps-alike}
 use Rattle.merge_laws.proofs.AllStand.{all-stand}
-use Rattle.merge_laws.proofs.Finding.{all-weaker}
-use Rattle.merge_laws.proofs.Ground.{Ground}
+use Rattle.merge_model.proofs.Finding.{all-weaker}
+use Rattle.merge_laws.proofs.Ground.{Ground, ground-tallied}
 use Rattle.merge_laws.proofs.LineagesStand.{lineages-stand}
+use Rattle.merge_laws.proofs.OwnParts.{OwnRest}
+use Rattle.merge_laws.proofs.OwnQuiet.{quiet}
 use Rattle.merge_laws.proofs.OwnSteps.{Grounded, grounded-begins, grounded-step, own-begins, own-step}
 use Rattle.merge_laws.proofs.SeenKept.{HasSeen, seen-begins, seen-step}
 use Rattle.merge_laws.proofs.TablesAgree.{tables-begin, tables-step}
+use Rattle.merge_laws.proofs.Tallied.{makers-tallied, order-tallied, tables-tallied}
 use Rattle.merge_laws.proofs.ToldSteps.{OfTold, told-begins, told-keeps}
 use Rattle.merge_laws.proofs.Walking.{step-keeps}
 
@@ -99,12 +105,53 @@ kept-begins publication says tallies valid = record {
   seen = seen-begins publication tallies;
 }
 
+-- Other tallies keep it.
+
+abbrev with_tallies : List ℕ → Model → Model
+with_tallies tallies m = record m { world = record m.world { tallies = tallies } }
+
+told-tallied : (m : Model) (others : List ℕ) → AllTold m → AllTold (with_tallies others m)
+told-tallied m others t = record { publisher = t.publisher; subscribers = t.subscribers; letters = t.letters; conflicts = t.conflicts; discards = t.discards }
+
+own-tallied : (m : Model) (others : List ℕ) → OwnKnown m → OwnKnown (with_tallies others m)
+own-tallied m others o =
+    let rest : OwnRest (with_tallies others m) = quiet m.world m.history m.world.publisher others m.world.moment m.history.done m.history.lines m.history.bases (λ c is. is) (λ site. omega arith)
+    (record { making = o.making; own = o.own; uploads = o.uploads; replies = o.replies }) in
+    record { making = rest.making; own = rest.own; acted = o.acted; uploads = rest.uploads; replies = rest.replies }
+
+pub kept-tallied : (publication : Publication) (m : Model) (others : List ℕ) → Kept publication m → Kept publication (with_tallies others m)
+kept-tallied publication m others k = record {
+  grounded = (ground-tallied publication m.world m.history others k.grounded.0, k.grounded.1);
+  told = told-tallied m others k.told;
+  own = own-tallied m others k.own;
+  accepted = record {
+    order = order-tallied m.world others k.accepted.order;
+    makers = makers-tallied m.world others m.history k.accepted.makers;
+    accepted = tallies-accepted m.world m.history others k.accepted.accepted;
+  };
+  tables = tables-tallied m.world others m.history k.tables;
+  seen = k.seen;
+}
+
+module _ (publication : Publication) (valid : (resolvers : ℕ) × IsValid resolvers publication) (says : Saying) (tallies : List ℕ) (slips : Slips) (events : List Event) where
+  pub kept-always : Kept publication (model_behind publication says tallies slips events)
+  kept-always = runs-keep publication (model publication says) (Kept publication) (λ m action k. kept-step publication m k says action) (λ m others k. kept-tallied publication m others k) events
+      (faulty (empty_model publication tallies) slips) (kept-begins publication says tallies valid)
+
+  runs-same : (machine_says publication says tallies slips events ≡ model_says publication says tallies slips events) × (world_behind publication says tallies slips events ≡ (model_behind publication says tallies slips events).world)
+  runs-same = failing-alike publication says (Kept publication) (λ m action k. kept-step publication m k says action) (λ m action k. alike-step publication m k says action) (λ m others k. kept-tallied publication m others k) slips events
+      (empty_model publication tallies) (kept-begins publication says tallies valid)
+
+  pub answers-same : machine_says publication says tallies slips events ≡ model_says publication says tallies slips events
+  answers-same = runs-same.0
+
+  pub worlds-same : world_behind publication says tallies slips events ≡ (model_behind publication says tallies slips events).world
+  worlds-same = runs-same.1
+
+-- and where no step can fail
 module _ (publication : Publication) (valid : (resolvers : ℕ) × IsValid resolvers publication) (says : Saying) (tallies : List ℕ) (events : List Event) where
-  pub kept-always : Kept publication (after publication (model publication says) (empty_model publication tallies) events)
-  kept-always = events-keep publication (model publication says) (Kept publication) (λ m action k. kept-step publication m k says action) events (empty_model publication tallies) (kept-begins publication says tallies valid)
+  pub plain-answers-same : machine_answers publication says tallies events ≡ model_answers publication says tallies events
+  plain-answers-same = answers-alike publication says (Kept publication) (λ m action k. kept-step publication m k says action) (λ m action k. alike-step publication m k says action) events (empty_model publication tallies) (kept-begins publication says tallies valid)
 
-  pub answers-same : machine_answers publication says tallies events ≡ model_answers publication says tallies events
-  answers-same = answers-alike publication says (Kept publication) (λ m action k. kept-step publication m k says action) (λ m action k. alike-step publication m k says action) events (empty_model publication tallies) (kept-begins publication says tallies valid)
-
-  pub worlds-same : after publication (machine publication says) (empty_world publication tallies) events ≡ (after publication (model publication says) (empty_model publication tallies) events).world
-  worlds-same = after-alike publication says (Kept publication) (λ m action k. kept-step publication m k says action) (λ m action k. alike-step publication m k says action) events (empty_model publication tallies) (kept-begins publication says tallies valid)
+  pub plain-worlds-same : after publication (machine publication says) (empty_world publication tallies) events ≡ (after publication (model publication says) (empty_model publication tallies) events).world
+  plain-worlds-same = after-alike publication says (Kept publication) (λ m action k. kept-step publication m k says action) (λ m action k. alike-step publication m k says action) events (empty_model publication tallies) (kept-begins publication says tallies valid)

@@ -13,7 +13,7 @@ use Rattle.merge_units.specs.declared.result.Decision.{Decision}
 use Rattle.merge_units.specs.declared.version.Version.{Version}
 use Rattle.merge_conflict.specs.declared.row.ConflictRow.{ConflictRow}
 use Rattle.merge_ident.specs.Holders.{Holder}
-use Rattle.merge_resolve.specs.Losers.{publisher_site}
+use Rattle.merge_conflict.specs.Losers.{publisher_site}
 use Rattle.merge_schema.specs.declared.publication.Publication.{Publication}
 use Rattle.merge_batch.specs.declared.reply.Act.{Act as Order}
 use Rattle.merge_batch.specs.declared.reply.Act.TheVariants as order
@@ -25,10 +25,11 @@ use Rattle.merge_batch.specs.declared.request.Outstanding.TheVariants as ask
 use Rattle.merge_batch.specs.declared.request.Request.TheVariants as request
 use Rattle.merge_batch.specs.declared.request.Upload.{Upload}
 use Rattle.merge_batch.specs.declared.request.UploadItem.{UploadItem}
+use Rattle.merge_model.specs.Failing.{Slips, faulty}
+use Rattle.merge_model.specs.Runs.{model_behind}
 use Rattle.merge_model.specs.Acts.{Act, acting_items, changes_by}
 use Rattle.merge_model.specs.ByHistory.{by_made, by_past}
 use Rattle.merge_model.specs.Changes.{key_of, version_after}
-use Rattle.merge_model.specs.Events.{after}
 use Rattle.merge_model.specs.History.{History, pasts_with}
 use Rattle.merge_model.specs.Judge.{PublisherJudge, SubscriberJudge}
 use Rattle.merge_model.specs.Keys.{at_number, put_number}
@@ -44,17 +45,25 @@ use Rattle.merge_model.specs.Reinit.{discarded, numbered_from, reinitialised}
 use Rattle.merge_model.specs.Sending.{join_of, upload_sent, want_of, with_message}
 use Rattle.merge_model.specs.Steps.{kept_decisions, upload_questions}
 use Rattle.merge_model.specs.Subscriber.{sub_at_moment, sub_closed, sub_made_locally, sub_next_dot, sub_version_at, with_version_if}
-use Rattle.merge_model.specs.Tables.{Key, PublisherRow, PublisherTables, SubscriberRow, SubscriberTables}
+use Rattle.merge_types.specs.declared.row_key.RowKey.{RowKey as Key}
+use Rattle.merge_units.specs.declared.site_row.PublisherRow.{PublisherRow}
+use Rattle.merge_units.specs.declared.site_row.SubscriberRow.{SubscriberRow}
+use Rattle.merge_model.specs.Tables.{PublisherTables, SubscriberTables}
 use Rattle.merge_model.specs.Taking.{row_above, taken}
-use Rattle.merge_model.specs.World.{Asks, Letter, Message, Replies, Saying, World, empty_world, letter_at, subscriber_at, with_publisher, with_subscriber}
+use Rattle.merge_model.specs.World.{Saying, World, empty_world, letter_at, subscriber_at, with_publisher, with_subscriber}
+use Rattle.merge_model.specs.declared.letter.Message.TheVariants.{Asks, Replies}
+use Rattle.merge_model.specs.declared.letter.Letter.{Letter}
+use Rattle.merge_model.specs.declared.letter.Message.{Message}
 use Rattle.merge_model.specs.declared.event.Event.{Event}
-use Rattle.merge_model.proofs.Events.{events-keep}
-use Rattle.merge_laws.specs.Lineages.{IsOfMade, LineagesAreMade, OfLineages, OfLost, OfMessage, OfOrder, OfPublisher, OfSubscriber, changes_of}
+use Rattle.merge_model.proofs.KeptFailing.{runs-keep}
+use Rattle.merge_laws.proofs.Tallied.{lineages-tallied, received-tallied}
+use Rattle.merge_laws.specs.Lineages.{IsOfMade, LineagesAreMade, OfLineages, OfLost, OfMessage, OfOrder, OfPublisher, OfSubscriber}
+use Rattle.merge_laws.specs.Knowledge.{changes_of}
 use Rattle.merge_laws.specs.Received.{Received}
-use Rattle.merge_laws.proofs.Finding.{all-at, all-more, all-weaker, at_put_other, at_put_same}
+use Rattle.merge_model.proofs.Finding.{all-at, all-more, all-weaker, at_put_other, at_put_same}
 use Rattle.merge_laws.proofs.LineageLists.{made-dot, made-joined, made-none}
 use Rattle.merge_laws.proofs.Lineages.{ActFits, acts-fit, after-fits, all-lost, anew-lost, held-found, own-above, own-found, own-items, own-put, put-items, rows-changed, sent-items, versions-fit, versions-local}
-use Rattle.merge_laws.proofs.Lists.{all-append, all-filter}
+use Rattle.merge_model.proofs.Lists.{all-append, all-filter}
 use Rattle.merge_laws.proofs.Models.{begins, begins-with, model-fine}
 use Rattle.merge_laws.proofs.Subscribing.{number-decided, same_number, version-conflicts}
 use Rattle.merge_laws.proofs.UnsentKept.{version-site}
@@ -91,9 +100,6 @@ module _ (Q : List Dot → Type 0) where
   letter-put : (w : World) (letter : Letter) → OfMessage Q letter.message → OfLineages Q w → OfLineages Q (record w { pool = w.pool ++ letter ∷ [] })
   letter-put w letter new i = record { publisher = i.publisher; subscribers = i.subscribers; letters = all-more (λ (x : Letter). OfMessage Q x.message) w.pool letter i.letters new }
 
-  tallies-put : (w : World) (tallies : List ℕ) → OfLineages Q w → OfLineages Q (record w { tallies = tallies })
-  tallies-put w tallies i = record { publisher = i.publisher; subscribers = i.subscribers; letters = i.letters }
-
   letter-of : (w : World) (number : ℕ) (letter : Letter) → OfLineages Q w → letter_at w number ≡ Some letter → OfMessage Q letter.message
   letter-of w zero letter i at = absurd (grind (arith, at))
   letter-of w (suc k) letter i at = all-at (λ (x : Letter). OfMessage Q x.message) w.pool k letter at i.letters
@@ -126,7 +132,7 @@ module _ (Q : List Dot → Type 0) where
   upload-taken : (publication : Publication) (judge : PublisherJudge) (m : Upload) (acts : List Act) (p : PublisherTables) → ((a b : List Dot) → Q a → Q b → Q (joined a b)) → AllByRecursion (ActFits Q) acts → OfPublisher Q p → OfPublisher Q (taken_in publication judge m acts p)
   upload-taken publication judge m acts p join fits f = record {
     rows = rows-changed Q _ _ p.rows (versions-fit Q join acts fits) f.rows;
-    lost = all-append (λ (row : ConflictRow). Q row.losing.lineage) p.conflicts _ f.lost (all-lost Q publication judge m.site p.latest (p.conflict_count + 1) acts fits);
+    lost = all-append (λ (row : ConflictRow). Q row.losing.lineage) p.conflicts _ f.lost (all-lost Q publication m.site p.latest (p.conflict_count + 1) acts fits);
   }
 
   change-made : (publication : Publication) (change : Change) (d : Value × List (ℕ × Holder)) (s : SubscriberTables) (w : World) → ((l : List Dot) → Q l → Q (with_dot (sub_next_dot s) l)) → Q [] → OfSubscriber Q s → OfSubscriber Q (sub_made_locally publication change d (sub_at_moment w.moment s)).0
@@ -319,9 +325,9 @@ module _ (publication : Publication) (says : Saying) where
     joins = λ w h number m r i at fine acts. (let q : PublisherTables = join_taken m (here w) in on-letter (with_publisher q w) m.site (Replies (reply.Joined (record { seq = m.seq }))) tt (stays-there w q refl refl refl i));
     joins_again = λ w h number m r i at acts. on-letter (with_publisher (here w) w) m.site (Replies (reply.Joined (record { seq = m.seq }))) tt (stays-there w (here w) refl refl refl i);
     uploads = λ w h number m r i at fine news. (let judge : PublisherJudge = by_past h (pasts_with h number) in let q : PublisherTables = taken_in publication judge m (acts_in publication says judge m w) (here w) in let v : World = uploaded_world publication says judge m q w in
-        on-letter v m.site (Replies (reply.Uploaded (told_by judge m))) tt (tallies-put (Made v) (with_publisher q w) v.tallies (upload-kept w judge number m at i)));
+        on-letter v m.site (Replies (reply.Uploaded (told_by judge m))) tt (lineages-tallied (with_publisher q w) v.tallies (Made v) (upload-kept w judge number m at i)));
     uploads_again = λ w h number m r i at none. (let judge : PublisherJudge = by_past h (pasts_with h number) in let v : World = uploaded_world publication says judge m (here w) w in
-        on-letter v m.site (Replies (reply.Uploaded (told_by judge m))) tt (tallies-put (Made v) (with_publisher (here w) w) v.tallies (stays-there w (here w) refl refl refl i)));
+        on-letter v m.site (Replies (reply.Uploaded (told_by judge m))) tt (lineages-tallied (with_publisher (here w) w) v.tallies (Made v) (stays-there w (here w) refl refl refl i)));
     answers_ranges = λ w h site m r i. (let q : PublisherTables = with_grants (plans publication m w.publisher) (here w) in
         on-letter (with_publisher q w) site (Replies (reply.Ranged (ranged m (plans publication m w.publisher)))) tt (stays-there w q refl refl refl i));
     answers_ask = λ w h number site m r i at fine. ask-answers w h number site m i;
@@ -338,8 +344,8 @@ lineages-begin publication tallies = record {
   letters = tt;
 }
 
-pub lineages-always : (publication : Publication) (says : Saying) (tallies : List ℕ) (events : List Event)
-    → (let m : Model = after publication (model publication says) (empty_model publication tallies) events in Received m.world m.history × LineagesAreMade m.world)
-lineages-always publication says tallies events = events-keep publication (model publication says) (λ (m : Model). Received m.world m.history × LineagesAreMade m.world)
-    (λ m action i. (model-fine publication says m action i.0, step-keeps publication says Received OfWorlds (λ w h r. r) (lineages-keep publication says) m action i.0 i.1)) events (empty_model publication tallies)
+pub lineages-always : (publication : Publication) (says : Saying) (tallies : List ℕ) (slips : Slips) (events : List Event)
+    → (let m : Model = model_behind publication says tallies slips events in Received m.world m.history × LineagesAreMade m.world)
+lineages-always publication says tallies slips events = runs-keep publication (model publication says) (λ (m : Model). Received m.world m.history × LineagesAreMade m.world)
+    (λ m action i. (model-fine publication says m action i.0, step-keeps publication says Received OfWorlds (λ w h r. r) (lineages-keep publication says) m action i.0 i.1)) (λ m others i. (received-tallied m.world others m.history i.0, lineages-tallied m.world others (Made m.world) i.1)) events (faulty (empty_model publication tallies) slips)
     (begins publication tallies, lineages-begin publication tallies)

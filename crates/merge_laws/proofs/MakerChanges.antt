@@ -19,9 +19,13 @@ use Rattle.merge_model.specs.Noting
 use Rattle.merge_model.specs.Pasts.{past_after}
 use Rattle.merge_model.specs.Publisher.{counters, last_closed}
 use Rattle.merge_model.specs.PublisherLocal.{local_refusal, next_dot, version_at}
-use Rattle.merge_model.specs.Refusals.{counter_end, counter_limit}
+use Rattle.merge_types.specs.Limits.{counter_limit}
+use Rattle.merge_model.specs.Refusals.{counter_end}
 use Rattle.merge_model.specs.Subscriber.{is_joining, sub_counters, sub_last_closed, sub_local_refusal, sub_next_dot, sub_version_at}
-use Rattle.merge_model.specs.Tables.{Key, PublisherRow, PublisherTables, SubscriberRow, SubscriberTables}
+use Rattle.merge_types.specs.declared.row_key.RowKey.{RowKey as Key}
+use Rattle.merge_units.specs.declared.site_row.PublisherRow.{PublisherRow}
+use Rattle.merge_units.specs.declared.site_row.SubscriberRow.{SubscriberRow}
+use Rattle.merge_model.specs.Tables.{PublisherTables, SubscriberTables}
 use Rattle.merge_laws.specs.Knowledge.{AreNumbered, Knows, is_made}
 use Rattle.merge_laws.specs.KnownMakers.{IsAfterMaker, KnowsMaker}
 use Rattle.merge_laws.proofs.Arrivals.{first-none, not-refused}

@@ -11,27 +11,32 @@ use Rattle.merge_batch.specs.declared.reply.Act.{Act as Order}
 use Rattle.merge_batch.specs.declared.reply.Act.TheVariants as order
 use Rattle.merge_batch.specs.declared.reply.DownloadItem.{DownloadItem}
 use Rattle.merge_batch.specs.declared.request.UploadItem.{UploadItem}
-use Rattle.merge_gens.proofs.Sets.{sorted_put, sorted_take}
+use Rattle.merge_table.proofs.Sorted.{sorted_put, sorted_take}
 use Rattle.merge_model.specs.Acts.{key_of_item}
 use Rattle.merge_model.specs.History.{History, Past, past_in, pasts_at}
 use Rattle.merge_model.specs.Judge.{SubscriberJudge}
-use Rattle.merge_model.specs.Keys.{drop_row, has_key, key_cmp, put_row, row_at, same_key}
+use Rattle.merge_types.specs.RowKeys.{key_cmp}
+use Rattle.merge_model.specs.Keys.{drop_row, has_key, put_row, row_at, same_key}
 use Rattle.merge_model.specs.Noting
-use Rattle.merge_model.specs.PublisherDownload.{TouchedRow, item_of, order_by}
+use Rattle.merge_model.specs.PublisherDownload.{TouchedRow, item_of}
+use Rattle.merge_batch.specs.Orders.{order_by}
 use Rattle.merge_model.specs.Sending.{upload_item}
-use Rattle.merge_model.specs.Tables.{Key, PublisherRow, PublisherTables, SubscriberRow, SubscriberTables}
+use Rattle.merge_types.specs.declared.row_key.RowKey.{RowKey as Key}
+use Rattle.merge_units.specs.declared.site_row.PublisherRow.{PublisherRow}
+use Rattle.merge_units.specs.declared.site_row.SubscriberRow.{SubscriberRow}
+use Rattle.merge_model.specs.Tables.{PublisherTables, SubscriberTables}
 use Rattle.merge_model.specs.Taking.{key_of_download, row_above, with_item, with_order}
 use Rattle.merge_model.proofs.Sorted.{key_total}
 use Rattle.merge_laws.specs.KnownMakers.{Ascend, HeldKnow, KnowsMaker}
 use Rattle.merge_laws.specs.LineagesStand.{OfOrder}
 use Rattle.merge_laws.proofs.HeldRows.{above-held}
-use Rattle.merge_laws.proofs.KeyLookUps.{key-test, keys-exact, keys-same}
-use Rattle.merge_laws.proofs.LastLineKeys.{kept, lookup-filter}
+use Rattle.merge_model.proofs.KeyLookUps.{key-test, keys-exact, keys-same}
+use Rattle.merge_model.proofs.PlaceLookUps.{kept, lookup-filter}
 use Rattle.merge_laws.proofs.LetterPasts.{removed-order}
 use Rattle.merge_laws.proofs.PastLists.{know-dropped, know-put}
 use Rattle.merge_laws.proofs.PastLookUps.{past-put, put-here, rows_in}
 use Rattle.merge_laws.proofs.PastNotes.{Purged}
-use Rattle.merge_laws.proofs.Tests.{if-false, if-true}
+use Rattle.merge_model.proofs.Tests.{if-false, if-true}
 
 -- A row more is held, and its past is put.
 more-either : {A : Type 0} (rows : List (Key × A)) (pasts : List (Key × Past)) (key q : Key) (past : Past) (same : Bool) → same_key q key ≡ same → KnowsMaker key past.known → HeldKnow rows pasts → (is_some (row_at rows q) || same_key q key) ≡ true
@@ -68,15 +73,15 @@ module _ (judge : SubscriberJudge) (received n : ℕ) (incoming : List (Key × P
   order-beside key order.RemoveDeleted rows h new b =
       let here : pasts_at (Noting.without_past n key h) n ≡ drop_row (pasts_at h n) key = put-here h.pasts n (drop_row (pasts_at h n) key) in
       record {
-        rows_sorted = sorted_take key_cmp key_total key rows b.rows_sorted;
-        sorted = subst (λ (x : List (Key × Past)). Ascend x) (sym here) (sorted_take key_cmp key_total key (pasts_at h n) b.sorted);
+        rows_sorted = sorted_take key_cmp key_total (is_at (key_cmp key)) rows b.rows_sorted;
+        sorted = subst (λ (x : List (Key × Past)). Ascend x) (sym here) (sorted_take key_cmp key_total (is_at (key_cmp key)) (pasts_at h n) b.sorted);
         know = subst (λ (x : List (Key × Past)). HeldKnow (drop_row rows key) x) (sym here) (know-dropped rows (pasts_at h n) key b.rows_sorted b.sorted b.know);
       }
   order-beside key order.RemoveLeft rows h new b =
       let here : pasts_at (Noting.without_past n key h) n ≡ drop_row (pasts_at h n) key = put-here h.pasts n (drop_row (pasts_at h n) key) in
       record {
-        rows_sorted = sorted_take key_cmp key_total key rows b.rows_sorted;
-        sorted = subst (λ (x : List (Key × Past)). Ascend x) (sym here) (sorted_take key_cmp key_total key (pasts_at h n) b.sorted);
+        rows_sorted = sorted_take key_cmp key_total (is_at (key_cmp key)) rows b.rows_sorted;
+        sorted = subst (λ (x : List (Key × Past)). Ascend x) (sym here) (sorted_take key_cmp key_total (is_at (key_cmp key)) (pasts_at h n) b.sorted);
         know = subst (λ (x : List (Key × Past)). HeldKnow (drop_row rows key) x) (sym here) (know-dropped rows (pasts_at h n) key b.rows_sorted b.sorted b.know);
       }
 

@@ -25,11 +25,15 @@ use Rattle.merge_model.specs.PublisherRanges.{plans, ranged, with_grants}
 use Rattle.merge_model.specs.PublisherUpload.{taken_in}
 use Rattle.merge_model.specs.Sending.{join_of, upload_sent, want_of, with_message}
 use Rattle.merge_model.specs.Subscriber.{sub_at_moment, sub_closed}
-use Rattle.merge_model.specs.Tables.{Key, PublisherTables, SubscriberTables}
+use Rattle.merge_types.specs.declared.row_key.RowKey.{RowKey as Key}
+use Rattle.merge_model.specs.Tables.{PublisherTables, SubscriberTables}
 use Rattle.merge_model.specs.Taking.{taken}
-use Rattle.merge_model.specs.World.{Asks, Message, Replies, Saying, World, empty_world, subscriber_at, with_publisher, with_subscriber}
+use Rattle.merge_model.specs.World.{Saying, World, empty_world, subscriber_at, with_publisher, with_subscriber}
+use Rattle.merge_model.specs.declared.letter.Message.TheVariants.{Asks, Replies}
+use Rattle.merge_model.specs.declared.letter.Message.{Message}
+use Rattle.merge_laws.proofs.Tallied.{makers-tallied}
 use Rattle.merge_laws.specs.KnownMakers.{HeldKnow, KnownMakers, KnowsMaker}
-use Rattle.merge_laws.proofs.Finding.{found-named}
+use Rattle.merge_model.proofs.Finding.{found-named}
 use Rattle.merge_laws.proofs.Ground.{Ground}
 use Rattle.merge_laws.proofs.KnownMakers.{anew-makers, none-ascends, own-makers, post-makers, publisher-makers, purge-makers, sub-makers, subscriber-makers}
 use Rattle.merge_laws.proofs.LetterPasts.{items-sent, orders-sent}
@@ -39,9 +43,6 @@ use Rattle.merge_laws.proofs.Models.{begins-with}
 use Rattle.merge_laws.proofs.Walking.{StepsKeep, acts_in, comes, here, join_noted, told_by, uploaded_world}
 
 module _ (publication : Publication) (says : Saying) where
-  with-tallies : (w : World) (h : History) (tallies : List ℕ) → KnownMakers w h → KnownMakers (record w { tallies = tallies }) h
-  with-tallies w h tallies i = record { sorted = i.sorted; makers = i.makers; firsts = i.firsts; here = i.here; there = i.there; letters = i.letters }
-
   -- a subscriber keeps its rows
   stays : (w : World) (h : History) (s t : SubscriberTables) → KnownMakers w h → subscriber_at w s.site ≡ Some s → t.site.0 ≡ s.site.0 → (HeldKnow s.rows (pasts_at h s.site.0) → HeldKnow t.rows (pasts_at h s.site.0)) → KnownMakers (with_subscriber t w) h
   stays w h s t i at site rows = subscriber-makers w h s t at site rows i
@@ -98,10 +99,10 @@ module _ (publication : Publication) (says : Saying) where
         let q : PublisherTables = taken_in publication judge m (acts_in publication says judge m w) (here w) in
         let k : History = Noting.with_acts_noted publication judge m (acts_in publication says judge m w) (pasts_with h number) (here w) h in
         post-makers (uploaded_world publication says judge m q w) k m.site (Replies (reply.Uploaded (told_by judge m))) tt
-        (with-tallies (with_publisher q w) k (uploaded_world publication says judge m q w).tallies (upload-makers publication says w h number m g i at)));
+        (makers-tallied (with_publisher q w) (uploaded_world publication says judge m q w).tallies k (upload-makers publication says w h number m g i at)));
     uploads_again = λ w h number m g i at none. (let judge : PublisherJudge = by_past h (pasts_with h number) in
         post-makers (uploaded_world publication says judge m (here w) w) h m.site (Replies (reply.Uploaded (told_by judge m))) tt
-        (with-tallies (with_publisher (here w) w) h (uploaded_world publication says judge m (here w) w).tallies (publisher-makers w h (here w) refl i)));
+        (makers-tallied (with_publisher (here w) w) (uploaded_world publication says judge m (here w) w).tallies h (publisher-makers w h (here w) refl i)));
     answers_ranges = λ w h site m g i. (let q : PublisherTables = with_grants (plans publication m w.publisher) (here w) in
         post-makers (with_publisher q w) h site (Replies (reply.Ranged (ranged m (plans publication m w.publisher)))) tt (publisher-makers w h q refl i));
     answers_ask = λ w h number site m g i at fine. reply-sends w h number site m i;

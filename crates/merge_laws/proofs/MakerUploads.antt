@@ -17,7 +17,7 @@ use Rattle.merge_batch.specs.declared.request.Upload.{Upload}
 use Rattle.merge_batch.specs.declared.request.UploadItem.{UploadItem}
 use Rattle.merge_model.specs.Acts.{Act, Fate, Met, New, Unknown, act_of, acting_items, acts_from, fate_by, is_new_row, key_of_item, left_by, made_by}
 use Rattle.merge_model.specs.ByHistory.{by_made, by_past}
-use Rattle.merge_model.specs.Cases.{is_conflict}
+use Rattle.merge_units.specs.Cases.{is_conflict}
 use Rattle.merge_model.specs.Entries.{Entries}
 use Rattle.merge_model.specs.History.{History, Line, MadeChange, Past, has, past_at, past_in, pasts_at, pasts_with}
 use Rattle.merge_model.specs.Judge.{PublisherJudge, SubscriberJudge}
@@ -28,26 +28,30 @@ use Rattle.merge_model.specs.Publisher.{last_closed}
 use Rattle.merge_model.specs.PublisherJoin.{join_taken}
 use Rattle.merge_model.specs.PublisherUpload.{changing_by, taken_in, with_acts}
 use Rattle.merge_model.specs.Steps.{kept_decisions, upload_questions}
-use Rattle.merge_model.specs.Tables.{Key, PublisherRow, PublisherTables, SubscriberTables}
+use Rattle.merge_types.specs.declared.row_key.RowKey.{RowKey as Key}
+use Rattle.merge_units.specs.declared.site_row.PublisherRow.{PublisherRow}
+use Rattle.merge_model.specs.Tables.{PublisherTables, SubscriberTables}
 use Rattle.merge_model.specs.Taking.{row_above, taken}
-use Rattle.merge_model.specs.World.{Asks, Letter, Replies, Saying, World, subscriber_at, with_publisher, with_subscriber}
+use Rattle.merge_model.specs.World.{Saying, World, subscriber_at, with_publisher, with_subscriber}
+use Rattle.merge_model.specs.declared.letter.Message.TheVariants.{Asks, Replies}
+use Rattle.merge_model.specs.declared.letter.Letter.{Letter}
 use Rattle.merge_model.specs.Laws.{AreSubSorted}
 use Rattle.merge_laws.specs.Knowledge.{changes_of}
 use Rattle.merge_laws.specs.KnownMakers.{Ascend, HeldKnow, IsAfterMaker, KnownMakers, KnowsMaker}
 use Rattle.merge_laws.specs.LineagesStand.{OfMessage}
-use Rattle.merge_laws.proofs.Finding.{found-named, letter-zip}
+use Rattle.merge_model.proofs.Finding.{found-named, letter-zip}
 use Rattle.merge_laws.proofs.Ground.{Ground}
 use Rattle.merge_laws.proofs.HeldRows.{changed-held}
 use Rattle.merge_laws.proofs.KnownMakers.{makers-of-parts, publisher-makers}
 use Rattle.merge_laws.proofs.KnownRows.{letter-knows, past-knows}
-use Rattle.merge_laws.proofs.Lists.{all-both, all-filter, all-of}
+use Rattle.merge_model.proofs.Lists.{all-both, all-filter, all-of}
 use Rattle.merge_laws.proofs.MakerChanges.{made-below}
 use Rattle.merge_laws.proofs.MakerSites.{Beside, above-know, reply-beside}
 use Rattle.merge_laws.proofs.Noted.{DecidesAsOwn, NotesKeep, acts-keep, acts-own}
 use Rattle.merge_laws.proofs.NotesLeave.{fold-leave, items-leave}
 use Rattle.merge_laws.proofs.PastLists.{drop-ascends, put-ascends}
 use Rattle.merge_laws.proofs.PastNotes.{ActKeeps, acts-items, acts-know, acts-pasts, by-maker, fate_past, put_by, reply-pasts, versions-any}
-use Rattle.merge_laws.proofs.Tests.{if-both}
+use Rattle.merge_model.proofs.Tests.{if-both}
 use Rattle.merge_laws.proofs.Unsending.{received-sorted}
 use Rattle.merge_laws.proofs.UnsentKept.{all-found}
 use Rattle.merge_laws.proofs.Walking.{acts_in, comes, here, join_noted}
@@ -168,7 +172,7 @@ upload-makers publication says w h number m g i at =
           (all-both (λ (act : Act). KnowsMaker act.key (past_in incoming act.key).known) (λ (act : Act). FateAbove w.publisher.changes act.fate) (λ (act : Act). FateMakes IsAfterMaker act.key (past_in incoming act.key) act.fate)
           (λ act knows up. later-makes w act.key (past_in incoming act.key) act.fate knows (below act.key) up) acts came above) i.firsts;
       here = λ q is. acts-know q incoming entries (is_some (row_at w.publisher.rows q)) acts h own came (i.here q)
-          (ap (λ (b : Bool). is_some (row_at w.publisher.rows q) || b) (sym (versions-any q acts)) ∙ changed-held publication judge (changing_by m acts) (with_acts publication judge m acts p) q is);
+          (ap (λ (b : Bool). is_some (row_at w.publisher.rows q) || b) (sym (versions-any q acts)) ∙ changed-held publication judge (changing_by m acts) (with_acts publication m acts p) q is);
       there = λ n s found. subst (λ (x : List (Key × Past)). HeldKnow s.rows x)
           (sym (acts-pasts (λ (k : ℕ) (x : List (Key × Past)). (k ≡ 0 → ⊥) → x ≡ pasts_at h k) incoming entries acts h own
           (all-of (ActKeeps (λ (k : ℕ) (x : List (Key × Past)). (k ≡ 0 → ⊥) → x ≡ pasts_at h k) incoming entries) (λ act rows old named. absurd (named refl)) acts) (λ k named. refl) n (found-named w.subscribers n s g.none found))) (i.there n s found);

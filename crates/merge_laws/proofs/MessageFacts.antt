@@ -9,10 +9,11 @@ use Rattle.merge_model.specs.History.{History}
 use Rattle.merge_model.specs.Keys.{at_number}
 use Rattle.merge_model.specs.PublisherJoin.{join_acts}
 use Rattle.merge_model.specs.Tables.{PublisherTables, SubscriberTables}
-use Rattle.merge_model.specs.World.{Letter, World, letter_at}
+use Rattle.merge_model.specs.World.{World, letter_at}
+use Rattle.merge_model.specs.declared.letter.Letter.{Letter}
 use Rattle.merge_model.specs.ByNumbers.{received_by_number}
 use Rattle.merge_laws.specs.Received.{JoinFits, MessageFits, Received, UploadFits, joined_at}
-use Rattle.merge_laws.proofs.Finding.{pool-at}
+use Rattle.merge_model.proofs.Finding.{pool-at}
 
 -- A join and an upload are of the site that sent them, which is a subscriber.
 

@@ -8,6 +8,8 @@ use Rattle.merge_types.specs.declared.identifiers.Moment.{Moment}
 use Rattle.merge_batch.specs.declared.reply.Reply.{Reply}
 use Rattle.merge_batch.specs.declared.reply.Reply.TheVariants as reply
 use Rattle.merge_schema.specs.declared.publication.Publication.{Publication}
+use Rattle.merge_model.specs.Failing.{Slips, faulty}
+use Rattle.merge_model.specs.Runs.{model_behind}
 use Rattle.merge_model.specs.Tables.{PublisherTables, SubscriberTables}
 use Rattle.merge_model.specs.Keys.{at_number, put_number}
 use Rattle.merge_model.specs.ByNumbers.{received_by_number}
@@ -15,14 +17,20 @@ use Rattle.merge_model.specs.ByHistory.{by_history, is_gap_by_done}
 use Rattle.merge_model.specs.Publisher.{at_moment, no_state}
 use Rattle.merge_model.specs.PublisherJoin.{joined}
 use Rattle.merge_model.specs.PublisherPurge.{purge}
-use Rattle.merge_model.specs.World.{World, Judges, Saying, Letter, Message, Asks, Replies, letter_at, subscriber_at, with_publisher}
-use Rattle.merge_model.specs.Steps.{Action, Pass, Make, CloseAt, Send, Deliver, MakeAnew, Forget, Outcome, NoLetter, at_subscriber, make_at, close_at, send_from, deliver_reply, deliver_letter, make_anew, step_by}
+use Rattle.merge_model.specs.World.{World, Judges, Saying, letter_at, subscriber_at, with_publisher}
+use Rattle.merge_model.specs.declared.letter.Letter.{Letter}
+use Rattle.merge_model.specs.declared.letter.Message.{Message}
+use Rattle.merge_model.specs.declared.letter.Message.TheVariants.{Asks, Replies}
+use Rattle.merge_model.specs.Steps.{Action, Pass, Make, CloseAt, Send, Deliver, MakeAnew, Forget, Look, at_subscriber, make_at, close_at, send_from, deliver_reply, deliver_letter, make_anew, step_by}
+use Rattle.merge_model.specs.declared.outcome.Outcome.{Outcome}
+use Rattle.merge_model.specs.declared.outcome.Outcome.TheVariants.{NoLetter}
 use Rattle.merge_model.specs.History.{History, is_done, pasts_with}
 use Rattle.merge_model.specs.Noting
 use Rattle.merge_model.specs.Model.{Model, model_step, noted, noted_if, noted_letter, did_something, with_posted}
 use Rattle.merge_model.proofs.DoneOnce.{taker-done, make-done, anew-done, purge-done, posted-done}
+use Rattle.merge_laws.proofs.Tallied.{received-tallied}
 use Rattle.merge_laws.specs.Received.{joined_at, MessageFits, LetterFits, SubscriberFits, DoneIsReceived, Received}
-use Rattle.merge_laws.proofs.Finding.{all-at, at_put_same}
+use Rattle.merge_model.proofs.Finding.{all-at, at_put_same}
 use Rattle.merge_laws.proofs.Worlds.{history-same}
 use Rattle.merge_laws.proofs.Steps.{at-fine}
 use Rattle.merge_laws.proofs.Sendings.{reply-fine}
@@ -34,10 +42,9 @@ use Rattle.merge_model.specs.History.{no_history}
 use Rattle.merge_model.specs.Subscriber.{empty_subscriber}
 use Rattle.merge_model.specs.World.{empty_subscribers, empty_world}
 use Rattle.merge_model.specs.Model.{empty_model, model}
-use Rattle.merge_model.specs.Events.{after}
 use Rattle.merge_model.specs.declared.event.Event.{Event}
-use Rattle.merge_model.proofs.Events.{events-keep}
-use Rattle.merge_laws.proofs.Finding.{at_put_other}
+use Rattle.merge_model.proofs.KeptFailing.{runs-keep}
+use Rattle.merge_model.proofs.Finding.{at_put_other}
 use Rattle.merge_laws.proofs.Subscribing.{same_number, number-decided}
 use Rattle.merge_laws.proofs.Steps.{sites-fine, fits-here, make-fine, close-fine}
 use Rattle.merge_laws.proofs.Sendings.{send-fine, anew-fine}
@@ -103,6 +110,7 @@ module _ (publication : Publication) (says : Saying) (w : World) (h : History) (
       noted-same (did_something done.1) done.0 (noted publication says judges w (MakeAnew site) h) h (anew-done judges site (subscriber_at w site) h) (at-fine w h r site (make_anew judges w) (λ s at. anew-fine w h r site s at judges))
   action-fine Forget = history-same (with_publisher (purge publication w.moment w.publisher).0 w) h (Noting.noted_purge publication (judges.publisher 0) (at_moment w.moment w.publisher) h)
       (purge-done publication (judges.publisher 0) (at_moment w.moment w.publisher) h) (sites-fine w h r (purge publication w.moment w.publisher).0 refl)
+  action-fine Look = r
 
 pub model-fine : (publication : Publication) (says : Saying) (m : Model) (action : Action) → Received m.world m.history → (let n : Model = (model_step publication says m action).0 in Received n.world n.history)
 model-fine publication says m action r =
@@ -158,10 +166,10 @@ begins publication tallies = record {
   done = λ n generation from. grind (arith, nat_tests, from);
 }
 
-pub received-always : (publication : Publication) (says : Saying) (tallies : List ℕ) (events : List Event)
-    → (let m : Model = after publication (model publication says) (empty_model publication tallies) events in Received m.world m.history)
-received-always publication says tallies events = events-keep publication (model publication says) (λ (m : Model). Received m.world m.history)
-    (λ m action r. model-fine publication says m action r) events (empty_model publication tallies) (begins publication tallies)
+pub received-always : (publication : Publication) (says : Saying) (tallies : List ℕ) (slips : Slips) (events : List Event)
+    → (let m : Model = model_behind publication says tallies slips events in Received m.world m.history)
+received-always publication says tallies slips events = runs-keep publication (model publication says) (λ (m : Model). Received m.world m.history)
+    (λ m action r. model-fine publication says m action r) (λ m others r. received-tallied m.world others m.history r) events (faulty (empty_model publication tallies) slips) (begins publication tallies)
 
 -- A gap, by the number and by Done.
 

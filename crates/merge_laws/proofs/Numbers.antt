@@ -19,15 +19,18 @@ use Rattle.merge_model.specs.Publisher.{at_moment}
 use Rattle.merge_model.specs.PublisherJoin.{join_taken}
 use Rattle.merge_model.specs.Subscriber.{sub_last_closed}
 use Rattle.merge_model.specs.Tables.{PublisherTables, SubscriberTables}
-use Rattle.merge_model.specs.World.{Asks, Letter, Message, Replies, World, letter_at, with_publisher, with_subscriber}
+use Rattle.merge_model.specs.World.{World, letter_at, with_publisher, with_subscriber}
+use Rattle.merge_model.specs.declared.letter.Message.TheVariants.{Asks, Replies}
+use Rattle.merge_model.specs.declared.letter.Letter.{Letter}
+use Rattle.merge_model.specs.declared.letter.Message.{Message}
 use Rattle.merge_laws.specs.Received.{Received}
 use Rattle.merge_laws.specs.Numbered.{InOrder, JoinTells, LetterTells, MessageTells, Numbered, Tells, UploadTells, last_of}
-use Rattle.merge_laws.proofs.Finding.{all-at, all-more, all-weaker, at_put_other, at_put_same}
+use Rattle.merge_model.proofs.Finding.{all-at, all-more, all-weaker, at_put_other, at_put_same}
 use Rattle.merge_laws.proofs.Noted.{NotesKeep}
 use Rattle.merge_laws.proofs.Publishing.{SameNumbers, done-joins, joined-change, joined-received, number_in, sites_taken, upload-change, upload-received}
 use Rattle.merge_laws.proofs.Subscribing.{number-decided, same_number}
 use Rattle.merge_laws.proofs.Telling.{some-same}
-use Rattle.merge_laws.proofs.Tests.{number-itself}
+use Rattle.merge_model.proofs.Tests.{number-itself}
 use Rattle.merge_laws.proofs.Through.{is_there, last-none, none-there, order-there, unmet-is}
 
 -- Histories.

@@ -23,22 +23,24 @@ use Rattle.merge_model.specs.PublisherLocal.{Drawn, changing_locally, local_refu
 use Rattle.merge_model.specs.PublisherPurge.{is_old_tombstone, purge}
 use Rattle.merge_model.specs.Reinit.{discarded}
 use Rattle.merge_model.specs.Subscriber.{sub_last_closed, sub_next_dot}
-use Rattle.merge_model.specs.Tables.{Key, PublisherRow, PublisherTables, SubscriberTables}
+use Rattle.merge_types.specs.declared.row_key.RowKey.{RowKey as Key}
+use Rattle.merge_units.specs.declared.site_row.PublisherRow.{PublisherRow}
+use Rattle.merge_model.specs.Tables.{PublisherTables, SubscriberTables}
 use Rattle.merge_model.specs.World.{World, subscriber_at, with_publisher, with_subscriber}
 use Rattle.merge_laws.specs.Accepting.{AcceptsWell, Accepting, IsFine, KnowsAccepted, accepts}
 use Rattle.merge_laws.specs.Knowledge.{same_dot}
 use Rattle.merge_laws.specs.LineagesStand.{KnownCounts}
-use Rattle.merge_laws.proofs.Finding.{all-weaker, at_put_other}
+use Rattle.merge_model.proofs.Finding.{all-weaker, at_put_other}
 use Rattle.merge_laws.proofs.Ground.{Ground}
 use Rattle.merge_laws.proofs.HeldRows.{changed-held, one-version}
-use Rattle.merge_laws.proofs.KeyLookUps.{keys-same}
+use Rattle.merge_model.proofs.KeyLookUps.{keys-same}
 use Rattle.merge_laws.proofs.Knowing.{after-known, fresh-anywhere}
 use Rattle.merge_laws.proofs.OwnKnowing.{KnowsOf, after-knows, after-own}
 use Rattle.merge_laws.proofs.OwnLocal.{own-held, own-none, sub-fresh}
 use Rattle.merge_laws.proofs.OwnPasts.{lines-on, lost-on, reply-on}
 use Rattle.merge_laws.proofs.OwnRows.{purge-held}
 use Rattle.merge_laws.proofs.PastLookUps.{with-past-same, without-past-other}
-use Rattle.merge_laws.proofs.Tests.{if-either}
+use Rattle.merge_model.proofs.Tests.{if-either}
 use Rattle.merge_laws.proofs.Walking.{here, join_noted, own_noted}
 
 -- what is known besides, with what versions know that counts

@@ -10,7 +10,7 @@ use Rattle.merge_model.specs.Subscriber.{sub_at_moment, sub_made_locally}
 use Rattle.merge_model.specs.Taking.{taken}
 use Rattle.merge_model.specs.World.{Saying, empty_world, with_publisher, with_subscriber}
 use Rattle.merge_laws.specs.Accepting.{AcceptsWell}
-use Rattle.merge_laws.proofs.Finding.{found-named}
+use Rattle.merge_model.proofs.Finding.{found-named}
 use Rattle.merge_laws.proofs.OwnAccepted.{Counted, anew-accepting, join-accepting, own-accepting, purge-accepting, reply-accepting, sub-change}
 use Rattle.merge_laws.proofs.OwnAcceptedUploads.{upload-accepting, upload-named}
 use Rattle.merge_laws.proofs.Walking.{StepsKeep, acts_in, here, uploaded_world}

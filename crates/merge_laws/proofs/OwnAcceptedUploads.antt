@@ -18,18 +18,20 @@ use Rattle.merge_model.specs.Noting
 use Rattle.merge_model.specs.Publisher.{last_closed}
 use Rattle.merge_model.specs.PublisherUpload.{changing_by, taken_in, with_acts}
 use Rattle.merge_model.specs.Steps.{kept_decisions, upload_questions}
-use Rattle.merge_model.specs.Tables.{Key, PublisherRow}
-use Rattle.merge_model.specs.World.{Asks, Saying, World}
+use Rattle.merge_types.specs.declared.row_key.RowKey.{RowKey as Key}
+use Rattle.merge_units.specs.declared.site_row.PublisherRow.{PublisherRow}
+use Rattle.merge_model.specs.World.{Saying, World}
+use Rattle.merge_model.specs.declared.letter.Message.TheVariants.{Asks}
 use Rattle.merge_laws.specs.Accepting.{AcceptsWell, Accepting, IsFine, KnowsAccepted, accepts}
 use Rattle.merge_laws.specs.Knowledge.{AllKnow, changes_of, same_dot}
 use Rattle.merge_laws.specs.Standing.{IsKnownLater}
 use Rattle.merge_laws.proofs.ChangeDots.{are-alone}
-use Rattle.merge_laws.proofs.Finding.{all-weaker}
+use Rattle.merge_model.proofs.Finding.{all-weaker}
 use Rattle.merge_laws.proofs.GivenUp.{knows_of, upload-accepts}
 use Rattle.merge_laws.proofs.HeldRows.{changed-held}
-use Rattle.merge_laws.proofs.KeyLookUps.{keys-same}
+use Rattle.merge_model.proofs.KeyLookUps.{keys-same}
 use Rattle.merge_laws.proofs.KnownRows.{letter-knows}
-use Rattle.merge_laws.proofs.Lists.{all-both, each-found}
+use Rattle.merge_model.proofs.Lists.{all-both, each-found}
 use Rattle.merge_laws.proofs.MessageFacts.{letter-fits, upload-sent}
 use Rattle.merge_laws.proofs.Noted.{NotesKeep, acts-keep, acts-own}
 use Rattle.merge_laws.proofs.NotesLeave.{lines-accepted}
@@ -180,7 +182,7 @@ module _ (publication : Publication) (says : Saying) (w : World) (h : History) (
 
   held-new : (q : Key) → is_some (row_at (taken_in publication judge m acts (here w)).rows q) ≡ true → is_some (row_at w.publisher.rows q) ≡ false → is_new_row judge m.site q ≡ true
   held-new q there none =
-      let both = changed-held publication judge (changing_by m acts) (with_acts publication judge m acts (here w)) q there in
+      let both = changed-held publication judge (changing_by m acts) (with_acts publication m acts (here w)) q there in
       versions-new judge m.site (here w) (w.publisher.changes + 1) decisions items q none (grind (arith, both, none))
 
   pub upload-accepting : (v : World) → v.publisher.rows ≡ (taken_in publication judge m acts (here w)).rows → AcceptsWell v (Noting.with_acts_noted publication judge m acts incoming (here w) h)

@@ -10,16 +10,17 @@ use Rattle.merge_model.specs.History.{History, MadeChange}
 use Rattle.merge_model.specs.Keys.{at_number}
 use Rattle.merge_model.specs.Subscriber.{sub_last_closed}
 use Rattle.merge_model.specs.Tables.{SubscriberTables}
-use Rattle.merge_model.specs.World.{Letter, World}
+use Rattle.merge_model.specs.World.{World}
+use Rattle.merge_model.specs.declared.letter.Letter.{Letter}
 use Rattle.merge_laws.specs.Accepting.{AcceptsWell}
 use Rattle.merge_laws.specs.Behind.{TellsActed}
 use Rattle.merge_laws.specs.LetterNumbers.{IsForSubscriber, LettersAreNamed}
 use Rattle.merge_laws.specs.LineagesStand.{is_of}
 use Rattle.merge_laws.specs.Received.{LetterFits, UploadFits}
-use Rattle.merge_laws.proofs.Lists.{all-both}
+use Rattle.merge_model.proofs.Lists.{all-both}
 use Rattle.merge_laws.proofs.MessageFacts.{upload-sent, upload-site}
 use Rattle.merge_laws.proofs.OwnAccepted.{Counted}
-use Rattle.merge_laws.proofs.Tests.{numbers-same}
+use Rattle.merge_model.proofs.Tests.{numbers-same}
 
 abbrev pub Base : Publication → World → History → Type 0
 Base publication w h = Counted publication w h × (AcceptsWell w h × LettersAreNamed w h)

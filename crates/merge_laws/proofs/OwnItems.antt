@@ -11,19 +11,19 @@ use Rattle.merge_model.specs.Acts.{is_new_row, key_of_item}
 use Rattle.merge_model.specs.ByHistory.{by_past}
 use Rattle.merge_model.specs.History.{History, MadeChange, Past, has, is_accepted, is_done, made_at, past_in}
 use Rattle.merge_model.specs.Keys.{same_key}
-use Rattle.merge_model.specs.Tables.{Key}
+use Rattle.merge_types.specs.declared.row_key.RowKey.{RowKey as Key}
 use Rattle.merge_laws.specs.Accepting.{IsFine, accepts}
 use Rattle.merge_laws.specs.Knowledge.{AllKnow, Knowledge, Knows, KnowsItsPast, same_dot}
 use Rattle.merge_laws.proofs.ChangeDots.{IsAlone}
-use Rattle.merge_laws.proofs.Finding.{all-weaker}
+use Rattle.merge_model.proofs.Finding.{all-weaker}
 use Rattle.merge_laws.proofs.GivenUp.{knows_of}
-use Rattle.merge_laws.proofs.KeyLookUps.{keys-same}
+use Rattle.merge_model.proofs.KeyLookUps.{keys-same}
 use Rattle.merge_laws.proofs.Knowing.{made-was}
 use Rattle.merge_laws.proofs.KnownRows.{past-knows}
-use Rattle.merge_laws.proofs.Lists.{all-both, all-every, any-behind, any-first, any-mono}
+use Rattle.merge_model.proofs.Lists.{all-both, all-every, any-behind, any-first, any-mono}
 use Rattle.merge_laws.proofs.OwnKnowing.{found-change}
 use Rattle.merge_laws.proofs.OwnLocal.{KnowsMaker}
-use Rattle.merge_laws.proofs.Tests.{dots-same}
+use Rattle.merge_laws.proofs.DotTests.{dots-same}
 
 -- an item of a row that knows a change, by the change's row
 abbrev pub of_row : List (Key × Past) → Key → Dot → UploadItem → Bool

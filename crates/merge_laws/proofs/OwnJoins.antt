@@ -16,8 +16,10 @@ use Rattle.merge_model.specs.Publications.{by_site}
 use Rattle.merge_model.specs.Publisher.{last_closed}
 use Rattle.merge_model.specs.PublisherJoin.{join_acts, join_taken}
 use Rattle.merge_model.specs.PublisherPurge.{purge}
-use Rattle.merge_model.specs.Tables.{Key, PublisherTables}
-use Rattle.merge_model.specs.World.{Asks, Replies, World, with_publisher}
+use Rattle.merge_types.specs.declared.row_key.RowKey.{RowKey as Key}
+use Rattle.merge_model.specs.Tables.{PublisherTables}
+use Rattle.merge_model.specs.World.{World, with_publisher}
+use Rattle.merge_model.specs.declared.letter.Message.TheVariants.{Asks, Replies}
 use Rattle.merge_laws.specs.LineagesStand.{KnowsAll, is_of}
 use Rattle.merge_laws.proofs.Arrivals.{joined-rises}
 use Rattle.merge_laws.proofs.GivenUp.{counts-before, join-numbers, stays-where}

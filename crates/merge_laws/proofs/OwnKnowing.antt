@@ -11,12 +11,12 @@ use Rattle.merge_model.specs.Changes.{is_insert}
 use Rattle.merge_model.specs.History.{History, MadeChange, Past, has}
 use Rattle.merge_model.specs.Keys.{same_key}
 use Rattle.merge_model.specs.Pasts.{past_after}
-use Rattle.merge_model.specs.Tables.{Key}
+use Rattle.merge_types.specs.declared.row_key.RowKey.{RowKey as Key}
 use Rattle.merge_laws.specs.Knowledge.{AreNumbered, counts_down, is_made, number_of_change, same_dot}
 use Rattle.merge_laws.specs.LineagesStand.{is_of}
 use Rattle.merge_laws.specs.Standing.{IsKnownLater, KnewEarlier}
-use Rattle.merge_laws.proofs.Finding.{all-weaker}
-use Rattle.merge_laws.proofs.Lists.{all-both}
+use Rattle.merge_model.proofs.Finding.{all-weaker}
+use Rattle.merge_model.proofs.Lists.{all-both}
 
 -- of the changes of a row that pass a test and count
 abbrev pub KnowsOf : List MadeChange → (MadeChange → Bool) → Key → (MadeChange → Bool) → List Dot → Type 0

@@ -17,15 +17,18 @@ use Rattle.merge_model.specs.Publisher.{counters}
 use Rattle.merge_model.specs.PublisherLocal.{local_refusal, next_dot, version_at}
 use Rattle.merge_model.specs.Refusals.{counter_end}
 use Rattle.merge_model.specs.Subscriber.{is_joining, sub_counters, sub_local_refusal, sub_next_dot, sub_version_at}
-use Rattle.merge_model.specs.Tables.{Key, PublisherRow, PublisherTables, SubscriberRow, SubscriberTables}
+use Rattle.merge_types.specs.declared.row_key.RowKey.{RowKey as Key}
+use Rattle.merge_units.specs.declared.site_row.PublisherRow.{PublisherRow}
+use Rattle.merge_units.specs.declared.site_row.SubscriberRow.{SubscriberRow}
+use Rattle.merge_model.specs.Tables.{PublisherTables, SubscriberTables}
 use Rattle.merge_model.specs.World.{World, subscriber_at}
 use Rattle.merge_laws.specs.Knowledge.{Knowledge, Known, Knows, changes_of, is_made}
 use Rattle.merge_laws.specs.LetterNumbers.{AreNamed}
 use Rattle.merge_laws.proofs.Arrivals.{first-none, not-refused}
-use Rattle.merge_laws.proofs.KeyLookUps.{keys-same}
+use Rattle.merge_model.proofs.KeyLookUps.{keys-same}
 use Rattle.merge_laws.proofs.Knowing.{IsFresh, fresh-above, fresh-any}
 use Rattle.merge_laws.proofs.KnownCounts.{own-count}
-use Rattle.merge_laws.proofs.Lists.{all-both}
+use Rattle.merge_model.proofs.Lists.{all-both}
 use Rattle.merge_laws.proofs.OwnKnowing.{NoneOf}
 use Rattle.merge_laws.proofs.OwnRows.{held-there}
 use Rattle.merge_laws.proofs.Walking.{here}

@@ -7,12 +7,16 @@ use Rattle.merge_types.specs.declared.identifiers.SiteId.{SiteId}
 use Rattle.merge_model.specs.History.{History, Line, MadeChange, Past, past_at}
 use Rattle.merge_model.specs.Keys.{at_number, put_number, row_at}
 use Rattle.merge_model.specs.Model.{Model, pasts_in, with_letter}
-use Rattle.merge_model.specs.Tables.{Key, PublisherTables, SubscriberRow, SubscriberTables}
-use Rattle.merge_model.specs.World.{Letter, Message, World, subscriber_at, with_subscriber}
+use Rattle.merge_types.specs.declared.row_key.RowKey.{RowKey as Key}
+use Rattle.merge_units.specs.declared.site_row.SubscriberRow.{SubscriberRow}
+use Rattle.merge_model.specs.Tables.{PublisherTables, SubscriberTables}
+use Rattle.merge_model.specs.World.{World, subscriber_at, with_subscriber}
+use Rattle.merge_model.specs.declared.letter.Letter.{Letter}
+use Rattle.merge_model.specs.declared.letter.Message.{Message}
 use Rattle.merge_laws.specs.LineagesStand.{KnowsAll, ReplyAnswers, UploadSends, counts_in, is_of}
 use Rattle.merge_laws.specs.Received.{joined_at}
-use Rattle.merge_laws.proofs.Finding.{at_put_other, at_put_same}
-use Rattle.merge_laws.proofs.Lists.{all-of, zip-more}
+use Rattle.merge_model.proofs.Finding.{at_put_other, at_put_same}
+use Rattle.merge_model.proofs.Lists.{all-of, zip-more}
 use Rattle.merge_laws.proofs.OwnKnowing.{making-less}
 use Rattle.merge_laws.proofs.OwnParts.{NoneNew, Rest, at_model, knows-on, replies-on, reply-on, same-grows, upload-on, uploads-on}
 use Rattle.merge_laws.proofs.Subscribing.{number-decided, same_number}

@@ -16,11 +16,12 @@ use Rattle.merge_model.specs.Sending.{join_of, want_of, with_message}
 use Rattle.merge_model.specs.Steps.{Action}
 use Rattle.merge_model.specs.Subscriber.{sub_at_moment, sub_closed}
 use Rattle.merge_model.specs.Tables.{PublisherTables, SubscriberTables}
-use Rattle.merge_model.specs.World.{Asks, Replies, Saying, World, with_publisher, with_subscriber}
+use Rattle.merge_model.specs.World.{Saying, World, with_publisher, with_subscriber}
+use Rattle.merge_model.specs.declared.letter.Message.TheVariants.{Asks, Replies}
 use Rattle.merge_laws.specs.Accepting.{AcceptsWell}
 use Rattle.merge_laws.specs.LetterNumbers.{LettersAreNamed}
 use Rattle.merge_laws.specs.LineagesStand.{KnownCounts, OwnKnown}
-use Rattle.merge_laws.proofs.Finding.{found-named}
+use Rattle.merge_model.proofs.Finding.{found-named}
 use Rattle.merge_laws.proofs.Ground.{Ground, ground-begins, ground-step}
 use Rattle.merge_laws.proofs.LetterNumbers.{named-begins, named-keeps}
 use Rattle.merge_laws.proofs.OwnAccepted.{Counted}

@@ -3,22 +3,24 @@ use Rattle.std.specs.Prelude.{List}
 use Rattle.std.specs.List.Sorted.{IsStrictlySortedBy}
 use Rattle.std.specs.Map.{keys_of}
 use Rattle.std.proofs.Common.{arith, subst, sym}
-use Rattle.merge_gens.proofs.Sets.{sorted_put, sorted_take}
+use Rattle.std.specs.BTreeMap.{is_at}
+use Rattle.merge_table.proofs.Sorted.{sorted_put, sorted_take}
 use Rattle.merge_model.specs.History.{Past, no_past, past_in}
-use Rattle.merge_model.specs.Keys.{drop_row, key_cmp, put_row, same_key}
-use Rattle.merge_model.specs.Tables.{Key}
+use Rattle.merge_types.specs.RowKeys.{key_cmp}
+use Rattle.merge_model.specs.Keys.{drop_row, put_row, same_key}
+use Rattle.merge_types.specs.declared.row_key.RowKey.{RowKey as Key}
 use Rattle.merge_model.proofs.Sorted.{key_total}
 use Rattle.merge_laws.specs.KnownMakers.{Ascend, HeldKnow, KnowsMaker}
 use Rattle.merge_laws.proofs.HeldRows.{held-dropped, held-put}
-use Rattle.merge_laws.proofs.KeyLookUps.{keys-same}
+use Rattle.merge_model.proofs.KeyLookUps.{keys-same}
 use Rattle.merge_laws.proofs.PastLookUps.{past-dropped, past-put}
-use Rattle.merge_laws.proofs.Tests.{if-either, if-false}
+use Rattle.merge_model.proofs.Tests.{if-either, if-false}
 
 pub put-ascends : (rows : List (Key × Past)) (key : Key) (past : Past) → Ascend rows → Ascend (put_row rows key past)
 put-ascends rows key past sorted = sorted_put key_cmp key_total key past rows sorted
 
 pub drop-ascends : (rows : List (Key × Past)) (key : Key) → Ascend rows → Ascend (drop_row rows key)
-drop-ascends rows key sorted = sorted_take key_cmp key_total key rows sorted
+drop-ascends rows key sorted = sorted_take key_cmp key_total (is_at (key_cmp key)) rows sorted
 
 -- of each row's past
 pub each-put : (P : Key → Past → Type 0) (rows : List (Key × Past)) (key : Key) (past : Past) → P key past → ((q : Key) → P q (past_in rows q)) → (q : Key) → P q (past_in (put_row rows key past) q)

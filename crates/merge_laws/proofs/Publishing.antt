@@ -21,9 +21,9 @@ use Rattle.merge_model.specs.Acts.{Act}
 use Rattle.merge_model.specs.History.{History, is_done}
 use Rattle.merge_model.specs.Noting
 use Rattle.merge_laws.specs.Received.{joined_at}
-use Rattle.merge_laws.proofs.Finding.{at_put_same, at_put_other}
+use Rattle.merge_model.proofs.Finding.{at_put_same, at_put_other}
 use Rattle.merge_laws.proofs.Subscribing.{same_number, number-decided}
-use Rattle.merge_laws.proofs.Tests.{numbers-same}
+use Rattle.merge_model.proofs.Tests.{numbers-same}
 
 -- Done, with generations that join it
 

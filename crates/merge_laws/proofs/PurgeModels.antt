@@ -8,6 +8,8 @@ use Rattle.merge_gens.specs.Book.{moment_of}
 use Rattle.merge_gens.specs.Retention.{is_expired}
 use Rattle.merge_gens.specs.declared.sites.SiteState.{SiteState}
 use Rattle.merge_schema.specs.declared.publication.Publication.{Publication}
+use Rattle.merge_model.specs.Failing.{Slips, faulty}
+use Rattle.merge_model.specs.Runs.{model_behind}
 use Rattle.merge_model.specs.declared.event.Event.{Event}
 use Rattle.merge_model.specs.Tables.{PublisherTables}
 use Rattle.merge_model.specs.Keys.{at_number, put_number}
@@ -23,10 +25,10 @@ use Rattle.merge_model.specs.History.{History, pasts_with, Line}
 use Rattle.merge_model.specs.ByHistory.{by_history, by_past, by_made}
 use Rattle.merge_model.specs.Noting
 use Rattle.merge_model.specs.Model.{Model, empty_model, model, model_step}
-use Rattle.merge_model.specs.Events.{after}
 use Rattle.merge_model.specs.Acts.{Act}
 use Rattle.merge_model.specs.PublisherUpload.{taken_in}
-use Rattle.merge_model.proofs.Events.{events-keep}
+use Rattle.merge_model.proofs.KeptFailing.{runs-keep}
+use Rattle.merge_laws.proofs.Tallied.{received-tallied}
 use Rattle.merge_laws.specs.Received.{Received}
 use Rattle.merge_laws.specs.Purges.{StateInStep, IsInStep}
 use Rattle.merge_laws.proofs.Models.{model-fine, received-always}
@@ -107,10 +109,10 @@ in-step-step publication says m action r fits =
 begins : (publication : Publication) (tallies : List ℕ) → ModelInStep (empty_model publication tallies)
 begins publication tallies = record { been = omega arith; closings = record { closed = tt; been = tt; rising = tt }; sites = λ n. tt }
 
-pub in_step-always : (publication : Publication) (says : Saying) (tallies : List ℕ) (events : List Event) → ModelInStep (after publication (model publication says) (empty_model publication tallies) events)
-in_step-always publication says tallies events =
-    (events-keep publication (model publication says) (λ (m : Model). Received m.world m.history × ModelInStep m) (λ m action both. (model-fine publication says m action both.0, in-step-step publication says m action both.0 both.1))
-    events (empty_model publication tallies) (received-always publication says tallies [], begins publication tallies)).1
+pub in_step-always : (publication : Publication) (says : Saying) (tallies : List ℕ) (slips : Slips) (events : List Event) → ModelInStep (model_behind publication says tallies slips events)
+in_step-always publication says tallies slips events =
+    (runs-keep publication (model publication says) (λ (m : Model). Received m.world m.history × ModelInStep m) (λ m action both. (model-fine publication says m action both.0, in-step-step publication says m action both.0 both.1))
+    (λ m others both. (received-tallied m.world others m.history both.0, both.1)) events (faulty (empty_model publication tallies) slips) (received-always publication says tallies [] [], begins publication tallies)).1
 
 -- What is old.
 

@@ -23,8 +23,8 @@ use Rattle.merge_model.specs.PublisherUpload.{state_seeing, taken_in, with_acts,
 use Rattle.merge_model.specs.Tables.{PublisherTables}
 use Rattle.merge_model.proofs.Sorted.{closed_filling-rises}
 use Rattle.merge_laws.specs.Purges.{AllClosings, ClosedInOrder, SiteInStep, StateInStep, AllInStep, InStep, IsInStep, base_in}
-use Rattle.merge_laws.proofs.Finding.{all-weaker, at_put_other, at_put_same}
-use Rattle.merge_laws.proofs.Lists.{all-both, all-of}
+use Rattle.merge_model.proofs.Finding.{all-weaker, at_put_other, at_put_same}
+use Rattle.merge_model.proofs.Lists.{all-both, all-of}
 use Rattle.merge_laws.proofs.PurgeLists.{moved-in-order, moved-in-step, purged-in-order, purged-in-step, order-later, step-later, closed_at, found-been, found-before, if-put, if-weaker, if-map}
 
 -- The moment rises.
@@ -88,7 +88,7 @@ taken-sites latest book m acts sites bases all n =
 
 pub taken-in-step : (moment : ℕ) (publication : Publication) (judge : PublisherJudge) (m : Upload) (acts : List Act) (p : PublisherTables) (bases : List (ℕ × ℕ)) → IsInStep moment p bases → IsInStep moment (taken_in publication judge m acts p) bases
 taken-in-step moment publication judge m acts p bases s =
-    let q : PublisherTables = with_acts publication judge m acts p in
+    let q : PublisherTables = with_acts publication m acts p in
     entered-in-step moment _ p.latest p.gens q.sites bases (record { been = s.been; closings = s.closings; sites = taken-sites p.latest.0 p.gens m acts p.sites bases s.sites })
 
 -- A site asks: it is in step now where it has all, else up to the generation from which it asks.

@@ -17,8 +17,10 @@ use Rattle.merge_model.specs.Refusals.{unless}
 use Rattle.merge_model.specs.Judge.{SubscriberJudge}
 use Rattle.merge_model.specs.Faults.{reply_fault}
 use Rattle.merge_model.specs.Subscriber.{sub_last_closed}
-use Rattle.merge_model.specs.Taking.{Taken, Acted, Missed, taken, take_reply, met_by, seq_of}
-use Rattle.merge_model.specs.World.{Replies}
+use Rattle.merge_model.specs.Taking.{taken, take_reply, met_by, seq_of}
+use Rattle.merge_model.specs.declared.outcome.Taken.{Taken}
+use Rattle.merge_model.specs.declared.outcome.Taken.TheVariants.{Acted, Missed}
+use Rattle.merge_model.specs.declared.letter.Message.TheVariants.{Replies}
 use Rattle.merge_laws.specs.Received.{MessageFits, SubscriberFits}
 use Rattle.merge_laws.proofs.Subscribing.{Goes}
 

@@ -7,10 +7,10 @@ use Rattle.merge_batch.specs.declared.request.UploadItem.{UploadItem}
 use Rattle.merge_model.specs.ByNumbers.{received_number_by_number}
 use Rattle.merge_model.specs.History.{MadeChange, Past, is_accepted, is_done, made_at}
 use Rattle.merge_model.specs.Model.{Model}
-use Rattle.merge_model.specs.Tables.{Key}
+use Rattle.merge_types.specs.declared.row_key.RowKey.{RowKey as Key}
 use Rattle.merge_laws.specs.LineagesStand.{counts_in, is_of, is_sent}
 use Rattle.merge_laws.specs.Numbered.{is_up_to, last_of}
-use Rattle.merge_laws.proofs.Lists.{all-both, all-kept, all-passing}
+use Rattle.merge_model.proofs.Lists.{all-both, all-kept, all-passing}
 use Rattle.merge_laws.proofs.SeenSites.{ItemTold, highest, sent-highest}
 use Rattle.merge_laws.proofs.Through.{each-within, last-bound}
 

@@ -8,7 +8,7 @@ use Rattle.merge_lineage.specs.Lineage.{knows, number_at, number_of}
 use Rattle.merge_model.specs.History.{has}
 use Rattle.merge_laws.specs.Seen.{greatest_in}
 use Rattle.merge_laws.specs.Standing.{Tells}
-use Rattle.merge_laws.proofs.Tests.{dot-first}
+use Rattle.merge_laws.proofs.DotTests.{dot-first}
 use Rattle.merge_laws.proofs.Through.{from-step}
 
 abbrev higher : ℕ → ℕ → Dot → ℕ

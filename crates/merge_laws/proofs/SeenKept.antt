@@ -18,12 +18,12 @@ use Rattle.merge_model.specs.PublisherDownload.{asked, download_refusal, synced}
 use Rattle.merge_model.specs.PublisherLocal.{next_dot}
 use Rattle.merge_model.specs.Reinit.{discarded}
 use Rattle.merge_model.specs.Steps.{Action}
-use Rattle.merge_model.specs.Tables.{Key}
+use Rattle.merge_types.specs.declared.row_key.RowKey.{RowKey as Key}
 use Rattle.merge_model.specs.World.{Saying, World, empty_world}
 use Rattle.merge_laws.specs.LineagesStand.{AllTold, Owns}
 use Rattle.merge_laws.specs.Seen.{Seen, greatest_in}
 use Rattle.merge_laws.proofs.Arrivals.{first-none, state-known}
-use Rattle.merge_laws.proofs.Finding.{at_put_other}
+use Rattle.merge_model.proofs.Finding.{at_put_other}
 use Rattle.merge_laws.proofs.Ground.{Ground}
 use Rattle.merge_laws.proofs.NotesLeave.{discarded-leave, fold-leave, lines-accepted, reply-leave}
 use Rattle.merge_laws.proofs.Publishing.{asked-number}

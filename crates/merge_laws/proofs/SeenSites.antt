@@ -19,11 +19,12 @@ use Rattle.merge_model.specs.Judge.{PublisherJudge}
 use Rattle.merge_model.specs.Keys.{at_number, same_key}
 use Rattle.merge_model.specs.Noting
 use Rattle.merge_model.specs.PublisherUpload.{seen_in, state_seeing, with_taken}
-use Rattle.merge_model.specs.Tables.{Key, PublisherTables}
+use Rattle.merge_types.specs.declared.row_key.RowKey.{RowKey as Key}
+use Rattle.merge_model.specs.Tables.{PublisherTables}
 use Rattle.merge_laws.specs.LineagesStand.{is_sent}
 use Rattle.merge_laws.specs.Seen.{field_at, greatest_in}
 use Rattle.merge_laws.specs.Standing.{Told}
-use Rattle.merge_laws.proofs.KeyLookUps.{keys-same}
+use Rattle.merge_model.proofs.KeyLookUps.{keys-same}
 use Rattle.merge_laws.proofs.NotesLeave.{fate-leaves}
 use Rattle.merge_laws.proofs.Publishing.{seeing-some, sites_taken}
 use Rattle.merge_laws.proofs.SeenDots.{greatest-both, known-number, told-greatest}

@@ -32,8 +32,11 @@ use Rattle.merge_model.specs.PublisherJoin.{join_acts, join_taken, joined_state}
 use Rattle.merge_model.specs.PublisherUpload.{brings_news, taken_in, upload_refusal}
 use Rattle.merge_model.specs.Steps.{kept_decisions, upload_questions}
 use Rattle.merge_model.specs.Subscriber.{sub_last_closed}
-use Rattle.merge_model.specs.Tables.{Key, SubscriberTables}
-use Rattle.merge_model.specs.World.{Asks, Letter, Saying, World, letter_at}
+use Rattle.merge_types.specs.declared.row_key.RowKey.{RowKey as Key}
+use Rattle.merge_model.specs.Tables.{SubscriberTables}
+use Rattle.merge_model.specs.World.{Saying, World, letter_at}
+use Rattle.merge_model.specs.declared.letter.Message.TheVariants.{Asks}
+use Rattle.merge_model.specs.declared.letter.Letter.{Letter}
 use Rattle.merge_laws.specs.LineagesStand.{AllTold, OfMessage, Owns, UploadSends}
 use Rattle.merge_laws.specs.Numbered.{JoinTells, LetterTells, last_of}
 use Rattle.merge_laws.specs.Received.{JoinFits, LetterFits, joined_at}
@@ -44,9 +47,9 @@ use Rattle.merge_laws.proofs.AlikeFields.{number-alike}
 use Rattle.merge_laws.proofs.AlikeItems.{site-acts, sound-items}
 use Rattle.merge_laws.proofs.Arrivals.{upload-known}
 use Rattle.merge_laws.proofs.Deliveries.{news-above}
-use Rattle.merge_laws.proofs.Finding.{all-at, all-weaker, at_put_other, letter-zip}
+use Rattle.merge_model.proofs.Finding.{all-at, all-weaker, at_put_other, letter-zip}
 use Rattle.merge_laws.proofs.Ground.{Ground}
-use Rattle.merge_laws.proofs.Lists.{all-filter}
+use Rattle.merge_model.proofs.Lists.{all-filter}
 use Rattle.merge_laws.proofs.NotesLeave.{lines-accepted}
 use Rattle.merge_laws.proofs.Numbers.{upload-says}
 use Rattle.merge_laws.proofs.Publishing.{found-number, joined-number, sites_taken, upload-change}

@@ -42,17 +42,22 @@ use Rattle.merge_model.specs.PublisherRanges.{plans, ranged, ranges_refusal, wit
 use Rattle.merge_model.specs.PublisherUpload.{brings_news, upload_refusal, uploaded}
 use Rattle.merge_model.specs.Refusals.{counter_end, refused_if}
 use Rattle.merge_model.specs.Sending.{join_made, join_of, ranges_made, sending_refusal, unsent_rows, upload_end, upload_made, upload_sent, want_of, with_message}
-use Rattle.merge_model.specs.Session.{exchange}
-use Rattle.merge_model.specs.Steps.{Outcome, SendDownload, SendJoin, SendRanges, SendUpload, kept_decisions, post, posted, upload_questions}
+use Rattle.merge_model.specs.Session.{ask as asking}
+use Rattle.merge_model.specs.Steps.{SendDownload, SendJoin, SendRanges, SendUpload, kept_decisions, post, posted, upload_questions}
+use Rattle.merge_model.specs.declared.outcome.Outcome.{Outcome}
 use Rattle.merge_model.specs.Subscriber.{sub_at_moment, sub_closed, sub_counters, sub_last_closed}
-use Rattle.merge_model.specs.Tables.{Key, PublisherTables, SubscriberTables}
+use Rattle.merge_types.specs.declared.row_key.RowKey.{RowKey as Key}
+use Rattle.merge_model.specs.Tables.{PublisherTables, SubscriberTables}
 use Rattle.merge_model.specs.Taking.{taken}
-use Rattle.merge_model.specs.World.{Asks, Letter, Message, Replies, Saying, World, subscriber_at, with_publisher, with_subscriber}
+use Rattle.merge_model.specs.World.{Saying, World, subscriber_at, with_publisher, with_subscriber}
+use Rattle.merge_model.specs.declared.letter.Message.TheVariants.{Asks, Replies}
+use Rattle.merge_model.specs.declared.letter.Letter.{Letter}
+use Rattle.merge_model.specs.declared.letter.Message.{Message}
 use Rattle.merge_laws.proofs.Arrivals.{first-none}
-use Rattle.merge_laws.proofs.Finding.{at_put_same}
+use Rattle.merge_model.proofs.Finding.{at_put_same}
 use Rattle.merge_laws.proofs.IdentityNotes.{taker-made}
 use Rattle.merge_laws.proofs.Sendings.{batch-bound}
-use Rattle.merge_laws.proofs.SessionSteps.{After, Answered, Ends, Sent, back-step, comes-step, post-step, posted_model, reply-step, send-step, unless-step}
+use Rattle.merge_laws.proofs.SessionSteps.{After, Answered, Sent, back-step, comes-step, post-step, posted_model, reply-step, send-step, unless-step}
 use Rattle.merge_laws.proofs.SettledExpired.{ask-live, expired_in}
 use Rattle.merge_laws.proofs.Subscribing.{filling-closed}
 use Rattle.merge_laws.proofs.Tellings.{uploaded-alike}
@@ -183,7 +188,7 @@ module _ (publication : Publication) (says : Saying) (m : Model) (s : Subscriber
   h = m.history
 
   -- A download.
-  pub download-leaves : Ends (DownloadLeaves publication m s) (λ k. ⊥) (exchange (model publication says) s.site SendDownload m)
+  pub download-leaves : Answered publication says (DownloadLeaves publication m s) (λ k. ⊥) s.site (asking (model publication says) s.site SendDownload m)
   download-leaves =
       let Acts : Model → Type 0 = DownloadLeaves publication m s in
       let Rests : Model → Type 0 = λ k. ⊥ in
@@ -231,7 +236,7 @@ module _ (publication : Publication) (says : Saying) (m : Model) (s : Subscriber
       })))))))))
 
   -- Range requests.
-  pub ranges-leave : Ends (RangesLeave m s) (λ k. (k.world ≡ w) × (k.history ≡ h)) (exchange (model publication says) s.site SendRanges m)
+  pub ranges-leave : Answered publication says (RangesLeave m s) (λ k. (k.world ≡ w) × (k.history ≡ h)) s.site (asking (model publication says) s.site SendRanges m)
   ranges-leave =
       let Acts : Model → Type 0 = RangesLeave m s in
       let Rests : Model → Type 0 = λ k. (k.world ≡ w) × (k.history ≡ h) in
@@ -268,7 +273,7 @@ module _ (publication : Publication) (says : Saying) (m : Model) (s : Subscriber
       ]))
 
   -- A join.
-  pub join-leaves : s.is_joined ≡ false → Ends (JoinLeaves s) (λ k. ⊥) (exchange (model publication says) s.site SendJoin m)
+  pub join-leaves : s.is_joined ≡ false → Answered publication says (JoinLeaves s) (λ k. ⊥) s.site (asking (model publication says) s.site SendJoin m)
   join-leaves joining =
       let Acts : Model → Type 0 = JoinLeaves s in
       let Rests : Model → Type 0 = λ k. ⊥ in
@@ -300,7 +305,7 @@ module _ (publication : Publication) (says : Saying) (m : Model) (s : Subscriber
       })))))))))
 
   -- An upload.
-  pub upload-leaves : s.received ≤ sub_last_closed s → (s.site.0 ≡ 0 → (sub_last_closed s ≡ 0) × (s.gens.filling.filled ≡ 0)) → Ends (UploadLeaves m s) (UploadRests s) (exchange (model publication says) s.site SendUpload m)
+  pub upload-leaves : s.received ≤ sub_last_closed s → (s.site.0 ≡ 0 → (sub_last_closed s ≡ 0) × (s.gens.filling.filled ≡ 0)) → Answered publication says (UploadLeaves m s) (UploadRests s) s.site (asking (model publication says) s.site SendUpload m)
   upload-leaves below idle =
       let Acts : Model → Type 0 = UploadLeaves m s in
       let Rests : Model → Type 0 = UploadRests s in

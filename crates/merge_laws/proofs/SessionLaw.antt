@@ -7,24 +7,28 @@ use Rattle.merge_schema.specs.declared.publication.Publication.{Publication}
 use Rattle.merge_batch.specs.declared.refusal.Refusal.{Refusal}
 use Rattle.merge_batch.specs.declared.reply.Downloaded.{Downloaded}
 use Rattle.merge_batch.specs.declared.reply.Reply.TheVariants as reply
-use Rattle.merge_model.specs.Events.{after}
+use Rattle.merge_model.specs.Runs.{model_behind}
 use Rattle.merge_model.specs.History.{History, MadeChange, made_at}
-use Rattle.merge_model.specs.Model.{Model, empty_model, model, model_step}
+use Rattle.merge_model.specs.Model.{Model, model, model_step}
 use Rattle.merge_model.specs.Promises.{IsSettled, SessionSettles, is_expired_at}
 use Rattle.merge_model.specs.Publisher.{last_closed}
-use Rattle.merge_model.specs.Session.{Session, after_download, after_exchange, all_downloads, all_ranges, all_uploads, asking_ranges, downloaded_in, downloading, exchange, has_grant, is_joined_in, joining, last_message, range_asks, session, then_deliver, unless_stopped, unsent_generations, uploading, with_download}
-use Rattle.merge_model.specs.Steps.{Action, Deliver, NoPost, Outcome, Posted, Refuses, Send, SendDownload, SendJoin, SendRanges, SendUpload, Sending, Took}
+use Rattle.merge_model.specs.Session.{Session, after_download, all_downloads, answered_as, arrived, as_it_is, ask, all_ranges, all_uploads, asking_ranges, downloaded_in, downloading, exchange, has_grant, is_joined_in, joining, last_message, range_asks, session, then_deliver, unless_stopped, unsent_generations, uploading, with_answer, with_upload}
+use Rattle.merge_model.specs.Steps.{Action, Deliver, Send, SendDownload, SendJoin, SendRanges, SendUpload, Sending}
+use Rattle.merge_model.specs.declared.outcome.Outcome.TheVariants.{NoPost, Posted, Refuses, Took}
+use Rattle.merge_model.specs.declared.outcome.Outcome.{Outcome}
 use Rattle.merge_model.specs.Subscriber.{sub_last_closed}
 use Rattle.merge_model.specs.Tables.{SubscriberTables}
-use Rattle.merge_model.specs.World.{Message, Replies, Saying, World, subscriber_at}
+use Rattle.merge_model.specs.World.{Saying, World, subscriber_at}
+use Rattle.merge_model.specs.declared.letter.Message.{Message}
+use Rattle.merge_model.specs.declared.letter.Message.TheVariants.{Replies}
 use Rattle.merge_laws.specs.Numbered.{Numbered}
 use Rattle.merge_laws.specs.Received.{Received}
 use Rattle.merge_laws.specs.Laws.{OfEveryDecidedRun}
-use Rattle.merge_laws.proofs.Finding.{some_same}
+use Rattle.merge_model.proofs.Finding.{some_same}
 use Rattle.merge_laws.proofs.Models.{model-fine}
 use Rattle.merge_laws.proofs.SessionChanges.{NoneBetween, UpTo, none-later, none-nothing, nothing-none, order-up, up-none}
 use Rattle.merge_laws.proofs.SessionExchanges.{DownloadLeaves, JoinLeaves, RangesLeave, UploadLeaves, UploadRests, download-leaves, join-leaves, ranges-leave, upload-leaves}
-use Rattle.merge_laws.proofs.SessionSteps.{Ends}
+use Rattle.merge_laws.proofs.SessionSteps.{Answered, Ends}
 use Rattle.merge_laws.proofs.Tellings.{numbered-always, numbered-keeps}
 use Rattle.merge_laws.proofs.Walking.{step-keeps, same-sites}
 
@@ -75,22 +79,30 @@ module _ (publication : Publication) (says : Saying) (site : SiteId) where
   step-known : (k : Model) (action : Action) → Known k → Known (model_step publication says k action).0
   step-known k action g = (model-fine publication says k action g.0, step-keeps publication says Received Numbered (λ w h r. r) (numbered-keeps publication says) k action g.0 g.1)
 
+  -- how a session goes on behind an exchange
+  arrived-settles : (Acts Rests Q : Model → Type 0) (v : Session Model) (done : Model × Outcome) (next : Session Model → Session Model) → Ends Acts Rests done → Known done.0
+      → ((x : Session Model) → Known x.world → Acts x.world → Settles Q (next x)) → ((k : Model) → Known k → Rests k → Q k) → Settles Q (arrived (model publication says) site next v done)
+  arrived-settles Acts Rests Q v (k, Took taken) next ends g acts rests = acts (record v { world = k }) g ends
+  arrived-settles Acts Rests Q v (k, Refuses refusal) next ends g acts rests = λ none. absurd (grind (arith, none))
+  arrived-settles Acts Rests Q v (k, NoPost) next ends g acts rests = λ none. rests k g ends
+  arrived-settles Acts Rests Q v (k, outcome) next ends g acts rests = absurd ends
+
+  answered-settles : (Acts Rests Q : Model → Type 0) (u : Session Model) (done : Model × Outcome) (counted next : Session Model → Session Model) → Answered publication says Acts Rests site done → Known done.0
+      → ((x : Session Model) → Known x.world → Acts x.world → Settles Q (next x)) → ((k : Model) → Known k → Rests k → Q k) → Settles Q (answered_as (model publication says) site counted next u done)
+  answered-settles Acts Rests Q u (k, Posted number) counted next ends g acts rests =
+      arrived-settles Acts Rests Q (counted (record u { world = k })) (model_step publication says k (Deliver number)) next ends (step-known k (Deliver number) g) acts rests
+  answered-settles Acts Rests Q u (k, Refuses refusal) counted next ends g acts rests = λ none. absurd (grind (arith, none))
+  answered-settles Acts Rests Q u (k, NoPost) counted next ends g acts rests = λ none. rests k g ends
+  answered-settles Acts Rests Q u (k, outcome) counted next ends g acts rests = absurd ends
+
   deliver-known : (done : Model × Outcome) → Known done.0 → Known (then_deliver (model publication says) site done).0
   deliver-known (k, Posted number) g = step-known k (Deliver number) g
   deliver-known (k, outcome) g = g
 
-  exchange-known : (sending : Sending) (k : Model) → Known k → Known (exchange (model publication says) site sending k).0
-  exchange-known sending k g =
-      let sent : Model × Outcome = model_step publication says k (Send site sending) in
-      deliver-known (then_deliver (model publication says) site sent) (deliver-known sent (step-known k (Send site sending) g))
-
-  -- how a session goes on behind an exchange
-  exchange-settles : (Acts Rests Q : Model → Type 0) (u : Session Model) (done : Model × Outcome) (next : Session Model → Session Model) → Ends Acts Rests done → Known done.0
-      → ((k : Model) → Known k → Acts k → Settles Q (next (record u { world = k }))) → ((k : Model) → Known k → Rests k → Q k) → Settles Q (after_exchange (model publication says) site u done next)
-  exchange-settles Acts Rests Q u (k, Took taken) next ends g acts rests = acts k g ends
-  exchange-settles Acts Rests Q u (k, Refuses refusal) next ends g acts rests = λ none. absurd (grind (arith, none))
-  exchange-settles Acts Rests Q u (k, NoPost) next ends g acts rests = λ none. rests k g ends
-  exchange-settles Acts Rests Q u (k, outcome) next ends g acts rests = absurd ends
+  exchange-settles : (Acts Rests Q : Model → Type 0) (sending : Sending) (u : Session Model) (counted next : Session Model → Session Model) → Answered publication says Acts Rests site (ask (model publication says) site sending u.world) → Known u.world
+      → ((x : Session Model) → Known x.world → Acts x.world → Settles Q (next x)) → ((k : Model) → Known k → Rests k → Q k) → Settles Q (exchange (model publication says) site sending counted next u)
+  exchange-settles Acts Rests Q sending u counted next ends g acts rests = answered-settles Acts Rests Q u (ask (model publication says) site sending u.world) counted next ends
+      (deliver-known (model_step publication says u.world (Send site sending)) (step-known u.world (Send site sending) g)) acts rests
 
   stopped-settles : (Q R : Model → Type 0) (next : Session Model → Session Model) (u : Session Model) (stop : Option Refusal) → u.stop ≡ stop → Settles Q u → ((v : Session Model) → Q v.world → Settles R (next v))
       → Settles R (let v : Session Model = elim stop [ Some refusal ↦ u | None ↦ next u ] in v)
@@ -106,8 +118,9 @@ module _ (publication : Publication) (says : Saying) (site : SiteId) where
   joined-is k a b is = sym (ap (λ (found : Option SubscriberTables). unwrap_or (option_map (λ (s : SubscriberTables). s.is_joined) found) true) a.here) ∙ is
 
   -- facts of an exchange are told of the tables' own site
-  ends-here : (Acts Rests : Model → Type 0) (sending : Sending) (k : Model) (a : At k) → Ends Acts Rests (exchange (model publication says) a.tables.site sending k) → Ends Acts Rests (exchange (model publication says) site sending k)
-  ends-here Acts Rests sending k a ends = subst (λ (x : SiteId). Ends Acts Rests (exchange (model publication says) x sending k)) (same-site k a) ends
+  ends-here : (Acts Rests : Model → Type 0) (sending : Sending) (k : Model) (a : At k) → Answered publication says Acts Rests a.tables.site (ask (model publication says) a.tables.site sending k)
+      → Answered publication says Acts Rests site (ask (model publication says) site sending k)
+  ends-here Acts Rests sending k a ends = subst (λ (x : SiteId). Answered publication says Acts Rests x (ask (model publication says) x sending k)) (same-site k a) ends
 
   abbrev at_next : (k n : Model) (a : At k) (t : SubscriberTables) → Known n → subscriber_at n.world a.tables.site ≡ Some t → At n
   at_next k n a t g found = record { tables = t; known = g; here = subst (λ (x : SiteId). subscriber_at n.world x ≡ Some t) (same-site k a) found }
@@ -117,28 +130,28 @@ module _ (publication : Publication) (says : Saying) (site : SiteId) where
 
   joining-settles : (u : Session Model) → At u.world → Settles Joins (joining (model publication says) site u)
   joining-settles u a =
-      let done : Model × Outcome = exchange (model publication says) site SendJoin u.world in
-      if-settles Joins (is_joined_in (model publication says) site u.world) u (after_exchange (model publication says) site u done (λ (t : Session Model). t))
+      let as_is : Session Model → Session Model = as_it_is (model publication says) site in
+      if-settles Joins (is_joined_in (model publication says) site u.world) u (exchange (model publication says) site SendJoin as_is as_is u)
       (λ is none. record { at = a; joined = joined-is u.world a true is })
-      (λ is. exchange-settles (JoinLeaves a.tables) (λ n. ⊥) Joins u done (λ (t : Session Model). t)
+      (λ is. exchange-settles (JoinLeaves a.tables) (λ n. ⊥) Joins SendJoin u as_is as_is
       (ends-here (JoinLeaves a.tables) (λ n. ⊥) SendJoin u.world a (join-leaves publication says u.world a.tables (own u.world a) (joined-is u.world a false is)))
-      (exchange-known SendJoin u.world a.known)
-      (λ n g l none. record { at = at_next u.world n a l.tables g l.here; joined = l.joined })
+      a.known
+      (λ v g l none. record { at = at_next u.world v.world a l.tables g l.here; joined = l.joined })
       (λ n g rests. absurd rests))
 
   -- It uploads. Each upload takes a generation, so that there are uploads enough.
   upload-settles : (u : Session Model) (j : Joins u.world) (next : Session Model → Session Model)
-      → ((n : Model) (e : Joins n) (l : UploadLeaves u.world j.at.tables n) → e.at.tables ≡ l.tables → Settles Uploaded (next (record u { world = n })))
-      → Settles Uploaded (after_exchange (model publication says) site u (exchange (model publication says) site SendUpload u.world) next)
+      → ((v : Session Model) (e : Joins v.world) (l : UploadLeaves u.world j.at.tables v.world) → e.at.tables ≡ l.tables → Settles Uploaded (next v))
+      → Settles Uploaded (exchange (model publication says) site SendUpload (with_upload (model publication says) site) next u)
   upload-settles u j next more =
       let k : Model = u.world in
       let a : At k = j.at in
       let s : SubscriberTables = a.tables in
-      exchange-settles (UploadLeaves k s) (UploadRests s) Uploaded u (exchange (model publication says) site SendUpload k) next
+      exchange-settles (UploadLeaves k s) (UploadRests s) Uploaded SendUpload u (with_upload (model publication says) site) next
       (ends-here (UploadLeaves k s) (UploadRests s) SendUpload k a
       (upload-leaves publication says k s (own k a) (a.known.0.subscribers site.0 s a.here).own (a.known.1.subscribers s.site.0 s (own k a)).named))
-      (exchange-known SendUpload k a.known)
-      (λ n g l. more n (record { at = at_next k n a l.tables g l.here; joined = l.joined ∙ j.joined }) l refl)
+      a.known
+      (λ v g l. more v (record { at = at_next k v.world a l.tables g l.here; joined = l.joined ∙ j.joined }) l refl)
       (λ n g r. record {
         joins = record { at = at_next k n a s g r.here; joined = j.joined };
         none = subst (λ (x : SiteId). NoneBetween s.received (sub_last_closed s + 1) (made_at n.history x.0)) (same-site k a) (nothing-none n.history s r.nothing);
@@ -150,24 +163,24 @@ module _ (publication : Publication) (says : Saying) (site : SiteId) where
     none = up-none bound j.at.tables.received (sub_last_closed j.at.tables + 1) (made_at u.world.history site.0) (omega (arith, enough)) all;
   }
   uploading-settles (suc count) bound u j all enough =
-      upload-settles u j (λ (t : Session Model). uploading (model publication says) site count (record t { uploads = t.uploads + 1 })) (λ n e l same. (
+      upload-settles u j (uploading (model publication says) site count) (λ v e l same. (
       let up = l.received in
       let is : e.at.tables.received ≡ l.tables.received = ap (λ (t : SubscriberTables). t.received) same in
-      uploading-settles count bound (record (record u { world = n }) { uploads = u.uploads + 1 }) e
-      (subst (λ (made : List MadeChange). UpTo bound made) (sym (made-here u.world n j.at l.made)) all) (omega (arith, up, enough, is))))
+      uploading-settles count bound v e
+      (subst (λ (made : List MadeChange). UpTo bound made) (sym (made-here u.world v.world j.at l.made)) all) (omega (arith, up, enough, is))))
 
   -- where the first one acts, the site has another number than 0, and its changes stand in order
   first-settles : (count : ℕ) (u : Session Model) (j : Joins u.world) → count ≡ sub_last_closed j.at.tables + 2 - j.at.tables.received → Settles Uploaded (uploading (model publication says) site count u)
   first-settles zero u j is = (let below = (j.at.known.0.subscribers site.0 j.at.tables j.at.here).own in absurd (omega (arith, below, is)))
   first-settles (suc count) u j is =
       let s : SubscriberTables = j.at.tables in
-      upload-settles u j (λ (t : Session Model). uploading (model publication says) site count (record t { uploads = t.uploads + 1 })) (λ n e l same. (
+      upload-settles u j (uploading (model publication says) site count) (λ v e l same. (
       let up = l.received in
       let t : e.at.tables.received ≡ l.tables.received = ap (λ (x : SubscriberTables). x.received) same in
       let order = (j.at.known.1.subscribers s.site.0 s (own u.world j.at)).order l.named in
       let all : UpTo (sub_last_closed s + 1) (made_at u.world.history s.site.0) = order-up s.changes (sub_last_closed s + 1) (made_at u.world.history s.site.0) order in
-      uploading-settles count (sub_last_closed s + 1) (record (record u { world = n }) { uploads = u.uploads + 1 }) e
-      (subst (λ (x : SiteId). UpTo (sub_last_closed s + 1) (made_at n.history x.0)) (same-site u.world j.at) (subst (λ (made : List MadeChange). UpTo (sub_last_closed s + 1) made) (sym l.made) all)) (omega (arith, up, is, t))))
+      uploading-settles count (sub_last_closed s + 1) v e
+      (subst (λ (x : SiteId). UpTo (sub_last_closed s + 1) (made_at v.world.history x.0)) (same-site u.world j.at) (subst (λ (made : List MadeChange). UpTo (sub_last_closed s + 1) made) (sym l.made) all)) (omega (arith, up, is, t))))
 
   uploads-settle : (u : Session Model) → Joins u.world → Settles Uploaded (all_uploads (model publication says) site u)
   uploads-settle u j = first-settles (unsent_generations (model publication says) site u.world) u j
@@ -180,11 +193,11 @@ module _ (publication : Publication) (says : Saying) (site : SiteId) where
       let k : Model = u.world in
       let a : At k = f.joins.at in
       let Rests : Model → Type 0 = λ (n : Model). (n.world ≡ k.world) × (n.history ≡ k.history) in
-      exchange-settles (RangesLeave k a.tables) Rests Uploaded u (exchange (model publication says) site SendRanges k)
+      exchange-settles (RangesLeave k a.tables) Rests Uploaded SendRanges u (as_it_is (model publication says) site)
       (λ (t : Session Model). if has_grant (model publication says) site (last_message (model publication says) site t.world) then asking_ranges (model publication says) site count t else t)
       (ends-here (RangesLeave k a.tables) Rests SendRanges k a (ranges-leave publication says k a.tables (own k a)))
-      (exchange-known SendRanges k a.known)
-      (λ n g l. (let v : Session Model = record u { world = n } in
+      a.known
+      (λ v g l. (let n : Model = v.world in
       let e : Uploaded n = record {
         joins = record { at = at_next k n a l.tables g l.here; joined = l.joined ∙ f.joins.joined };
         none = subst (λ (made : List MadeChange). NoneBetween l.tables.received (sub_last_closed l.tables + 1) made) (sym (made-here k n a l.made))
@@ -219,9 +232,9 @@ module _ (publication : Publication) (says : Saying) (site : SiteId) where
   }
 
   fetch-settles : (Q : Model → Type 0) (next : Downloaded → Session Model → Session Model) (u : Session Model) (d : Downloaded) → last_message (model publication says) site u.world ≡ Some (Replies (reply.Downloaded d))
-      → Settles Q (next d (with_download (model publication says) site d u)) → Settles Q (after_download (model publication says) site next u)
+      → Settles Q (next d u) → Settles Q (after_download (model publication says) site next u)
   fetch-settles Q next u d last holds =
-      subst (λ (found : Option Message). Settles Q (let v : Session Model = elim (downloaded_in (model publication says) site found) [ None ↦ u | Some m ↦ next m (with_download (model publication says) site m u) ] in v)) (sym last) holds
+      subst (λ (found : Option Message). Settles Q (let v : Session Model = elim (downloaded_in (model publication says) site found) [ None ↦ u | Some m ↦ next m u ] in v)) (sym last) holds
 
   at-least : (a b : ℕ) → nat_le a b ≡ true → a ≤ b
   at-least a b is = grind (arith, nat_tests, is)
@@ -236,13 +249,13 @@ module _ (publication : Publication) (says : Saying) (site : SiteId) where
       let k : Model = u.world in
       let a : At k = f.uploaded.joins.at in
       let next : Downloaded → Session Model → Session Model = λ (d : Downloaded) (t : Session Model). if nat_le target d.from then t else downloading (model publication says) site count target t in
-      exchange-settles (DownloadLeaves publication k a.tables) (λ n. ⊥) Fetched u (exchange (model publication says) site SendDownload k) (after_download (model publication says) site next)
+      exchange-settles (DownloadLeaves publication k a.tables) (λ n. ⊥) Fetched SendDownload u (with_answer (model publication says) site) (after_download (model publication says) site next)
       (ends-here (DownloadLeaves publication k a.tables) (λ n. ⊥) SendDownload k a (download-leaves publication says k a.tables (own k a)))
-      (exchange-known SendDownload k a.known)
-      (λ n g l. (let v : Session Model = with_download (model publication says) site l.told (record u { world = n }) in
+      a.known
+      (λ v g l. (let n : Model = v.world in
       let still : last_closed n.world.publisher ≡ target = l.still f.empty ∙ f.closed in
       let last = l.last in let onward = l.onward in let held = l.held in let from = l.from in
-      fetch-settles Fetched next (record u { world = n }) l.told l.posted
+      fetch-settles Fetched next v l.told l.posted
       (if-settles Fetched (nat_le target l.told.from) v (downloading (model publication says) site count target v)
       (λ is none. fetched-after k n f.uploaded g l (let low = at-least target l.told.from is in omega (arith, low, last, still)))
       (λ is. (let low = less target l.told.from is in let more = onward (omega (arith, low, last, still)) in
@@ -255,12 +268,12 @@ module _ (publication : Publication) (says : Saying) (site : SiteId) where
       let k : Model = u.world in
       let a : At k = f.joins.at in
       let next : Downloaded → Session Model → Session Model = λ (d : Downloaded) (t : Session Model). if nat_le d.last d.from then t else downloading (model publication says) site (d.last + 1 - d.from) d.last t in
-      exchange-settles (DownloadLeaves publication k a.tables) (λ n. ⊥) Fetched u (exchange (model publication says) site SendDownload k) (after_download (model publication says) site next)
+      exchange-settles (DownloadLeaves publication k a.tables) (λ n. ⊥) Fetched SendDownload u (with_answer (model publication says) site) (after_download (model publication says) site next)
       (ends-here (DownloadLeaves publication k a.tables) (λ n. ⊥) SendDownload k a (download-leaves publication says k a.tables (own k a)))
-      (exchange-known SendDownload k a.known)
-      (λ n g l. (let v : Session Model = with_download (model publication says) site l.told (record u { world = n }) in
+      a.known
+      (λ v g l. (let n : Model = v.world in
       let onward = l.onward in let held = l.held in
-      fetch-settles Fetched next (record u { world = n }) l.told l.posted
+      fetch-settles Fetched next v l.told l.posted
       (if-settles Fetched (nat_le l.told.last l.told.from) v (downloading (model publication says) site (l.told.last + 1 - l.told.from) l.told.last v)
       (λ is none. fetched-after k n f g l (at-least l.told.last l.told.from is))
       (λ is. (let low = less l.told.last l.told.from is in let more = onward low in
@@ -299,6 +312,6 @@ session-leaves-settled publication says m r i s t here ended there =
     subst (λ (x : SubscriberTables). IsSettled publication k x) (some_same f.fetches.uploaded.joins.at.tables t (sym f.fetches.uploaded.joins.at.here ∙ there)) (settled publication says s.site k f)
 
 pub sessions-settle : OfEveryDecidedRun SessionSettles
-sessions-settle publication says tallies events =
-    let known = numbered-always publication says tallies events in
-    session-leaves-settled publication says (after publication (model publication says) (empty_model publication tallies) events) known.0 known.1
+sessions-settle publication says tallies slips events =
+    let known = numbered-always publication says tallies slips events in
+    session-leaves-settled publication says (model_behind publication says tallies slips events) known.0 known.1

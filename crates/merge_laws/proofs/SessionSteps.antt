@@ -12,16 +12,23 @@ use Rattle.merge_model.specs.ByHistory.{by_history, by_made}
 use Rattle.merge_model.specs.Faults.{reply_fault}
 use Rattle.merge_model.specs.History.{History, pasts_with}
 use Rattle.merge_model.specs.Judge.{SubscriberJudge}
-use Rattle.merge_model.specs.Model.{Model, did_something, model, noted_if, noted_letter, with_letter, with_posted}
+use Rattle.merge_model.specs.Model.{Model, did_something, model, model_step, noted_if, noted_letter, with_letter, with_posted}
 use Rattle.merge_model.specs.Noting.{noted_reply}
 use Rattle.merge_model.specs.Refusals.{unless}
-use Rattle.merge_model.specs.Session.{exchange, then_deliver}
-use Rattle.merge_model.specs.Steps.{NoLetter, NoPost, Outcome, Posted, Refuses, Sending, Took, deliver_letter, deliver_reply, post, send_from, unless_refused}
+use Rattle.merge_model.specs.Session.{ask, then_deliver}
+use Rattle.merge_model.specs.Steps.{Deliver, Sending, deliver_letter, deliver_reply, post, send_from, unless_refused}
+use Rattle.merge_model.specs.declared.outcome.Outcome.TheVariants.{NoLetter, NoPost, Posted, Refuses, Took}
+use Rattle.merge_model.specs.declared.outcome.Outcome.{Outcome}
 use Rattle.merge_model.specs.Tables.{SubscriberTables}
-use Rattle.merge_model.specs.Taking.{Acted, Missed, Taken, met_by, seq_of, taken}
-use Rattle.merge_model.specs.World.{Letter, Message, Replies, World, letter_at, subscriber_at, with_subscriber}
+use Rattle.merge_model.specs.Taking.{met_by, seq_of, taken}
+use Rattle.merge_model.specs.declared.outcome.Taken.TheVariants.{Acted, Missed}
+use Rattle.merge_model.specs.declared.outcome.Taken.{Taken}
+use Rattle.merge_model.specs.World.{World, letter_at, subscriber_at, with_subscriber}
+use Rattle.merge_model.specs.declared.letter.Letter.{Letter}
+use Rattle.merge_model.specs.declared.letter.Message.{Message}
+use Rattle.merge_model.specs.declared.letter.Message.TheVariants.{Replies}
 use Rattle.merge_model.specs.World.{Saying}
-use Rattle.merge_laws.proofs.Tests.{number-itself}
+use Rattle.merge_model.proofs.Tests.{number-itself}
 use Rattle.merge_laws.proofs.Walking.{letter-last}
 
 -- how an exchange ends: its reply acted, something was refused, or there was no message to make
@@ -60,13 +67,16 @@ module _ (publication : Publication) (says : Saying) (Acts Rests : Model → Typ
   Ended done = Ends Acts Rests done
 
   abbrev pub Answered : Model × Outcome → Type 0
-  Answered done = Ended (then_deliver (model publication says) site done)
+  Answered (k, Posted number) = Ended (model_step publication says k (Deliver number))
+  Answered (k, Refuses refusal) = Unit {0}
+  Answered (k, NoPost) = Rests k
+  Answered (k, outcome) = ⊥
 
   abbrev pub Sent : Model × Outcome → Type 0
   Sent done = Answered (then_deliver (model publication says) site done)
 
   pub send-step : (m : Model) (s : SubscriberTables) (sending : Sending) → subscriber_at m.world site ≡ Some s → After Sent (send_from (by_history m.history) sending m.world s) m.history m.history
-      → Ended (exchange (model publication says) site sending m)
+      → Answered (ask (model publication says) site sending m)
   send-step m s sending at holds =
       subst (λ (found : Option SubscriberTables). (let done : World × Outcome = elim found [ None ↦ (m.world, Refuses (UnknownSite site)) | Some t ↦ send_from (by_history m.history) sending m.world t ] in After Sent done m.history m.history)) (sym at) holds
 

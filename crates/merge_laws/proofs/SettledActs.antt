@@ -5,9 +5,9 @@ use Rattle.std.proofs.lemmas.Bool.Decides.{nat_tests}
 use Rattle.merge_types.specs.declared.changes.Change.{Change}
 use Rattle.merge_types.specs.declared.identifiers.SiteId.{SiteId}
 use Rattle.merge_units.specs.declared.result.Decision.{Decision}
-use Rattle.merge_ident.specs.declared.grants.Planned.{Planned}
+use Rattle.merge_ident.specs.declared.grants.GrantPlan.{GrantPlan}
 use Rattle.merge_schema.specs.declared.publication.Publication.{Publication}
-use Rattle.merge_batch.specs.Lineages.{is_subscription}
+use Rattle.merge_schema.specs.Places.{is_subscription}
 use Rattle.merge_batch.specs.declared.refusal.Refusal.TheVariants.{Gap, UnknownSite}
 use Rattle.merge_batch.specs.declared.request.Download.{Download}
 use Rattle.merge_batch.specs.declared.request.Join.{Join}
@@ -30,7 +30,8 @@ use Rattle.merge_model.specs.PublisherPurge.{purge}
 use Rattle.merge_model.specs.PublisherRanges.{with_grants}
 use Rattle.merge_model.specs.PublisherUpload.{taken_in, upload_refusal}
 use Rattle.merge_model.specs.Refusals.{refused_if}
-use Rattle.merge_model.specs.Tables.{Key, PublisherTables, SubscriberTables}
+use Rattle.merge_types.specs.declared.row_key.RowKey.{RowKey as Key}
+use Rattle.merge_model.specs.Tables.{PublisherTables, SubscriberTables}
 use Rattle.merge_model.specs.World.{Saying, World}
 use Rattle.merge_model.proofs.Sorted.{closed_filling-rises}
 use Rattle.merge_laws.specs.Settled.{SendsChanged, TouchedInOrder, changed_of, has_item, is_expired_by, site_view, touched_at}
@@ -98,7 +99,7 @@ module _ (publication : Publication) (says : Saying) (w : World) (h : History) (
   pub closing-onward : (made : List MadeChange) (n : ℕ) → Onward (site_view publication p made n) (site_view publication (closed (here w)) made n)
   closing-onward made n = touch-onward publication p (closed (here w)) made n (live-here publication w n) (closed_filling-rises p.gens.filling) refl (λ key. closed-touches publication (here w) (record { 0 = n }) key)
 
-  pub granted-onward : (planned : List Planned) (made : List MadeChange) (n : ℕ) → Onward (site_view publication p made n) (site_view publication (with_grants planned (here w)) made n)
+  pub granted-onward : (planned : List GrantPlan) (made : List MadeChange) (n : ℕ) → Onward (site_view publication p made n) (site_view publication (with_grants planned (here w)) made n)
   granted-onward planned made n = touch-onward publication p (with_grants planned (here w)) made n (live-here publication w n) (omega arith) refl (λ key. granted-touches publication planned (here w) (record { 0 = n }) key)
 
   pub asked-onward : (m : Download) → download_refusal publication w.moment m p ≡ None → (made : List MadeChange) (n : ℕ) → Onward (site_view publication p made n) (site_view publication (asked m (here w)) made n)

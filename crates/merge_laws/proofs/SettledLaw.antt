@@ -8,16 +8,21 @@ use Rattle.merge_units.specs.declared.version.Version.{Version}
 use Rattle.merge_schema.specs.Valid.{IsValid}
 use Rattle.merge_schema.specs.declared.publication.Publication.{Publication}
 use Rattle.merge_table.proofs.LookUps.{rows_from_look_ups}
-use Rattle.merge_model.specs.Events.{after}
+use Rattle.merge_model.specs.Failing.{Slips}
+use Rattle.merge_model.specs.Runs.{model_behind}
 use Rattle.merge_model.specs.History.{MadeChange, made_at}
-use Rattle.merge_model.specs.Keys.{at_number, has_key, key_cmp, row_at}
+use Rattle.merge_types.specs.RowKeys.{key_cmp}
+use Rattle.merge_model.specs.Keys.{at_number, has_key, row_at}
 use Rattle.merge_model.specs.Laws.{AreSubSorted}
-use Rattle.merge_model.specs.Model.{Model, empty_model, model, model_step}
+use Rattle.merge_model.specs.Model.{Model, model_step}
 use Rattle.merge_model.specs.Promises.{HoldsPartition, IsSettled, SettledHoldsPartition, base_of, live_version, version_if_in}
 use Rattle.merge_model.specs.PublisherDownload.{inside_keys}
 use Rattle.merge_model.specs.Steps.{Action}
 use Rattle.merge_model.specs.Subscriber.{sub_last_closed}
-use Rattle.merge_model.specs.Tables.{Key, PublisherRow, SubscriberRow, SubscriberTables}
+use Rattle.merge_types.specs.declared.row_key.RowKey.{RowKey as Key}
+use Rattle.merge_units.specs.declared.site_row.PublisherRow.{PublisherRow}
+use Rattle.merge_units.specs.declared.site_row.SubscriberRow.{SubscriberRow}
+use Rattle.merge_model.specs.Tables.{SubscriberTables}
 use Rattle.merge_model.specs.World.{Saying, World}
 use Rattle.merge_model.specs.declared.event.Event.{Event}
 use Rattle.merge_model.specs.ByNumbers.{received_by_number}
@@ -27,7 +32,7 @@ use Rattle.merge_laws.specs.Settled.{OfPublisher, OfSites, Settled, SiteHolds, T
 use Rattle.merge_laws.specs.Unsent.{last_made}
 use Rattle.merge_laws.proofs.Changed.{made-changed}
 use Rattle.merge_laws.proofs.Ground.{Ground, grounded-always}
-use Rattle.merge_laws.proofs.KeyLookUps.{keys-tied}
+use Rattle.merge_model.proofs.KeyLookUps.{keys-tied}
 use Rattle.merge_laws.proofs.SettledExpired.{expired-later}
 use Rattle.merge_laws.proofs.SettledRows.{kept-ascend, kept-at, kept_rows, with_value}
 use Rattle.merge_laws.proofs.SettledSent.{none-changed}
@@ -130,12 +135,12 @@ settled-step publication says m action g i = record {
   publisher = step-keeps publication says (Ground publication) (OfPublisher publication) (λ w h b. b.received) (touched-keeps publication says) m action g i.publisher;
 }
 
-pub settled-always : (publication : Publication) (says : Saying) (tallies : List ℕ) (events : List Event) → (resolvers : ℕ) × IsValid resolvers publication
-    → (let m : Model = after publication (model publication says) (empty_model publication tallies) events in Ground publication m.world m.history × Settled publication m.world m.history)
-settled-always publication says tallies events valid = grounded-always publication says tallies events valid (Settled publication) (settled-step publication says)
+pub settled-always : (publication : Publication) (says : Saying) (tallies : List ℕ) (slips : Slips) (events : List Event) → (resolvers : ℕ) × IsValid resolvers publication
+    → (let m : Model = model_behind publication says tallies slips events in Ground publication m.world m.history × Settled publication m.world m.history)
+settled-always publication says tallies slips events valid = grounded-always publication says tallies slips events valid (Settled publication) (settled-step publication says) (λ w h others s. record { sites = s.sites; publisher = s.publisher })
     (record { sites = sites-begin publication tallies; publisher = touched-begins publication tallies })
 
 pub settled-sites-hold : OfEveryValidRun (λ publication says m. SettledHoldsPartition publication m)
-settled-sites-hold resolvers publication valid says tallies events =
-    let both = settled-always publication says tallies events (resolvers, valid) in
-    settled-holds publication (after publication (model publication says) (empty_model publication tallies) events) both.0 both.1
+settled-sites-hold resolvers publication valid says tallies slips events =
+    let both = settled-always publication says tallies slips events (resolvers, valid) in
+    settled-holds publication (model_behind publication says tallies slips events) both.0 both.1

@@ -19,10 +19,13 @@ use Rattle.merge_batch.specs.declared.request.Request.TheVariants as request
 use Rattle.merge_model.specs.Faults.{reply_fault}
 use Rattle.merge_model.specs.History.{MadeChange}
 use Rattle.merge_model.specs.Judge.{SubscriberJudge}
-use Rattle.merge_model.specs.Keys.{key_cmp}
-use Rattle.merge_model.specs.Tables.{Key, SubscriberRow, SubscriberTables}
+use Rattle.merge_types.specs.RowKeys.{key_cmp}
+use Rattle.merge_types.specs.declared.row_key.RowKey.{RowKey as Key}
+use Rattle.merge_units.specs.declared.site_row.SubscriberRow.{SubscriberRow}
+use Rattle.merge_model.specs.Tables.{SubscriberTables}
 use Rattle.merge_model.specs.Taking.{row_above, seq_of, taken}
-use Rattle.merge_model.specs.World.{Asks, Message, Replies}
+use Rattle.merge_model.specs.declared.letter.Message.TheVariants.{Asks, Replies}
+use Rattle.merge_model.specs.declared.letter.Message.{Message}
 use Rattle.merge_laws.specs.Behind.{StaysBehind}
 use Rattle.merge_laws.specs.Settled.{MessageSettles, ReplyHolds, SiteView, SiteHolds, changed_of, held_at, live_only, said_of}
 use Rattle.merge_laws.specs.Unsent.{is_changed_above}

@@ -9,8 +9,10 @@ use Rattle.merge_batch.specs.declared.reply.Reply.TheVariants as reply
 use Rattle.merge_batch.specs.declared.request.Outstanding.TheVariants as ask
 use Rattle.merge_batch.specs.declared.request.Request.TheVariants as request
 use Rattle.merge_batch.specs.declared.request.Upload.{Upload}
-use Rattle.merge_model.specs.Tables.{Key, SubscriberTables}
-use Rattle.merge_model.specs.World.{Asks, Message, Replies}
+use Rattle.merge_types.specs.declared.row_key.RowKey.{RowKey as Key}
+use Rattle.merge_model.specs.Tables.{SubscriberTables}
+use Rattle.merge_model.specs.declared.letter.Message.TheVariants.{Asks, Replies}
+use Rattle.merge_model.specs.declared.letter.Message.{Message}
 use Rattle.merge_laws.specs.Received.{MessageFits}
 use Rattle.merge_laws.specs.Settled.{MessageSettles, ReplyFits, ReplyHolds, SiteView, SendsChanged, SiteHolds}
 

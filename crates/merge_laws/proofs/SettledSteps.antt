@@ -39,17 +39,22 @@ use Rattle.merge_model.specs.Reinit.{reinitialised}
 use Rattle.merge_model.specs.Sending.{join_of, upload_end, upload_sent, want_of, with_message}
 use Rattle.merge_model.specs.Steps.{kept_decisions, upload_questions}
 use Rattle.merge_model.specs.Subscriber.{is_joining, sub_at_moment, sub_closed, sub_last_closed, sub_local_refusal, sub_made_locally, sub_next_dot, sub_version_at, with_version_if}
-use Rattle.merge_model.specs.Tables.{Key, PublisherTables, SubscriberRow, SubscriberTables}
+use Rattle.merge_types.specs.declared.row_key.RowKey.{RowKey as Key}
+use Rattle.merge_units.specs.declared.site_row.SubscriberRow.{SubscriberRow}
+use Rattle.merge_model.specs.Tables.{PublisherTables, SubscriberTables}
 use Rattle.merge_model.specs.Taking.{seq_of, taken}
-use Rattle.merge_model.specs.World.{Asks, Letter, Message, Replies, Saying, World, empty_subscribers, empty_world, subscriber_at, with_publisher, with_subscriber}
+use Rattle.merge_model.specs.World.{Saying, World, empty_subscribers, empty_world, subscriber_at, with_publisher, with_subscriber}
+use Rattle.merge_model.specs.declared.letter.Message.TheVariants.{Asks, Replies}
+use Rattle.merge_model.specs.declared.letter.Letter.{Letter}
+use Rattle.merge_model.specs.declared.letter.Message.{Message}
 use Rattle.merge_model.proofs.Sorted.{closed_filling-rises}
 use Rattle.merge_laws.specs.Received.{JoinFits, LetterFits, joined_at}
 use Rattle.merge_laws.specs.Settled.{LetterSettles, MessageSettles, OfPublisher, OfSites, SendsChanged, SiteHolds, SitesSettle, TouchedInOrder, changed_of, held_at, live_only, made_in, site_view, touched_at}
 use Rattle.merge_laws.specs.Watermarks.{AskHolds, LetterHolds, StateHolds, state_in}
 use Rattle.merge_laws.proofs.Arrivals.{first-none}
-use Rattle.merge_laws.proofs.Finding.{pool-at}
+use Rattle.merge_model.proofs.Finding.{pool-at}
 use Rattle.merge_laws.proofs.Ground.{Ground}
-use Rattle.merge_laws.proofs.KeyLookUps.{row-put}
+use Rattle.merge_model.proofs.KeyLookUps.{row-put}
 use Rattle.merge_laws.proofs.Models.{begins-with}
 use Rattle.merge_laws.proofs.Noted.{anew-keep, own-keep, purge-keep, reply-keep}
 use Rattle.merge_laws.proofs.Numbers.{Alike, alike-itself, alike-notes, made-other, made-same}
@@ -65,7 +70,7 @@ use Rattle.merge_laws.proofs.SettledWorlds.{if-any, if-found, posted-on, publish
 use Rattle.merge_laws.proofs.Steps.{joined-flag}
 use Rattle.merge_laws.proofs.Subscribing.{number-decided, same_number}
 use Rattle.merge_laws.proofs.Tellings.{joined-alike, uploaded-alike}
-use Rattle.merge_laws.proofs.Tests.{if-false}
+use Rattle.merge_model.proofs.Tests.{if-false}
 use Rattle.merge_laws.proofs.UnsentKept.{all-found, reply-site, version-site}
 use Rattle.merge_laws.proofs.Walking.{StepsKeep, acts_in, comes, here, join_noted, own_noted, told_by}
 

@@ -16,9 +16,12 @@ use Rattle.merge_model.specs.Keys.{same_key}
 use Rattle.merge_model.specs.Reinit.{reinitialised}
 use Rattle.merge_model.specs.Sending.{with_message}
 use Rattle.merge_model.specs.Subscriber.{sub_at_moment, sub_last_closed}
-use Rattle.merge_model.specs.Tables.{Key, PublisherTables, SubscriberRow, SubscriberTables}
+use Rattle.merge_types.specs.declared.row_key.RowKey.{RowKey as Key}
+use Rattle.merge_units.specs.declared.site_row.SubscriberRow.{SubscriberRow}
+use Rattle.merge_model.specs.Tables.{PublisherTables, SubscriberTables}
 use Rattle.merge_model.specs.ByNumbers.{received_by_number}
-use Rattle.merge_model.specs.World.{Asks, Message, Replies}
+use Rattle.merge_model.specs.declared.letter.Message.TheVariants.{Asks, Replies}
+use Rattle.merge_model.specs.declared.letter.Message.{Message}
 use Rattle.merge_laws.specs.Received.{MessageFits}
 use Rattle.merge_laws.specs.Settled.{MessageSettles, ReplyFits, SiteView, SendsChanged, SiteHolds, changed_of, has_item, held_at, live_only, site_view}
 use Rattle.merge_laws.proofs.SettledRows.{version_in}

@@ -27,11 +27,16 @@ use Rattle.merge_model.specs.PublisherUpload.{upload}
 use Rattle.merge_model.specs.Refusals.{unless}
 use Rattle.merge_model.specs.Reinit.{reinitialise}
 use Rattle.merge_model.specs.Sending.{make_ask, make_join, make_ranges, make_upload}
-use Rattle.merge_model.specs.Steps.{Action, CloseAt, Deliver, Forget, Make, MakeAnew, NoLetter, Outcome, Pass, Refuses, Send, SendDownload, SendJoin, SendRanges, SendUpload, Sending, answered, at_subscriber, close_publisher, close_subscriber, deliver_letter, deliver_reply, deliver_request, kept_decisions, make_anew, make_at_publisher, make_at_subscriber, post, posted, send_from, step_by, unless_refused, upload_questions}
+use Rattle.merge_model.specs.Steps.{Action, CloseAt, Deliver, Forget, Look, Make, MakeAnew, Pass, Send, SendDownload, SendJoin, SendRanges, SendUpload, Sending, answered, at_subscriber, close_publisher, close_subscriber, deliver_letter, deliver_reply, deliver_request, kept_decisions, make_anew, make_at_publisher, make_at_subscriber, post, posted, send_from, step_by, unless_refused, upload_questions}
+use Rattle.merge_model.specs.declared.outcome.Outcome.TheVariants.{NoLetter, Refuses}
+use Rattle.merge_model.specs.declared.outcome.Outcome.{Outcome}
 use Rattle.merge_model.specs.Subscriber.{close_sub_generation, sub_local}
 use Rattle.merge_model.specs.Tables.{PublisherTables, SubscriberTables}
 use Rattle.merge_model.specs.Taking.{take_reply}
-use Rattle.merge_model.specs.World.{Asks, Letter, Message, Replies, Saying, World, letter_at, subscriber_at, with_publisher, with_subscriber}
+use Rattle.merge_model.specs.World.{Saying, World, letter_at, subscriber_at, with_publisher, with_subscriber}
+use Rattle.merge_model.specs.declared.letter.Message.TheVariants.{Asks, Replies}
+use Rattle.merge_model.specs.declared.letter.Letter.{Letter}
+use Rattle.merge_model.specs.declared.letter.Message.{Message}
 use Rattle.merge_laws.proofs.Walking.{Sends, comes, here, posted-noted}
 
 abbrev pub is_ranged : Reply → Bool
@@ -91,7 +96,7 @@ module _ (publication : Publication) (says : Saying) (w : World) (h : History) (
   request-shaped number site (request.Join m) at = unless-shaped (join publication w.moment m w.publisher) _ _ (λ a. shapes.answers a.0 w.tallies site (reply.Joined a.1) _ refl)
   request-shaped number site (request.Upload m) at =
       let judge : PublisherJudge = by_past h (pasts_with h number) in
-      unless-shaped (upload publication judge w.moment m (kept_decisions says w.tallies (upload_questions publication judge w.moment m w.publisher)) w.publisher) _ _ (λ a. shapes.answers a.0 _ m.site (reply.Uploaded a.1) _ refl)
+      unless-shaped (upload publication judge w.moment m (kept_decisions says w.tallies (upload_questions publication judge w.moment m w.publisher)) w.publisher) _ _ (λ a. shapes.answers a.0 _ site (reply.Uploaded a.1) _ refl)
   request-shaped number site (request.Ranges m) at = ranges-shaped number site m (ranges_refusal publication (by_past h (pasts_with h number)) w.moment m w.publisher) at
   request-shaped number site (request.Download m) at =
       unless-shaped (download publication (by_past h (pasts_with h number)) w.moment m w.publisher) _ _ (λ a. shapes.answers a.0 w.tallies site (reply.Downloaded a.1) _ refl)
@@ -121,3 +126,4 @@ module _ (publication : Publication) (says : Saying) (w : World) (h : History) (
   step-shaped (Deliver number) = letter-shaped number (letter_at w number) refl
   step-shaped (MakeAnew site) = found-shaped site (subscriber_at w site) (make_anew (by_history h) w) _ (λ s. unless-shaped (reinitialise ((by_history h).subscriber s.site s) w.moment s) _ _ (λ a. shapes.subscriber a.0 _))
   step-shaped Forget = shapes.publisher _ _
+  step-shaped Look = shapes.nothing _

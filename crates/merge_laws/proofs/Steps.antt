@@ -19,12 +19,15 @@ use Rattle.merge_model.specs.Publisher.{at_moment, close_generation}
 use Rattle.merge_model.specs.PublisherLocal.{local, drawn, Drawn, made_locally}
 use Rattle.merge_model.specs.PublisherJoin.{joined}
 use Rattle.merge_model.specs.Subscriber.{sub_local, sub_local_refusal, sub_drawn, sub_made_locally, close_sub_generation, sub_closed, sub_at_moment, sub_counters, sub_last_closed, is_joining}
-use Rattle.merge_model.specs.World.{World, Judges, Message, subscriber_at, with_publisher, with_subscriber}
-use Rattle.merge_model.specs.Steps.{Outcome, Refuses, Made, Closes, post, unless_refused, at_subscriber, make_at, make_at_publisher, make_at_subscriber, close_at, close_publisher, close_subscriber}
+use Rattle.merge_model.specs.World.{World, Judges, subscriber_at, with_publisher, with_subscriber}
+use Rattle.merge_model.specs.declared.letter.Message.{Message}
+use Rattle.merge_model.specs.Steps.{post, unless_refused, at_subscriber, make_at, make_at_publisher, make_at_subscriber, close_at, close_publisher, close_subscriber}
+use Rattle.merge_model.specs.declared.outcome.Outcome.{Outcome}
+use Rattle.merge_model.specs.declared.outcome.Outcome.TheVariants.{Refuses, Made, Closes}
 use Rattle.merge_model.specs.History.{History}
 use Rattle.merge_model.proofs.Publishers.{local-ok, close-ok}
 use Rattle.merge_laws.specs.Received.{joined_at, MessageFits, SubscriberFits, Received}
-use Rattle.merge_laws.proofs.Finding.{at_put_same}
+use Rattle.merge_model.proofs.Finding.{at_put_same}
 use Rattle.merge_laws.proofs.Subscribing.{Goes, closing-goes, made-goes}
 use Rattle.merge_laws.proofs.Publishing.{same-sites}
 use Rattle.merge_laws.proofs.Worlds.{posted-fits, subscriber-goes, publisher-same}

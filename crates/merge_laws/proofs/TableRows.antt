@@ -5,24 +5,25 @@ use Rattle.std.proofs.Common.{sym, ap, ◌∙◌}
 use Rattle.std.proofs.lemmas.List.{append-nil, append_assoc, map-append}
 use Rattle.merge_types.specs.declared.identifiers.Moment.{Moment}
 use Rattle.merge_types.specs.declared.identifiers.SiteId.{SiteId}
-use Rattle.merge_units.specs.declared.case.Case.{Case}
 use Rattle.merge_units.specs.declared.result.Decision.{Decision}
 use Rattle.merge_units.specs.declared.result.Decision.TheVariants.{Custom, KeepPublisher, TakeSubscriber}
 use Rattle.merge_units.specs.declared.version.Version.{Version}
+use Rattle.merge_conflict.specs.declared.losers.Conflict.{Conflict}
 use Rattle.merge_conflict.specs.declared.row.ConflictRow.{ConflictRow}
-use Rattle.merge_resolve.specs.Losers.{losing_rows}
+use Rattle.merge_conflict.specs.Losers.{losing_rows}
 use Rattle.merge_schema.specs.declared.publication.Publication.{Publication}
 use Rattle.merge_batch.specs.declared.reply.Reply.{Reply}
-use Rattle.merge_model.specs.Acts.{Act, Fate, Met, New, Unknown, case_asked, lost_by, lost_from}
-use Rattle.merge_model.specs.Cases.{is_conflict}
+use Rattle.merge_model.specs.Acts.{Act, Fate, Met, New, Unknown, conflict_of, lost_by, lost_from}
+use Rattle.merge_units.specs.Cases.{is_conflict}
 use Rattle.merge_model.specs.Entries.{Entries}
 use Rattle.merge_model.specs.History.{History, Line, Past, past_at, past_in}
-use Rattle.merge_model.specs.Judge.{PublisherJudge, SubscriberJudge}
+use Rattle.merge_model.specs.Judge.{SubscriberJudge}
 use Rattle.merge_model.specs.Noting
 use Rattle.merge_model.specs.Pasts.{past_by}
 use Rattle.merge_model.specs.Promises.{key_of_conflict}
 use Rattle.merge_model.specs.Reinit.{numbered_from}
-use Rattle.merge_model.specs.Tables.{Key, SubscriberTables}
+use Rattle.merge_types.specs.declared.row_key.RowKey.{RowKey as Key}
+use Rattle.merge_model.specs.Tables.{SubscriberTables}
 use Rattle.merge_laws.specs.TablesAgree.{TableAgrees, keys_lost}
 use Rattle.merge_laws.proofs.NotesLeave.{decided-leaves, fold-leave, reply-leave}
 use Rattle.merge_laws.proofs.ToldHistories.{lost-here, lost-there}
@@ -66,11 +67,14 @@ agrees-more n before h rows new loses agrees = map-append key_of_conflict rows n
 
 -- Acts.
 
-losers-lose : (decision : Decision) (number : ℕ) (publication : Publication) (judge : PublisherJudge) (site : SiteId) (moment : Moment) (key : Key) (held incoming : Version) (case : Case) (ours theirs : Past) (before h : History) → h.lost ≡ before.lost
-    → Loses 0 (map key_of_conflict (losing_rows number (case_asked publication judge site moment key held incoming case) held incoming decision)) before (Noting.with_loser decision key ours theirs h)
-losers-lose KeepPublisher number publication judge site moment key held incoming case ours theirs before h same = loses-then 0 [] (key ∷ []) before h (Noting.with_lost 0 key theirs h) (loses-none 0 before h same) (loses-one 0 key theirs h)
-losers-lose TakeSubscriber number publication judge site moment key held incoming case ours theirs before h same = loses-then 0 [] (key ∷ []) before h (Noting.with_lost 0 key ours h) (loses-none 0 before h same) (loses-one 0 key ours h)
-losers-lose (Custom values) number publication judge site moment key held incoming case ours theirs before h same =
+losers-lose : (decision : Decision) (conflict : Conflict) (held incoming : Version) (ours theirs : Past) (before h : History) → h.lost ≡ before.lost
+    → Loses 0 (map key_of_conflict (losing_rows conflict held incoming decision)) before (Noting.with_loser decision (record { article = conflict.article; row = conflict.row }) ours theirs h)
+losers-lose KeepPublisher conflict held incoming ours theirs before h same =
+    let key : Key = record { article = conflict.article; row = conflict.row } in loses-then 0 [] (key ∷ []) before h (Noting.with_lost 0 key theirs h) (loses-none 0 before h same) (loses-one 0 key theirs h)
+losers-lose TakeSubscriber conflict held incoming ours theirs before h same =
+    let key : Key = record { article = conflict.article; row = conflict.row } in loses-then 0 [] (key ∷ []) before h (Noting.with_lost 0 key ours h) (loses-none 0 before h same) (loses-one 0 key ours h)
+losers-lose (Custom values) conflict held incoming ours theirs before h same =
+    let key : Key = record { article = conflict.article; row = conflict.row } in
     let one : History = Noting.with_lost 0 key ours h in
     loses-then 0 (key ∷ []) (key ∷ []) before one (Noting.with_lost 0 key theirs one)
     (loses-then 0 [] (key ∷ []) before h one (loses-none 0 before h same) (loses-one 0 key ours h)) (loses-one 0 key theirs one)
@@ -79,8 +83,8 @@ if-loses : (b : Bool) (rows : List ConflictRow) (before h k : History) → Loses
 if-loses true rows before h k one other = one
 if-loses false rows before h k one other = other
 
-module _ (publication : Publication) (judge : PublisherJudge) (site : SiteId) (moment : Moment) where
-  fate-loses : (number generation : ℕ) (act : Act) (fate : Fate) (past : Past) (h : History) → Loses 0 (map key_of_conflict (lost_by publication judge site moment number act fate)) h (Noting.with_fate fate generation act.key past h)
+module _ (publication : Publication) (site : SiteId) (moment : Moment) where
+  fate-loses : (number generation : ℕ) (act : Act) (fate : Fate) (past : Past) (h : History) → Loses 0 (map key_of_conflict (lost_by publication site moment number act fate)) h (Noting.with_fate fate generation act.key past h)
   fate-loses number generation act New past h = loses-none 0 h (Noting.with_past 0 act.key past h) refl
   fate-loses number generation act Unknown past h = loses-one 0 act.key past h
   fate-loses number generation act (Met held case decision dot) past h =
@@ -88,20 +92,20 @@ module _ (publication : Publication) (judge : PublisherJudge) (site : SiteId) (m
       let made : Past = past_by case decision dot ours past in
       let after : History = Noting.with_decided decision dot generation act.key case made h in
       let same : after.lost ≡ h.lost = decided-leaves (λ (x : History). x.lost) (λ x made pasts. refl) decision dot generation act.key case made h in
-      if-loses (is_conflict case) (losing_rows number (case_asked publication judge site moment act.key held act.incoming case) held act.incoming decision) h (Noting.with_loser decision act.key ours past after) after
-      (losers-lose decision number publication judge site moment act.key held act.incoming case ours past h after same) (loses-none 0 h after same)
+      if-loses (is_conflict case) (losing_rows (conflict_of publication site moment number act.key) held act.incoming decision) h (Noting.with_loser decision act.key ours past after) after
+      (losers-lose decision (conflict_of publication site moment number act.key) held act.incoming ours past h after same) (loses-none 0 h after same)
 
   module _ (incoming : List (Key × Past)) (entries : Entries) where
-    act-loses : (number : ℕ) (act : Act) (h : History) → Loses 0 (map key_of_conflict (lost_by publication judge site moment number act act.fate)) h (Noting.with_act incoming entries h act)
+    act-loses : (number : ℕ) (act : Act) (h : History) → Loses 0 (map key_of_conflict (lost_by publication site moment number act act.fate)) h (Noting.with_act incoming entries h act)
     act-loses number act h =
         let loses = fate-loses number (Noting.entry_generation entries act.key) act act.fate (past_in incoming act.key) h in
         record { rows = loses.rows; others = loses.others }
 
-    pub acts-lose : (number : ℕ) (acts : List Act) (h : History) → Loses 0 (map key_of_conflict (lost_from publication judge site moment number acts)) h (fold (Noting.with_act incoming entries) h acts)
+    pub acts-lose : (number : ℕ) (acts : List Act) (h : History) → Loses 0 (map key_of_conflict (lost_from publication site moment number acts)) h (fold (Noting.with_act incoming entries) h acts)
     acts-lose number [] h = loses-none 0 h h refl
     acts-lose number (act ∷ acts) h =
-        let rows : List ConflictRow = lost_by publication judge site moment number act act.fate in
-        let rest : List ConflictRow = lost_from publication judge site moment (number + length rows) acts in
+        let rows : List ConflictRow = lost_by publication site moment number act act.fate in
+        let rest : List ConflictRow = lost_from publication site moment (number + length rows) acts in
         let after : History = Noting.with_act incoming entries h act in
         let all : History = fold (Noting.with_act incoming entries) after acts in
         let loses : Loses 0 (map key_of_conflict rows ++ map key_of_conflict rest) h all = loses-then 0 (map key_of_conflict rows) (map key_of_conflict rest) h after all (act-loses number act h) (acts-lose (number + length rows) acts after) in

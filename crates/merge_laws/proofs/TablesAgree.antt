@@ -39,11 +39,14 @@ use Rattle.merge_model.specs.Reinit.{discarded, numbered_from, reinitialised}
 use Rattle.merge_model.specs.Sending.{join_of, upload_sent, want_of, with_message}
 use Rattle.merge_model.specs.Steps.{Action}
 use Rattle.merge_model.specs.Subscriber.{sub_at_moment, sub_closed, sub_last_closed, sub_made_locally, sub_next_dot, sub_version_at, with_version_if}
-use Rattle.merge_model.specs.Tables.{Key, PublisherTables, SubscriberTables}
+use Rattle.merge_types.specs.declared.row_key.RowKey.{RowKey as Key}
+use Rattle.merge_model.specs.Tables.{PublisherTables, SubscriberTables}
 use Rattle.merge_model.specs.Taking.{taken}
-use Rattle.merge_model.specs.World.{Asks, Message, Replies, Saying, World, empty_world, subscriber_at, with_publisher, with_subscriber}
+use Rattle.merge_model.specs.World.{Saying, World, empty_world, subscriber_at, with_publisher, with_subscriber}
+use Rattle.merge_model.specs.declared.letter.Message.TheVariants.{Asks, Replies}
+use Rattle.merge_model.specs.declared.letter.Message.{Message}
 use Rattle.merge_laws.specs.TablesAgree.{TableAgrees, TablesAgree, keys_lost}
-use Rattle.merge_laws.proofs.Finding.{found-named}
+use Rattle.merge_model.proofs.Finding.{found-named}
 use Rattle.merge_laws.proofs.Ground.{Ground}
 use Rattle.merge_laws.proofs.Models.{begins-with}
 use Rattle.merge_laws.proofs.Subscribing.{number-decided, version-conflicts}
@@ -137,9 +140,9 @@ module _ (publication : Publication) (says : Saying) (w : World) (h : History) (
       let entries : Entries = Noting.acts_entries publication judge m acts p in
       let k : History = fold (Noting.with_act incoming entries) h acts in
       let after : History = Noting.with_acts_noted publication judge m acts incoming p h in
-      let loses = acts-lose publication judge m.site p.latest incoming entries (p.conflict_count + 1) acts h in
+      let loses = acts-lose publication m.site p.latest incoming entries (p.conflict_count + 1) acts h in
       let lost : after.lost ≡ k.lost = lines-lost (Noting.lines_of_entries (last_closed p + 1) entries) k in
-      publisher-goes w h after q b.none (agrees-more 0 h k p.conflicts (lost_from publication judge m.site p.latest (p.conflict_count + 1) acts) loses t.publisher ∙ sym (same-lost after k 0 lost)) (λ m differs. same-lost after k m lost ∙ loses.others m differs) t
+      publisher-goes w h after q b.none (agrees-more 0 h k p.conflicts (lost_from publication m.site p.latest (p.conflict_count + 1) acts) loses t.publisher ∙ sym (same-lost after k 0 lost)) (λ m differs. same-lost after k m lost ∙ loses.others m differs) t
 
   -- A subscriber.
   module _ (s : SubscriberTables) (at : subscriber_at w s.site ≡ Some s) where

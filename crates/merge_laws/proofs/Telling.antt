@@ -25,7 +25,8 @@ use Rattle.merge_model.specs.Refusals.{counter_end, refused_if}
 use Rattle.merge_model.specs.Reinit.{reinitialised}
 use Rattle.merge_model.specs.Sending.{with_message}
 use Rattle.merge_model.specs.Subscriber.{is_joining, sub_at_moment, sub_closed, sub_counters, sub_last_closed, sub_local_refusal, sub_made_locally, sub_next_dot, sub_version_at, with_version_if}
-use Rattle.merge_model.specs.Tables.{Key, SubscriberTables}
+use Rattle.merge_types.specs.declared.row_key.RowKey.{RowKey as Key}
+use Rattle.merge_model.specs.Tables.{SubscriberTables}
 use Rattle.merge_model.specs.Taking.{with_received}
 use Rattle.merge_laws.specs.Numbered.{InOrder, Tells, last_of}
 use Rattle.merge_laws.proofs.Arrivals.{first-none}

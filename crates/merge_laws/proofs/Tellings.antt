@@ -18,12 +18,13 @@ use Rattle.merge_batch.specs.declared.request.Request.TheVariants as request
 use Rattle.merge_batch.specs.declared.request.Upload.{Upload}
 use Rattle.merge_batch.specs.declared.reply.Reply.{Reply}
 use Rattle.merge_batch.specs.declared.reply.Reply.TheVariants as reply
+use Rattle.merge_model.specs.Failing.{Slips, faulty}
+use Rattle.merge_model.specs.Runs.{model_behind}
 use Rattle.merge_model.specs.Acts.{Act}
 use Rattle.merge_model.specs.ByHistory.{by_made, by_past}
 use Rattle.merge_model.specs.ByNumbers.{received_by_number}
 use Rattle.merge_model.specs.Changes.{key_of, version_after}
 use Rattle.merge_model.specs.Entries.{Entries}
-use Rattle.merge_model.specs.Events.{after}
 use Rattle.merge_model.specs.Faults.{reply_fault}
 use Rattle.merge_model.specs.History.{History, MadeChange, Past, made_at, no_history, past_at, pasts_with}
 use Rattle.merge_model.specs.Judge.{PublisherJudge, SubscriberJudge}
@@ -42,11 +43,14 @@ use Rattle.merge_model.specs.Reinit.{reinitialised}
 use Rattle.merge_model.specs.Sending.{join_of, upload_end, upload_sent, upload_to, want_of, with_message}
 use Rattle.merge_model.specs.Steps.{kept_decisions, upload_questions}
 use Rattle.merge_model.specs.Subscriber.{empty_subscriber, sub_at_moment, sub_closed, sub_last_closed, sub_local_refusal, sub_made_locally, sub_next_dot, sub_version_at, with_version_if}
-use Rattle.merge_model.specs.Tables.{Key, PublisherTables, SubscriberTables}
+use Rattle.merge_types.specs.declared.row_key.RowKey.{RowKey as Key}
+use Rattle.merge_model.specs.Tables.{PublisherTables, SubscriberTables}
 use Rattle.merge_model.specs.Taking.{seq_of, taken}
-use Rattle.merge_model.specs.World.{Asks, Replies, Saying, World, empty_world, subscriber_at, with_publisher, with_subscriber}
+use Rattle.merge_model.specs.World.{Saying, World, empty_world, subscriber_at, with_publisher, with_subscriber}
+use Rattle.merge_model.specs.declared.letter.Message.TheVariants.{Asks, Replies}
 use Rattle.merge_model.specs.declared.event.Event.{Event}
-use Rattle.merge_model.proofs.Events.{events-keep}
+use Rattle.merge_model.proofs.KeptFailing.{runs-keep}
+use Rattle.merge_laws.proofs.Tallied.{numbered-tallied, received-tallied}
 use Rattle.merge_laws.specs.Received.{Received}
 use Rattle.merge_laws.specs.Numbered.{Numbered, Tells, last_of}
 use Rattle.merge_laws.proofs.Arrivals.{upload-known}
@@ -173,9 +177,6 @@ module _ (publication : Publication) (says : Saying) where
       answer-on w k m.site (reply.Joined (record { seq = m.seq })) (with_publisher (join_taken m (here w)) w)
       (join-on w h r i m k a.made (done-same (Noting.with_done m.site.0 0 m.generation h) k a.done (done-more h m.site.0 0 m.generation (omega arith) i.first)) (letter-tells w h r i number (record { site = m.site; message = Asks (request.Join m) }) at))
 
-  with-tallies : (w : World) (h : History) (tallies : List ℕ) → Numbered w h → Numbered (record w { tallies = tallies }) h
-  with-tallies w h tallies i = record { subscribers = i.subscribers; letters = i.letters; taken = i.taken; unknown = i.unknown; strangers = i.strangers; first = i.first }
-
   -- the history before its generations join those that have acted
   abbrev pub lined : PublisherJudge → Upload → List (Key × Past) → World → History → History
   lined judge m incoming w h =
@@ -206,7 +207,7 @@ module _ (publication : Publication) (says : Saying) where
       let goes_on : received_by_number w.publisher m.site.0 < m.to = news-above w h r (pasts_with h number) m news in
       let goes : m.from < m.to = omega (arith, begins_at, goes_on) in
       answer-on w k m.site (reply.Uploaded (told_by judge m)) (uploaded_world publication says judge m q w)
-      (with-tallies (with_publisher q w) k (uploaded_world publication says judge m q w).tallies
+      (numbered-tallied (with_publisher q w) (uploaded_world publication says judge m q w).tallies k
       (upload-on w h r i m acts q refl facts.0 k a.made (done-more before m.site.0 m.from m.to (omega (arith, goes)) (done-same h before a.done i.first)) goes
       (letter-tells w h r i number (record { site = m.site; message = Asks (request.Upload m) }) at)))
 
@@ -233,7 +234,7 @@ module _ (publication : Publication) (says : Saying) where
     joins_again = λ w h number m r i at acts. answer-on w h m.site (reply.Joined (record { seq = m.seq })) (with_publisher (here w) w) (own-on w h h (here w) r i (alike-itself h) (same-sites w.publisher (here w) refl));
     uploads = λ w h number m r i at fine news. upload-comes w h number m r i at fine news;
     uploads_again = λ w h number m r i at none. (let judge : PublisherJudge = by_past h (pasts_with h number) in
-        answer-on w h m.site (reply.Uploaded (told_by judge m)) (uploaded_world publication says judge m (here w) w) (with-tallies (with_publisher (here w) w) h (uploaded_world publication says judge m (here w) w).tallies
+        answer-on w h m.site (reply.Uploaded (told_by judge m)) (uploaded_world publication says judge m (here w) w) (numbered-tallied (with_publisher (here w) w) (uploaded_world publication says judge m (here w) w).tallies h
         (own-on w h h (here w) r i (alike-itself h) (same-sites w.publisher (here w) refl))));
     answers_ranges = λ w h site m r i. (let q : PublisherTables = with_grants (plans publication m w.publisher) (here w) in
         answer-on w h site (reply.Ranged (ranged m (plans publication m w.publisher))) (with_publisher q w) (own-on w h h q r i (alike-itself h) (same-sites w.publisher q refl)));
@@ -267,8 +268,8 @@ numbered-begins publication tallies = record {
   first = λ n. refl;
 }
 
-pub numbered-always : (publication : Publication) (says : Saying) (tallies : List ℕ) (events : List Event)
-    → (let m : Model = after publication (model publication says) (empty_model publication tallies) events in Received m.world m.history × Numbered m.world m.history)
-numbered-always publication says tallies events = events-keep publication (model publication says) (λ (m : Model). Received m.world m.history × Numbered m.world m.history)
-    (λ m action i. (model-fine publication says m action i.0, step-keeps publication says Received Numbered (λ w h r. r) (numbered-keeps publication says) m action i.0 i.1)) events (empty_model publication tallies)
+pub numbered-always : (publication : Publication) (says : Saying) (tallies : List ℕ) (slips : Slips) (events : List Event)
+    → (let m : Model = model_behind publication says tallies slips events in Received m.world m.history × Numbered m.world m.history)
+numbered-always publication says tallies slips events = runs-keep publication (model publication says) (λ (m : Model). Received m.world m.history × Numbered m.world m.history)
+    (λ m action i. (model-fine publication says m action i.0, step-keeps publication says Received Numbered (λ w h r. r) (numbered-keeps publication says) m action i.0 i.1)) (λ m others i. (received-tallied m.world others m.history i.0, numbered-tallied m.world others m.history i.1)) events (faulty (empty_model publication tallies) slips)
     (begins publication tallies, numbered-begins publication tallies)

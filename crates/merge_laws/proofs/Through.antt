@@ -15,8 +15,8 @@ use Rattle.merge_model.specs.History.{History, MadeChange, is_done, made_at}
 use Rattle.merge_model.specs.Tables.{PublisherTables}
 use Rattle.merge_laws.specs.Received.{DoneIsReceived}
 use Rattle.merge_laws.specs.Numbered.{InOrder, is_up_to, last_of, last_through}
-use Rattle.merge_laws.proofs.Finding.{all-weaker}
-use Rattle.merge_laws.proofs.Lists.{any-same}
+use Rattle.merge_model.proofs.Finding.{all-weaker}
+use Rattle.merge_model.proofs.Lists.{any-same}
 
 -- The greatest number of the changes that pass a test.
 

@@ -22,10 +22,11 @@ use Rattle.merge_model.specs.Keys.{same_key}
 use Rattle.merge_model.specs.Publisher.{counters, site_refusal}
 use Rattle.merge_model.specs.PublisherUpload.{too_many_new, upload_refusal}
 use Rattle.merge_model.specs.Refusals.{counter_end, refused_if}
-use Rattle.merge_model.specs.Tables.{Key, PublisherTables}
+use Rattle.merge_types.specs.declared.row_key.RowKey.{RowKey as Key}
+use Rattle.merge_model.specs.Tables.{PublisherTables}
 use Rattle.merge_laws.proofs.Arrivals.{first-none}
-use Rattle.merge_laws.proofs.Finding.{all-weaker}
-use Rattle.merge_laws.proofs.Lists.{all-filter}
+use Rattle.merge_model.proofs.Finding.{all-weaker}
+use Rattle.merge_model.proofs.Lists.{all-filter}
 
 abbrev pub ItemsApart : List UploadItem → Type 0
 ItemsApart [] = Unit {0}

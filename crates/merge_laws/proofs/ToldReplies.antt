@@ -6,7 +6,7 @@ use Rattle.std.specs.List.Sorted.{IsStrictlySortedBy}
 use Rattle.std.specs.Map.{keys_of}
 use Rattle.std.proofs.Common.{subst, sym}
 use Rattle.std.proofs.lemmas.List.{append-nil, append_assoc}
-use Rattle.merge_gens.proofs.Sets.{sorted_put, sorted_take}
+use Rattle.merge_table.proofs.Sorted.{sorted_put, sorted_take}
 use Rattle.merge_units.specs.declared.version.Body.TheVariants.{Live}
 use Rattle.merge_units.specs.declared.version.Version.{Version}
 use Rattle.merge_conflict.specs.declared.row.ConflictRow.{ConflictRow}
@@ -15,14 +15,17 @@ use Rattle.merge_batch.specs.declared.reply.Act.TheVariants as order
 use Rattle.merge_batch.specs.declared.reply.DownloadItem.{DownloadItem}
 use Rattle.merge_model.specs.History.{History, Past, past_at, past_in}
 use Rattle.merge_model.specs.Judge.{SubscriberJudge}
-use Rattle.merge_model.specs.Keys.{drop_row, key_cmp, put_row, row_at}
+use Rattle.merge_types.specs.RowKeys.{key_cmp}
+use Rattle.merge_model.specs.Keys.{drop_row, put_row, row_at}
 use Rattle.merge_model.specs.Noting
 use Rattle.merge_model.specs.Reinit.{discarded, discarded_row, numbered_from}
-use Rattle.merge_model.specs.Tables.{Key, SubscriberRow, SubscriberTables}
+use Rattle.merge_types.specs.declared.row_key.RowKey.{RowKey as Key}
+use Rattle.merge_units.specs.declared.site_row.SubscriberRow.{SubscriberRow}
+use Rattle.merge_model.specs.Tables.{SubscriberTables}
 use Rattle.merge_model.specs.Taking.{key_of_download, row_above, with_item, with_order}
 use Rattle.merge_model.proofs.Sorted.{key_total}
 use Rattle.merge_laws.specs.LineagesStand.{OfOrder}
-use Rattle.merge_laws.proofs.Lists.{OfSome, all-filter_map}
+use Rattle.merge_model.proofs.Lists.{OfSome, all-filter_map}
 use Rattle.merge_laws.proofs.ToldHistories.{Goes, goes-dropped, goes-emptied, goes-lost, goes-put, goes-same}
 use Rattle.merge_laws.proofs.ToldRows.{drop_version, found-dropped, found-put, found_in, put_version}
 use Rattle.merge_laws.proofs.ToldSites.{own_version}
@@ -45,7 +48,7 @@ module _ (P : Key → Version → Past → Type 0) (n : ℕ) (before : History) 
   module _ (incoming : List (Key × Past)) where
     dropped-goes : (key : Key) (rows : List (Key × SubscriberRow)) (h : History) → OwnGo rows h → OwnGo (drop_row rows key) (Noting.without_past n key h)
     dropped-goes key rows h g = (
-      sorted_take key_cmp key_total key rows g.0,
+      sorted_take key_cmp key_total (is_at (key_cmp key)) rows g.0,
       goes-same P n before conflicts (drop_version (found_in own_version rows) key) (found_in own_version (drop_row rows key)) (Noting.without_past n key h) (λ q. found-dropped own_version rows key q g.0)
           (goes-dropped P n before conflicts (found_in own_version rows) h g.1 key),
     )

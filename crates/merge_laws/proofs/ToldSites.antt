@@ -9,14 +9,20 @@ use Rattle.merge_types.specs.declared.identifiers.SiteId.{SiteId}
 use Rattle.merge_units.specs.declared.version.Version.{Version}
 use Rattle.merge_conflict.specs.declared.row.ConflictRow.{ConflictRow}
 use Rattle.merge_model.specs.History.{History, Past, past_at, past_in}
-use Rattle.merge_model.specs.Keys.{at_number, key_cmp, put_number}
+use Rattle.merge_types.specs.RowKeys.{key_cmp}
+use Rattle.merge_model.specs.Keys.{at_number, put_number}
 use Rattle.merge_model.specs.Model.{pasts_in, with_letter}
 use Rattle.merge_model.specs.PublisherLocal.{version_at}
 use Rattle.merge_model.specs.Subscriber.{sub_version_at}
-use Rattle.merge_model.specs.Tables.{Key, PublisherRow, PublisherTables, SubscriberRow, SubscriberTables}
-use Rattle.merge_model.specs.World.{Letter, Message, World, subscriber_at, with_publisher, with_subscriber}
+use Rattle.merge_types.specs.declared.row_key.RowKey.{RowKey as Key}
+use Rattle.merge_units.specs.declared.site_row.PublisherRow.{PublisherRow}
+use Rattle.merge_units.specs.declared.site_row.SubscriberRow.{SubscriberRow}
+use Rattle.merge_model.specs.Tables.{PublisherTables, SubscriberTables}
+use Rattle.merge_model.specs.World.{World, subscriber_at, with_publisher, with_subscriber}
+use Rattle.merge_model.specs.declared.letter.Letter.{Letter}
+use Rattle.merge_model.specs.declared.letter.Message.{Message}
 use Rattle.merge_laws.specs.LineagesStand.{EveryVersion, OfMessage, lost_at}
-use Rattle.merge_laws.proofs.Finding.{at_put_other, at_put_same, some_same, found-named}
+use Rattle.merge_model.proofs.Finding.{at_put_other, at_put_same, some_same, found-named}
 use Rattle.merge_laws.proofs.Subscribing.{number-decided, same_number}
 use Rattle.merge_laws.proofs.ToldHistories.{Goes, LostFits, goes-begins}
 use Rattle.merge_laws.proofs.ToldRows.{RowsFit, found-rows, rows-found}

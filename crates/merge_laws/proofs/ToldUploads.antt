@@ -14,15 +14,16 @@ use Rattle.merge_units.specs.declared.result.Decision.{Decision}
 use Rattle.merge_units.specs.declared.result.Decision.TheVariants.{Custom, KeepPublisher, TakeSubscriber}
 use Rattle.merge_units.specs.declared.version.Body.TheVariants.{Live}
 use Rattle.merge_units.specs.declared.version.Version.{Version}
-use Rattle.merge_conflict.specs.declared.case.ConflictCase.{ConflictCase}
+use Rattle.merge_conflict.specs.declared.losers.Conflict.{Conflict}
 use Rattle.merge_conflict.specs.declared.row.ConflictRow.{ConflictRow}
 use Rattle.merge_conflict.specs.declared.row.Verdict.TheVariants as verdict
-use Rattle.merge_resolve.specs.Losers.{losing_row, losing_rows, publisher_site}
+use Rattle.merge_conflict.specs.Losers.{losing_rows, our_row, their_row}
 use Rattle.merge_schema.specs.declared.publication.Publication.{Publication}
 use Rattle.merge_batch.specs.declared.request.UploadItem.{UploadItem}
-use Rattle.merge_model.specs.Acts.{Act, Fate, Met, New, Unknown, act_of, acts_from, case_asked, case_met, decision_for, fate_by, is_new_row, key_of_item, left_by, lost_by, lost_from, made_by, purged_row, version_of_act, versions_of}
+use Rattle.merge_model.specs.Acts.{Act, Fate, Met, New, Unknown, act_of, acts_from, conflict_of, case_met, decision_for, fate_by, is_new_row, key_of_item, left_by, lost_by, lost_from, made_by, purged_row, version_of_act, versions_of}
 use Rattle.merge_model.specs.ByHistory.{by_past}
-use Rattle.merge_model.specs.Cases.{case_by, is_conflict, result_by}
+use Rattle.merge_units.specs.Cases.{case_by, is_conflict}
+use Rattle.merge_units.specs.Results.{result_by}
 use Rattle.merge_model.specs.Changes.{change_refusal, key_of, version_after}
 use Rattle.merge_model.specs.Entries.{Entries}
 use Rattle.merge_model.specs.History.{History, MadeChange, Past, has, past_at, past_in}
@@ -31,8 +32,10 @@ use Rattle.merge_model.specs.Keys.{row_at, same_key}
 use Rattle.merge_model.specs.Noting
 use Rattle.merge_model.specs.Pasts.{past_after, past_by}
 use Rattle.merge_model.specs.PublisherLocal.{version_at}
-use Rattle.merge_model.specs.Tables.{Key, PublisherRow, PublisherTables}
-use Rattle.merge_laws.proofs.Lists.{all-both}
+use Rattle.merge_types.specs.declared.row_key.RowKey.{RowKey as Key}
+use Rattle.merge_units.specs.declared.site_row.PublisherRow.{PublisherRow}
+use Rattle.merge_model.specs.Tables.{PublisherTables}
+use Rattle.merge_model.proofs.Lists.{all-both}
 use Rattle.merge_laws.proofs.Noted.{DecidesAsOwn}
 use Rattle.merge_laws.proofs.ToldHistories.{Goes, goes-lost, goes-others, goes-put, past-elsewhere}
 use Rattle.merge_laws.proofs.ToldItems.{ActsApart}
@@ -129,13 +132,13 @@ module _ (P : Key → Version → Past → Type 0) (publication : Publication) (
       subst (λ (n : ℕ). Goes P 0 before (put_version found (key, version)) conflicts (Noting.with_past n key past made)) (sym own)
       (goes-put P 0 before conflicts found made (goes-others P 0 before conflicts found h g (c ∷ h.made) h.lines h.done h.accepted h.purged h.bases) key version past new)
 
-  losers-go : (decision : Decision) (number : ℕ) (asked : ConflictCase) (ours theirs : Version) (key : Key) (one other : Past) (found : Key → Option Version) (conflicts : List ConflictRow) (h : History) → P key ours one → P key theirs other
-      → Goes P 0 before found conflicts h → Goes P 0 before found (conflicts ++ losing_rows number asked ours theirs decision) (Noting.with_loser decision key one other h)
-  losers-go KeepPublisher number asked ours theirs key one other found conflicts h first second g = goes-lost P 0 before conflicts found h g (losing_row number asked theirs asked.site verdict.Publisher) key other second
-  losers-go TakeSubscriber number asked ours theirs key one other found conflicts h first second g = goes-lost P 0 before conflicts found h g (losing_row number asked ours publisher_site verdict.Subscriber) key one first
-  losers-go (Custom values) number asked ours theirs key one other found conflicts h first second g =
-      let a : ConflictRow = losing_row number asked ours publisher_site verdict.Custom in
-      let b : ConflictRow = losing_row (number + 1) asked theirs asked.site verdict.Custom in
+  losers-go : (decision : Decision) (conflict : Conflict) (ours theirs : Version) (key : Key) (one other : Past) (found : Key → Option Version) (conflicts : List ConflictRow) (h : History) → P key ours one → P key theirs other
+      → Goes P 0 before found conflicts h → Goes P 0 before found (conflicts ++ losing_rows conflict ours theirs decision) (Noting.with_loser decision key one other h)
+  losers-go KeepPublisher conflict ours theirs key one other found conflicts h first second g = goes-lost P 0 before conflicts found h g (their_row conflict.number conflict ours theirs verdict.Publisher) key other second
+  losers-go TakeSubscriber conflict ours theirs key one other found conflicts h first second g = goes-lost P 0 before conflicts found h g (our_row conflict.number conflict ours theirs verdict.Subscriber) key one first
+  losers-go (Custom values) conflict ours theirs key one other found conflicts h first second g =
+      let a : ConflictRow = our_row conflict.number conflict ours theirs verdict.Custom in
+      let b : ConflictRow = their_row (conflict.number + 1) conflict ours theirs verdict.Custom in
       subst (λ (rows : List ConflictRow). Goes P 0 before found rows (Noting.with_loser (Custom values) key one other h)) (append_assoc conflicts (a ∷ []) (b ∷ []))
       (goes-lost P 0 before (conflicts ++ a ∷ []) found (Noting.with_lost 0 key one h) (goes-lost P 0 before conflicts found h g a key one first) b key other second)
 
@@ -149,7 +152,7 @@ module _ (P : Key → Version → Past → Type 0) (publication : Publication) (
   fate-goes : (number generation : ℕ) (key : Key) (version : Version) (fate : Fate) (past : Past) (found : Key → Option Version) (conflicts : List ConflictRow) (h : History) → DecidesAsOwn fate → P key version past → FateFits P key version past fate (past_at h 0 key)
       → Goes P 0 before found conflicts h
       → (let act : Act = record { key = key; incoming = version; fate = fate } in
-      Goes P 0 before (put_if found (version_of_act act)) (conflicts ++ lost_by publication judge site moment number act fate) (Noting.with_fate fate generation key past h))
+      Goes P 0 before (put_if found (version_of_act act)) (conflicts ++ lost_by publication site moment number act fate) (Noting.with_fate fate generation key past h))
   fate-goes number generation key version New past found conflicts h own new fits g =
       no-more (put_version found (key, version)) conflicts (Noting.with_past 0 key past h) (goes-put P 0 before conflicts found h g key version past new)
   fate-goes number generation key version Unknown past found conflicts h own new fits g =
@@ -158,20 +161,20 @@ module _ (P : Key → Version → Past → Type 0) (publication : Publication) (
       let ours : Past = past_at h 0 key in
       let result : Version = result_by case held version decision dot in
       let made : Past = past_by case decision dot ours past in
-      let asked : ConflictCase = case_asked publication judge site moment key held version case in
+      let conflict : Conflict = conflict_of publication site moment number key in
       let after : History = Noting.with_decided decision dot generation key case made h in
       let decided : Goes P 0 before (put_version found (key, result)) conflicts after =
       decided-goes decision dot generation key case result made found conflicts h own (on.merged key case decision dot held version ours past fits.1 fits.2 own fits.0 new) g in
-      if-goes (is_conflict case) (put_version found (key, result)) conflicts (losing_rows number asked held version decision) (Noting.with_loser decision key ours past after) after
-      (losers-go decision number asked held version key ours past (put_version found (key, result)) conflicts after fits.0 new decided) decided
+      if-goes (is_conflict case) (put_version found (key, result)) conflicts (losing_rows conflict held version decision) (Noting.with_loser decision key ours past after) after
+      (losers-go decision conflict held version key ours past (put_version found (key, result)) conflicts after fits.0 new decided) decided
 
   module _ (incoming : List (Key × Past)) (entries : Entries) where
     act-goes : (number : ℕ) (act : Act) (found : Key → Option Version) (conflicts : List ConflictRow) (h : History) → DecidesAsOwn act.fate → ActFits P incoming (past_at h 0) act → Goes P 0 before found conflicts h
-        → Goes P 0 before (put_if found (version_of_act act)) (conflicts ++ lost_by publication judge site moment number act act.fate) (Noting.with_act incoming entries h act)
+        → Goes P 0 before (put_if found (version_of_act act)) (conflicts ++ lost_by publication site moment number act act.fate) (Noting.with_act incoming entries h act)
     act-goes number act found conflicts h own fits g =
         let past : Past = past_in incoming act.key in
         let after : History = Noting.with_fate act.fate (Noting.entry_generation entries act.key) act.key past h in
-        goes-others P 0 before (conflicts ++ lost_by publication judge site moment number act act.fate) (put_if found (version_of_act act)) after
+        goes-others P 0 before (conflicts ++ lost_by publication site moment number act act.fate) (put_if found (version_of_act act)) after
         (fate-goes number (Noting.entry_generation entries act.key) act.key act.incoming act.fate past found conflicts h own fits.0 fits.1 g)
         after.made after.lines after.done (Noting.with_accepted past after).accepted after.purged after.bases
 
@@ -185,11 +188,11 @@ module _ (P : Key → Version → Past → Type 0) (publication : Publication) (
 
     pub acts-go : (number : ℕ) (acts : List Act) (found : Key → Option Version) (conflicts : List ConflictRow) (h : History) → AllByRecursion (λ (act : Act). DecidesAsOwn act.fate) acts → ActsApart acts → AllByRecursion (ActFits P incoming (past_at h 0)) acts
         → Goes P 0 before found conflicts h
-        → Goes P 0 before (fold put_version found (versions_of acts)) (conflicts ++ lost_from publication judge site moment number acts) (fold (Noting.with_act incoming entries) h acts)
+        → Goes P 0 before (fold put_version found (versions_of acts)) (conflicts ++ lost_from publication site moment number acts) (fold (Noting.with_act incoming entries) h acts)
     acts-go number [] found conflicts h own apart fits g = no-more found conflicts h g
     acts-go number (act ∷ acts) found conflicts h own apart fits g =
-        let rows : List ConflictRow = lost_by publication judge site moment number act act.fate in
-        let rest : List ConflictRow = lost_from publication judge site moment (number + length rows) acts in
+        let rows : List ConflictRow = lost_by publication site moment number act act.fate in
+        let rest : List ConflictRow = lost_from publication site moment (number + length rows) acts in
         let after : History = Noting.with_act incoming entries h act in
         let all : History = fold (Noting.with_act incoming entries) after acts in
         let later : AllByRecursion (ActFits P incoming (past_at after 0)) acts = all-both (λ (other : Act). same_key other.key act.key ≡ false) (ActFits P incoming (past_at h 0)) (ActFits P incoming (past_at after 0))

@@ -27,16 +27,19 @@ use Rattle.merge_units.specs.declared.version.Body.TheVariants.{Dead, Live}
 use Rattle.merge_units.specs.declared.version.Cell.{Cell}
 use Rattle.merge_units.specs.declared.version.Version.{Version}
 use Rattle.merge_schema.specs.declared.publication.Publication.{Publication}
-use Rattle.merge_model.specs.Cases.{result_by, tops_of}
-use Rattle.merge_model.specs.Changes.{new_cells, new_row, new_values, version_after}
+use Rattle.merge_units.specs.Results.{result_by}
+use Rattle.merge_units.specs.Version.{tops_of}
+use Rattle.merge_units.specs.Changes.{new_cells}
+use Rattle.merge_units.specs.Changes.{new_row}
+use Rattle.merge_model.specs.Changes.{new_values, version_after}
 use Rattle.merge_model.specs.History.{Past, has}
 use Rattle.merge_model.specs.Pasts.{past_after, past_by}
 use Rattle.merge_model.specs.Publications.{tracking_at}
 use Rattle.merge_laws.specs.Knowledge.{same_dot}
 use Rattle.merge_laws.specs.Standing.{HeldTold, Tells, Told}
-use Rattle.merge_laws.proofs.Finding.{all-weaker}
+use Rattle.merge_model.proofs.Finding.{all-weaker}
 use Rattle.merge_laws.proofs.LineagesTold.{tells-change, tells-merge}
-use Rattle.merge_laws.proofs.Tests.{dot-first}
+use Rattle.merge_laws.proofs.DotTests.{dot-first}
 
 -- what holds of the tops of cells
 module _ (Q : Dot → Type 0) where
@@ -115,7 +118,7 @@ more-known dot known tops all = all-weaker (λ (top : Dot). has known top ≡ tr
 tells-nothing : Tells [] []
 tells-nothing = record { reached = λ dot at. absurd cc; below = λ dot is. absurd cc }
 
-told-new : (publication : Publication) (article : ℕ) (dot : Dot) (identity : Value) (settings : List Setting) → Told (new_row publication article dot identity settings) (dot ∷ [])
+told-new : (publication : Publication) (article : ℕ) (dot : Dot) (identity : Value) (settings : List Setting) → Told (new_row dot (new_values publication article identity settings) (tracking_at publication article)) (dot ∷ [])
 told-new publication article dot identity settings = record {
   ascending = ascending_with_dot [] (λ i j d before within. absurd (omega arith)) dot;
   tells = tells-change [] [] dot (λ i j d before within. absurd (omega arith)) tells-nothing;

@@ -4,7 +4,7 @@ use Rattle.std.specs.List.{AllByRecursion, fold}
 use Rattle.std.specs.List.Sorted.{IsStrictlySortedBy}
 use Rattle.std.specs.Map.{keys_of}
 use Rattle.std.proofs.Common.{subst, sym, ◌∙◌}
-use Rattle.merge_gens.proofs.Sets.{sorted_put}
+use Rattle.merge_table.proofs.Sorted.{sorted_put}
 use Rattle.merge_types.specs.declared.changes.Change.{Change}
 use Rattle.merge_types.specs.declared.changes.Change.TheVariants.{Delete, Insert, Update}
 use Rattle.merge_types.specs.declared.identifiers.Dot.{Dot}
@@ -29,7 +29,8 @@ use Rattle.merge_model.specs.Changes.{change_refusal, key_of, version_after}
 use Rattle.merge_model.specs.Entries.{Changing, Entries}
 use Rattle.merge_model.specs.History.{History, Line, MadeChange, Past, past_at, past_in, pasts_at, pasts_with, no_history}
 use Rattle.merge_model.specs.Judge.{PublisherJudge, SubscriberJudge}
-use Rattle.merge_model.specs.Keys.{key_cmp, put_number}
+use Rattle.merge_types.specs.RowKeys.{key_cmp}
+use Rattle.merge_model.specs.Keys.{put_number}
 use Rattle.merge_model.specs.Laws.{AreSubSorted}
 use Rattle.merge_model.specs.Model.{empty_model}
 use Rattle.merge_model.specs.Noting
@@ -47,15 +48,18 @@ use Rattle.merge_model.specs.Reinit.{reinitialised}
 use Rattle.merge_model.specs.Sending.{join_of, upload_sent, want_of, with_message}
 use Rattle.merge_model.specs.Steps.{Forget, kept_decisions, upload_questions}
 use Rattle.merge_model.specs.Subscriber.{is_joining, sub_at_moment, sub_closed, sub_counters, sub_last_closed, sub_local_refusal, sub_made_locally, sub_next_dot, sub_version_at, with_version_if}
-use Rattle.merge_model.specs.Tables.{Key, PublisherTables, SubscriberRow, SubscriberTables}
+use Rattle.merge_types.specs.declared.row_key.RowKey.{RowKey as Key}
+use Rattle.merge_units.specs.declared.site_row.SubscriberRow.{SubscriberRow}
+use Rattle.merge_model.specs.Tables.{PublisherTables, SubscriberTables}
 use Rattle.merge_model.specs.Taking.{row_above, taken}
-use Rattle.merge_model.specs.World.{Asks, Replies, Saying, World, subscriber_at, with_publisher, with_subscriber}
+use Rattle.merge_model.specs.World.{Saying, World, subscriber_at, with_publisher, with_subscriber}
+use Rattle.merge_model.specs.declared.letter.Message.TheVariants.{Asks, Replies}
 use Rattle.merge_model.proofs.Sorted.{key_total, step-sorted}
 use Rattle.merge_laws.specs.LineagesStand.{EveryVersion}
 use Rattle.merge_laws.proofs.Arrivals.{first-none}
-use Rattle.merge_laws.proofs.Finding.{found-named}
+use Rattle.merge_model.proofs.Finding.{found-named}
 use Rattle.merge_laws.proofs.Ground.{Ground}
-use Rattle.merge_laws.proofs.Lists.{all-filter}
+use Rattle.merge_model.proofs.Lists.{all-filter}
 use Rattle.merge_laws.proofs.Models.{begins-with}
 use Rattle.merge_laws.proofs.Noted.{acts-own}
 use Rattle.merge_laws.proofs.ToldHistories.{Goes, goes-dropped, goes-lines, goes-others, goes-put_if, goes-same}
@@ -176,8 +180,8 @@ module _ (publication : Publication) (says : Saying) (P : Key → Version → Pa
       let lines : List Line = Noting.lines_of_entries (last_closed p + 1) entries in
       let lined : History = Noting.with_lines lines k in
       let told : Goes P 0 h (version_at q) q.conflicts lined = goes-lines P 0 h q.conflicts lines (version_at q) k
-      (goes-same P 0 h q.conflicts _ (version_at q) k (λ key. changed-versions publication judge (changing_by m acts) (with_acts publication judge m acts p) key) gone) in
-      on-publisher q (Noting.with_done m.site.0 m.from m.to lined) (changed-ascends publication judge (changing_by m acts) (with_acts publication judge m acts p) b.sorted.rows_ascend)
+      (goes-same P 0 h q.conflicts _ (version_at q) k (λ key. changed-versions publication judge (changing_by m acts) (with_acts publication m acts p) key) gone) in
+      on-publisher q (Noting.with_done m.site.0 m.from m.to lined) (changed-ascends publication judge (changing_by m acts) (with_acts publication m acts p) b.sorted.rows_ascend)
       (goes-others P 0 h q.conflicts (version_at q) lined told lined.made lined.lines (Noting.with_done m.site.0 m.from m.to lined).done lined.accepted lined.purged lined.bases)
 
   -- A subscriber.

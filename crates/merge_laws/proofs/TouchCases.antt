@@ -6,8 +6,15 @@ use Rattle.merge_units.specs.declared.version.Version.{Version}
 use Rattle.merge_model.specs.ByNumbers.{mapping_at, touch_by_mapping, touch_inside, touch_outside}
 use Rattle.merge_model.specs.Keys.{row_at}
 use Rattle.merge_model.specs.PublisherJoin.{is_left_of}
-use Rattle.merge_model.specs.Tables.{Entered, Key, Left, Mapping, MoveKind, PublisherRow, PublisherTables, RowSite, is_left}
-use Rattle.merge_laws.proofs.LastLineKeys.{kept}
+use Rattle.merge_gens.specs.declared.moves.MoveKind.TheVariants.{Entered, Left}
+use Rattle.merge_types.specs.declared.row_key.RowKey.{RowKey as Key}
+use Rattle.merge_gens.specs.declared.moves.Mapping.{Mapping}
+use Rattle.merge_gens.specs.declared.moves.MoveKind.{MoveKind}
+use Rattle.merge_units.specs.declared.site_row.PublisherRow.{PublisherRow}
+use Rattle.merge_gens.specs.declared.moves.RowSite.{RowSite}
+use Rattle.merge_gens.specs.Moves.{is_left}
+use Rattle.merge_model.specs.Tables.{PublisherTables}
+use Rattle.merge_model.proofs.PlaceLookUps.{kept}
 use Rattle.merge_laws.proofs.TouchEntries.{EntersHere, MovedTo, changed_of, generation_of}
 
 abbrev pub touch_of : Bool → Option PublisherRow → Option Mapping → ℕ

@@ -12,11 +12,11 @@ use Rattle.merge_units.specs.Version.{is_live}
 use Rattle.merge_units.specs.declared.result.Decision.{Decision}
 use Rattle.merge_units.specs.declared.version.Body.{Body}
 use Rattle.merge_units.specs.declared.version.Body.TheVariants.{Dead, Live}
-use Rattle.merge_ident.specs.declared.grants.Planned.{Planned}
+use Rattle.merge_ident.specs.declared.grants.GrantPlan.{GrantPlan}
 use Rattle.merge_schema.specs.Partition.{LiveRow}
 use Rattle.merge_schema.specs.declared.publication.Publication.{Publication}
 use Rattle.merge_schema.specs.declared.publication.Subscription.{Subscription}
-use Rattle.merge_batch.specs.Lineages.{is_subscription}
+use Rattle.merge_schema.specs.Places.{is_subscription}
 use Rattle.merge_batch.specs.declared.request.Download.{Download}
 use Rattle.merge_batch.specs.declared.request.Join.{Join}
 use Rattle.merge_batch.specs.declared.request.Upload.{Upload}
@@ -24,9 +24,11 @@ use Rattle.merge_model.specs.Acts.{Act, acting_items, acts_of, key_of_item}
 use Rattle.merge_model.specs.ByNumbers.{mapping_at}
 use Rattle.merge_model.specs.Entries.{Changing, changed_by, live_row, live_rows, rows_after, touched_by}
 use Rattle.merge_model.specs.Judge.{PublisherJudge}
-use Rattle.merge_model.specs.Keys.{has_key, key_cmp, row_at, row_site_cmp}
+use Rattle.merge_types.specs.RowKeys.{key_cmp}
+use Rattle.merge_gens.specs.Moves.{row_site_cmp}
+use Rattle.merge_model.specs.Keys.{has_key, row_at}
 use Rattle.merge_model.specs.Laws.{AreSorted}
-use Rattle.merge_model.specs.Publications.{subscription_at}
+use Rattle.merge_resolve.specs.Priorities.{subscription_at}
 use Rattle.merge_model.specs.Publisher.{at_moment, closed, last_closed}
 use Rattle.merge_model.specs.PublisherDownload.{asked, inside_keys}
 use Rattle.merge_model.specs.PublisherJoin.{is_left_of, join_taken}
@@ -34,15 +36,19 @@ use Rattle.merge_model.specs.PublisherLocal.{Drawn, changing_locally, made_local
 use Rattle.merge_model.specs.PublisherPurge.{is_old, is_old_tombstone, purge}
 use Rattle.merge_model.specs.PublisherRanges.{with_grants}
 use Rattle.merge_model.specs.PublisherUpload.{changing_by, taken_in, with_acts}
-use Rattle.merge_model.specs.Tables.{Key, Mapping, PublisherRow, PublisherTables, RowSite}
+use Rattle.merge_types.specs.declared.row_key.RowKey.{RowKey as Key}
+use Rattle.merge_gens.specs.declared.moves.Mapping.{Mapping}
+use Rattle.merge_units.specs.declared.site_row.PublisherRow.{PublisherRow}
+use Rattle.merge_gens.specs.declared.moves.RowSite.{RowSite}
+use Rattle.merge_model.specs.Tables.{PublisherTables}
 use Rattle.merge_model.proofs.Sorted.{key_total, row_site_total}
 use Rattle.merge_laws.specs.Settled.{owed_at, touched_at}
-use Rattle.merge_laws.proofs.Downloads.{inside-held}
-use Rattle.merge_laws.proofs.KeyLookUps.{keys-exact}
-use Rattle.merge_laws.proofs.LastLineKeys.{kept, kept-found, lookup-filter, places-exact}
+use Rattle.merge_model.proofs.Downloads.{inside-held}
+use Rattle.merge_model.proofs.KeyLookUps.{keys-exact}
+use Rattle.merge_model.proofs.PlaceLookUps.{kept, kept-found, lookup-filter, places-exact}
 use Rattle.merge_laws.proofs.TouchCases.{StaysOr, acted-case, in-case, old-case, other-case, out-case, owed-same, owed_of, stays, touch-case, touch-is, touch_of}
 use Rattle.merge_laws.proofs.TouchEntries.{enters, inside-after}
-use Rattle.merge_laws.proofs.TouchParts.{CanBeSaid, found-any, found-same, found_keys}
+use Rattle.merge_model.proofs.StepParts.{CanBeSaid, found-any, found-same, found_keys}
 use Rattle.merge_laws.proofs.TouchUploads.{acts-keys, held-changes}
 
 -- nothing changed of the row for the site
@@ -86,7 +92,7 @@ made-touches publication judge change drawn p valid sorted site key = changed-to
 
 pub taken-touches : (publication : Publication) (judge : PublisherJudge) (m : Upload) (acts : List Act) (p : PublisherTables) → CanBeSaid publication → AreSorted p → (site : SiteId) (key : Key)
     → Touches publication p (taken_in publication judge m acts p) site key
-taken-touches publication judge m acts p valid sorted site key = changed-touches publication judge (changing_by m acts) (with_acts publication judge m acts p) valid sorted.mappings_ascend site key
+taken-touches publication judge m acts p valid sorted site key = changed-touches publication judge (changing_by m acts) (with_acts publication m acts p) valid sorted.mappings_ascend site key
 
 -- each row of an item that acts is touched anew for the uploader, also where it stays outside of its partition
 pub item-touched : (publication : Publication) (judge : PublisherJudge) (m : Upload) (decisions : List Decision) (p : PublisherTables) → CanBeSaid publication → AreSorted p → is_subscription publication m.site.0 ≡ true
@@ -95,7 +101,7 @@ pub item-touched : (publication : Publication) (judge : PublisherJudge) (m : Upl
 item-touched publication judge m decisions p valid sorted subscribes key acts =
     let made : List Act = acts_of judge m decisions p in
     let changing : Changing = changing_by m made in
-    let before : PublisherTables = with_acts publication judge m made p in
+    let before : PublisherTables = with_acts publication m made p in
     let q : PublisherTables = changed_by publication judge changing before in
     let found : Option Subscription = subscription_at publication m.site.0 in
     let rows : List (Key × PublisherRow) = rows_after changing p.rows in
@@ -117,7 +123,7 @@ closed-touches publication p site key = inl (refl, refl, refl)
 pub asked-touches : (publication : Publication) (m : Download) (p : PublisherTables) (site : SiteId) (key : Key) → Touches publication p (asked m p) site key
 asked-touches publication m p site key = inl (refl, refl, refl)
 
-pub granted-touches : (publication : Publication) (planned : List Planned) (p : PublisherTables) (site : SiteId) (key : Key) → Touches publication p (with_grants planned p) site key
+pub granted-touches : (publication : Publication) (planned : List GrantPlan) (p : PublisherTables) (site : SiteId) (key : Key) → Touches publication p (with_grants planned p) site key
 granted-touches publication planned p site key = inl (refl, refl, refl)
 
 pub moment-touches : (publication : Publication) (now : Moment) (p : PublisherTables) (site : SiteId) (key : Key) → Touches publication p (at_moment now p) site key

@@ -20,7 +20,9 @@ use Rattle.merge_model.specs.Entries.{Changing, changed_by}
 use Rattle.merge_model.specs.Changes.{key_of, version_after}
 use Rattle.merge_model.specs.History.{History, Line, no_history, pasts_with}
 use Rattle.merge_model.specs.Judge.{PublisherJudge}
-use Rattle.merge_model.specs.Keys.{at_number, has_key, key_cmp, put_number, row_at, row_site_cmp}
+use Rattle.merge_types.specs.RowKeys.{key_cmp}
+use Rattle.merge_gens.specs.Moves.{row_site_cmp}
+use Rattle.merge_model.specs.Keys.{at_number, has_key, put_number, row_at}
 use Rattle.merge_model.specs.Laws.{AreSorted}
 use Rattle.merge_model.specs.Noting
 use Rattle.merge_model.specs.Promises.{base_of}
@@ -34,16 +36,20 @@ use Rattle.merge_model.specs.PublisherUpload.{changing_by, with_acts}
 use Rattle.merge_model.specs.Reinit.{reinitialised}
 use Rattle.merge_model.specs.Sending.{upload_sent, with_message}
 use Rattle.merge_model.specs.Subscriber.{sub_at_moment, sub_closed, sub_last_closed, sub_made_locally, sub_next_dot, sub_version_at, with_version_if}
-use Rattle.merge_model.specs.Tables.{Key, Mapping, PublisherRow, PublisherTables, RowSite, SubscriberTables}
+use Rattle.merge_types.specs.declared.row_key.RowKey.{RowKey as Key}
+use Rattle.merge_gens.specs.declared.moves.Mapping.{Mapping}
+use Rattle.merge_units.specs.declared.site_row.PublisherRow.{PublisherRow}
+use Rattle.merge_gens.specs.declared.moves.RowSite.{RowSite}
+use Rattle.merge_model.specs.Tables.{PublisherTables, SubscriberTables}
 use Rattle.merge_model.specs.Taking.{taken}
 use Rattle.merge_model.specs.World.{Saying, World, empty_subscribers, empty_world, subscriber_at, with_subscriber}
 use Rattle.merge_model.proofs.Sorted.{closed_filling-rises, key_total, row_site_total}
 use Rattle.merge_laws.specs.Settled.{OfPublisher, TouchedInOrder, last_used, touched_at}
-use Rattle.merge_laws.proofs.Downloads.{inside-held}
-use Rattle.merge_laws.proofs.Finding.{at_put_other, at_put_same}
+use Rattle.merge_model.proofs.Downloads.{inside-held}
+use Rattle.merge_model.proofs.Finding.{at_put_other, at_put_same}
 use Rattle.merge_laws.proofs.Ground.{Ground}
-use Rattle.merge_laws.proofs.KeyLookUps.{keys-exact}
-use Rattle.merge_laws.proofs.LastLineKeys.{kept, lookup-filter, places-exact}
+use Rattle.merge_model.proofs.KeyLookUps.{keys-exact}
+use Rattle.merge_model.proofs.PlaceLookUps.{kept, lookup-filter, places-exact}
 use Rattle.merge_laws.proofs.Models.{begins-with}
 use Rattle.merge_laws.proofs.PurgeLists.{if-put, if-weaker}
 use Rattle.merge_laws.proofs.PurgeNotes.{anew-bases, lines-bases, purge-bases, taken-bases, upload-bases}
@@ -51,7 +57,7 @@ use Rattle.merge_laws.proofs.Subscribing.{number-decided, same_number}
 use Rattle.merge_laws.proofs.TouchCases.{touch-bound, touch-is}
 use Rattle.merge_laws.proofs.TouchEntries.{changed_of, generation_of, move-new, row-new, used-after, used-more}
 use Rattle.merge_laws.proofs.TouchLists.{used-closed, used-empty, used-low}
-use Rattle.merge_laws.proofs.TouchParts.{CanBeSaid}
+use Rattle.merge_model.proofs.StepParts.{CanBeSaid}
 use Rattle.merge_laws.proofs.TouchTables.{Touches, asked-touches, changed-touches, closed-touches, joined-in, joined-other, joined-out, purge-inside, purge-touched}
 use Rattle.merge_laws.proofs.UnsentKept.{reply-site, version-site}
 use Rattle.merge_laws.proofs.Walking.{StepsKeep, acts_in, here, join_noted, own_noted}
@@ -284,7 +290,7 @@ module _ (publication : Publication) where
         (λ site f. same-lists p (join_taken m (here w)) (base_of k site) site (joined-order w.publisher h k m g.sorted bases site (site.0 == m.site.0) (number-decided site.0 m.site.0) f)) o);
     joins_again = λ w h number m g o at acts. lists-on w h (here w) o;
     uploads = λ w h number m g o at fine news. (let judge : PublisherJudge = by_past h (pasts_with h number) in let acts : List Act = acts_in publication says judge m w in
-        entered-on w h (Noting.with_acts_noted publication judge m acts (pasts_with h number) (here w) h) (with_acts publication judge m acts (here w)) judge (changing_by m acts) g (upload-bases publication judge m acts (pasts_with h number) (here w) h) o);
+        entered-on w h (Noting.with_acts_noted publication judge m acts (pasts_with h number) (here w) h) (with_acts publication m acts (here w)) judge (changing_by m acts) g (upload-bases publication judge m acts (pasts_with h number) (here w) h) o);
     uploads_again = λ w h number m g o at none. lists-on w h (here w) o;
     answers_ranges = λ w h site m g o. lists-on w h (with_grants (plans publication m w.publisher) (here w)) o;
     answers_ask = λ w h number site m g o at fine. publisher-on w h h (asked m (here w)) (λ x f. asked-order publication (here w) (base_of h x) x (same-lists w.publisher (here w) (base_of h x) x f) m) o;

@@ -16,10 +16,11 @@ use Rattle.merge_batch.specs.declared.request.Outstanding.{Outstanding}
 use Rattle.merge_batch.specs.declared.request.Outstanding.TheVariants as ask
 use Rattle.merge_batch.specs.declared.reply.Reply.{Reply}
 use Rattle.merge_batch.specs.declared.reply.Reply.TheVariants as reply
+use Rattle.merge_model.specs.Failing.{Slips, faulty}
+use Rattle.merge_model.specs.Runs.{model_behind}
 use Rattle.merge_model.specs.Bridge.{SubscriberDecidesAlike}
 use Rattle.merge_model.specs.ByHistory.{by_history, by_made, by_past}
 use Rattle.merge_model.specs.Changes.{key_of, version_after}
-use Rattle.merge_model.specs.Events.{after}
 use Rattle.merge_model.specs.Faults.{reply_fault}
 use Rattle.merge_model.specs.History.{History, MadeChange, made_at, no_history, past_at, pasts_with}
 use Rattle.merge_model.specs.Judge.{PublisherJudge, SubscriberJudge}
@@ -33,17 +34,20 @@ use Rattle.merge_model.specs.Publications.{by_site}
 use Rattle.merge_model.specs.Sending.{upload_sent, with_message}
 use Rattle.merge_model.specs.Steps.{Action}
 use Rattle.merge_model.specs.Subscriber.{empty_subscriber, sub_at_moment, sub_closed, sub_last_closed, sub_local_refusal, sub_made_locally, sub_next_dot, sub_version_at, with_version_if}
-use Rattle.merge_model.specs.Tables.{Key, SubscriberRow, SubscriberTables}
+use Rattle.merge_types.specs.declared.row_key.RowKey.{RowKey as Key}
+use Rattle.merge_units.specs.declared.site_row.SubscriberRow.{SubscriberRow}
+use Rattle.merge_model.specs.Tables.{SubscriberTables}
 use Rattle.merge_model.specs.Taking.{row_above, seq_of, taken}
 use Rattle.merge_model.specs.World.{Saying, World, empty_world, subscriber_at, with_subscriber}
 use Rattle.merge_model.specs.declared.event.Event.{Event}
-use Rattle.merge_model.proofs.Events.{events-keep}
+use Rattle.merge_model.proofs.KeptFailing.{runs-keep}
 use Rattle.merge_model.proofs.Subscribers.{step-sub-sorted}
+use Rattle.merge_laws.proofs.Tallied.{numbered-tallied, received-tallied}
 use Rattle.merge_laws.specs.Numbered.{InOrder, Numbered}
 use Rattle.merge_laws.specs.Received.{Received}
 use Rattle.merge_laws.specs.Unsent.{RowsTell, Unsent, is_changed_above}
 use Rattle.merge_laws.proofs.Changed.{changed-same}
-use Rattle.merge_laws.proofs.Finding.{at_put_other, at_put_same}
+use Rattle.merge_model.proofs.Finding.{at_put_other, at_put_same}
 use Rattle.merge_laws.proofs.Generations.{order-closed}
 use Rattle.merge_laws.proofs.Models.{begins, begins-with, model-fine}
 use Rattle.merge_laws.proofs.Noted.{anew-keep, own-keep, purge-keep, reply-keep}
@@ -213,10 +217,11 @@ base-step publication says m action b = (
   ),
 )
 
-pub unsent-always : (publication : Publication) (says : Saying) (tallies : List ℕ) (events : List Event)
-    → (let m : Model = after publication (model publication says) (empty_model publication tallies) events in Base m.world m.history × Unsent m.world m.history)
-unsent-always publication says tallies events = events-keep publication (model publication says) (λ (m : Model). Base m.world m.history × Unsent m.world m.history)
-    (λ m action i. (base-step publication says m action i.0, step-keeps publication says Base Unsent (λ w h b. b.0) (unsent-keeps publication says) m action i.0 i.1)) events (empty_model publication tallies)
+pub unsent-always : (publication : Publication) (says : Saying) (tallies : List ℕ) (slips : Slips) (events : List Event)
+    → (let m : Model = model_behind publication says tallies slips events in Base m.world m.history × Unsent m.world m.history)
+unsent-always publication says tallies slips events = runs-keep publication (model publication says) (λ (m : Model). Base m.world m.history × Unsent m.world m.history)
+    (λ m action i. (base-step publication says m action i.0, step-keeps publication says Base Unsent (λ w h b. b.0) (unsent-keeps publication says) m action i.0 i.1))
+    (λ m others i. ((received-tallied m.world others m.history i.0.0, (numbered-tallied m.world others m.history i.0.1.0, i.0.1.1)), i.1)) events (faulty (empty_model publication tallies) slips)
     ((begins publication tallies, (numbered-begins publication tallies, sorted-begins publication (by_site publication))), unsent-begins publication tallies)
 
 -- what a subscriber decides

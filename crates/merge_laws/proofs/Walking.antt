@@ -46,14 +46,23 @@ use Rattle.merge_model.specs.PublisherUpload.{brings_news, taken_in, upload_refu
 use Rattle.merge_model.specs.Refusals.{counter_end, unless}
 use Rattle.merge_model.specs.Reinit.{reinitialised}
 use Rattle.merge_model.specs.Sending.{join_made, join_of, ranges_made, sending_refusal, unsent_rows, upload_made, upload_sent, want_of, with_message}
-use Rattle.merge_model.specs.Steps.{Action, CloseAt, Closes, Deliver, Discards, Forget, Made, Make, MakeAnew, NoLetter, Outcome, Pass, Refuses, Send, SendDownload, SendJoin, SendRanges, SendUpload, Sending, Took, answered, asked_of, at_subscriber, close_at, close_publisher, close_subscriber, deliver_letter, deliver_reply, deliver_request, kept_decisions, make_anew, make_at, make_at_publisher, make_at_subscriber, post, posted, send_from, step_by, unless_refused, upload_questions}
+use Rattle.merge_model.specs.Steps.{Action, CloseAt, Deliver, Forget, Look, Make, MakeAnew, Pass, Send, SendDownload, SendJoin, SendRanges, SendUpload, Sending, answered, at_subscriber, close_at, close_publisher, close_subscriber, deliver_letter, deliver_reply, deliver_request, kept_decisions, make_anew, make_at, make_at_publisher, make_at_subscriber, post, posted, send_from, step_by, unless_refused, upload_questions}
+use Rattle.merge_resolve.specs.Questions.{question_of as asked_of}
+use Rattle.merge_model.specs.declared.outcome.Outcome.TheVariants.{Closes, Discards, Made, NoLetter, Refuses, Took}
+use Rattle.merge_model.specs.declared.outcome.Outcome.{Outcome}
 use Rattle.merge_model.specs.Subscriber.{sub_at_moment, sub_closed, sub_counters, sub_drawn, sub_last_closed, sub_local_refusal, sub_made_locally, sub_next_dot}
-use Rattle.merge_model.specs.Tables.{Key, PublisherTables, SubscriberTables}
-use Rattle.merge_model.specs.Taking.{Acted, Missed, Taken, met_by, seq_of, taken}
-use Rattle.merge_model.specs.World.{Asks, Letter, Message, Replies, Saying, World, letter_at, subscriber_at, with_publisher, with_subscriber}
+use Rattle.merge_types.specs.declared.row_key.RowKey.{RowKey as Key}
+use Rattle.merge_model.specs.Tables.{PublisherTables, SubscriberTables}
+use Rattle.merge_model.specs.Taking.{met_by, seq_of, taken}
+use Rattle.merge_model.specs.declared.outcome.Taken.TheVariants.{Acted, Missed}
+use Rattle.merge_model.specs.declared.outcome.Taken.{Taken}
+use Rattle.merge_model.specs.World.{Saying, World, letter_at, subscriber_at, with_publisher, with_subscriber}
+use Rattle.merge_model.specs.declared.letter.Message.TheVariants.{Asks, Replies}
+use Rattle.merge_model.specs.declared.letter.Letter.{Letter}
+use Rattle.merge_model.specs.declared.letter.Message.{Message}
 use Rattle.merge_resolve.specs.Asked.{tallies_after}
 use Rattle.merge_laws.specs.Received.{JoinFits, MessageFits, Received, UploadFits, joined_at}
-use Rattle.merge_laws.proofs.Finding.{all-at}
+use Rattle.merge_model.proofs.Finding.{all-at}
 use Rattle.merge_laws.proofs.Steps.{own-at}
 
 abbrev pub here : World → PublisherTables
@@ -377,7 +386,11 @@ module _ (publication : Publication) (says : Saying) (B P : World → History �
         subst (λ (x : SiteId). After (answered x (λ (made : Joined). reply.Joined made) w (join publication w.moment m w.publisher)) (Noting.noted_join (by_past h (pasts_with h number)) m w.publisher h) h) same
         (join-come number m (subst (λ (x : SiteId). comes w number x (Asks (request.Join m))) (sym same) at))
     request-come number site (request.Upload m) at fits =
-        upload-come number m (subst (λ (x : SiteId). comes w number x (Asks (request.Upload m))) (sym (upload-site m site (at_number w.subscribers site.0) fits)) at)
+        let judge : PublisherJudge = by_past h (pasts_with h number) in
+        let decisions : List Decision = kept_decisions says w.tallies (upload_questions publication judge w.moment m w.publisher) in
+        let same : m.site ≡ site = upload-site m site (at_number w.subscribers site.0) fits in
+        subst (λ (x : SiteId). After (deliver_request publication says judge x (request.Upload m) w) (Noting.noted_upload publication judge m decisions (pasts_with h number) (here w) h) h) same
+        (upload-come number m (subst (λ (x : SiteId). comes w number x (Asks (request.Upload m))) (sym same) at))
     request-come number site (request.Ranges m) at fits =
         let judge : PublisherJudge = by_past h (pasts_with h number) in
         let q : PublisherTables = with_grants (plans publication m w.publisher) (here w) in
@@ -412,6 +425,7 @@ module _ (publication : Publication) (says : Saying) (B P : World → History �
     action-after (MakeAnew site) = there-after site (subscriber_at w site) (make_anew (by_history h) w) (λ (s : SubscriberTables). Noting.noted_anew (by_made h site) s h) refl
         (λ s at. subst (λ (x : SiteId). After (make_anew (by_history h) w s) (Noting.noted_anew (by_made h x) s h) h) (site-of site s at) (anew-after site s at))
     action-after Forget = keeps.forgetting w h b p
+    action-after Look = p
 
   -- every step
   pub step-keeps : (m : Model) (action : Action) → B m.world m.history → P m.world m.history → (let n : Model = (model_step publication says m action).0 in P n.world n.history)

@@ -20,6 +20,8 @@ use Rattle.merge_batch.specs.declared.request.Download.{Download}
 use Rattle.merge_batch.specs.declared.request.Request.TheVariants as request
 use Rattle.merge_batch.specs.declared.reply.Reply.{Reply}
 use Rattle.merge_batch.specs.declared.reply.Reply.TheVariants as reply
+use Rattle.merge_model.specs.Failing.{Slips, faulty}
+use Rattle.merge_model.specs.Runs.{model_behind}
 use Rattle.merge_model.specs.declared.event.Event.{Event}
 use Rattle.merge_model.specs.Tables.{PublisherTables, SubscriberTables}
 use Rattle.merge_model.specs.Keys.{at_number, put_number}
@@ -34,7 +36,10 @@ use Rattle.merge_model.specs.PublisherDownload.{asked, download_refusal, reply_t
 use Rattle.merge_model.specs.Subscriber.{empty_subscriber, sub_at_moment, sub_closed, sub_made_locally}
 use Rattle.merge_model.specs.Sending.{join_of, upload_end, upload_to, want_of, with_message}
 use Rattle.merge_model.specs.Reinit.{reinitialised}
-use Rattle.merge_model.specs.World.{Asks, Letter, Message, Replies, Saying, World, letter_at, subscriber_at, with_publisher, with_subscriber}
+use Rattle.merge_model.specs.World.{Saying, World, letter_at, subscriber_at, with_publisher, with_subscriber}
+use Rattle.merge_model.specs.declared.letter.Message.TheVariants.{Asks, Replies}
+use Rattle.merge_model.specs.declared.letter.Letter.{Letter}
+use Rattle.merge_model.specs.declared.letter.Message.{Message}
 use Rattle.merge_model.specs.Steps.{post}
 use Rattle.merge_model.specs.History.{History, pasts_with}
 use Rattle.merge_model.specs.Model.{Model, empty_model, model}
@@ -42,11 +47,12 @@ use Rattle.merge_model.specs.Events.{after}
 use Rattle.merge_model.specs.ByHistory.{by_made, by_past}
 use Rattle.merge_model.specs.PublisherRanges.{plans, ranged}
 use Rattle.merge_model.specs.Taking.{seq_of, taken}
-use Rattle.merge_model.proofs.Events.{events-keep}
+use Rattle.merge_model.proofs.KeptFailing.{runs-keep}
+use Rattle.merge_laws.proofs.Tallied.{received-tallied}
 use Rattle.merge_laws.specs.Received.{joined_at, JoinFits, MessageFits, LetterFits, Received}
 use Rattle.merge_laws.specs.Watermarks.{AskHolds, HoldsWatermark, HoldsWatermarks, LetterHolds, StateHolds, Watermarks, WatermarksAreHeld, state_in}
 use Rattle.merge_laws.proofs.Arrivals.{first-none}
-use Rattle.merge_laws.proofs.Finding.{all-at, at_put_same}
+use Rattle.merge_model.proofs.Finding.{all-at, at_put_same}
 use Rattle.merge_laws.proofs.Models.{model-fine, received-always}
 use Rattle.merge_laws.proofs.PurgeSteps.{if-entry, taken_entry}
 use Rattle.merge_laws.proofs.Subscribing.{number-decided}
@@ -221,12 +227,12 @@ all-new publication (entry ∷ entries) n =
     new-head (StateHolds no_state) (is_at (nat_cmp n) entry.0) (empty_subscriber publication entry.1.site) (at_number (map (λ (s : ℕ × Subscription). (s.0, empty_subscriber publication s.1.site)) entries) n)
     (new-holds publication entry.1.site) (all-new publication entries n)
 
-pub watermarks-always : (publication : Publication) (says : Saying) (tallies : List ℕ) (events : List Event)
-    → (let m : Model = after publication (model publication says) (empty_model publication tallies) events in HoldsWatermarks m.world)
-watermarks-always publication says tallies events =
-    (events-keep publication (model publication says) (λ (m : Model). Received m.world m.history × HoldsWatermarks m.world)
-    (λ m action both. (model-fine publication says m action both.0, step-keeps publication says Received OfWorlds (λ w h r. r) (watermarks-keep publication says) m action both.0 both.1)) events (empty_model publication tallies) (
-      received-always publication says tallies [],
+pub watermarks-always : (publication : Publication) (says : Saying) (tallies : List ℕ) (slips : Slips) (events : List Event)
+    → (let m : Model = model_behind publication says tallies slips events in HoldsWatermarks m.world)
+watermarks-always publication says tallies slips events =
+    (runs-keep publication (model publication says) (λ (m : Model). Received m.world m.history × HoldsWatermarks m.world)
+    (λ m action both. (model-fine publication says m action both.0, step-keeps publication says Received OfWorlds (λ w h r. r) (watermarks-keep publication says) m action both.0 both.1)) (λ m others both. (received-tallied m.world others m.history both.0, both.1)) events (faulty (empty_model publication tallies) slips) (
+      received-always publication says tallies [] [],
       record { sites = λ n. all-new publication (by_site publication) n; letters = tt },
     )).1
 

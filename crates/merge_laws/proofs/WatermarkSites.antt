@@ -21,9 +21,10 @@ use Rattle.merge_model.specs.Judge.{SubscriberJudge}
 use Rattle.merge_model.specs.Reinit.{reinitialised}
 use Rattle.merge_model.specs.Sending.{with_message}
 use Rattle.merge_model.specs.Subscriber.{sub_at_moment, sub_made_locally, sub_next_dot, sub_version_at, with_version_if}
-use Rattle.merge_model.specs.Tables.{Key, SubscriberTables}
+use Rattle.merge_types.specs.declared.row_key.RowKey.{RowKey as Key}
+use Rattle.merge_model.specs.Tables.{SubscriberTables}
 use Rattle.merge_model.specs.Taking.{seq_of, taken}
-use Rattle.merge_model.specs.World.{Replies}
+use Rattle.merge_model.specs.declared.letter.Message.TheVariants.{Replies}
 use Rattle.merge_laws.specs.Received.{MessageFits}
 use Rattle.merge_laws.specs.Watermarks.{StateHolds}
 use Rattle.merge_laws.proofs.WatermarkLists.{Moves}

@@ -11,13 +11,15 @@ use Rattle.merge_model.specs.ByNumbers.{received_by_number}
 use Rattle.merge_model.specs.ByHistory.{received_by_done, is_gap_by_done}
 use Rattle.merge_model.specs.Publisher.{no_state}
 use Rattle.merge_model.specs.Subscriber.{sub_last_closed}
-use Rattle.merge_model.specs.World.{World, Letter, Message, with_publisher, with_subscriber}
+use Rattle.merge_model.specs.World.{World, with_publisher, with_subscriber}
+use Rattle.merge_model.specs.declared.letter.Letter.{Letter}
+use Rattle.merge_model.specs.declared.letter.Message.{Message}
 use Rattle.merge_model.specs.History.{History, is_done}
 use Rattle.merge_laws.specs.Received.{joined_at, JoinFits, MessageFits, LetterFits, SubscriberFits, AllFit, DoneIsReceived, Received}
-use Rattle.merge_laws.proofs.Finding.{all-more, all-weaker}
+use Rattle.merge_model.proofs.Finding.{all-more, all-weaker}
 use Rattle.merge_laws.proofs.Publishing.{SameNumbers, greatest-step, member-step}
 use Rattle.merge_laws.proofs.Subscribing.{Goes, all-fit, letters-go}
-use Rattle.merge_laws.proofs.Tests.{numbers-same}
+use Rattle.merge_model.proofs.Tests.{numbers-same}
 
 -- only what has acted counts of a history
 pub history-same : (w : World) (h k : History) → k.done ≡ h.done → Received w h → Received w k

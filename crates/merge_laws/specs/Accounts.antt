@@ -11,13 +11,18 @@ use Rattle.merge_units.specs.declared.version.Version.{Version}
 use Rattle.merge_schema.specs.declared.publication.Publication.{Publication}
 use Rattle.merge_batch.specs.declared.request.Request.TheVariants as request
 use Rattle.merge_model.specs.History.{Chains, History, MadeChange, OfCells, OfDead, Past, has, is_done, past_at, past_in, pasts_at}
-use Rattle.merge_model.specs.Keys.{at_number, has_key, key_cmp, same_key}
+use Rattle.merge_types.specs.RowKeys.{key_cmp}
+use Rattle.merge_model.specs.Keys.{at_number, has_key, same_key}
 use Rattle.merge_model.specs.Pasts.{cell_count}
 use Rattle.merge_model.specs.Promises.{InCell, InRow, Place, descends}
 use Rattle.merge_model.specs.PublisherLocal.{version_at}
 use Rattle.merge_model.specs.Subscriber.{sub_version_at}
-use Rattle.merge_model.specs.Tables.{Key, SubscriberTables}
-use Rattle.merge_model.specs.World.{Asks, Letter, Message, World}
+use Rattle.merge_types.specs.declared.row_key.RowKey.{RowKey as Key}
+use Rattle.merge_model.specs.Tables.{SubscriberTables}
+use Rattle.merge_model.specs.World.{World}
+use Rattle.merge_model.specs.declared.letter.Message.TheVariants.{Asks}
+use Rattle.merge_model.specs.declared.letter.Letter.{Letter}
+use Rattle.merge_model.specs.declared.letter.Message.{Message}
 use Rattle.merge_laws.specs.Knowledge.{same_dot}
 use Rattle.merge_laws.specs.LetterNumbers.{AreNamed}
 use Rattle.merge_laws.specs.LineagesStand.{OfMessage, is_of, is_sent}

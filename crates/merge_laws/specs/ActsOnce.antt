@@ -8,18 +8,24 @@ use Rattle.merge_batch.specs.declared.reply.Reply.TheVariants as reply
 use Rattle.merge_batch.specs.declared.request.Request.TheVariants as request
 use Rattle.merge_batch.specs.declared.request.Upload.{Upload}
 use Rattle.merge_batch.specs.declared.request.UploadItem.{UploadItem}
+use Rattle.merge_model.specs.Failing.{Slips}
+use Rattle.merge_model.specs.Runs.{model_after}
 use Rattle.merge_model.specs.declared.event.Event.{Event}
 use Rattle.merge_model.specs.Acts.{key_of_item}
 use Rattle.merge_model.specs.ByHistory.{received_by_done}
-use Rattle.merge_model.specs.Events.{after}
 use Rattle.merge_model.specs.History.{History, MadeChange, Past, is_done, past_at}
 use Rattle.merge_model.specs.Keys.{row_at, same_key}
-use Rattle.merge_model.specs.Model.{Model, did_something, model, model_step}
+use Rattle.merge_model.specs.Model.{Model, did_something, model_step}
 use Rattle.merge_model.specs.Promises.{key_of_conflict}
 use Rattle.merge_model.specs.Publisher.{at_moment}
-use Rattle.merge_model.specs.Steps.{Deliver, Outcome}
-use Rattle.merge_model.specs.Tables.{Key, PublisherRow, PublisherTables}
-use Rattle.merge_model.specs.World.{Asks, Letter, Replies, Saying, letter_at}
+use Rattle.merge_model.specs.Steps.{Deliver}
+use Rattle.merge_model.specs.declared.outcome.Outcome.{Outcome}
+use Rattle.merge_types.specs.declared.row_key.RowKey.{RowKey as Key}
+use Rattle.merge_units.specs.declared.site_row.PublisherRow.{PublisherRow}
+use Rattle.merge_model.specs.Tables.{PublisherTables}
+use Rattle.merge_model.specs.World.{Saying, letter_at}
+use Rattle.merge_model.specs.declared.letter.Message.TheVariants.{Asks, Replies}
+use Rattle.merge_model.specs.declared.letter.Letter.{Letter}
 
 -- a letter of the pool is an upload
 abbrev pub IsUpload : Model → ℕ → SiteId → Upload → Type 0
@@ -73,26 +79,26 @@ abbrev pub AllActed : History → Upload → Type 0
 AllActed h u = (generation : ℕ) → u.from < generation → generation ≤ u.to → is_done h u.site.0 generation ≡ true
 
 -- The publisher takes the moment over and answers with the last generation that has acted. All else stays: the other tables of the publisher, the subscribers, the tallies of resolvers and the history, which has no past in the answer.
-abbrev pub answer_to : History → Upload → Letter
-answer_to h u = record { site = u.site; message = Replies (reply.Uploaded (record { seq = u.seq; received = received_by_done h u.site.0 })) }
+abbrev pub answer_to : History → SiteId → Upload → Letter
+answer_to h site u = record { site = site; message = Replies (reply.Uploaded (record { seq = u.seq; received = received_by_done h u.site.0 })) }
 
-abbrev pub with_answer : Upload → Model → Model
-with_answer u m = record {
+abbrev pub with_answer : SiteId → Upload → Model → Model
+with_answer site u m = record {
   world = record m.world {
     publisher = at_moment m.world.moment m.world.publisher;
-    pool = m.world.pool ++ answer_to m.history u ∷ [];
+    pool = m.world.pool ++ answer_to m.history site u ∷ [];
   };
   history = record m.history { letters = m.history.letters ++ [] ∷ [] };
 }
 
 -- where it is refused, not even that
-abbrev pub OnlyAnswers : Upload → Model → Model × Outcome → Type 0
-OnlyAnswers u m done = done.0 ≡ (if did_something done.1 then with_answer u m else m)
+abbrev pub OnlyAnswers : SiteId → Upload → Model → Model × Outcome → Type 0
+OnlyAnswers site u m done = done.0 ≡ (if did_something done.1 then with_answer site u m else m)
 
 -- An upload whose generations have all acted is only answered.
 abbrev pub ActedUploadsOnlyAnswer : Type 0
 ActedUploadsOnlyAnswer = (publication : Publication) (says : Saying) (m : Model) (number : ℕ) (site : SiteId) (u : Upload) → IsUpload m number site u → AllActed m.history u
-    → OnlyAnswers u m (delivered publication says m number)
+    → OnlyAnswers site u m (delivered publication says m number)
 
 -- After a delivery that is not refused each generation of the upload has acted,
 abbrev pub TakenHaveActed : Publication → Saying → Model → Type 0
@@ -101,14 +107,14 @@ TakenHaveActed publication says m = (number : ℕ) (site : SiteId) (u : Upload) 
 
 -- what has acted stays so, whatever happens,
 abbrev pub DoneStays : Publication → Saying → Model → Type 0
-DoneStays publication says m = (site generation : ℕ) → is_done m.history site generation ≡ true → (more : List Event) → is_done (after publication (model publication says) m more).history site generation ≡ true
+DoneStays publication says m = (site generation : ℕ) → is_done m.history site generation ≡ true → (slips : Slips) (more : List Event) → is_done (model_after publication says m slips more).history site generation ≡ true
 
 -- the pool keeps each letter at its number,
 abbrev pub LettersStay : Publication → Saying → Model → Type 0
-LettersStay publication says m = (number : ℕ) (letter : Letter) → letter_at m.world number ≡ Some letter → (more : List Event) → letter_at (after publication (model publication says) m more).world number ≡ Some letter
+LettersStay publication says m = (number : ℕ) (letter : Letter) → letter_at m.world number ≡ Some letter → (slips : Slips) (more : List Event) → letter_at (model_after publication says m slips more).world number ≡ Some letter
 
 -- so that another delivery, at once or after whatever events, is only answered.
 abbrev pub TakenOnlyAnswer : Publication → Saying → Model → Type 0
 TakenOnlyAnswer publication says m = (number : ℕ) (site : SiteId) (u : Upload) → IsUpload m number site u
-    → (let done : Model × Outcome = delivered publication says m number in did_something done.1 ≡ true → (more : List Event)
-    → (let later : Model = after publication (model publication says) done.0 more in OnlyAnswers u later (delivered publication says later number)))
+    → (let done : Model × Outcome = delivered publication says m number in did_something done.1 ≡ true → (slips : Slips) (more : List Event)
+    → (let later : Model = model_after publication says done.0 slips more in OnlyAnswers site u later (delivered publication says later number)))

@@ -10,7 +10,10 @@ use Rattle.merge_model.specs.ByNumbers.{received_by_number}
 use Rattle.merge_model.specs.Keys.{at_number}
 use Rattle.merge_model.specs.Subscriber.{sub_last_closed}
 use Rattle.merge_model.specs.Tables.{SubscriberTables}
-use Rattle.merge_model.specs.World.{Asks, Letter, Message, Replies, World}
+use Rattle.merge_model.specs.World.{World}
+use Rattle.merge_model.specs.declared.letter.Message.TheVariants.{Asks, Replies}
+use Rattle.merge_model.specs.declared.letter.Letter.{Letter}
+use Rattle.merge_model.specs.declared.letter.Message.{Message}
 use Rattle.merge_laws.specs.Received.{joined_at}
 
 -- of each subscriber, with the publisher's received generation of it and the number of its last join that acted

@@ -7,6 +7,8 @@ use Rattle.merge_schema.specs.declared.publication.Publication.{Publication}
 use Rattle.merge_batch.specs.declared.request.Request.TheVariants as request
 use Rattle.merge_batch.specs.declared.request.Upload.{Upload}
 use Rattle.merge_batch.specs.declared.request.UploadItem.{UploadItem}
+use Rattle.merge_model.specs.Failing.{Slips}
+use Rattle.merge_model.specs.Runs.{model_behind, world_behind, machine_says, model_says}
 use Rattle.merge_model.specs.Acts.{key_of_item}
 use Rattle.merge_model.specs.Bridge.{CaseDecidesAlike, StepsAlike}
 use Rattle.merge_model.specs.Events.{after, machine, machine_answers}
@@ -14,8 +16,9 @@ use Rattle.merge_model.specs.History.{pasts_with}
 use Rattle.merge_model.specs.Keys.{row_at}
 use Rattle.merge_model.specs.Model.{Model, empty_model, model, model_answers}
 use Rattle.merge_model.specs.Steps.{Action}
-use Rattle.merge_model.specs.Tables.{PublisherRow}
-use Rattle.merge_model.specs.World.{Asks, Saying, empty_world, letter_at}
+use Rattle.merge_units.specs.declared.site_row.PublisherRow.{PublisherRow}
+use Rattle.merge_model.specs.World.{Saying, empty_world, letter_at}
+use Rattle.merge_model.specs.declared.letter.Message.TheVariants.{Asks}
 use Rattle.merge_model.specs.declared.event.Event.{Event}
 use Rattle.merge_laws.specs.Received.{joined_at}
 
@@ -29,10 +32,19 @@ CasesDecideAlike m = (number : ℕ) (site : SiteId) (upload : Upload) → letter
 abbrev pub EachStepAlike : Publication → Saying → Model → Type 0
 EachStepAlike publication says m = (action : Action) → StepsAlike publication says m action
 
--- So is every run: the machine answers what the model answers, and has its tables.
+-- So is every run: the machine answers what the model answers, and has its tables,
 abbrev pub AnswersAlike : Type 0
 AnswersAlike = (resolvers : ℕ) (publication : Publication) → IsValid resolvers publication → (says : Saying) (tallies : List ℕ) (events : List Event) → machine_answers publication says tallies events ≡ model_answers publication says tallies events
 
 abbrev pub TablesAlike : Type 0
 TablesAlike = (resolvers : ℕ) (publication : Publication) → IsValid resolvers publication → (says : Saying) (tallies : List ℕ) (events : List Event)
     → after publication (machine publication says) (empty_world publication tallies) events ≡ (after publication (model publication says) (empty_model publication tallies) events).world
+
+-- also where the same steps fail in both.
+abbrev pub FailingAnswersAlike : Type 0
+FailingAnswersAlike = (resolvers : ℕ) (publication : Publication) → IsValid resolvers publication → (says : Saying) (tallies : List ℕ) (slips : Slips) (events : List Event)
+    → machine_says publication says tallies slips events ≡ model_says publication says tallies slips events
+
+abbrev pub FailingTablesAlike : Type 0
+FailingTablesAlike = (resolvers : ℕ) (publication : Publication) → IsValid resolvers publication → (says : Saying) (tallies : List ℕ) (slips : Slips) (events : List Event)
+    → world_behind publication says tallies slips events ≡ (model_behind publication says tallies slips events).world

@@ -13,22 +13,26 @@ use Rattle.merge_batch.specs.declared.reply.RangeGrant.{RangeGrant}
 use Rattle.merge_batch.specs.declared.reply.Reply.TheVariants as reply
 use Rattle.merge_batch.specs.declared.request.Request.TheVariants as request
 use Rattle.merge_schema.specs.declared.publication.Publication.{Publication}
+use Rattle.merge_model.specs.Failing.{Slips}
+use Rattle.merge_model.specs.Runs.{model_behind}
 use Rattle.merge_model.specs.declared.event.Event.{Event}
-use Rattle.merge_model.specs.Events.{after}
 use Rattle.merge_model.specs.History.{MadeChange}
 use Rattle.merge_model.specs.Keys.{at_number}
-use Rattle.merge_model.specs.Model.{Model, empty_model, model}
+use Rattle.merge_model.specs.Model.{Model}
 use Rattle.merge_model.specs.Promises.{takes}
 use Rattle.merge_model.specs.Publications.{rules_of}
 use Rattle.merge_model.specs.Tables.{SubscriberTables}
-use Rattle.merge_model.specs.World.{Asks, Letter, Message, Replies, Saying}
+use Rattle.merge_model.specs.World.{Saying}
+use Rattle.merge_model.specs.declared.letter.Message.TheVariants.{Asks, Replies}
+use Rattle.merge_model.specs.declared.letter.Letter.{Letter}
+use Rattle.merge_model.specs.declared.letter.Message.{Message}
 
 -- The laws.
 
 -- what a model is after some events, whatever they were, where the publication's ranges have values
 abbrev pub OfEveryRuledModel : (Model → Type 0) → Type 0
-OfEveryRuledModel Holds = (publication : Publication) → All IsRule (rules_of publication) → (says : Saying) (tallies : List ℕ) (events : List Event)
-    → Holds (after publication (model publication says) (empty_model publication tallies) events)
+OfEveryRuledModel Holds = (publication : Publication) → All IsRule (rules_of publication) → (says : Saying) (tallies : List ℕ) (slips : Slips) (events : List Event)
+    → Holds (model_behind publication says tallies slips events)
 
 -- whether a change is an insert of a site that took a value of an article
 abbrev pub takes_at : ℕ → ℕ → ℤ → MadeChange → Bool

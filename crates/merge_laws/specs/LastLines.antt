@@ -10,7 +10,11 @@ use Rattle.merge_model.specs.Keys.{at_row_site, row_at}
 use Rattle.merge_model.specs.Model.{Model}
 use Rattle.merge_model.specs.Noting.{site_of_subscription}
 use Rattle.merge_model.specs.Publications.{by_site}
-use Rattle.merge_model.specs.Tables.{Entered, Key, Left, Mapping, PublisherRow, RowSite}
+use Rattle.merge_gens.specs.declared.moves.MoveKind.TheVariants.{Entered, Left}
+use Rattle.merge_types.specs.declared.row_key.RowKey.{RowKey as Key}
+use Rattle.merge_gens.specs.declared.moves.Mapping.{Mapping}
+use Rattle.merge_units.specs.declared.site_row.PublisherRow.{PublisherRow}
+use Rattle.merge_gens.specs.declared.moves.RowSite.{RowSite}
 
 -- The laws.
 

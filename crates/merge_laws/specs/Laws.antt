@@ -2,6 +2,8 @@
 use Rattle.std.specs.Prelude.{true, ◌≡◌, ◌≤◌, ◌<◌, ℕ, List, Some}
 use Rattle.merge_schema.specs.Valid.{IsValid}
 use Rattle.merge_schema.specs.declared.publication.Publication.{Publication}
+use Rattle.merge_model.specs.Failing.{Slips}
+use Rattle.merge_model.specs.Runs.{model_behind}
 use Rattle.merge_model.specs.declared.event.Event.{Event}
 use Rattle.merge_types.specs.declared.identifiers.SiteId.{SiteId}
 use Rattle.merge_gens.specs.Book.{moment_of}
@@ -13,28 +15,28 @@ use Rattle.merge_model.specs.Bridge.{SubscriberDecidesAlike}
 use Rattle.merge_model.specs.Keys.{at_number}
 use Rattle.merge_model.specs.Tables.{SubscriberTables}
 use Rattle.merge_model.specs.Subscriber.{sub_last_closed}
-use Rattle.merge_model.specs.World.{Asks, Saying, letter_at}
-use Rattle.merge_model.specs.Events.{after}
-use Rattle.merge_model.specs.Model.{Model, empty_model, model}
+use Rattle.merge_model.specs.World.{Saying, letter_at}
+use Rattle.merge_model.specs.declared.letter.Message.TheVariants.{Asks}
+use Rattle.merge_model.specs.Model.{Model}
 use Rattle.merge_laws.specs.Lineages.{LineagesAreMade}
 use Rattle.merge_laws.specs.Numbered.{last_through}
 
 -- what a model is after some events, whatever they were
 abbrev pub OfEveryModel : (Model → Type 0) → Type 0
-OfEveryModel Holds = (publication : Publication) (says : Saying) (tallies : List ℕ) (events : List Event) → Holds (after publication (model publication says) (empty_model publication tallies) events)
+OfEveryModel Holds = (publication : Publication) (says : Saying) (tallies : List ℕ) (slips : Slips) (events : List Event) → Holds (model_behind publication says tallies slips events)
 
 -- the same of what depends on the publication
 abbrev pub OfEveryRun : (Publication → Model → Type 0) → Type 0
-OfEveryRun Holds = (publication : Publication) (says : Saying) (tallies : List ℕ) (events : List Event) → Holds publication (after publication (model publication says) (empty_model publication tallies) events)
+OfEveryRun Holds = (publication : Publication) (says : Saying) (tallies : List ℕ) (slips : Slips) (events : List Event) → Holds publication (model_behind publication says tallies slips events)
 
 -- and on how conflicts are decided
 abbrev pub OfEveryDecidedRun : (Publication → Saying → Model → Type 0) → Type 0
-OfEveryDecidedRun Holds = (publication : Publication) (says : Saying) (tallies : List ℕ) (events : List Event) → Holds publication says (after publication (model publication says) (empty_model publication tallies) events)
+OfEveryDecidedRun Holds = (publication : Publication) (says : Saying) (tallies : List ℕ) (slips : Slips) (events : List Event) → Holds publication says (model_behind publication says tallies slips events)
 
 -- The same of publications that a file can say: their sites have the numbers 1 to 63, each once.
 abbrev pub OfEveryValidRun : (Publication → Saying → Model → Type 0) → Type 0
-OfEveryValidRun Holds = (resolvers : ℕ) (publication : Publication) → IsValid resolvers publication → (says : Saying) (tallies : List ℕ) (events : List Event)
-    → Holds publication says (after publication (model publication says) (empty_model publication tallies) events)
+OfEveryValidRun Holds = (resolvers : ℕ) (publication : Publication) → IsValid resolvers publication → (says : Saying) (tallies : List ℕ) (slips : Slips) (events : List Event)
+    → Holds publication says (model_behind publication says tallies slips events)
 
 -- and of every model, however it came about
 abbrev pub OfEach : (Publication → Model → Type 0) → Type 0

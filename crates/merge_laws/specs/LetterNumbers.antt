@@ -6,7 +6,10 @@ use Rattle.merge_batch.specs.declared.request.Request.TheVariants as request
 use Rattle.merge_model.specs.History.{History}
 use Rattle.merge_model.specs.Keys.{at_number}
 use Rattle.merge_model.specs.Tables.{SubscriberTables}
-use Rattle.merge_model.specs.World.{Asks, Letter, Message, Replies, World}
+use Rattle.merge_model.specs.World.{World}
+use Rattle.merge_model.specs.declared.letter.Message.TheVariants.{Asks, Replies}
+use Rattle.merge_model.specs.declared.letter.Letter.{Letter}
+use Rattle.merge_model.specs.declared.letter.Message.{Message}
 
 -- a subscriber has a number that a publication can give, so that its rows have identifiers
 abbrev pub AreNamed : List (ℕ × SubscriberTables) → Type 0

@@ -1,5 +1,5 @@
 -- What is said of every lineage, wherever it is kept.
-use Rattle.std.specs.Prelude.{◌≡◌, ◌≤◌, ◌==◌, ℕ, List, Some, if◌then◌else◌, option_map, unwrap_or}
+use Rattle.std.specs.Prelude.{◌≡◌, ◌≤◌, ℕ, List, Some}
 use Rattle.std.specs.List.{AllByRecursion}
 use Rattle.merge_types.specs.declared.identifiers.Dot.{Dot}
 use Rattle.merge_lineage.specs.Lineage.{IsAscending, number_of}
@@ -11,12 +11,15 @@ use Rattle.merge_batch.specs.declared.reply.Reply.TheVariants as reply
 use Rattle.merge_batch.specs.declared.request.Request.TheVariants as request
 use Rattle.merge_batch.specs.declared.request.UploadItem.{UploadItem}
 use Rattle.merge_model.specs.Keys.{at_number}
-use Rattle.merge_model.specs.Tables.{Key, PublisherRow, PublisherTables, SubscriberRow, SubscriberTables}
-use Rattle.merge_model.specs.World.{Asks, Letter, Message, Replies, World}
-
--- how many changes a site made, 0 of one that there is not
-abbrev pub changes_of : World → ℕ → ℕ
-changes_of w n = if n == 0 then w.publisher.changes else unwrap_or (option_map (λ (s : SubscriberTables). s.changes) (at_number w.subscribers n)) 0
+use Rattle.merge_types.specs.declared.row_key.RowKey.{RowKey as Key}
+use Rattle.merge_units.specs.declared.site_row.PublisherRow.{PublisherRow}
+use Rattle.merge_units.specs.declared.site_row.SubscriberRow.{SubscriberRow}
+use Rattle.merge_model.specs.Tables.{PublisherTables, SubscriberTables}
+use Rattle.merge_laws.specs.Knowledge.{changes_of}
+use Rattle.merge_model.specs.World.{World}
+use Rattle.merge_model.specs.declared.letter.Message.TheVariants.{Asks, Replies}
+use Rattle.merge_model.specs.declared.letter.Letter.{Letter}
+use Rattle.merge_model.specs.declared.letter.Message.{Message}
 
 -- the sites ascend, and of none is a change known that it did not make
 pub record IsOfMade (made : ℕ → ℕ) (lineage : List Dot) : Type 0 where

@@ -14,21 +14,23 @@ use Rattle.merge_batch.specs.declared.request.Request.TheVariants as request
 use Rattle.merge_batch.specs.declared.request.Upload.{Upload}
 use Rattle.merge_batch.specs.declared.request.UploadItem.{UploadItem}
 use Rattle.merge_model.specs.Acts.{key_of_item}
-use Rattle.merge_model.specs.ByNumbers.{received_number_by_number}
 use Rattle.merge_model.specs.History.{History, MadeChange, Past, has, is_accepted, is_done, past_at, past_in}
 use Rattle.merge_model.specs.Keys.{at_number, row_at, same_key}
 use Rattle.merge_model.specs.Model.{Model}
-use Rattle.merge_model.specs.Tables.{Key, PublisherRow, PublisherTables, SubscriberRow, SubscriberTables}
+use Rattle.merge_model.specs.Promises.{is_given_up}
+use Rattle.merge_types.specs.declared.row_key.RowKey.{RowKey as Key}
+use Rattle.merge_units.specs.declared.site_row.PublisherRow.{PublisherRow}
+use Rattle.merge_units.specs.declared.site_row.SubscriberRow.{SubscriberRow}
+use Rattle.merge_model.specs.Tables.{SubscriberTables}
 use Rattle.merge_model.specs.Taking.{key_of_download}
-use Rattle.merge_model.specs.World.{Asks, Letter, Message, Replies}
+use Rattle.merge_model.specs.declared.letter.Message.TheVariants.{Asks, Replies}
+use Rattle.merge_model.specs.declared.letter.Letter.{Letter}
+use Rattle.merge_model.specs.declared.letter.Message.{Message}
 use Rattle.merge_laws.specs.Knowledge.{Knowledge}
 use Rattle.merge_laws.specs.Received.{joined_at}
 use Rattle.merge_laws.specs.Standing.{IsKnownLater, StandsFor, Told}
 
--- A change is given up where it is not accepted and its site has gone on past it: no version that knows it can act any more.
-abbrev pub is_given_up : PublisherTables → History → Dot → Bool
-is_given_up p h dot = not (is_accepted h dot) && nat_le dot.number (received_number_by_number p dot.site.0)
-
+-- the changes that are not given up
 abbrev pub counts_in : Model → MadeChange → Bool
 counts_in m change = not (is_given_up m.world.publisher m.history change.dot)
 

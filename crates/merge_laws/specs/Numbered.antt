@@ -10,7 +10,10 @@ use Rattle.merge_model.specs.Tables.{SubscriberTables}
 use Rattle.merge_model.specs.Keys.{at_number}
 use Rattle.merge_model.specs.ByNumbers.{received_by_number, received_number_by_number}
 use Rattle.merge_model.specs.Subscriber.{sub_last_closed}
-use Rattle.merge_model.specs.World.{World, Letter, Message, Asks, Replies}
+use Rattle.merge_model.specs.World.{World}
+use Rattle.merge_model.specs.declared.letter.Letter.{Letter}
+use Rattle.merge_model.specs.declared.letter.Message.{Message}
+use Rattle.merge_model.specs.declared.letter.Message.TheVariants.{Asks, Replies}
 use Rattle.merge_model.specs.History.{History, MadeChange, is_done, made_at}
 
 -- the greatest number of a change in the generations from 1 to this one, 0 where there is none

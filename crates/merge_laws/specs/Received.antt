@@ -12,7 +12,10 @@ use Rattle.merge_model.specs.Keys.{at_number}
 use Rattle.merge_model.specs.ByNumbers.{received_by_number}
 use Rattle.merge_model.specs.Publisher.{state_of}
 use Rattle.merge_model.specs.Subscriber.{sub_last_closed}
-use Rattle.merge_model.specs.World.{World, Letter, Message, Asks, Replies}
+use Rattle.merge_model.specs.World.{World}
+use Rattle.merge_model.specs.declared.letter.Letter.{Letter}
+use Rattle.merge_model.specs.declared.letter.Message.{Message}
+use Rattle.merge_model.specs.declared.letter.Message.TheVariants.{Asks, Replies}
 use Rattle.merge_model.specs.History.{History, is_done}
 
 -- the number of a site's last join that acted

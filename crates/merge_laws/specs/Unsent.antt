@@ -5,7 +5,9 @@ use Rattle.merge_model.specs.ByHistory.{is_between_made}
 use Rattle.merge_model.specs.ByNumbers.{last_between}
 use Rattle.merge_model.specs.History.{History, MadeChange, made_at}
 use Rattle.merge_model.specs.Keys.{at_number, row_at, same_key}
-use Rattle.merge_model.specs.Tables.{Key, SubscriberRow, SubscriberTables}
+use Rattle.merge_types.specs.declared.row_key.RowKey.{RowKey as Key}
+use Rattle.merge_units.specs.declared.site_row.SubscriberRow.{SubscriberRow}
+use Rattle.merge_model.specs.Tables.{SubscriberTables}
 use Rattle.merge_model.specs.World.{World}
 
 -- the generations that are kept with a row

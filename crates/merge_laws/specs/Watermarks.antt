@@ -11,7 +11,10 @@ use Rattle.merge_model.specs.Model.{Model}
 use Rattle.merge_model.specs.Promises.{watermark_of}
 use Rattle.merge_model.specs.Publisher.{no_state}
 use Rattle.merge_model.specs.Tables.{SubscriberTables}
-use Rattle.merge_model.specs.World.{World, Letter, Message, Asks, Replies}
+use Rattle.merge_model.specs.World.{World}
+use Rattle.merge_model.specs.declared.letter.Letter.{Letter}
+use Rattle.merge_model.specs.declared.letter.Message.{Message}
+use Rattle.merge_model.specs.declared.letter.Message.TheVariants.{Asks, Replies}
 
 -- A joined site holds all that its watermark at the publisher says.
 abbrev pub WatermarksAreHeld : Model → Type 0

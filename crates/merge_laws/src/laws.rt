@@ -4,7 +4,7 @@ ghost use Rattle.merge_laws.specs.ActsOnce.{ActedItemsDoNothing, ActedRowsStay, 
 ghost use Rattle.merge_laws.specs.LastLines.{MappingIsLastLine, ChangedIsLastChange, LeftByLine, TouchedInsideByLine, TouchedOutsideByLine};
 ghost use Rattle.merge_model.specs.Bridge.{PublisherDecidesAlike};
 ghost use Rattle.merge_model.specs.Promises.{AllAccounted, AllStand, IdentitiesApart, OldIsPast, RepliesStayInside, SessionSettles, SettledHoldsPartition};
-ghost use Rattle.merge_laws.specs.Deciding.{CasesDecideAlike, EachStepAlike, AnswersAlike, TablesAlike};
+ghost use Rattle.merge_laws.specs.Deciding.{CasesDecideAlike, EachStepAlike, AnswersAlike, FailingAnswersAlike, FailingTablesAlike, TablesAlike};
 ghost use Rattle.merge_laws.specs.Identities.{OfEveryRuledModel, TakenWereGranted};
 ghost use Rattle.merge_laws.specs.Watermarks.{WatermarksAreHeld};
 ghost use Rattle.merge_laws.specs.Knowledge.{MadeAreNumbered, KnownWereMade};
@@ -133,6 +133,8 @@ pub fn lineages_decide_as_histories_do()
 pub fn machine_answers_as_the_model()
     ensures answers { AnswersAlike }
     ensures tables { TablesAlike }
+    ensures failing_answers { FailingAnswersAlike }
+    ensures failing_tables { FailingTablesAlike }
 {}
 
 /// Where a publication can be said by a file, a settled site holds exactly its partition, whatever

@@ -1,5 +1,5 @@
 -- No generation acts twice.
-use Rattle.std.specs.Prelude.{◌≡◌, ◌≤◌, ◌+◌, ◌-◌, ◌<◌, ◌==◌, ◌&&◌, ℕ, zero, suc, List, [], ◌∷◌, ◌++◌, Bool, true, false, not, Option, Some, None, Result, Ok, Err, refl, if◌then◌else◌, map, filter, count_by, Contains, cond, flat_map}
+use Rattle.std.specs.Prelude.{◌≡◌, ◌≤◌, ◌+◌, ◌-◌, ◌<◌, ◌==◌, ◌&&◌, ℕ, zero, suc, List, [], ◌∷◌, ◌++◌, Bool, true, false, not, Option, Some, None, Result, Ok, Err, refl, if◌then◌else◌, map, filter, count_by, cond, flat_map}
 use Rattle.std.specs.List.{fold, range_with_len, list_any, list_all}
 use Rattle.std.proofs.Common.{arith, sym, subst, ap, ◌∙◌}
 use Rattle.std.proofs.lemmas.Bool.Decides.{nat_tests}
@@ -25,9 +25,10 @@ use Rattle.merge_batch.specs.declared.reply.Reply.TheVariants as reply
 use Rattle.merge_batch.specs.declared.reply.DownloadItem.{DownloadItem}
 use Rattle.merge_schema.specs.declared.publication.Publication.{Publication}
 use Rattle.merge_model.specs.declared.event.Event.{Event}
-use Rattle.merge_model.specs.Tables.{Key, RowSite, PublisherTables, SubscriberTables}
+use Rattle.merge_types.specs.declared.row_key.RowKey.{RowKey as Key}
+use Rattle.merge_model.specs.Tables.{PublisherTables, SubscriberTables}
 use Rattle.merge_model.specs.Judge.{PublisherJudge, SubscriberJudge}
-use Rattle.merge_model.specs.Cases.{is_conflict}
+use Rattle.merge_units.specs.Cases.{is_conflict}
 use Rattle.merge_model.specs.Acts.{Act, Fate, New, Unknown, Met, acts_of}
 use Rattle.merge_model.specs.Entries.{Entries}
 use Rattle.merge_model.specs.PublisherJoin.{join_acts}
@@ -40,15 +41,22 @@ use Rattle.merge_model.specs.Keys.{put_number}
 use Rattle.merge_model.specs.Pasts.{past_by}
 use Rattle.merge_model.specs.Taking.{key_of_download}
 use Rattle.merge_model.specs.Reinit.{discarded}
-use Rattle.merge_model.specs.World.{World, Judges, Saying, Letter, Message, Asks, Replies, letter_at, subscriber_at}
-use Rattle.merge_model.specs.Steps.{Action, Pass, Make, CloseAt, Send, Deliver, MakeAnew, Forget, Outcome, Posted, kept_decisions, upload_questions, step_by}
+use Rattle.merge_model.specs.World.{World, Judges, Saying, letter_at, subscriber_at}
+use Rattle.merge_model.specs.declared.letter.Letter.{Letter}
+use Rattle.merge_model.specs.declared.letter.Message.{Message}
+use Rattle.merge_model.specs.declared.letter.Message.TheVariants.{Asks, Replies}
+use Rattle.merge_model.specs.Steps.{Action, Pass, Make, CloseAt, Send, Deliver, MakeAnew, Forget, Look, kept_decisions, upload_questions, step_by}
+use Rattle.merge_model.specs.declared.outcome.Outcome.{Outcome}
+use Rattle.merge_model.specs.declared.outcome.Outcome.TheVariants.{Posted}
 use Rattle.merge_model.specs.History.{History, Past, Line, is_done, past_at, past_in, pasts_with}
 use Rattle.merge_model.specs.Noting
-use Rattle.merge_model.specs.Model.{Model, model, empty_model, model_step, with_posted, with_letter, noted, noted_if, did_something, noted_make, noted_deliver, noted_letter, noted_request, noted_anew_at}
+use Rattle.merge_model.specs.Model.{Model, model, empty_model, model_step, with_posted, with_letter, noted, noted_if, did_something, noted_make, noted_letter, noted_request}
 use Rattle.merge_model.specs.ByHistory.{by_history}
 use Rattle.merge_model.specs.Events.{after}
 use Rattle.merge_model.specs.Promises.{NoneActsTwice, is_generation_of, acting_generations}
-use Rattle.merge_model.proofs.Events.{events-keep}
+use Rattle.merge_model.specs.Failing.{Slips, faulty}
+use Rattle.merge_model.specs.Runs.{model_behind}
+use Rattle.merge_model.proofs.KeptFailing.{runs-keep}
 
 -- each of a site's generations comes at most once
 abbrev pub Once : List (ℕ × ℕ) → Type 0
@@ -284,6 +292,7 @@ noted-once publication says judges w (Send site sending) h once = once
 noted-once publication says judges w (Deliver number) h once = letter-once publication says judges number w (letter_at w number) h once
 noted-once publication says judges w (MakeAnew site) h once = subst (λ (done : List (ℕ × ℕ)). Once done) (sym (anew-done judges site (subscriber_at w site) h)) once
 noted-once publication says judges w Forget h once = same-once h (Noting.noted_purge publication (judges.publisher 0) (at_moment w.moment w.publisher) h) (purge-done publication (judges.publisher 0) (at_moment w.moment w.publisher) h) once
+noted-once publication says judges w Look h once = once
 
 found-done : (found : Option Letter) (h : History) → (let k : History = elim found [ None ↦ h | Some letter ↦ with_letter letter h ] in k.done ≡ h.done)
 found-done None h = refl
@@ -306,9 +315,9 @@ step-once publication says m action once =
     subst (λ (d : List (ℕ × ℕ)). Once d) (sym (posted-done done.0 done.1 kept))
     (if_noted-once (did_something done.1) new m.history (noted-once publication says judges m.world action m.history once) once)
 
-pub none_acts_twice : (publication : Publication) (says : Saying) (tallies : List ℕ) (events : List Event) → NoneActsTwice (after publication (model publication says) (empty_model publication tallies) events)
-none_acts_twice publication says tallies events =
-    events-keep publication (model publication says) (λ (m : Model). Once m.history.done) (λ m action h. step-once publication says m action h) events (empty_model publication tallies) (λ site generation. omega arith)
+pub none_acts_twice : (publication : Publication) (says : Saying) (tallies : List ℕ) (slips : Slips) (events : List Event) → NoneActsTwice (model_behind publication says tallies slips events)
+none_acts_twice publication says tallies slips events =
+    runs-keep publication (model publication says) (λ (m : Model). Once m.history.done) (λ m action h. step-once publication says m action h) (λ m others h. h) events (faulty (empty_model publication tallies) slips) (λ site generation. omega arith)
 
 -- what a filter keeps passes its test
 kept-step : (b : Bool) (keeps : ℕ → Bool) (x : ℕ) (kept : List ℕ) → keeps x ≡ b → list_all keeps kept ≡ true → list_all keeps (cond b (x ∷ kept) kept) ≡ true

@@ -1,12 +1,10 @@
 -- What every step keeps, every list of events keeps.
-use Rattle.std.specs.Prelude.{◌≡◌, ◌==◌, ℕ, List, [], ◌∷◌, Bool, true, false, Option, Some, None, Result, Ok, Err, refl, if◌then◌else◌, IfOk}
+use Rattle.std.specs.Prelude.{◌≡◌, ℕ, List, [], ◌∷◌, Bool, true, false, Result, Ok, Err, refl, if◌then◌else◌, IfOk}
 use Rattle.std.proofs.Common.{arith, subst, sym}
-use Rattle.std.proofs.lemmas.Bool.Decides.{nat_tests}
 use Rattle.merge_types.specs.declared.identifiers.SiteId.{SiteId}
 use Rattle.merge_types.specs.declared.identifiers.Moment.{Moment}
 use Rattle.merge_types.specs.declared.changes.Change.{Change}
 use Rattle.merge_units.specs.declared.result.Decision.{Decision}
-use Rattle.merge_batch.specs.declared.refusal.Refusal.{Refusal}
 use Rattle.merge_batch.specs.declared.refusal.Refusal.TheVariants.{UnknownSite, UnknownName}
 use Rattle.merge_batch.specs.declared.request.Upload.{Upload}
 use Rattle.merge_schema.specs.declared.publication.Publication.{Publication}
@@ -14,36 +12,39 @@ use Rattle.merge_model.specs.declared.event.Event.{Event}
 use Rattle.merge_model.specs.declared.event.Event.TheVariants as event
 use Rattle.merge_model.specs.Tables.{PublisherTables}
 use Rattle.merge_model.specs.Judge.{PublisherJudge}
-use Rattle.merge_model.specs.Answers.{Answer, Refused}
+use Rattle.merge_model.specs.declared.answer.Answer.{Answer}
+use Rattle.merge_model.specs.declared.answer.Answer.TheVariants.{Refused}
 use Rattle.merge_model.specs.Publisher.{at_moment}
 use Rattle.merge_model.specs.PublisherUpload.{upload, brings_news}
-use Rattle.merge_model.specs.World.{World, Judges, Saying, subscriber_at}
-use Rattle.merge_model.specs.Steps.{Action, Pass, Make, CloseAt, Send, Deliver, MakeAnew, Forget, Outcome, Refuses, SendJoin, SendUpload, SendRanges, SendDownload}
+use Rattle.merge_model.specs.Steps.{Action, Pass, Make, CloseAt, Send, Deliver, MakeAnew, Forget, Look, SendJoin, SendUpload, SendRanges, SendDownload}
 use Rattle.merge_model.specs.Session.{Stepping}
 use Rattle.merge_model.specs.Naming.{insert_by, update_by, delete_by}
-use Rattle.merge_model.specs.Events.{is_site, where_site, where_subscriber, acting, changing, syncing, happens, after}
-use Rattle.merge_batch.specs.Lineages.{is_subscription}
+use Rattle.merge_model.specs.Events.{is_site, looking, where_site, where_subscriber, acting, changing, syncing, happens, after}
+use Rattle.merge_schema.specs.Places.{is_subscription}
 use Rattle.merge_model.specs.Laws.{is_report}
 use Rattle.merge_model.proofs.Kept.{session-keeps}
-use Rattle.merge_model.proofs.Reports.{report-stays}
+use Rattle.merge_model.proofs.Reports.{looking-leaves, report-looks}
 
 module _ {W : Type 0} (publication : Publication) (stepping : Stepping W) (P : W → Type 0) (of_act : (w : W) (action : Action) → P w → P (stepping.act w action).0) where
   if-keeps : (b : Bool) (x y : W × Answer) → P x.0 → P y.0 → P (if b then x else y).0
   if-keeps true x y first second = first
   if-keeps false x y first second = second
 
+  looking-keeps : (w : W) (answer : W → Answer) → P w → P (looking publication stepping answer w).0
+  looking-keeps w answer h = subst (λ (v : W). P v) (sym (looking-leaves publication stepping answer w)) (of_act w Look h)
+
   site-keeps : (site : SiteId) (w : W) (next : W → W × Answer) → P (next w).0 → P w → P (where_site publication stepping site w next).0
-  site-keeps site w next keeps h = if-keeps (is_site publication site) (next w) (w, Refused (UnknownSite site)) keeps h
+  site-keeps site w next keeps h = if-keeps (is_site publication site) (next w) (looking publication stepping (λ (v : W). Refused (UnknownSite site)) w) keeps (looking-keeps w (λ (v : W). Refused (UnknownSite site)) h)
 
   subscriber-keeps : (site : SiteId) (w : W) (next : W → W × Answer) → P (next w).0 → P w → P (where_subscriber publication stepping site w next).0
-  subscriber-keeps site w next keeps h = if-keeps (is_subscription publication site.0) (next w) (w, Refused (UnknownSite site)) keeps h
+  subscriber-keeps site w next keeps h = if-keeps (is_subscription publication site.0) (next w) (looking publication stepping (λ (v : W). Refused (UnknownSite site)) w) keeps (looking-keeps w (λ (v : W). Refused (UnknownSite site)) h)
 
   changing-keeps : (site : SiteId) (w : W) (named : Result Change (List ℕ)) → P w → P (changing publication stepping site w named).0
-  changing-keeps site w (Err name) h = h
+  changing-keeps site w (Err name) h = looking-keeps w (λ (v : W). Refused (UnknownName name)) h
   changing-keeps site w (Ok change) h = of_act w (Make site change) h
 
   report-keeps : (w : W) (e : Event) → is_report e ≡ true → P w → P (happens publication stepping w e).0
-  report-keeps w e is h = subst (λ (v : W). P v) (sym (report-stays publication stepping w e is)) h
+  report-keeps w e is h = subst (λ (v : W). P v) (sym (report-looks publication stepping w e is)) (of_act w Look h)
 
   pub event-keeps : (w : W) (e : Event) → P w → P (happens publication stepping w e).0
   event-keeps w (event.Wait seconds) h = of_act w (Pass seconds) h

@@ -1,6 +1,5 @@
 -- What the publisher's own steps keep, every step of the world keeps.
-use Rattle.std.specs.Prelude.{◌≡◌, ◌==◌, ℕ, List, Bool, true, false, Option, Some, None, Result, Ok, Err, refl, if◌then◌else◌, IfOk}
-use Rattle.std.proofs.Common.{arith}
+use Rattle.std.specs.Prelude.{◌==◌, ℕ, List, Bool, true, false, Option, Some, None, Result, Ok, Err, if◌then◌else◌, IfOk}
 use Rattle.merge_types.specs.declared.identifiers.SiteId.{SiteId}
 use Rattle.merge_types.specs.declared.identifiers.Moment.{Moment}
 use Rattle.merge_types.specs.declared.identifiers.RowId.{RowId}
@@ -32,10 +31,16 @@ use Rattle.merge_model.specs.PublisherDownload.{download}
 use Rattle.merge_model.specs.PublisherPurge.{purge}
 use Rattle.merge_model.specs.Subscriber.{sub_local, close_sub_generation}
 use Rattle.merge_model.specs.Sending.{make_join, make_upload, make_ranges, make_ask}
-use Rattle.merge_model.specs.Taking.{Taken, take_reply}
+use Rattle.merge_model.specs.Taking.{take_reply}
+use Rattle.merge_model.specs.declared.outcome.Taken.{Taken}
 use Rattle.merge_model.specs.Reinit.{reinitialise}
-use Rattle.merge_model.specs.World.{World, Judges, Saying, Message, Asks, Replies, Letter, letter_at, subscriber_at, with_publisher, with_subscriber}
-use Rattle.merge_model.specs.Steps.{Action, Pass, Make, CloseAt, Send, Deliver, MakeAnew, Forget, Outcome, Refuses, Made, Closes, Took, NoLetter, Discards, Sending, SendJoin, SendUpload, SendRanges, SendDownload, post, posted, unless_refused, at_subscriber, make_at, make_at_publisher, make_at_subscriber, close_at, close_publisher, close_subscriber, send_from, answered, after_upload, kept_decisions, upload_questions, deliver_request, deliver_reply, deliver_letter, make_anew, step_by}
+use Rattle.merge_model.specs.World.{World, Judges, Saying, letter_at, subscriber_at, with_publisher, with_subscriber}
+use Rattle.merge_model.specs.declared.letter.Message.{Message}
+use Rattle.merge_model.specs.declared.letter.Message.TheVariants.{Asks, Replies}
+use Rattle.merge_model.specs.declared.letter.Letter.{Letter}
+use Rattle.merge_model.specs.Steps.{Action, Pass, Make, CloseAt, Send, Deliver, MakeAnew, Forget, Look, Sending, SendJoin, SendUpload, SendRanges, SendDownload, post, posted, unless_refused, at_subscriber, make_at, make_at_publisher, make_at_subscriber, close_at, close_publisher, close_subscriber, send_from, answered, after_upload, kept_decisions, upload_questions, deliver_request, deliver_reply, deliver_letter, make_anew, step_by}
+use Rattle.merge_model.specs.declared.outcome.Outcome.{Outcome}
+use Rattle.merge_model.specs.declared.outcome.Outcome.TheVariants.{Refuses, Made, Closes, Took, NoLetter, Discards}
 
 module _ (publication : Publication) (Q : PublisherTables → Type 0)
     (of_local : (judge : PublisherJudge) (now : Moment) (change : Change) (p : PublisherTables) → Q p → IfOk (local publication judge now change p) (λ done. Q done.0))
@@ -99,15 +104,15 @@ module _ (publication : Publication) (Q : PublisherTables → Type 0)
   answered-holds : {A : Type 0} (site : SiteId) (message : A → Reply) (w : World) (done : Result (PublisherTables × A) Refusal) → Holds w → IfOk done (λ a. Q a.0) → Holds (answered site message w done).0
   answered-holds {A = A} site message w done h ok = pub-holds w done (λ (made : PublisherTables × A). post site (Replies (message made.1)) (with_publisher made.0 w)) h ok (λ a k. k)
 
-  upload-holds : (says : Saying) (judge : PublisherJudge) (m : Upload) (w : World) (done : Result (PublisherTables × Uploaded) Refusal) → Holds w → IfOk done (λ a. Q a.0) → Holds (after_upload publication says judge m w done).0
-  upload-holds says judge m w (Err refusal) h ok = h
-  upload-holds says judge m w (Ok made) h ok = ok
+  upload-holds : (says : Saying) (judge : PublisherJudge) (site : SiteId) (m : Upload) (w : World) (done : Result (PublisherTables × Uploaded) Refusal) → Holds w → IfOk done (λ a. Q a.0) → Holds (after_upload publication says judge site m w done).0
+  upload-holds says judge site m w (Err refusal) h ok = h
+  upload-holds says judge site m w (Ok made) h ok = ok
 
   request-holds : (says : Saying) (judge : PublisherJudge) (site : SiteId) (m : Request) (w : World) → Holds w → Holds (deliver_request publication says judge site m w).0
   request-holds says judge site (request.Join m) w h = answered-holds site (λ (made : Joined). reply.Joined made) w (join publication w.moment m w.publisher) h (of_join w.moment m w.publisher h)
   request-holds says judge site (request.Upload m) w h =
       let decisions : List Decision = kept_decisions says w.tallies (upload_questions publication judge w.moment m w.publisher) in
-      upload-holds says judge m w (upload publication judge w.moment m decisions w.publisher) h (of_upload judge w.moment m decisions w.publisher h)
+      upload-holds says judge site m w (upload publication judge w.moment m decisions w.publisher) h (of_upload judge w.moment m decisions w.publisher h)
   request-holds says judge site (request.Ranges m) w h = answered-holds site (λ (made : Ranged). reply.Ranged made) w (ranges publication judge w.moment m w.publisher) h (of_ranges judge w.moment m w.publisher h)
   request-holds says judge site (request.Download m) w h = answered-holds site (λ (made : Downloaded). reply.Downloaded made) w (download publication judge w.moment m w.publisher) h (of_download judge w.moment m w.publisher h)
 
@@ -130,3 +135,4 @@ module _ (publication : Publication) (Q : PublisherTables → Type 0)
   step-holds says judges w (MakeAnew site) h = at_subscriber-holds site w (make_anew judges w) h
       (λ s. sub-holds w (reinitialise (judges.subscriber s.site s) w.moment s) (λ (done : SubscriberTables × ℕ). (with_subscriber done.0 w, Discards done.1)) h (λ a. h))
   step-holds says judges w Forget h = of_purge w.moment w.publisher h
+  step-holds says judges w Look h = h

@@ -1,9 +1,5 @@
 -- What the publisher's own steps keep.
-use Rattle.std.specs.Prelude.{◌≡◌, ◌≤◌, ◌+◌, ◌/◌, ◌%◌, ◌<◌, ◌==◌, ℕ, ℤ, List, [], ◌∷◌, Bool, true, false, Option, Some, None, Result, Ok, Err, refl, if◌then◌else◌, IfOk, max, All, map}
-use Rattle.std.specs.List.{fold}
-use Rattle.std.proofs.Common.{arith, subst, sym}
-use Rattle.std.proofs.lemmas.Bool.Decides.{nat_tests}
-use Rattle.merge_types.specs.declared.identifiers.SiteId.{SiteId}
+use Rattle.std.specs.Prelude.{ℕ, ℤ, List, [], ◌∷◌, Bool, true, false, Option, Some, None, Result, Ok, Err, if◌then◌else◌, IfOk, max, map}
 use Rattle.merge_types.specs.declared.identifiers.Moment.{Moment}
 use Rattle.merge_types.specs.declared.identifiers.RowId.{RowId}
 use Rattle.merge_types.specs.declared.changes.Change.{Change}
@@ -11,11 +7,9 @@ use Rattle.merge_types.specs.declared.changes.Change.TheVariants.{Insert, Update
 use Rattle.merge_units.specs.declared.result.Decision.{Decision}
 use Rattle.merge_ident.specs.declared.grants.Grant.{Grant}
 use Rattle.merge_ident.specs.declared.grants.Ask.{Ask}
-use Rattle.merge_ident.specs.declared.grants.Rule.{Rule}
 use Rattle.merge_ident.specs.declared.grants.GrantAnswer.TheVariants.{Granted, Kept, NotDue}
 use Rattle.merge_ident.specs.declared.ranges.IdentityUsedUp.{IdentityUsedUp as IdentityEnd}
-use Rattle.merge_ident.specs.Grants.{AreDisjoint}
-use Rattle.merge_ident.specs.Books.{IsBook, IsRule}
+use Rattle.merge_ident.specs.Books.{IsBook}
 use Rattle.merge_ident.specs.Answers.{Answer, answer_of, plans_of, plan_of, grants_with, grants_with_all, grants_after}
 use Rattle.merge_ident.specs.Holders.{Holder, answer_to_take, after_receive}
 use Rattle.merge_ident.proofs.Plans.{book-with_plan}
@@ -34,14 +28,13 @@ use Rattle.merge_batch.specs.declared.reply.Ranged.{Ranged}
 use Rattle.merge_batch.specs.declared.reply.Downloaded.{Downloaded}
 use Rattle.merge_model.specs.Keys.{at_number}
 use Rattle.merge_model.specs.Judge.{PublisherJudge}
-use Rattle.merge_model.specs.Acts.{Act, acts_of}
+use Rattle.merge_model.specs.Acts.{acts_of}
 use Rattle.merge_model.specs.Publisher.{close_generation, at_moment, closed, last_closed, counters}
 use Rattle.merge_model.specs.PublisherLocal.{local, local_refusal, drawn, Drawn, drawn_from, taken_from, no_draw, after_answer, own_ask, made_locally}
 use Rattle.merge_model.specs.PublisherJoin.{join, join_refusal, join_taken, join_acts, joined}
 use Rattle.merge_model.specs.PublisherUpload.{upload, uploaded, taken_in, brings_news, upload_refusal}
 use Rattle.merge_model.specs.PublisherRanges.{ranges, ranges_refusal, ranged, plans, with_grants, ask_by}
 use Rattle.merge_model.specs.PublisherDownload.{download, download_refusal, asked, reply_to}
-use Rattle.merge_model.specs.PublisherPurge.{purge}
 use Rattle.merge_model.specs.World.{World, Judges, Saying}
 use Rattle.merge_model.specs.Steps.{Action, step_by}
 use Rattle.merge_model.proofs.PublisherSteps.{step-holds}

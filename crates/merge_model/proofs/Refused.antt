@@ -1,6 +1,6 @@
 -- A step that is refused changes nothing.
-use Rattle.std.specs.Prelude.{◌≡◌, ℕ, List, Bool, true, false, Option, Some, None, Result, Ok, Err, refl, ◌==◌, if◌then◌else◌}
-use Rattle.std.proofs.Common.{arith, rules}
+use Rattle.std.specs.Prelude.{◌≡◌, ℕ, Bool, true, false, Option, Some, None, Result, Ok, Err, refl, ◌==◌, if◌then◌else◌}
+use Rattle.std.proofs.Common.{arith}
 use Rattle.std.proofs.lemmas.Bool.Decides.{nat_tests}
 use Rattle.merge_types.specs.declared.identifiers.RowId.{RowId}
 use Rattle.merge_batch.specs.declared.refusal.Refusal.TheVariants.{UnknownSite}
@@ -20,13 +20,19 @@ use Rattle.merge_model.specs.PublisherJoin.{join}
 use Rattle.merge_model.specs.PublisherUpload.{upload}
 use Rattle.merge_model.specs.PublisherRanges.{ranges}
 use Rattle.merge_model.specs.PublisherDownload.{download}
-use Rattle.merge_model.specs.Taking.{Taken, take_reply}
+use Rattle.merge_model.specs.Taking.{take_reply}
+use Rattle.merge_model.specs.declared.outcome.Taken.{Taken}
 use Rattle.merge_model.specs.Sending.{make_join, make_upload, make_ranges, make_ask}
 use Rattle.merge_model.specs.Tables.{PublisherTables, SubscriberTables}
 use Rattle.merge_model.specs.PublisherLocal.{local}
 use Rattle.merge_model.specs.Subscriber.{sub_local}
-use Rattle.merge_model.specs.World.{World, Judges, Saying, Message, Asks, Replies, Letter, letter_at, subscriber_at, with_publisher, with_subscriber}
-use Rattle.merge_model.specs.Steps.{Action, Pass, Make, CloseAt, Send, Deliver, MakeAnew, Forget, Outcome, Refuses, Made, Took, NoLetter, answered, after_upload, kept_decisions, upload_questions, deliver_request, deliver_reply, deliver_letter, Sending, SendJoin, SendUpload, SendRanges, SendDownload, post, posted, send_from, unless_refused, step_by, at_subscriber, make_at, make_at_publisher, make_at_subscriber}
+use Rattle.merge_model.specs.World.{World, Judges, Saying, letter_at, subscriber_at, with_publisher, with_subscriber}
+use Rattle.merge_model.specs.declared.letter.Message.{Message}
+use Rattle.merge_model.specs.declared.letter.Message.TheVariants.{Asks, Replies}
+use Rattle.merge_model.specs.declared.letter.Letter.{Letter}
+use Rattle.merge_model.specs.Steps.{Action, Pass, Make, CloseAt, Send, Deliver, MakeAnew, Forget, Look, answered, after_upload, kept_decisions, upload_questions, deliver_request, deliver_reply, deliver_letter, Sending, SendJoin, SendUpload, SendRanges, SendDownload, post, posted, send_from, unless_refused, step_by, at_subscriber, make_at, make_at_publisher, make_at_subscriber}
+use Rattle.merge_model.specs.declared.outcome.Outcome.{Outcome}
+use Rattle.merge_model.specs.declared.outcome.Outcome.TheVariants.{Refuses, Made, Took, NoLetter}
 use Rattle.merge_types.specs.declared.identifiers.SiteId.{SiteId}
 use Rattle.merge_types.specs.declared.changes.Change.{Change}
 use Rattle.merge_batch.specs.declared.refusal.Refusal.{Refusal}
@@ -76,13 +82,13 @@ answered-leaves {A = A} site message w done = unless_refused-leaves w done
     (λ (made : PublisherTables × A). post site (Replies (message made.1)) (with_publisher made.0 w))
     (λ made refusal e. grind (arith))
 
-upload-leaves : (publication : Publication) (says : Saying) (judge : PublisherJudge) (m : Upload) (w : World) (done : Result (PublisherTables × Uploaded) Refusal) → LeavesIfRefused w (after_upload publication says judge m w done)
-upload-leaves publication says judge m w (Err why) refusal e = refl
-upload-leaves publication says judge m w (Ok made) refusal e = grind (arith)
+upload-leaves : (publication : Publication) (says : Saying) (judge : PublisherJudge) (site : SiteId) (m : Upload) (w : World) (done : Result (PublisherTables × Uploaded) Refusal) → LeavesIfRefused w (after_upload publication says judge site m w done)
+upload-leaves publication says judge site m w (Err why) refusal e = refl
+upload-leaves publication says judge site m w (Ok made) refusal e = grind (arith)
 
 request-leaves : (publication : Publication) (says : Saying) (judge : PublisherJudge) (site : SiteId) (m : Request) (w : World) → LeavesIfRefused w (deliver_request publication says judge site m w)
 request-leaves publication says judge site (request.Join m) w = answered-leaves site (λ (made : Joined). reply.Joined made) w (join publication w.moment m w.publisher)
-request-leaves publication says judge site (request.Upload m) w = upload-leaves publication says judge m w
+request-leaves publication says judge site (request.Upload m) w = upload-leaves publication says judge site m w
     (upload publication judge w.moment m (kept_decisions says w.tallies (upload_questions publication judge w.moment m w.publisher)) w.publisher)
 request-leaves publication says judge site (request.Ranges m) w = answered-leaves site (λ (made : Ranged). reply.Ranged made) w (ranges publication judge w.moment m w.publisher)
 request-leaves publication says judge site (request.Download m) w = answered-leaves site (λ (made : Downloaded). reply.Downloaded made) w (download publication judge w.moment m w.publisher)
@@ -109,3 +115,4 @@ step_by-leaves publication says judges w (Send site sending) refusal e = at_subs
 step_by-leaves publication says judges w (Deliver number) refusal e = found-leaves publication says judges number w (letter_at w number) refusal e
 step_by-leaves publication says judges w (MakeAnew site) refusal e = grind (arith, nat_tests)
 step_by-leaves publication says judges w Forget refusal e = grind (arith)
+step_by-leaves publication says judges w Look refusal e = grind (arith)

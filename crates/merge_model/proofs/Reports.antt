@@ -1,7 +1,6 @@
 -- Reports change nothing, and a refusal notes nothing.
-use Rattle.std.specs.Prelude.{◌≡◌, ◌==◌, ℕ, List, [], ◌∷◌, Bool, true, false, Option, Some, None, Result, Ok, Err, refl, if◌then◌else◌}
+use Rattle.std.specs.Prelude.{◌≡◌, ℕ, List, Bool, true, false, Result, Ok, Err, refl, if◌then◌else◌}
 use Rattle.std.proofs.Common.{arith, subst, sym}
-use Rattle.std.proofs.lemmas.Bool.Decides.{nat_tests}
 use Rattle.merge_types.specs.declared.identifiers.SiteId.{SiteId}
 use Rattle.merge_batch.specs.declared.refusal.Refusal.{Refusal}
 use Rattle.merge_batch.specs.declared.refusal.Refusal.TheVariants.{UnknownSite, UnknownName}
@@ -9,45 +8,63 @@ use Rattle.merge_schema.specs.declared.publication.Publication.{Publication}
 use Rattle.merge_model.specs.declared.event.Event.{Event}
 use Rattle.merge_model.specs.declared.event.Event.TheVariants as event
 use Rattle.merge_model.specs.Tables.{PublisherTables, SubscriberTables}
-use Rattle.merge_model.specs.Answers.{Answer, Refused}
-use Rattle.merge_model.specs.World.{World, Judges, Saying, subscriber_at}
-use Rattle.merge_model.specs.Steps.{Action, Outcome, Refuses, step_by}
+use Rattle.merge_model.specs.declared.answer.Answer.{Answer}
+use Rattle.merge_model.specs.declared.answer.Answer.TheVariants.{Conflicts, Counts, Fine, Grants, Held, Refused, Rows}
+use Rattle.merge_model.specs.Entries.{live_rows}
+use Rattle.merge_model.specs.Reports.{counts_of, held_report, partition_report, publisher_generations, shown_rows, sub_live_rows, subscriber_generations}
+use Rattle.merge_model.specs.World.{World, Judges, Saying}
+use Rattle.merge_model.specs.Steps.{Action, Look, step_by}
+use Rattle.merge_model.specs.declared.outcome.Outcome.{Outcome}
+use Rattle.merge_model.specs.declared.outcome.Outcome.TheVariants.{Refuses}
 use Rattle.merge_model.specs.Session.{Stepping}
-use Rattle.merge_model.specs.Events.{is_site, where_site, where_subscriber, reporting, showing, happens, machine}
-use Rattle.merge_batch.specs.Lineages.{is_subscription}
+use Rattle.merge_model.specs.Events.{is_site, looked, looking, reported, where_site, where_subscriber, reporting, showing, happens}
+use Rattle.merge_schema.specs.Places.{is_subscription}
 use Rattle.merge_model.specs.Naming.{article_by}
 use Rattle.merge_model.specs.ByHistory.{by_history}
-use Rattle.merge_model.specs.Model.{Model, model, model_step, after_step}
+use Rattle.merge_model.specs.Model.{Model, model_step, after_step}
 use Rattle.merge_model.specs.Laws.{is_report}
 use Rattle.merge_model.proofs.Refused.{step_by-leaves}
 
 module _ {W : Type 0} (publication : Publication) (stepping : Stepping W) where
-  if-stays : (w : W) (b : Bool) (x y : W × Answer) → x.0 ≡ w → y.0 ≡ w → (if b then x else y).0 ≡ w
-  if-stays w true x y first second = first
-  if-stays w false x y first second = second
+  -- what an event leaves that only looks
+  abbrev behind : W → W
+  behind w = (stepping.act w Look).0
 
-  site-stays : (site : SiteId) (w : W) (next : W → W × Answer) → (next w).0 ≡ w → (where_site publication stepping site w next).0 ≡ w
-  site-stays site w next stays = if-stays w (is_site publication site) (next w) (w, Refused (UnknownSite site)) stays refl
+  looked-leaves : (answer : W → Answer) (done : W × Outcome) → (looked publication stepping answer done).0 ≡ done.0
+  looked-leaves answer (w, Refuses refusal) = refl
+  looked-leaves answer (w, outcome) = refl
 
-  subscriber-stays : (site : SiteId) (w : W) (next : W → W × Answer) → (next w).0 ≡ w → (where_subscriber publication stepping site w next).0 ≡ w
-  subscriber-stays site w next stays = if-stays w (is_subscription publication site.0) (next w) (w, Refused (UnknownSite site)) stays refl
+  pub looking-leaves : (answer : W → Answer) (w : W) → (looking publication stepping answer w).0 ≡ behind w
+  looking-leaves answer w = looked-leaves answer (stepping.act w Look)
 
-  reporting-stays : (site : SiteId) (of_publisher : PublisherTables → Answer) (of_subscriber : SubscriberTables → Answer) (w : W) → (reporting publication stepping site of_publisher of_subscriber w).0 ≡ w
-  reporting-stays site of_publisher of_subscriber w = grind (arith)
+  if-leaves : (w : W) (b : Bool) (x y : W × Answer) → x.0 ≡ behind w → y.0 ≡ behind w → (if b then x else y).0 ≡ behind w
+  if-leaves w true x y first second = first
+  if-leaves w false x y first second = second
 
-  showing-stays : (site : SiteId) (w : W) (named : Result ℕ (List ℕ)) → (showing publication stepping site w named).0 ≡ w
-  showing-stays site w (Err name) = refl
-  showing-stays site w (Ok article) = grind (arith)
+  site-leaves : (site : SiteId) (w : W) (next : W → W × Answer) → (next w).0 ≡ behind w → (where_site publication stepping site w next).0 ≡ behind w
+  site-leaves site w next leaves = if-leaves w (is_site publication site) (next w) (looking publication stepping (λ (v : W). Refused (UnknownSite site)) w) leaves (looking-leaves (λ (v : W). Refused (UnknownSite site)) w)
 
-  pub report-stays : (w : W) (e : Event) → is_report e ≡ true → (happens publication stepping w e).0 ≡ w
-  report-stays w (event.Restart site) is = grind (arith)
-  report-stays w (event.Show site article) is = site-stays site w (λ (v : W). showing publication stepping site v (article_by publication article)) (showing-stays site w (article_by publication article))
-  report-stays w (event.Partition site) is = grind (arith)
-  report-stays w (event.Conflicts site) is = grind (arith)
-  report-stays w (event.Ranges site) is = grind (arith)
-  report-stays w (event.Generations site) is = grind (arith)
-  report-stays w (event.Count site) is = grind (arith)
-  report-stays w other is = absurd (grind (arith))
+  subscriber-leaves : (site : SiteId) (w : W) (next : W → W × Answer) → (next w).0 ≡ behind w → (where_subscriber publication stepping site w next).0 ≡ behind w
+  subscriber-leaves site w next leaves = if-leaves w (is_subscription publication site.0) (next w) (looking publication stepping (λ (v : W). Refused (UnknownSite site)) w) leaves (looking-leaves (λ (v : W). Refused (UnknownSite site)) w)
+
+  reporting-leaves : (site : SiteId) (of_publisher : PublisherTables → Answer) (of_subscriber : SubscriberTables → Answer) (w : W) → (reporting publication stepping site of_publisher of_subscriber w).0 ≡ behind w
+  reporting-leaves site of_publisher of_subscriber w = looking-leaves (reported publication stepping site of_publisher of_subscriber) w
+
+  showing-leaves : (site : SiteId) (w : W) (named : Result ℕ (List ℕ)) → (showing publication stepping site w named).0 ≡ behind w
+  showing-leaves site w (Err name) = looking-leaves (λ (v : W). Refused (UnknownName name)) w
+  showing-leaves site w (Ok article) = looking-leaves (reported publication stepping site (λ (p : PublisherTables). Rows (shown_rows article (live_rows p.rows))) (λ (s : SubscriberTables). Rows (shown_rows article (sub_live_rows s)))) w
+
+  -- a report looks, and does nothing else
+  pub report-looks : (w : W) (e : Event) → is_report e ≡ true → (happens publication stepping w e).0 ≡ (stepping.act w Look).0
+  report-looks w (event.Restart site) is = site-leaves site w (looking publication stepping (λ (v : W). Fine)) (looking-leaves (λ (v : W). Fine) w)
+  report-looks w (event.Show site article) is = site-leaves site w (λ (v : W). showing publication stepping site v (article_by publication article)) (showing-leaves site w (article_by publication article))
+  report-looks w (event.Partition site) is = subscriber-leaves site w (looking publication stepping (λ (v : W). partition_report publication site (stepping.look v).publisher)) (looking-leaves (λ (v : W). partition_report publication site (stepping.look v).publisher) w)
+  report-looks w (event.Conflicts site) is = site-leaves site w (reporting publication stepping site (λ (p : PublisherTables). Conflicts p.conflicts) (λ (s : SubscriberTables). Conflicts s.conflicts)) (reporting-leaves site (λ (p : PublisherTables). Conflicts p.conflicts) (λ (s : SubscriberTables). Conflicts s.conflicts) w)
+  report-looks w (event.Ranges site) is = site-leaves site w (reporting publication stepping site (λ (p : PublisherTables). Grants p.grants) (λ (s : SubscriberTables). Held (held_report s))) (reporting-leaves site (λ (p : PublisherTables). Grants p.grants) (λ (s : SubscriberTables). Held (held_report s)) w)
+  report-looks w (event.Generations site) is = site-leaves site w (reporting publication stepping site (publisher_generations publication) subscriber_generations) (reporting-leaves site (publisher_generations publication) subscriber_generations w)
+  report-looks w (event.Count site) is = site-leaves site w (reporting publication stepping site (λ (p : PublisherTables). Counts (counts_of publication (live_rows p.rows))) (λ (s : SubscriberTables). Counts (counts_of publication (sub_live_rows s))))
+      (reporting-leaves site (λ (p : PublisherTables). Counts (counts_of publication (live_rows p.rows))) (λ (s : SubscriberTables). Counts (counts_of publication (sub_live_rows s))) w)
+  report-looks w other is = absurd (grind (arith))
 
 abbrev with_world : Model → World → Model
 with_world m w = record { world = w; history = m.history }

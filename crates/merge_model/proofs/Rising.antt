@@ -1,27 +1,20 @@
 -- The publisher's numbers only rise.
-use Rattle.std.specs.Prelude.{◌≡◌, ◌≤◌, ◌+◌, ◌/◌, ◌%◌, ◌<◌, ◌==◌, ℕ, List, [], ◌∷◌, Bool, true, false, Option, Some, None, Result, Ok, Err, refl, if◌then◌else◌, IfOk, max}
+use Rattle.std.specs.Prelude.{◌≤◌, List, Result, Ok, Err, IfOk}
 use Rattle.std.proofs.Common.{arith}
 use Rattle.std.proofs.lemmas.Bool.Decides.{nat_tests}
 use Rattle.merge_types.specs.declared.identifiers.Moment.{Moment}
 use Rattle.merge_types.specs.declared.changes.Change.{Change}
 use Rattle.merge_batch.specs.declared.refusal.Refusal.{Refusal}
-use Rattle.merge_batch.specs.declared.request.Join.{Join}
 use Rattle.merge_batch.specs.declared.request.Upload.{Upload}
-use Rattle.merge_batch.specs.declared.request.RangeAsk.{RangeAsk}
-use Rattle.merge_batch.specs.declared.request.Download.{Download}
 use Rattle.merge_gens.specs.declared.filling.Filling.{Filling}
 use Rattle.merge_gens.specs.Filling as fill
 use Rattle.merge_schema.specs.declared.publication.Publication.{Publication}
 use Rattle.merge_model.specs.Tables.{PublisherTables}
 use Rattle.merge_model.specs.Judge.{PublisherJudge}
 use Rattle.merge_model.specs.Acts.{Act, acts_of}
-use Rattle.merge_model.specs.Publisher.{at_moment, closed, later}
+use Rattle.merge_model.specs.Publisher.{at_moment, closed}
 use Rattle.merge_model.specs.PublisherLocal.{drawn, Drawn, made_locally}
-use Rattle.merge_model.specs.PublisherJoin.{join_taken}
 use Rattle.merge_model.specs.PublisherUpload.{taken_in}
-use Rattle.merge_model.specs.PublisherRanges.{plans, with_grants}
-use Rattle.merge_model.specs.PublisherDownload.{asked}
-use Rattle.merge_model.specs.PublisherPurge.{purge}
 use Rattle.merge_model.specs.World.{World, Judges, Saying}
 use Rattle.merge_model.specs.Steps.{Action, step_by}
 use Rattle.merge_model.specs.Laws.{PublisherRises}

@@ -1,5 +1,5 @@
 -- The publisher's lists of pairs stay in order.
-use Rattle.std.specs.Prelude.{◌≡◌, ◌≤◌, ◌+◌, ◌/◌, ◌%◌, ◌<◌, ◌==◌, ℕ, List, [], ◌∷◌, Bool, true, false, Option, Some, None, Result, Ok, Err, refl, if◌then◌else◌, IfOk, max, map, filter, cond}
+use Rattle.std.specs.Prelude.{◌≡◌, ◌≤◌, ◌<◌, ℕ, List, [], ◌∷◌, Bool, true, false, Result, Ok, Err, refl, IfOk, map, filter, cond, nat_le}
 use Rattle.std.specs.List.{fold, zip}
 use Rattle.std.specs.List.Sorted.{IsStrictlySortedBy}
 use Rattle.std.specs.Map.{keys_of}
@@ -20,14 +20,23 @@ use Rattle.merge_batch.specs.declared.request.Download.{Download}
 use Rattle.merge_gens.specs.declared.filling.Filling.{Filling}
 use Rattle.merge_gens.specs.declared.sites.SiteState.{SiteState}
 use Rattle.merge_gens.specs.Filling as fill
-use Rattle.merge_gens.specs.Book.{Book, IsSound, moved_to, entered, closed_now}
-use Rattle.merge_gens.proofs.ClosedGenerations.{sound_moved, sound_purged}
-use Rattle.merge_gens.proofs.Sets.{sorted_put, sorted_take}
+use Rattle.merge_gens.specs.declared.closings.Closing.{Closing}
+use Rattle.merge_gens.specs.Book.{Book, IsSound, entered, closed_now}
+use Rattle.merge_gens.proofs.ClosedGenerations.{sound_kept, sound_moved}
+use Rattle.std.specs.BTreeMap.{is_at}
+use Rattle.merge_table.proofs.Sorted.{sorted_put, sorted_take}
 use Rattle.merge_schema.specs.declared.publication.Publication.{Publication}
-use Rattle.merge_model.specs.Tables.{Key, RowSite, PublisherRow, MoveKind, Mapping, PublisherTables}
-use Rattle.merge_model.specs.Keys.{key_cmp, row_site_cmp, drop_row_site, put_row}
+use Rattle.merge_types.specs.declared.row_key.RowKey.{RowKey as Key}
+use Rattle.merge_gens.specs.declared.moves.RowSite.{RowSite}
+use Rattle.merge_units.specs.declared.site_row.PublisherRow.{PublisherRow}
+use Rattle.merge_gens.specs.declared.moves.MoveKind.{MoveKind}
+use Rattle.merge_gens.specs.declared.moves.Mapping.{Mapping}
+use Rattle.merge_model.specs.Tables.{PublisherTables}
+use Rattle.merge_types.specs.RowKeys.{key_cmp}
+use Rattle.merge_gens.specs.Moves.{row_site_cmp}
+use Rattle.merge_model.specs.Keys.{drop_row_site, put_row}
 use Rattle.merge_model.specs.Judge.{PublisherJudge}
-use Rattle.merge_model.specs.Entries.{Entries, Changing, changing_entries, entry_count, with_rows, with_move, with_entries, changed_by}
+use Rattle.merge_model.specs.Entries.{Entries, changing_entries, entry_count, with_rows, with_move, with_entries}
 use Rattle.merge_model.specs.Acts.{Act, acts_of}
 use Rattle.merge_model.specs.Publisher.{at_moment, closed}
 use Rattle.merge_model.specs.PublisherLocal.{drawn, Drawn, made_locally, with_draw, changing_locally}
@@ -77,7 +86,7 @@ moves-sorted mappings (move ∷ moved) sorted = let new : Mapping = record { kin
 
 gone-sorted : (mappings : List (RowSite × Mapping)) (gone : List RowSite) → IsStrictlySortedBy row_site_cmp (keys_of mappings) → IsStrictlySortedBy row_site_cmp (keys_of (fold drop_row_site mappings gone))
 gone-sorted mappings [] sorted = sorted
-gone-sorted mappings (place ∷ gone) sorted = gone-sorted (drop_row_site mappings place) gone (sorted_take row_site_cmp row_site_total place mappings sorted)
+gone-sorted mappings (place ∷ gone) sorted = gone-sorted (drop_row_site mappings place) gone (sorted_take row_site_cmp row_site_total (is_at (row_site_cmp place)) mappings sorted)
 
 -- generations
 pub entered-sound : (book : Book) (count : ℕ) (moment : Moment) → IsSound book → IsSound (entered book count moment)
@@ -136,7 +145,7 @@ taken-keys : (m : Upload) (sites : List (ℕ × SiteState)) → keys_of (with_ta
 taken-keys m [] = refl
 taken-keys m (e ∷ es) = grind (arith, nat_tests, taken-keys m es)
 
-acts-sorted : (publication : Publication) (judge : PublisherJudge) (m : Upload) (acts : List Act) (p : PublisherTables) → AreSorted p → AreSorted (with_acts publication judge m acts p)
+acts-sorted : (publication : Publication) (judge : PublisherJudge) (m : Upload) (acts : List Act) (p : PublisherTables) → AreSorted p → AreSorted (with_acts publication m acts p)
 acts-sorted publication judge m acts p s = record {
   rows_ascend = s.rows_ascend;
   mappings_ascend = s.mappings_ascend;
@@ -146,7 +155,7 @@ acts-sorted publication judge m acts p s = record {
 
 taken-sorted : (publication : Publication) (judge : PublisherJudge) (m : Upload) (acts : List Act) (p : PublisherTables) → AreSorted p → AreSorted (taken_in publication judge m acts p)
 taken-sorted publication judge m acts p s =
-    entries-sorted (changing_entries publication judge (changing_by m acts) (with_acts publication judge m acts p)) (changing_by m acts).versions (with_acts publication judge m acts p) (acts-sorted publication judge m acts p s)
+    entries-sorted (changing_entries publication judge (changing_by m acts) (with_acts publication m acts p)) (changing_by m acts).versions (with_acts publication m acts p) (acts-sorted publication judge m acts p s)
 
 join-sorted : (m : Join) (p : PublisherTables) → AreSorted p → AreSorted (join_taken m p)
 join-sorted m p s = record {
@@ -185,7 +194,7 @@ purge-sorted publication now p s = record {
   rows_ascend = sorted-filter key_cmp _ p.rows s.rows_ascend;
   mappings_ascend = sorted-filter row_site_cmp _ p.mappings s.mappings_ascend;
   sites_ascend = s.sites_ascend;
-  generations_ascend = sound_purged p.gens (cutoff publication (at_moment now p)) s.generations_ascend;
+  generations_ascend = sound_kept p.gens (λ (closing : Closing). nat_le (cutoff publication (at_moment now p)).0 closing.moment.0) s.generations_ascend;
 }
 
 pub step-sorted : (publication : Publication) (says : Saying) (judges : Judges) (w : World) (action : Action) → AreSorted w.publisher → AreSorted (step_by publication says judges w action).0.publisher

@@ -1,6 +1,5 @@
 -- What the calls of a subscriber keep, every step of the world keeps of all subscribers.
-use Rattle.std.specs.Prelude.{◌≡◌, ◌==◌, ℕ, List, Bool, true, false, Option, Some, None, Result, Ok, Err, refl, if◌then◌else◌, IfOk, [], ◌∷◌, cond, map, ◌+◌}
-use Rattle.std.proofs.Common.{arith, subst, sym}
+use Rattle.std.specs.Prelude.{◌==◌, ℕ, List, Bool, true, false, Option, Some, None, Result, Ok, Err, if◌then◌else◌, IfOk, [], ◌∷◌, cond, map, ◌+◌}
 use Rattle.std.specs.List.{AllByRecursion}
 use Rattle.std.specs.Map.{lookup}
 use Rattle.std.specs.BTreeMap.{is_at, insert_entry}
@@ -11,7 +10,6 @@ use Rattle.merge_types.specs.declared.identifiers.SiteId.{SiteId}
 use Rattle.merge_types.specs.declared.identifiers.Moment.{Moment}
 use Rattle.merge_types.specs.declared.identifiers.RowId.{RowId}
 use Rattle.merge_types.specs.declared.changes.Change.{Change}
-use Rattle.merge_units.specs.declared.result.Decision.{Decision}
 use Rattle.merge_batch.specs.declared.refusal.Refusal.{Refusal}
 use Rattle.merge_batch.specs.declared.refusal.Refusal.TheVariants.{UnknownSite}
 use Rattle.merge_batch.specs.declared.request.Join.{Join}
@@ -27,7 +25,8 @@ use Rattle.merge_batch.specs.declared.reply.Uploaded.{Uploaded}
 use Rattle.merge_batch.specs.declared.reply.Ranged.{Ranged}
 use Rattle.merge_batch.specs.declared.reply.Downloaded.{Downloaded}
 use Rattle.merge_schema.specs.declared.publication.Publication.{Publication}
-use Rattle.merge_model.specs.Tables.{Key, PublisherTables, SubscriberTables}
+use Rattle.merge_types.specs.declared.row_key.RowKey.{RowKey as Key}
+use Rattle.merge_model.specs.Tables.{PublisherTables, SubscriberTables}
 use Rattle.merge_model.specs.Judge.{PublisherJudge, SubscriberJudge}
 use Rattle.merge_model.specs.Publisher.{close_generation}
 use Rattle.merge_model.specs.PublisherLocal.{local}
@@ -35,17 +34,22 @@ use Rattle.merge_model.specs.PublisherJoin.{join}
 use Rattle.merge_model.specs.PublisherUpload.{upload}
 use Rattle.merge_model.specs.PublisherRanges.{ranges}
 use Rattle.merge_model.specs.PublisherDownload.{download}
-use Rattle.merge_model.specs.PublisherPurge.{purge}
 use Rattle.merge_model.specs.Subscriber.{sub_local, close_sub_generation, sub_closed, sub_at_moment, sub_counters}
 use Rattle.merge_batch.specs.declared.request.Outstanding.{Outstanding}
 use Rattle.merge_batch.specs.declared.request.Outstanding.TheVariants as ask
 use Rattle.merge_ident.specs.Holders.{Holder}
 use Rattle.merge_model.specs.Refusals.{unless, counter_end}
 use Rattle.merge_model.specs.Sending.{with_message, join_of, join_made, upload_made, upload_sent, upload_end, unsent_rows, ranges_made, want_of, sending_refusal, make_ask}
-use Rattle.merge_model.specs.Taking.{Taken, take_reply}
+use Rattle.merge_model.specs.Taking.{take_reply}
+use Rattle.merge_model.specs.declared.outcome.Taken.{Taken}
 use Rattle.merge_model.specs.Reinit.{reinitialise}
-use Rattle.merge_model.specs.World.{World, Judges, Saying, Message, Asks, Replies, Letter, letter_at, subscriber_at, with_publisher, with_subscriber}
-use Rattle.merge_model.specs.Steps.{Action, Pass, Make, CloseAt, Send, Deliver, MakeAnew, Forget, Outcome, Refuses, Made, Closes, Took, NoLetter, Discards, Sending, SendJoin, SendUpload, SendRanges, SendDownload, post, posted, unless_refused, at_subscriber, make_at, make_at_publisher, make_at_subscriber, close_at, close_publisher, close_subscriber, send_from, answered, after_upload, kept_decisions, upload_questions, deliver_request, deliver_reply, deliver_letter, make_anew, step_by}
+use Rattle.merge_model.specs.World.{World, Judges, Saying, letter_at, subscriber_at, with_publisher, with_subscriber}
+use Rattle.merge_model.specs.declared.letter.Message.{Message}
+use Rattle.merge_model.specs.declared.letter.Message.TheVariants.{Asks, Replies}
+use Rattle.merge_model.specs.declared.letter.Letter.{Letter}
+use Rattle.merge_model.specs.Steps.{Action, Pass, Make, CloseAt, Send, Deliver, MakeAnew, Forget, Look, Sending, SendJoin, SendUpload, SendRanges, SendDownload, post, posted, unless_refused, at_subscriber, make_at, make_at_publisher, make_at_subscriber, close_at, close_publisher, close_subscriber, send_from, answered, after_upload, kept_decisions, upload_questions, deliver_request, deliver_reply, deliver_letter, make_anew, step_by}
+use Rattle.merge_model.specs.declared.outcome.Outcome.{Outcome}
+use Rattle.merge_model.specs.declared.outcome.Outcome.TheVariants.{Refuses, Made, Closes, Took, NoLetter, Discards}
 
 -- A fact of each subscriber is one of all of them.
 abbrev pub AllHold : (SubscriberTables → Type 0) → List (ℕ × SubscriberTables) → Type 0
@@ -181,14 +185,14 @@ module _ (publication : Publication) (S : SubscriberTables → Type 0)
   answered-holds : {A : Type 0} (site : SiteId) (message : A → Reply) (w : World) (done : Result (PublisherTables × A) Refusal) → Holds w → Holds (answered site message w done).0
   answered-holds {A = A} site message w done h = pub-holds w done (λ (made : PublisherTables × A). post site (Replies (message made.1)) (with_publisher made.0 w)) h (λ a. h)
 
-  upload-holds : (says : Saying) (judge : PublisherJudge) (m : Upload) (w : World) (done : Result (PublisherTables × Uploaded) Refusal) → Holds w → Holds (after_upload publication says judge m w done).0
-  upload-holds says judge m w (Err refusal) h = h
-  upload-holds says judge m w (Ok made) h = h
+  upload-holds : (says : Saying) (judge : PublisherJudge) (site : SiteId) (m : Upload) (w : World) (done : Result (PublisherTables × Uploaded) Refusal) → Holds w → Holds (after_upload publication says judge site m w done).0
+  upload-holds says judge site m w (Err refusal) h = h
+  upload-holds says judge site m w (Ok made) h = h
 
   request-holds : (says : Saying) (judge : PublisherJudge) (site : SiteId) (m : Request) (w : World) → Holds w → Holds (deliver_request publication says judge site m w).0
   request-holds says judge site (request.Join m) w h = answered-holds site (λ (made : Joined). reply.Joined made) w (join publication w.moment m w.publisher) h
   request-holds says judge site (request.Upload m) w h =
-      upload-holds says judge m w (upload publication judge w.moment m (kept_decisions says w.tallies (upload_questions publication judge w.moment m w.publisher)) w.publisher) h
+      upload-holds says judge site m w (upload publication judge w.moment m (kept_decisions says w.tallies (upload_questions publication judge w.moment m w.publisher)) w.publisher) h
   request-holds says judge site (request.Ranges m) w h = answered-holds site (λ (made : Ranged). reply.Ranged made) w (ranges publication judge w.moment m w.publisher) h
   request-holds says judge site (request.Download m) w h = answered-holds site (λ (made : Downloaded). reply.Downloaded made) w (download publication judge w.moment m w.publisher) h
 
@@ -213,3 +217,4 @@ module _ (publication : Publication) (S : SubscriberTables → Type 0)
       (λ s k. sub-holds w (reinitialise (judges.subscriber s.site s) w.moment s) (λ (done : SubscriberTables × ℕ). (with_subscriber done.0 w, Discards done.1)) h
       (of_anew (judges.subscriber s.site s) w.moment s k) (λ a new. with-holds a.0 w new h))
   sub-step-holds says judges w Forget h = h
+  sub-step-holds says judges w Look h = h

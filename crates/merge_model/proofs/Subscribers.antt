@@ -1,48 +1,45 @@
 -- What the calls of a subscriber keep.
-use Rattle.std.specs.Prelude.{◌≡◌, ◌≤◌, ◌+◌, ◌/◌, ◌%◌, ◌<◌, ◌==◌, ◌++◌, ℕ, ℤ, List, [], ◌∷◌, Bool, true, false, Option, Some, None, Result, Ok, Err, refl, if◌then◌else◌, IfOk, max, map, filter, length, nat_lt, unwrap_or, option_map}
-use Rattle.std.specs.List.{fold, AllByRecursion}
+use Rattle.std.specs.Prelude.{◌≡◌, ◌+◌, ◌==◌, ℕ, List, [], ◌∷◌, Bool, true, false, Option, Some, None, Result, Ok, Err, refl, if◌then◌else◌, IfOk, map, nat_lt}
+use Rattle.std.specs.List.{fold}
 use Rattle.std.specs.List.Sorted.{IsStrictlySortedBy}
 use Rattle.std.specs.Map.{keys_of}
 use Rattle.std.proofs.Common.{arith, subst, sym, ap}
-use Rattle.std.proofs.lemmas.Bool.Decides.{nat_tests}
-use Rattle.std.proofs.lemmas.List.Elements.{All-filter}
-use Rattle.std.proofs.lemmas.List.Kept.{AllPairs-filter}
-use Rattle.merge_types.specs.declared.identifiers.SiteId.{SiteId}
 use Rattle.merge_types.specs.declared.identifiers.Moment.{Moment}
 use Rattle.merge_types.specs.declared.identifiers.RowId.{RowId}
 use Rattle.merge_types.specs.declared.values.Value.{Value}
 use Rattle.merge_types.specs.declared.changes.Change.{Change}
 use Rattle.merge_units.specs.declared.version.Version.{Version}
-use Rattle.merge_conflict.specs.declared.row.ConflictRow.{ConflictRow}
-use Rattle.merge_gens.specs.declared.filling.Filling.{Filling}
 use Rattle.merge_gens.specs.declared.closings.Closing.{Closing}
-use Rattle.merge_gens.specs.Filling as fill
-use Rattle.merge_gens.specs.Book.{Book, IsSound, entered, closed_now}
 use Rattle.merge_ident.specs.Holders.{Holder}
 use Rattle.merge_batch.specs.declared.refusal.Refusal.{Refusal}
 use Rattle.merge_batch.specs.declared.request.Outstanding.{Outstanding}
 use Rattle.merge_batch.specs.declared.reply.Reply.{Reply}
 use Rattle.merge_batch.specs.declared.reply.Reply.TheVariants as reply
-use Rattle.merge_batch.specs.declared.reply.Downloaded.{Downloaded}
 use Rattle.merge_batch.specs.declared.reply.DownloadItem.{DownloadItem}
 use Rattle.merge_batch.specs.declared.reply.Act.{Act as Order}
 use Rattle.merge_batch.specs.declared.reply.Act.TheVariants as order
 use Rattle.merge_schema.specs.declared.publication.Publication.{Publication}
-use Rattle.merge_model.specs.Tables.{Key, SubscriberRow, SubscriberTables}
-use Rattle.merge_model.specs.Keys.{key_cmp, put_row, drop_row}
+use Rattle.merge_types.specs.declared.row_key.RowKey.{RowKey as Key}
+use Rattle.merge_units.specs.declared.site_row.SubscriberRow.{SubscriberRow}
+use Rattle.merge_model.specs.Tables.{SubscriberTables}
+use Rattle.merge_types.specs.RowKeys.{key_cmp}
 use Rattle.merge_model.specs.Refusals.{unless, counter_end}
 use Rattle.merge_model.specs.Changes.{key_of, version_after}
 use Rattle.merge_model.specs.Judge.{SubscriberJudge}
 use Rattle.merge_model.specs.Faults.{reply_fault}
-use Rattle.merge_model.specs.Subscriber.{sub_local, sub_local_refusal, sub_drawn, sub_made_locally, sub_version_at, sub_next_dot, with_version_if, with_version, close_sub_generation, sub_closed, sub_at_moment, sub_counters, sub_last_closed}
+use Rattle.merge_model.specs.Subscriber.{sub_local, sub_local_refusal, sub_drawn, sub_made_locally, sub_version_at, sub_next_dot, with_version_if, close_sub_generation, sub_closed, sub_at_moment, sub_counters, sub_last_closed}
 use Rattle.merge_model.specs.Sending.{with_message}
-use Rattle.merge_model.specs.Taking.{Taken, Acted, Missed, taken, take_reply, met_by, seq_of, after_reply, row_above, gens_above, with_received, with_item, with_items, with_order, key_of_download}
-use Rattle.merge_model.specs.Reinit.{reinitialise, reinitialised, made_anew, numbered_from, discarded}
+use Rattle.merge_gens.proofs.ClosedGenerations.{sound_kept}
+use Rattle.merge_model.specs.Taking.{taken, take_reply, met_by, seq_of, row_above, with_received, with_item, with_order, key_of_download}
+use Rattle.merge_model.specs.declared.outcome.Taken.{Taken}
+use Rattle.merge_model.specs.declared.outcome.Taken.TheVariants.{Acted, Missed}
+use Rattle.merge_model.specs.Reinit.{reinitialise, reinitialised}
 use Rattle.merge_model.specs.World.{World, Judges, Saying}
 use Rattle.merge_model.specs.Steps.{Action, step_by}
 use Rattle.merge_model.specs.Laws.{SubscriberRises, SubscriberNumbersRise, AreSubSorted}
 use Rattle.merge_model.proofs.Sorted.{key_total, closed_filling-small, closed_filling-rises, entered-sound, closed-sound}
-use Rattle.merge_gens.proofs.Sets.{sorted_put, sorted_take}
+use Rattle.std.specs.BTreeMap.{is_at}
+use Rattle.merge_table.proofs.Sorted.{sorted_put, sorted_take}
 use Rattle.merge_model.proofs.SubscriberSteps.{AllHold, sub-step-holds}
 
 unless-ok : {A : Type 0} (P : A → Type 0) (refusal : Option Refusal) (a : A) → P a → IfOk (unless refusal a) P
@@ -158,23 +155,16 @@ above-keys : (received : ℕ) (rows : List (Key × SubscriberRow)) → keys_of (
 above-keys received [] = refl
 above-keys received (row ∷ rows) = ap (λ (ks : List Key). row.0 ∷ ks) (above-keys received rows)
 
-above-sound : (received : ℕ) (book : Book) → IsSound book → IsSound (gens_above received book)
-above-sound received book sound = record {
-  unfilled = sound.unfilled;
-  ascending = AllPairs-filter (λ (a b : Closing). a.generation < b.generation) (λ (c : Closing). nat_lt received c.generation) book.closings sound.ascending;
-  closed = All-filter (λ (c : Closing). nat_lt received c.generation) (λ (c : Closing). c.generation ≤ book.filling.last_closed) book.closings sound.closed;
-}
-
 received-sorted : (received : ℕ) (s : SubscriberTables) → AreSubSorted s → AreSubSorted (with_received received s)
 received-sorted received s k = record {
   rows_ascend = subst (λ (ks : List Key). IsStrictlySortedBy key_cmp ks) (sym (above-keys received s.rows)) k.rows_ascend;
-  generations_ascend = above-sound received s.gens k.generations_ascend;
+  generations_ascend = sound_kept s.gens (λ (closing : Closing). nat_lt received closing.generation) k.generations_ascend;
 }
 
 order-sorted : (key : Key) (o : Order) (rows : List (Key × SubscriberRow)) → IsStrictlySortedBy key_cmp (keys_of rows) → IsStrictlySortedBy key_cmp (keys_of (with_order key o rows))
 order-sorted key (order.Put lineage live) rows k = sorted_put key_cmp key_total key _ rows k
-order-sorted key order.RemoveDeleted rows k = sorted_take key_cmp key_total key rows k
-order-sorted key order.RemoveLeft rows k = sorted_take key_cmp key_total key rows k
+order-sorted key order.RemoveDeleted rows k = sorted_take key_cmp key_total (is_at (key_cmp key)) rows k
+order-sorted key order.RemoveLeft rows k = sorted_take key_cmp key_total (is_at (key_cmp key)) rows k
 
 if-sorted : (b : Bool) (x y : List (Key × SubscriberRow)) → IsStrictlySortedBy key_cmp (keys_of x) → IsStrictlySortedBy key_cmp (keys_of y) → IsStrictlySortedBy key_cmp (keys_of (if b then x else y))
 if-sorted true x y first second = first

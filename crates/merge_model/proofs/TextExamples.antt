@@ -5,8 +5,9 @@ use Rattle.merge_types.specs.declared.identifiers.RowId.{RowId}
 use Rattle.merge_types.specs.declared.values.Value.TheVariants.{Null, Int, Bit, Text}
 use Rattle.merge_types.specs.Rows.{row_number}
 use Rattle.merge_units.specs.declared.version.Body.TheVariants.{Live, Dead}
+use Rattle.merge_conflict.specs.declared.kind.ConflictKind.TheVariants as kind
 use Rattle.merge_conflict.specs.declared.row.Verdict.TheVariants.{Publisher, Subscriber, Custom, Purged as PurgedRow, Discarded as DiscardedRow}
-use Rattle.merge_model.specs.Answers.{Now, RowMade, Fine, ClosedAt, Done, Stopped, Sent, Nothing, Applied, Ignored, NoMessage, Discarded, Purged, Rows, Partition, Counts, Conflicts, Grants, Held, OfPublisher, OfSubscriber, Refused, RefusedIn}
+use Rattle.merge_model.specs.declared.answer.Answer.TheVariants.{Now, RowMade, Fine, ClosedAt, Done, Stopped, Sent, Nothing, Applied, Ignored, NoMessage, Discarded, Purged, Rows, Partition, Counts, Conflicts, Grants, Held, OfPublisher, OfSubscriber, Refused, RefusedIn}
 use Rattle.merge_batch.specs.declared.refusal.Refusal.TheVariants.{UnknownSite, Expired, Stale, Gap, BadBatch, WrongWatermark, StoreFault, NoRow, WrongType, RowTooLong, IdentityUsedUp, TooManyRows, IdentityColumn, Joining, CounterEnd, NotJoined, UnknownName, NoMemory}
 use Rattle.merge_model.specs.Literals.{opened}
 use Rattle.merge_model.specs.Text.{Names, text_of, texts_of}
@@ -79,7 +80,7 @@ text_purged : text_of names (Purged 1 2 3) ≡ codes "purged 1 2 3" ++ line_feed
 unfolding opened
 text_purged = refl
 
-text_rows : text_of names (Rows ((row 0 1, Int (pos 5) ∷ Null ∷ []) ∷ (row 0 2, Text (codes "b") ∷ Bit true ∷ []) ∷ [])) ≡ codes "00000000-0000-8000-8000-000000000001 5 null" ++ line_feed ++ codes "00000000-0000-8000-8000-000000000002 \"b\" true" ++ line_feed ++ codes "rows 2" ++ line_feed
+text_rows : text_of names (Rows (record { row = row 0 1; values = Int (pos 5) ∷ Null ∷ [] } ∷ record { row = row 0 2; values = Text (codes "b") ∷ Bit true ∷ [] } ∷ [])) ≡ codes "00000000-0000-8000-8000-000000000001 5 null" ++ line_feed ++ codes "00000000-0000-8000-8000-000000000002 \"b\" true" ++ line_feed ++ codes "rows 2" ++ line_feed
 unfolding opened
 text_rows = refl
 
@@ -87,7 +88,7 @@ text_no_rows : text_of names (Rows []) ≡ codes "rows 0" ++ line_feed
 unfolding opened
 text_no_rows = refl
 
-text_partition : text_of names (Partition ((0, row 0 1) ∷ (1, row 2 1) ∷ [])) ≡ codes "item 00000000-0000-8000-8000-000000000001" ++ line_feed ++ codes "ticket 00000000-0002-8000-8000-000000000001" ++ line_feed ++ codes "rows 2" ++ line_feed
+text_partition : text_of names (Partition (record { article = 0; row = row 0 1 } ∷ record { article = 1; row = row 2 1 } ∷ [])) ≡ codes "item 00000000-0000-8000-8000-000000000001" ++ line_feed ++ codes "ticket 00000000-0002-8000-8000-000000000001" ++ line_feed ++ codes "rows 2" ++ line_feed
 unfolding opened
 text_partition = refl
 
@@ -95,11 +96,11 @@ text_counts : text_of names (Counts (3 ∷ 0 ∷ [])) ≡ codes "item 3" ++ line
 unfolding opened
 text_counts = refl
 
-text_conflicts : text_of names (Conflicts (record { number = 1; article = 0; row = row 0 1; kind = 1; losing = record { lineage = []; body = Live (record { top = record { site = record { 0 = 0 }; number = 1 }; values = Int (pos 10) ∷ [] } ∷ record { top = record { site = record { 0 = 0 }; number = 1 }; values = Null ∷ [] } ∷ []) }; from = record { 0 = 1 }; verdict = Publisher; moment = record { 0 = 0 } } ∷ record { number = 2; article = 0; row = row 0 1; kind = 3; losing = record { lineage = []; body = Dead (record { site = record { 0 = 2 }; number = 4 }) }; from = record { 0 = 2 }; verdict = Subscriber; moment = record { 0 = 86401 } } ∷ [])) ≡ codes "1 item 00000000-0000-8000-8000-000000000001 1 1 publisher 0 live 10 null" ++ line_feed ++ codes "2 item 00000000-0000-8000-8000-000000000001 3 2 subscriber 86401 dead" ++ line_feed ++ codes "conflicts 2" ++ line_feed
+text_conflicts : text_of names (Conflicts (record { number = 1; article = 0; row = row 0 1; kind = kind.RowUpdate; losing = record { lineage = []; body = Live (record { top = record { site = record { 0 = 0 }; number = 1 }; values = Int (pos 10) ∷ [] } ∷ record { top = record { site = record { 0 = 0 }; number = 1 }; values = Null ∷ [] } ∷ []) }; from = record { 0 = 1 }; verdict = Publisher; moment = record { 0 = 0 } } ∷ record { number = 2; article = 0; row = row 0 1; kind = kind.DeleteWins; losing = record { lineage = []; body = Dead (record { site = record { 0 = 2 }; number = 4 }) }; from = record { 0 = 2 }; verdict = Subscriber; moment = record { 0 = 86401 } } ∷ [])) ≡ codes "1 item 00000000-0000-8000-8000-000000000001 1 1 publisher 0 live 10 null" ++ line_feed ++ codes "2 item 00000000-0000-8000-8000-000000000001 3 2 subscriber 86401 dead" ++ line_feed ++ codes "conflicts 2" ++ line_feed
 unfolding opened
 text_conflicts = refl
 
-text_verdicts : text_of names (Conflicts (record { number = 3; article = 0; row = row 0 1; kind = 2; losing = record { lineage = []; body = Dead (record { site = record { 0 = 2 }; number = 4 }) }; from = record { 0 = 0 }; verdict = Custom; moment = record { 0 = 9 } } ∷ record { number = 4; article = 0; row = row 0 1; kind = 2; losing = record { lineage = []; body = Dead (record { site = record { 0 = 2 }; number = 4 }) }; from = record { 0 = 0 }; verdict = PurgedRow; moment = record { 0 = 9 } } ∷ record { number = 5; article = 0; row = row 0 1; kind = 2; losing = record { lineage = []; body = Dead (record { site = record { 0 = 2 }; number = 4 }) }; from = record { 0 = 0 }; verdict = DiscardedRow; moment = record { 0 = 9 } } ∷ [])) ≡ codes "3 item 00000000-0000-8000-8000-000000000001 2 0 custom 9 dead" ++ line_feed ++ codes "4 item 00000000-0000-8000-8000-000000000001 2 0 purged 9 dead" ++ line_feed ++ codes "5 item 00000000-0000-8000-8000-000000000001 2 0 discarded 9 dead" ++ line_feed ++ codes "conflicts 3" ++ line_feed
+text_verdicts : text_of names (Conflicts (record { number = 3; article = 0; row = row 0 1; kind = kind.ColumnUpdate; losing = record { lineage = []; body = Dead (record { site = record { 0 = 2 }; number = 4 }) }; from = record { 0 = 0 }; verdict = Custom; moment = record { 0 = 9 } } ∷ record { number = 4; article = 0; row = row 0 1; kind = kind.ColumnUpdate; losing = record { lineage = []; body = Dead (record { site = record { 0 = 2 }; number = 4 }) }; from = record { 0 = 0 }; verdict = PurgedRow; moment = record { 0 = 9 } } ∷ record { number = 5; article = 0; row = row 0 1; kind = kind.ColumnUpdate; losing = record { lineage = []; body = Dead (record { site = record { 0 = 2 }; number = 4 }) }; from = record { 0 = 0 }; verdict = DiscardedRow; moment = record { 0 = 9 } } ∷ [])) ≡ codes "3 item 00000000-0000-8000-8000-000000000001 2 0 custom 9 dead" ++ line_feed ++ codes "4 item 00000000-0000-8000-8000-000000000001 2 0 purged 9 dead" ++ line_feed ++ codes "5 item 00000000-0000-8000-8000-000000000001 2 0 discarded 9 dead" ++ line_feed ++ codes "conflicts 3" ++ line_feed
 unfolding opened
 text_verdicts = refl
 
@@ -107,11 +108,11 @@ text_grants : text_of names (Grants (record { article = 1; site = record { 0 = 1
 unfolding opened
 text_grants = refl
 
-text_held : text_of names (Held ((1, record { threshold = 80; have = 3; last_end = pos 8; held = record { range = record { begin = pos 3; end = pos 4 }; used = 1 } ∷ record { range = record { begin = pos 7; end = pos 8 }; used = 0 } ∷ [] }) ∷ (1, record { threshold = 80; have = 1; last_end = pos 2; held = record { range = record { begin = pos 1; end = pos 2 }; used = 0 } ∷ [] }) ∷ (0, record { threshold = 80; have = 1; last_end = pos 2; held = [] }) ∷ [])) ≡ codes "ticket 3 4 4 7 8" ++ line_feed ++ codes "ticket 1 1 2 - -" ++ line_feed ++ codes "item 1 - - - -" ++ line_feed ++ codes "ranges 3" ++ line_feed
+text_held : text_of names (Held (record { article = 1; ranges = record { threshold = 80; have = 3; last_end = pos 8; held = record { range = record { begin = pos 3; end = pos 4 }; used = 1 } ∷ record { range = record { begin = pos 7; end = pos 8 }; used = 0 } ∷ [] } } ∷ record { article = 1; ranges = record { threshold = 80; have = 1; last_end = pos 2; held = record { range = record { begin = pos 1; end = pos 2 }; used = 0 } ∷ [] } } ∷ record { article = 0; ranges = record { threshold = 80; have = 1; last_end = pos 2; held = [] } } ∷ [])) ≡ codes "ticket 3 4 4 7 8" ++ line_feed ++ codes "ticket 1 1 2 - -" ++ line_feed ++ codes "item 1 - - - -" ++ line_feed ++ codes "ranges 3" ++ line_feed
 unfolding opened
 text_held = refl
 
-text_publisher : text_of names (OfPublisher (record { last_closed = 1; filled = 6 }) 1 ((record { 0 = 1 }, Some (record { joined_at = 1; received = 2; received_number = 3; seen = 4; watermark = 5; last_sync = 6 })) ∷ (record { 0 = 2 }, None) ∷ [])) ≡ codes "closed 1 open 6 kept 1" ++ line_feed ++ codes "1 joined 1 received 2 number 3 watermark 5 synced 6" ++ line_feed ++ codes "2 fresh" ++ line_feed
+text_publisher : text_of names (OfPublisher (record { last_closed = 1; filled = 6 }) 1 (record { site = record { 0 = 1 }; state = Some (record { joined_at = 1; received = 2; received_number = 3; seen = 4; watermark = 5; last_sync = 6 }) } ∷ record { site = record { 0 = 2 }; state = None } ∷ [])) ≡ codes "closed 1 open 6 kept 1" ++ line_feed ++ codes "1 joined 1 received 2 number 3 watermark 5 synced 6" ++ line_feed ++ codes "2 fresh" ++ line_feed
 unfolding opened
 text_publisher = refl
 

@@ -1,33 +1,34 @@
 -- What an upload's items do that act, one after the other.
-use Rattle.std.specs.List.{enumerate_from, fold}
-use Rattle.std.specs.Prelude.{Bool, List, None, Option, Some, [], false, filter, filter_map, if◌then◌else◌, length, max, not, unwrap_or, ℕ, ◌++◌, ◌+◌, ◌==◌, ◌∷◌}
-use Rattle.merge_types.specs.declared.changes.Tracking.{Tracking}
+use Rattle.std.specs.Prelude.{Bool, List, None, Option, Some, [], false, filter, filter_map, if◌then◌else◌, length, not, ℕ, ◌++◌, ◌+◌, ◌==◌, ◌∷◌}
 use Rattle.merge_types.specs.declared.identifiers.Dot.{Dot}
 use Rattle.merge_types.specs.declared.identifiers.Moment.{Moment}
 use Rattle.merge_types.specs.declared.identifiers.SiteId.{SiteId}
-use Rattle.merge_types.specs.declared.values.ColType.{ColType}
-use Rattle.merge_units.specs.Cases.{is_both}
+use Rattle.merge_types.specs.declared.row_key.RowKey.{RowKey as Key}
+use Rattle.merge_units.specs.Cases.{case_by, is_conflict}
+use Rattle.merge_units.specs.Results.{result_by}
+use Rattle.merge_units.specs.Version.{new_tops}
 use Rattle.merge_units.specs.declared.case.Case.{Case}
-use Rattle.merge_units.specs.declared.case.Side.{Side}
 use Rattle.merge_units.specs.declared.result.Decision.{Decision}
 use Rattle.merge_units.specs.declared.result.Decision.TheVariants.{Custom, KeepPublisher}
+use Rattle.merge_units.specs.declared.site_row.PublisherRow.{PublisherRow}
 use Rattle.merge_units.specs.declared.version.Version.{Version}
-use Rattle.merge_conflict.specs.declared.case.ConflictCase.{ConflictCase}
+use Rattle.merge_conflict.specs.Losers.{losing_rows, publisher_site}
+use Rattle.merge_conflict.specs.declared.kind.ConflictKind.TheVariants as kind
+use Rattle.merge_conflict.specs.declared.losers.Conflict.{Conflict}
 use Rattle.merge_conflict.specs.declared.row.ConflictRow.{ConflictRow}
-use Rattle.merge_resolve.specs.Counted.{counted_decision}
-use Rattle.merge_resolve.specs.Losers.{losing_rows, publisher_site}
+use Rattle.merge_conflict.specs.declared.row.Verdict.TheVariants as verdict
+use Rattle.merge_resolve.specs.Priorities.{greatest_priority, incoming_priority}
+use Rattle.merge_resolve.specs.Questions.{Asked, question_asked}
+use Rattle.merge_resolve.specs.declared.asking.Question.{Question}
+use Rattle.merge_resolve.specs.declared.question.Meeting.{Meeting}
 use Rattle.merge_schema.specs.declared.publication.Publication.{Publication}
 use Rattle.merge_batch.specs.Makers.{maker_of}
 use Rattle.merge_batch.specs.declared.request.Upload.{Upload}
 use Rattle.merge_batch.specs.declared.request.UploadItem.{UploadItem}
-use Rattle.merge_model.specs.Cases.{case_by, is_conflict, new_tops, result_by}
 use Rattle.merge_model.specs.Judge.{PublisherJudge}
 use Rattle.merge_model.specs.Keys.{row_at}
-use Rattle.merge_model.specs.Publications.{identity_column, priority_at, resolver_at, resolver_column, tracking_at, types_at}
-use Rattle.merge_model.specs.Tables.{Key, PublisherRow, PublisherTables}
-use Rattle.merge_units.specs.declared.case.Case.TheVariants as case
-use Rattle.merge_types.specs.declared.changes.Tracking.TheVariants as tracking
-use Rattle.merge_conflict.specs.declared.row.Verdict.TheVariants as verdict
+use Rattle.merge_model.specs.Publications.{identity_column, resolver_at, resolver_column, tracking_at, types_at}
+use Rattle.merge_model.specs.Tables.{PublisherTables}
 
 abbrev pub key_of_item : UploadItem → Key
 key_of_item item = record { article = item.article; row = item.row }
@@ -52,55 +53,25 @@ pub record Act : Type 0 where
 
 -- Questions to resolvers.
 
--- the publisher's own changes, and those of clients, weigh most
-abbrev pub top_priority : Publication → Dot → ℕ
-top_priority publication top = if top.site.0 == 0 then 10000 else unwrap_or (priority_at publication top.site.0) 10000
-
-abbrev pub greatest_priority : Publication → List Dot → ℕ
-greatest_priority publication tops = fold (λ (most : ℕ) (top : Dot). max most (top_priority publication top)) 0 tops
-
--- the kind of a case: by row, by column, or a change against a delete
-abbrev pub tracking_kind : Tracking → ℕ
-tracking_kind tracking.Row = 1
-tracking_kind tracking.ByColumn = 2
-
-abbrev pub kind_of : Tracking → Case → ℕ
-kind_of tracking case.LifeConflict = 3
-kind_of tracking case = tracking_kind tracking
-
-abbrev pub sides_of_case : Case → List Side
-sides_of_case (case.Conflict sides) = sides
-sides_of_case case = []
-
-abbrev pub both_place : ℕ × Side → Option ℕ
-both_place place = if is_both place.1 then Some place.0 else None
-
--- the places of the conflicting cells
-abbrev pub conflicting_places : Case → List ℕ
-conflicting_places case = filter_map both_place (enumerate_from 0 (sides_of_case case))
-
--- a conflict of a row, and what is asked about it
-pub record Question : Type 0 where
-  -- the place of the article's resolver
-  pub place : ℕ
-  pub case : ConflictCase
-  pub sides : List Side
-  pub types : List ColType
-  pub identity : Option ℕ
-
-abbrev pub case_asked : Publication → PublisherJudge → SiteId → Moment → Key → Version → Version → Case → ConflictCase
-case_asked publication judge site moment key held incoming case = record {
+-- where, when and with which priorities a version meets the one that the publisher holds
+abbrev pub meeting_of : Publication → PublisherJudge → SiteId → Moment → Key → Version → Version → Meeting
+meeting_of publication judge site moment key held incoming = record {
   article = key.article;
   row = key.row;
-  kind = kind_of (tracking_at publication key.article) case;
   site = site;
-  publisher = held.body;
-  incoming = incoming.body;
-  cells = conflicting_places case;
   publisher_priority = greatest_priority publication (new_tops (judge.knows_there key incoming) held.body);
-  incoming_priority = unwrap_or (priority_at publication site.0) 0;
-  column = resolver_column publication key.article;
+  incoming_priority = incoming_priority publication site.0;
   moment = moment;
+}
+
+-- what an article says of its conflicts
+abbrev pub asked_at : Publication → ℕ → Asked
+asked_at publication place = record {
+  tracking = tracking_at publication place;
+  resolver = resolver_at publication place;
+  column = resolver_column publication place;
+  types = types_at publication place;
+  identity = identity_column publication place;
 }
 
 abbrev pub case_met : PublisherJudge → Key → Version → Version → Case
@@ -111,13 +82,7 @@ question_on publication judge site moment key incoming None = None
 question_on publication judge site moment key incoming (Some held) =
     let case = case_met judge key held.version incoming in
     if is_conflict case
-    then Some (record {
-      place = resolver_at publication key.article;
-      case = case_asked publication judge site moment key held.version incoming case;
-      sides = sides_of_case case;
-      types = types_at publication key.article;
-      identity = identity_column publication key.article;
-    })
+    then Some (question_asked (meeting_of publication judge site moment key held.version incoming) (asked_at publication key.article) held.version.body incoming.body case)
     else None
 
 -- the questions of an upload, in the order of its items; a row stands in an upload once
@@ -126,10 +91,6 @@ question_of publication judge site p item = question_on publication judge site p
 
 abbrev pub questions_of : Publication → PublisherJudge → Upload → PublisherTables → List Question
 questions_of publication judge m p = filter_map (question_of publication judge m.site p) (acting_items judge m)
-
--- what a resolver's decision counts as
-abbrev pub counted : Question → Decision → Decision
-counted question decision = counted_decision question.types question.identity question.sides question.case decision
 
 -- The acts, with a list of what the decisions of the conflicts count as.
 
@@ -212,23 +173,32 @@ purged_row number site moment act = record {
   number = number;
   article = act.key.article;
   row = act.key.row;
-  kind = 3;
+  kind = kind.DeleteWins;
   losing = act.incoming;
   from = site;
   verdict = verdict.Purged;
   moment = moment;
 }
 
-abbrev pub lost_by : Publication → PublisherJudge → SiteId → Moment → ℕ → Act → Fate → List ConflictRow
-lost_by publication judge site moment number act New = []
-lost_by publication judge site moment number act Unknown = purged_row number site moment act ∷ []
-lost_by publication judge site moment number act (Met held case decision dot) =
-    if is_conflict case
-    then losing_rows number (case_asked publication judge site moment act.key held act.incoming case) held act.incoming decision
-    else []
+-- a conflict of a row, by what its losing versions keep of it
+abbrev pub conflict_of : Publication → SiteId → Moment → ℕ → Key → Conflict
+conflict_of publication site moment number key = record {
+  number = number;
+  article = key.article;
+  row = key.row;
+  tracking = tracking_at publication key.article;
+  site = site;
+  moment = moment;
+}
 
-abbrev pub lost_from : Publication → PublisherJudge → SiteId → Moment → ℕ → List Act → List ConflictRow
-lost_from publication judge site moment number [] = []
-lost_from publication judge site moment number (act ∷ acts) =
-    let rows = lost_by publication judge site moment number act act.fate in
-    rows ++ lost_from publication judge site moment (number + length rows) acts
+abbrev pub lost_by : Publication → SiteId → Moment → ℕ → Act → Fate → List ConflictRow
+lost_by publication site moment number act New = []
+lost_by publication site moment number act Unknown = purged_row number site moment act ∷ []
+lost_by publication site moment number act (Met held case decision dot) =
+    if is_conflict case then losing_rows (conflict_of publication site moment number act.key) held act.incoming decision else []
+
+abbrev pub lost_from : Publication → SiteId → Moment → ℕ → List Act → List ConflictRow
+lost_from publication site moment number [] = []
+lost_from publication site moment number (act ∷ acts) =
+    let rows = lost_by publication site moment number act act.fate in
+    rows ++ lost_from publication site moment (number + length rows) acts

@@ -5,12 +5,14 @@ use Rattle.merge_units.specs.declared.version.Version.{Version}
 use Rattle.merge_schema.specs.declared.publication.Publication.{Publication}
 use Rattle.merge_model.specs.ByHistory.{changed_between_by_made, has_acted_by_done, has_left_by_line, is_gap_by_done, is_unmet_by_done, is_unsent_by_made, received_by_done, received_number_by_done, seen_by_accepted, touch_by_line}
 use Rattle.merge_model.specs.ByNumbers.{changed_between_by_rows, has_acted_by_number, has_left_by_mapping, is_gap_by_number, is_unmet_by_number, is_unsent_by_rows, received_by_number, received_number_by_number, seen_by_number, touch_by_mapping}
-use Rattle.merge_model.specs.Cases.{case_by, new_tops}
+use Rattle.merge_units.specs.Cases.{case_by}
+use Rattle.merge_units.specs.Version.{new_tops}
 use Rattle.merge_model.specs.History.{Past, has, past_at, past_in}
 use Rattle.merge_model.specs.Keys.{row_at}
 use Rattle.merge_model.specs.Model.{Model, model_step, tables_of}
 use Rattle.merge_model.specs.Steps.{Action, step}
-use Rattle.merge_model.specs.Tables.{Key, SubscriberTables}
+use Rattle.merge_types.specs.declared.row_key.RowKey.{RowKey as Key}
+use Rattle.merge_model.specs.Tables.{SubscriberTables}
 use Rattle.merge_model.specs.World.{Saying}
 
 -- at the publisher

@@ -5,11 +5,12 @@ use Rattle.std.specs.Prelude.{Bool, List, None, Option, Some, [], false, filter,
 use Rattle.merge_types.specs.declared.identifiers.Dot.{Dot}
 use Rattle.merge_types.specs.declared.identifiers.SiteId.{SiteId}
 use Rattle.merge_units.specs.declared.version.Version.{Version}
-use Rattle.merge_model.specs.Cases.{Knowing}
+use Rattle.merge_units.specs.Version.{Knowing}
 use Rattle.merge_model.specs.History.{Changed, EnteredFor, GoneFor, History, LeftFor, Line, MadeChange, Past, has, is_done, made_at, past_at, past_in, pasts_with}
 use Rattle.merge_model.specs.Judge.{PublisherJudge, SubscriberJudge}
 use Rattle.merge_model.specs.Keys.{put_row, row_at, same_key}
-use Rattle.merge_model.specs.Tables.{Key, SubscriberTables}
+use Rattle.merge_types.specs.declared.row_key.RowKey.{RowKey as Key}
+use Rattle.merge_model.specs.Tables.{SubscriberTables}
 use Rattle.merge_model.specs.World.{Judges}
 
 -- Of the publisher.

@@ -4,11 +4,18 @@ use Rattle.std.specs.Prelude.{Bool, List, None, Option, Some, false, filter, fil
 use Rattle.merge_lineage.specs.Lineage.{knows}
 use Rattle.merge_units.specs.declared.version.Version.{Version}
 use Rattle.merge_gens.specs.declared.sites.SiteState.{SiteState}
-use Rattle.merge_model.specs.Cases.{Knowing}
+use Rattle.merge_units.specs.Version.{Knowing}
 use Rattle.merge_model.specs.Judge.{PublisherJudge, SubscriberJudge}
 use Rattle.merge_model.specs.Keys.{at_number, at_row_site, row_at}
 use Rattle.merge_model.specs.Subscriber.{generations_at}
-use Rattle.merge_model.specs.Tables.{Entered, Key, Left, Mapping, PublisherRow, PublisherTables, RowSite, SubscriberRow, SubscriberTables, is_left}
+use Rattle.merge_gens.specs.declared.moves.MoveKind.TheVariants.{Entered, Left}
+use Rattle.merge_types.specs.declared.row_key.RowKey.{RowKey as Key}
+use Rattle.merge_gens.specs.declared.moves.Mapping.{Mapping}
+use Rattle.merge_units.specs.declared.site_row.PublisherRow.{PublisherRow}
+use Rattle.merge_gens.specs.declared.moves.RowSite.{RowSite}
+use Rattle.merge_units.specs.declared.site_row.SubscriberRow.{SubscriberRow}
+use Rattle.merge_gens.specs.Moves.{is_left}
+use Rattle.merge_model.specs.Tables.{PublisherTables, SubscriberTables}
 
 -- Of the publisher.
 

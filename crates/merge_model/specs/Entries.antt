@@ -14,7 +14,13 @@ use Rattle.merge_schema.specs.declared.publication.Subscription.{Subscription}
 use Rattle.merge_model.specs.Judge.{PublisherJudge}
 use Rattle.merge_model.specs.Keys.{drop_row_site, has_key, put_row, put_row_site}
 use Rattle.merge_model.specs.Publications.{by_site}
-use Rattle.merge_model.specs.Tables.{Entered, Key, Left, Mapping, MoveKind, PublisherRow, PublisherTables, RowSite}
+use Rattle.merge_gens.specs.declared.moves.MoveKind.TheVariants.{Entered, Left}
+use Rattle.merge_types.specs.declared.row_key.RowKey.{RowKey as Key}
+use Rattle.merge_gens.specs.declared.moves.Mapping.{Mapping}
+use Rattle.merge_gens.specs.declared.moves.MoveKind.{MoveKind}
+use Rattle.merge_units.specs.declared.site_row.PublisherRow.{PublisherRow}
+use Rattle.merge_gens.specs.declared.moves.RowSite.{RowSite}
+use Rattle.merge_model.specs.Tables.{PublisherTables}
 
 -- the live rows among those of the publisher
 abbrev pub live_row : Key → Body → Option LiveRow
@@ -46,7 +52,7 @@ parts_of publication before after = map (λ (s : ℕ × Subscription). record {
 
 -- How a row moved for a site: by whether it was in the partition, whether it is, whether its change
 -- makes an entry in this step, and whether an item of this site's upload acted on it. A changed row
--- that comes in makes no entry of its own. The uploader is told of each row that it sent and may not hold.
+-- that comes in makes no entry for that, since its change tells the site of it. The uploader is told of each row that it sent and may not hold.
 abbrev pub move_of : Bool → Bool → Bool → Bool → Option MoveKind
 move_of true false changed acted = Some Left
 move_of false false changed true = Some Left

@@ -3,17 +3,22 @@ use Rattle.std.specs.Prelude.{Bool, Err, List, None, Ok, Result, Some, [], if◌
 use Rattle.merge_types.specs.declared.changes.Change.{Change}
 use Rattle.merge_types.specs.declared.identifiers.SiteId.{SiteId}
 use Rattle.merge_schema.specs.declared.publication.Publication.{Publication}
-use Rattle.merge_batch.specs.Lineages.{is_subscription}
-use Rattle.merge_batch.specs.declared.refusal.Refusal.TheVariants.{UnknownName, UnknownSite}
-use Rattle.merge_model.specs.Answers.{Answer, Applied, ClosedAt, Conflicts, Counts, Discarded, Done, Fine, Grants, Held, Ignored, NoMessage, Nothing, Now, Purged, Refused, RefusedIn, RowMade, Rows, Sent, Stopped}
+use Rattle.merge_schema.specs.Places.{is_subscription}
+use Rattle.merge_batch.specs.declared.refusal.Refusal.{Refusal}
+use Rattle.merge_batch.specs.declared.refusal.Refusal.TheVariants.{NoMemory, UnknownName, UnknownSite}
+use Rattle.merge_model.specs.declared.answer.Answer.{Answer}
+use Rattle.merge_model.specs.declared.answer.Answer.TheVariants.{Applied, ClosedAt, Conflicts, Counts, Discarded, Done, Fine, Grants, Held, Ignored, NoMessage, Nothing, Now, Purged, Refused, RefusedIn, RowMade, Rows, Sent, Stopped}
 use Rattle.merge_model.specs.Changes.{article_of, is_insert}
 use Rattle.merge_model.specs.Entries.{live_rows}
 use Rattle.merge_model.specs.Naming.{article_by, delete_by, insert_by, update_by}
-use Rattle.merge_model.specs.Reports.{counts_of, partition_report, publisher_generations, shown_rows, sub_live_rows, subscriber_generations}
+use Rattle.merge_model.specs.Reports.{counts_of, held_report, partition_report, publisher_generations, shown_rows, sub_live_rows, subscriber_generations}
 use Rattle.merge_model.specs.Session.{Session, Stepping, session}
-use Rattle.merge_model.specs.Steps.{Action, CloseAt, Closes, Deliver, Discards, Forget, Forgot, Made, Make, MakeAnew, NoLetter, NoPost, Outcome, Pass, Passed, Posted, Refuses, Send, SendDownload, SendJoin, SendRanges, SendUpload, Took, step}
+use Rattle.merge_model.specs.Steps.{Action, CloseAt, Deliver, Forget, Look, Make, MakeAnew, Pass, Send, SendDownload, SendJoin, SendRanges, SendUpload, step}
+use Rattle.merge_model.specs.declared.outcome.Outcome.TheVariants.{Closes, Discards, Forgot, Made, NoLetter, NoPost, Passed, Posted, Refuses, Took}
+use Rattle.merge_model.specs.declared.outcome.Outcome.{Outcome}
 use Rattle.merge_model.specs.Tables.{PublisherTables, SubscriberTables}
-use Rattle.merge_model.specs.Taking.{Acted, Missed, Taken}
+use Rattle.merge_model.specs.declared.outcome.Taken.TheVariants.{Acted, Missed}
+use Rattle.merge_model.specs.declared.outcome.Taken.{Taken}
 use Rattle.merge_model.specs.World.{Saying, World, empty_world, subscriber_at}
 use Rattle.merge_model.specs.declared.event.Event.{Event}
 use Rattle.merge_model.specs.declared.event.Event.TheVariants as event
@@ -22,10 +27,15 @@ use Rattle.merge_model.specs.declared.event.Event.TheVariants as event
 abbrev pub is_site : Publication → SiteId → Bool
 is_site publication site = (site.0 == 0) || is_subscription publication site.0
 
+-- want of memory has one answer, whether it comes before the names of an event are known or behind
+abbrev pub refused_change : Change → Refusal → Answer
+refused_change change NoMemory = Refused NoMemory
+refused_change change refusal = RefusedIn (article_of change) refusal
+
 -- what an outcome is answered
 abbrev pub change_answer : Change → Outcome → Answer
 change_answer change (Made row) = if is_insert change then RowMade row else Fine
-change_answer change (Refuses refusal) = RefusedIn (article_of change) refusal
+change_answer change (Refuses refusal) = refused_change change refusal
 change_answer change outcome = Fine
 
 abbrev pub taken_answer : Taken → Answer
@@ -52,17 +62,25 @@ module _ {W : Type 0} (publication : Publication) (stepping : Stepping W) where
   abbrev pub acting : ℕ → Action → W → W × Answer
   acting number action w = answered_by (outcome_answer number) (stepping.act w action)
 
+  -- an event that looks and changes nothing: only memory can be wanting
+  abbrev pub looked : (W → Answer) → W × Outcome → W × Answer
+  looked answer (w, Refuses refusal) = (w, Refused refusal)
+  looked answer (w, outcome) = (w, answer w)
+
+  abbrev pub looking : (W → Answer) → W → W × Answer
+  looking answer w = looked answer (stepping.act w Look)
+
   -- an event of a site that there must be
   abbrev pub where_site : SiteId → W → (W → W × Answer) → W × Answer
-  where_site site w next = if is_site publication site then next w else (w, Refused (UnknownSite site))
+  where_site site w next = if is_site publication site then next w else looking (λ (v : W). Refused (UnknownSite site)) w
 
   -- and that is no publisher
   abbrev pub where_subscriber : SiteId → W → (W → W × Answer) → W × Answer
-  where_subscriber site w next = if is_subscription publication site.0 then next w else (w, Refused (UnknownSite site))
+  where_subscriber site w next = if is_subscription publication site.0 then next w else looking (λ (v : W). Refused (UnknownSite site)) w
 
   -- local changes: names become places
   abbrev pub changing : SiteId → W → Result Change (List ℕ) → W × Answer
-  changing site w (Err name) = (w, Refused (UnknownName name))
+  changing site w (Err name) = looking (λ (v : W). Refused (UnknownName name)) w
   changing site w (Ok change) = answered_by (change_answer change) (stepping.act w (Make site change))
 
   -- sessions
@@ -79,19 +97,19 @@ module _ {W : Type 0} (publication : Publication) (stepping : Stepping W) where
   syncing site w = let done = session stepping site w in (done.world, session_answer site done)
 
   -- reports: of the publisher's tables, or of a subscriber's
+  abbrev pub reported : SiteId → (PublisherTables → Answer) → (SubscriberTables → Answer) → W → Answer
+  reported site of_publisher of_subscriber w =
+      if site.0 == 0 then of_publisher (stepping.look w).publisher
+      else elim (subscriber_at (stepping.look w) site) [
+        | None ↦ Refused (UnknownSite site)
+        | Some s ↦ of_subscriber s
+      ]
+
   abbrev pub reporting : SiteId → (PublisherTables → Answer) → (SubscriberTables → Answer) → W → W × Answer
-  reporting site of_publisher of_subscriber w =
-      if site.0 == 0 then (w, of_publisher (stepping.look w).publisher)
-      else (
-        w,
-        elim (subscriber_at (stepping.look w) site) [
-          | None ↦ Refused (UnknownSite site)
-          | Some s ↦ of_subscriber s
-        ],
-      )
+  reporting site of_publisher of_subscriber w = looking (reported site of_publisher of_subscriber) w
 
   abbrev pub showing : SiteId → W → Result ℕ (List ℕ) → W × Answer
-  showing site w (Err name) = (w, Refused (UnknownName name))
+  showing site w (Err name) = looking (λ (v : W). Refused (UnknownName name)) w
   showing site w (Ok article) = reporting site
       (λ (p : PublisherTables). Rows (shown_rows article (live_rows p.rows)))
       (λ (s : SubscriberTables). Rows (shown_rows article (sub_live_rows s))) w
@@ -111,15 +129,15 @@ module _ {W : Type 0} (publication : Publication) (stepping : Stepping W) where
   happens w (event.Deliver number) = acting number (Deliver number) w
   happens w (event.Reinit site) = where_subscriber site w (acting 0 (MakeAnew site))
   happens w event.Purge = acting 0 Forget w
-  happens w (event.Restart site) = where_site site w (λ (v : W). (v, Fine))
+  happens w (event.Restart site) = where_site site w (looking (λ (v : W). Fine))
   happens w (event.Show site article) = where_site site w (λ (v : W). showing site v (article_by publication article))
-  happens w (event.Partition site) = where_subscriber site w (λ (v : W). (v, partition_report publication site (stepping.look v).publisher))
+  happens w (event.Partition site) = where_subscriber site w (looking (λ (v : W). partition_report publication site (stepping.look v).publisher))
   happens w (event.Conflicts site) = where_site site w (reporting site
       (λ (p : PublisherTables). Conflicts p.conflicts)
       (λ (s : SubscriberTables). Conflicts s.conflicts))
   happens w (event.Ranges site) = where_site site w (reporting site
       (λ (p : PublisherTables). Grants p.grants)
-      (λ (s : SubscriberTables). Held s.held))
+      (λ (s : SubscriberTables). Held (held_report s)))
   happens w (event.Generations site) = where_site site w (reporting site (publisher_generations publication) subscriber_generations)
   happens w (event.Count site) = where_site site w (reporting site
       (λ (p : PublisherTables). Counts (counts_of publication (live_rows p.rows)))
@@ -140,6 +158,7 @@ abbrev pub machine : Publication → Saying → Stepping World
 machine publication says = record {
   act = step publication says;
   look = λ (w : World). w;
+  retally = λ (tallies : List ℕ) (w : World). record w { tallies = tallies };
 }
 
 -- what the machine answers to the events of a script

@@ -20,7 +20,8 @@ use Rattle.merge_batch.specs.declared.rules.BrokenRule.{BrokenRule}
 use Rattle.merge_batch.specs.declared.standing.Standing.{Standing}
 use Rattle.merge_model.specs.Judge.{PublisherJudge}
 use Rattle.merge_model.specs.Keys.{at_number, row_at}
-use Rattle.merge_model.specs.Tables.{PublisherRow, PublisherTables, SubscriberTables}
+use Rattle.merge_units.specs.declared.site_row.PublisherRow.{PublisherRow}
+use Rattle.merge_model.specs.Tables.{PublisherTables, SubscriberTables}
 
 abbrev pub fault_of : Option BrokenRule → Option Refusal
 fault_of None = None

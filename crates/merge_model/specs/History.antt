@@ -3,7 +3,7 @@ use Rattle.std.specs.List.{list_any}
 use Rattle.std.specs.Prelude.{Bool, List, Option, [], filter, slice_get, suc, unwrap_or, zero, ℕ, ℤ, ◌&&◌, ◌==◌, ◌||◌}
 use Rattle.merge_types.specs.declared.identifiers.Dot.{Dot}
 use Rattle.merge_model.specs.Keys.{at_number, row_at}
-use Rattle.merge_model.specs.Tables.{Key}
+use Rattle.merge_types.specs.declared.row_key.RowKey.{RowKey as Key}
 
 -- whether a list of changes, read as a set, has one
 abbrev pub has : List Dot → Dot → Bool

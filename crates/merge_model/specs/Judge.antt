@@ -1,8 +1,8 @@
 -- What a site decides by. A step reads these and neither lineages nor histories itself.
 use Rattle.std.specs.Prelude.{Bool, List, Option, ℕ}
 use Rattle.merge_units.specs.declared.version.Version.{Version}
-use Rattle.merge_model.specs.Cases.{Knowing}
-use Rattle.merge_model.specs.Tables.{Key}
+use Rattle.merge_units.specs.Version.{Knowing}
+use Rattle.merge_types.specs.declared.row_key.RowKey.{RowKey as Key}
 
 -- what the publisher decides by. Sites are named by number
 pub record PublisherJudge : Type 0 where
@@ -13,7 +13,7 @@ pub record PublisherJudge : Type 0 where
   pub seen : ℕ → ℕ
   -- whether a site's generation has acted
   pub has_acted : ℕ → ℕ → Bool
-  -- whether a site left out a generation that has not acted, of those up to this one
+  -- whether some generation of a site up to this one has not acted, so that a batch behind it would leave a gap
   pub is_gap : ℕ → ℕ → Bool
   -- whether the change of a site that made a row has not acted, by its number
   pub is_unmet : ℕ → ℕ → Bool

@@ -2,16 +2,12 @@
 use Rattle.std.specs.BTreeMap.{insert_entry, is_at}
 use Rattle.std.specs.List.{list_any}
 use Rattle.std.specs.Map.{lookup, remove_entry}
-use Rattle.std.specs.Ordering.{nat_cmp, ordering_then}
+use Rattle.std.specs.Ordering.{nat_cmp}
 use Rattle.std.specs.Prelude.{Bool, List, Option, ℕ, ◌&&◌, ◌==◌}
-use Rattle.std.specs.declared.cmp.Ordering.{Ordering}
-use Rattle.merge_model.specs.Tables.{Key, RowSite}
-
-abbrev pub key_cmp : Key → Key → Ordering
-key_cmp a b = ordering_then (nat_cmp a.article b.article) (nat_cmp a.row.0 b.row.0)
-
-abbrev pub row_site_cmp : RowSite → RowSite → Ordering
-row_site_cmp a b = ordering_then (key_cmp a.key b.key) (nat_cmp a.site b.site)
+use Rattle.merge_types.specs.RowKeys.{key_cmp}
+use Rattle.merge_types.specs.declared.row_key.RowKey.{RowKey as Key}
+use Rattle.merge_gens.specs.Moves.{row_site_cmp}
+use Rattle.merge_gens.specs.declared.moves.RowSite.{RowSite}
 
 abbrev pub same_key : Key → Key → Bool
 same_key a b = (a.row.0 == b.row.0) && (a.article == b.article)

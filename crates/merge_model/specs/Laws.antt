@@ -16,21 +16,25 @@ use Rattle.merge_batch.specs.declared.reply.Reply.{Reply}
 use Rattle.merge_batch.specs.declared.request.Outstanding.{Outstanding}
 use Rattle.merge_batch.specs.declared.request.Upload.{Upload}
 use Rattle.merge_model.specs.Events.{after, happens, machine}
+use Rattle.merge_model.specs.Failing.{Slips, failing, faulty}
 use Rattle.merge_model.specs.History.{History, is_done}
 use Rattle.merge_model.specs.Judge.{PublisherJudge, SubscriberJudge}
-use Rattle.merge_model.specs.Keys.{key_cmp, row_site_cmp}
-use Rattle.merge_model.specs.Model.{Model, empty_model, model, model_step}
+use Rattle.merge_types.specs.RowKeys.{key_cmp}
+use Rattle.merge_gens.specs.Moves.{row_site_cmp}
+use Rattle.merge_model.specs.Model.{Model, model, model_step}
 use Rattle.merge_model.specs.Promises.{NoneActsTwice, acting_generations}
 use Rattle.merge_model.specs.Publications.{rules_of}
+use Rattle.merge_model.specs.Runs.{model_behind, world_behind}
 use Rattle.merge_model.specs.Publisher.{at_moment}
 use Rattle.merge_model.specs.PublisherUpload.{brings_news, upload}
 use Rattle.merge_model.specs.Reinit.{reinitialise}
 use Rattle.merge_model.specs.Sending.{with_message}
-use Rattle.merge_model.specs.Steps.{Action, Refuses, step, step_by}
+use Rattle.merge_model.specs.Steps.{Action, step, step_by}
+use Rattle.merge_model.specs.declared.outcome.Outcome.TheVariants.{Refuses}
 use Rattle.merge_model.specs.Subscriber.{close_sub_generation, sub_at_moment, sub_closed, sub_local}
 use Rattle.merge_model.specs.Tables.{PublisherTables, SubscriberTables}
 use Rattle.merge_model.specs.Taking.{take_reply}
-use Rattle.merge_model.specs.World.{Judges, Saying, World, empty_world}
+use Rattle.merge_model.specs.World.{Judges, Saying, World}
 use Rattle.merge_model.specs.declared.event.Event.{Event}
 use Rattle.merge_model.specs.declared.event.Event.TheVariants as event
 
@@ -73,6 +77,14 @@ abbrev pub EventsKeepWhatStepsKeep : Type 0
 EventsKeepWhatStepsKeep = (keeps : Publication → Saying → World → Bool) → KeptBySteps keeps → (publication : Publication) (says : Saying) (events : List Event) (w : World)
     → keeps publication says w ≡ true → keeps publication says (after publication (machine publication says) w events) ≡ true
 
+-- Where steps may fail, so is what other tallies of resolvers keep too.
+abbrev pub KeptByTallies : (Publication → Saying → World → Bool) → Type 0
+KeptByTallies keeps = (publication : Publication) (says : Saying) (w : World) (tallies : List ℕ) → keeps publication says w ≡ true → keeps publication says (record w { tallies = tallies }) ≡ true
+
+abbrev pub FailingEventsKeepWhatStepsKeep : Type 0
+FailingEventsKeepWhatStepsKeep = (keeps : Publication → Saying → World → Bool) → KeptBySteps keeps → KeptByTallies keeps → (publication : Publication) (says : Saying) (slips : Slips) (events : List Event) (w : World)
+    → keeps publication says w ≡ true → keeps publication says (after publication (failing publication (machine publication says)) (faulty w slips) events).world ≡ true
+
 -- Numbers of the publisher only rise: its changes, its closed generations, its conflict rows and its moment.
 pub record PublisherRises (before after : PublisherTables) : Type 0 where
   pub changes_rise : before.changes ≤ after.changes
@@ -83,14 +95,14 @@ pub record PublisherRises (before after : PublisherTables) : Type 0 where
 abbrev pub PublisherNumbersRise : Type 0
 PublisherNumbersRise = (publication : Publication) (says : Saying) (judges : Judges) (w : World) (action : Action) → PublisherRises w.publisher (step_by publication says judges w action).0.publisher
 
--- No two grants of an article overlap, after every list of events, of the machine and of the model.
+-- No two grants of an article overlap, after every list of events in which steps may fail, of the machine and of the model.
 abbrev pub RangesNeverOverlap : Type 0
-RangesNeverOverlap = (publication : Publication) → All IsRule (rules_of publication) → (says : Saying) (tallies : List ℕ) (events : List Event)
-    → AreDisjoint (after publication (machine publication says) (empty_world publication tallies) events).publisher.grants
+RangesNeverOverlap = (publication : Publication) → All IsRule (rules_of publication) → (says : Saying) (tallies : List ℕ) (slips : Slips) (events : List Event)
+    → AreDisjoint (world_behind publication says tallies slips events).publisher.grants
 
 abbrev pub ModelRangesNeverOverlap : Type 0
-ModelRangesNeverOverlap = (publication : Publication) → All IsRule (rules_of publication) → (says : Saying) (tallies : List ℕ) (events : List Event)
-    → AreDisjoint (after publication (model publication says) (empty_model publication tallies) events).world.publisher.grants
+ModelRangesNeverOverlap = (publication : Publication) → All IsRule (rules_of publication) → (says : Saying) (tallies : List ℕ) (slips : Slips) (events : List Event)
+    → AreDisjoint (model_behind publication says tallies slips events).world.publisher.grants
 
 -- The publisher's lists of pairs ascend by their keys, so that none comes twice, after every list of events.
 pub record AreSorted (p : PublisherTables) : Type 0 where
@@ -100,13 +112,13 @@ pub record AreSorted (p : PublisherTables) : Type 0 where
   pub generations_ascend : IsSound p.gens
 
 abbrev pub PublisherStaysSorted : Type 0
-PublisherStaysSorted = (publication : Publication) (says : Saying) (tallies : List ℕ) (events : List Event)
-    → AreSorted (after publication (machine publication says) (empty_world publication tallies) events).publisher
+PublisherStaysSorted = (publication : Publication) (says : Saying) (tallies : List ℕ) (slips : Slips) (events : List Event)
+    → AreSorted (world_behind publication says tallies slips events).publisher
 
 -- No generation acts twice: each of a site's generations comes once among those that have acted, after every list of events.
 abbrev pub NoGenerationActsTwice : Type 0
-NoGenerationActsTwice = (publication : Publication) (says : Saying) (tallies : List ℕ) (events : List Event)
-    → NoneActsTwice (after publication (model publication says) (empty_model publication tallies) events)
+NoGenerationActsTwice = (publication : Publication) (says : Saying) (tallies : List ℕ) (slips : Slips) (events : List Event)
+    → NoneActsTwice (model_behind publication says tallies slips events)
 
 -- and those of an upload that act have not acted before
 abbrev pub ActingAreNew : Type 0
@@ -134,5 +146,5 @@ pub record AreSubSorted (s : SubscriberTables) : Type 0 where
   pub generations_ascend : IsSound s.gens
 
 abbrev pub SubscribersStaySorted : Type 0
-SubscribersStaySorted = (publication : Publication) (says : Saying) (tallies : List ℕ) (events : List Event)
-    → AllByRecursion (λ (entry : ℕ × SubscriberTables). AreSubSorted entry.1) (after publication (machine publication says) (empty_world publication tallies) events).subscribers
+SubscribersStaySorted = (publication : Publication) (says : Saying) (tallies : List ℕ) (slips : Slips) (events : List Event)
+    → AllByRecursion (λ (entry : ℕ × SubscriberTables). AreSubSorted entry.1) (world_behind publication says tallies slips events).subscribers

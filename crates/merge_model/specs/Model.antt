@@ -7,7 +7,7 @@ use Rattle.merge_batch.specs.declared.reply.DownloadItem.{DownloadItem}
 use Rattle.merge_batch.specs.declared.request.Request.{Request}
 use Rattle.merge_batch.specs.declared.request.UploadItem.{UploadItem}
 use Rattle.merge_model.specs.Acts.{key_of_item}
-use Rattle.merge_model.specs.Answers.{Answer}
+use Rattle.merge_model.specs.declared.answer.Answer.{Answer}
 use Rattle.merge_model.specs.ByHistory.{by_history}
 use Rattle.merge_model.specs.Events.{answers}
 use Rattle.merge_model.specs.History.{History, Past, no_history, past_in, pasts_at, pasts_with}
@@ -15,10 +15,16 @@ use Rattle.merge_model.specs.Judge.{PublisherJudge}
 use Rattle.merge_model.specs.Noting.{noted_anew, noted_at_publisher, noted_at_subscriber, noted_join, noted_purge, noted_reply, noted_upload}
 use Rattle.merge_model.specs.Publisher.{at_moment}
 use Rattle.merge_model.specs.Session.{Stepping}
-use Rattle.merge_model.specs.Steps.{Action, Deliver, Forget, Make, MakeAnew, Outcome, Posted, Refuses, Took, kept_decisions, step_by, upload_questions}
-use Rattle.merge_model.specs.Tables.{Key}
-use Rattle.merge_model.specs.Taking.{Missed, key_of_download}
-use Rattle.merge_model.specs.World.{Asks, Judges, Letter, Message, Replies, Saying, World, empty_world, letter_at, subscriber_at}
+use Rattle.merge_model.specs.Steps.{Action, Deliver, Forget, Make, MakeAnew, kept_decisions, step_by, upload_questions}
+use Rattle.merge_model.specs.declared.outcome.Outcome.{Outcome}
+use Rattle.merge_model.specs.declared.outcome.Outcome.TheVariants.{Posted, Refuses, Took}
+use Rattle.merge_types.specs.declared.row_key.RowKey.{RowKey as Key}
+use Rattle.merge_model.specs.Taking.{key_of_download}
+use Rattle.merge_model.specs.declared.outcome.Taken.TheVariants.{Missed}
+use Rattle.merge_model.specs.World.{Judges, Saying, World, empty_world, letter_at, subscriber_at}
+use Rattle.merge_model.specs.declared.letter.Message.TheVariants.{Asks, Replies}
+use Rattle.merge_model.specs.declared.letter.Letter.{Letter}
+use Rattle.merge_model.specs.declared.letter.Message.{Message}
 use Rattle.merge_model.specs.declared.event.Event.{Event}
 use Rattle.merge_batch.specs.declared.reply.Act.TheVariants as order
 use Rattle.merge_batch.specs.declared.reply.Reply.TheVariants as reply
@@ -134,6 +140,7 @@ abbrev pub model : Publication → Saying → Stepping Model
 model publication says = record {
   act = model_step publication says;
   look = tables_of;
+  retally = λ (tallies : List ℕ) (m : Model). record m { world = record m.world { tallies = tallies } };
 }
 
 -- what the model answers to the events of a script

@@ -18,8 +18,9 @@ use Rattle.merge_batch.specs.declared.reply.DownloadItem.{DownloadItem}
 use Rattle.merge_batch.specs.declared.reply.Reply.{Reply}
 use Rattle.merge_batch.specs.declared.request.Join.{Join}
 use Rattle.merge_batch.specs.declared.request.Upload.{Upload}
-use Rattle.merge_model.specs.Acts.{Act, Fate, Met, New, Unknown, acts_of, conflicting_places}
-use Rattle.merge_model.specs.Cases.{is_conflict}
+use Rattle.merge_model.specs.Acts.{Act, Fate, Met, New, Unknown, acts_of}
+use Rattle.merge_resolve.specs.Questions.{conflicting_places}
+use Rattle.merge_units.specs.Cases.{is_conflict}
 use Rattle.merge_model.specs.Changes.{key_of}
 use Rattle.merge_model.specs.Entries.{Entries, changing_entries, keys_of}
 use Rattle.merge_model.specs.History.{Changed, EnteredFor, GoneFor, History, LeftFor, Line, LineKind, MadeChange, Past, is_done, past_at, past_in, pasts_at}
@@ -34,7 +35,12 @@ use Rattle.merge_model.specs.PublisherPurge.{is_old, is_old_tombstone}
 use Rattle.merge_model.specs.PublisherUpload.{brings_news, changing_by, with_acts}
 use Rattle.merge_model.specs.Reinit.{discarded}
 use Rattle.merge_model.specs.Subscriber.{sub_drawn, sub_last_closed, sub_next_dot}
-use Rattle.merge_model.specs.Tables.{Entered, Key, Left, MoveKind, PublisherRow, PublisherTables, RowSite, SubscriberTables}
+use Rattle.merge_gens.specs.declared.moves.MoveKind.TheVariants.{Entered, Left}
+use Rattle.merge_types.specs.declared.row_key.RowKey.{RowKey as Key}
+use Rattle.merge_gens.specs.declared.moves.MoveKind.{MoveKind}
+use Rattle.merge_units.specs.declared.site_row.PublisherRow.{PublisherRow}
+use Rattle.merge_gens.specs.declared.moves.RowSite.{RowSite}
+use Rattle.merge_model.specs.Tables.{PublisherTables, SubscriberTables}
 use Rattle.merge_model.specs.Taking.{key_of_download}
 use Rattle.merge_batch.specs.declared.reply.Act.TheVariants as order
 use Rattle.merge_batch.specs.declared.reply.Reply.TheVariants as reply
@@ -175,7 +181,7 @@ with_act incoming entries h act = let past = past_in incoming act.key in
     with_accepted past (with_fate act.fate (entry_generation entries act.key) act.key past h)
 
 abbrev pub acts_entries : Publication → PublisherJudge → Upload → List Act → PublisherTables → Entries
-acts_entries publication judge m acts p = changing_entries publication judge (changing_by m acts) (with_acts publication judge m acts p)
+acts_entries publication judge m acts p = changing_entries publication judge (changing_by m acts) (with_acts publication m acts p)
 
 abbrev pub with_acts_noted : Publication → PublisherJudge → Upload → List Act → List (Key × Past) → PublisherTables → History → History
 with_acts_noted publication judge m acts incoming p h = let entries = acts_entries publication judge m acts p in

@@ -5,7 +5,8 @@ use Rattle.merge_units.specs.Cases.{side_by}
 use Rattle.merge_resolve.specs.Counted.{fits_column}
 use Rattle.merge_schema.specs.declared.publication.Article.{Article}
 use Rattle.merge_schema.specs.declared.publication.Publication.{Publication}
-use Rattle.merge_batch.specs.Articles.{article_at, has_type}
+use Rattle.merge_schema.specs.Places.{article_at}
+use Rattle.merge_types.specs.Fitting.{has_type}
 use Rattle.merge_batch.specs.Asks.{broken_by_join, broken_by_ranges}
 use Rattle.merge_batch.specs.Makers.{maker_of}
 use Rattle.merge_batch.specs.Replies.{broken_by_reply}

@@ -30,9 +30,15 @@ use Rattle.merge_model.specs.PublisherDownload.{inside_keys, reply_to}
 use Rattle.merge_model.specs.PublisherPurge.{is_old}
 use Rattle.merge_model.specs.Sending.{unsent_rows}
 use Rattle.merge_model.specs.Session.{Session, session}
-use Rattle.merge_model.specs.Tables.{Key, PublisherRow, SubscriberRow, SubscriberTables}
+use Rattle.merge_types.specs.declared.row_key.RowKey.{RowKey as Key}
+use Rattle.merge_units.specs.declared.site_row.PublisherRow.{PublisherRow}
+use Rattle.merge_units.specs.declared.site_row.SubscriberRow.{SubscriberRow}
+use Rattle.merge_model.specs.Tables.{PublisherTables, SubscriberTables}
 use Rattle.merge_model.specs.Taking.{key_of_download}
-use Rattle.merge_model.specs.World.{Asks, Letter, Message, Replies, Saying, World, letter_at, subscriber_at}
+use Rattle.merge_model.specs.World.{Saying, World, letter_at, subscriber_at}
+use Rattle.merge_model.specs.declared.letter.Message.TheVariants.{Asks, Replies}
+use Rattle.merge_model.specs.declared.letter.Letter.{Letter}
+use Rattle.merge_model.specs.declared.letter.Message.{Message}
 use Rattle.merge_batch.specs.declared.reply.Act.TheVariants as order
 use Rattle.merge_batch.specs.declared.reply.Reply.TheVariants as reply
 use Rattle.merge_batch.specs.declared.request.Request.TheVariants as request
@@ -52,7 +58,7 @@ descends (OfDead chain) place dot = has chain dot
 abbrev pub places_of : MadeChange → List Place
 places_of change = if change.deletes then InRow ∷ [] else map (λ (cell : ℕ). InCell cell) change.cells
 
--- No accepted change is lost. A change is kept at a place
+-- No change that was made is lost. A change is kept at a place
 
 -- in the publisher's row,
 abbrev pub is_kept_here : History → MadeChange → Place → Bool
@@ -121,13 +127,13 @@ SettledHoldsPartition publication m = (s : SubscriberTables) → IsSettled publi
 
 -- Lineages decide as histories do.
 
--- a change that a join gave up: it was not accepted, and the join covered its number
-abbrev pub is_given_up : Model → Dot → Bool
-is_given_up m dot = not (is_accepted m.history dot) && nat_le dot.number (received_number_by_number m.world.publisher dot.site.0)
+-- a change that is given up: it is not accepted, and its site has gone on past it, so that no version that knows it can act any more
+abbrev pub is_given_up : PublisherTables → History → Dot → Bool
+is_given_up p h dot = not (is_accepted h dot) && nat_le dot.number (received_number_by_number p dot.site.0)
 
 -- a lineage stands for what a version of a row knows: of each change of the row that was not given up
 abbrev pub StandsFor : Model → Key → List Dot → Past → Type 0
-StandsFor m key lineage past = All (λ (change : MadeChange). same_key change.key key ≡ true → is_given_up m change.dot ≡ false → has past.known change.dot ≡ knows lineage change.dot) m.history.made
+StandsFor m key lineage past = All (λ (change : MadeChange). same_key change.key key ≡ true → is_given_up m.world.publisher m.history change.dot ≡ false → has past.known change.dot ≡ knows lineage change.dot) m.history.made
 
 -- Every lineage stands for what its version knows:
 abbrev pub RowsStand : Model → ℕ → List (Key × Version) → Type 0

@@ -1,34 +1,15 @@
 -- What a publication says of an article or a site.
 use Rattle.std.specs.List.{enumerate_from, fold}
 use Rattle.std.specs.Option.{option_and_then}
-use Rattle.std.specs.Prelude.{List, None, Option, Some, [], filter_map, find, map, option_map, unwrap_or, ℕ, ◌==◌}
-use Rattle.merge_types.specs.declared.changes.Tracking.{Tracking}
-use Rattle.merge_types.specs.declared.values.ColType.{ColType}
-use Rattle.merge_types.specs.declared.values.Column.{Column}
+use Rattle.std.specs.Prelude.{List, Option, [], filter_map, map, option_map, unwrap_or, ℕ}
 use Rattle.merge_ident.specs.declared.grants.Rule.{Rule}
 use Rattle.merge_schema.specs.declared.publication.Article.{Article}
 use Rattle.merge_schema.specs.declared.publication.Identity.{Identity}
 use Rattle.merge_schema.specs.declared.publication.Publication.{Publication}
 use Rattle.merge_schema.specs.declared.publication.Subscription.{Subscription}
-use Rattle.merge_batch.specs.Articles.{article_at}
+use Rattle.merge_schema.specs.Places.{article_at}
 use Rattle.merge_model.specs.Keys.{put_number}
-use Rattle.merge_schema.specs.declared.publication.SubKind.TheVariants as kind
-use Rattle.merge_types.specs.declared.changes.Tracking.TheVariants as tracking
-
-abbrev pub tracking_at : Publication → ℕ → Tracking
-tracking_at publication place = unwrap_or (option_map (λ (article : Article). article.tracking) (article_at publication place)) tracking.Row
-
-abbrev pub columns_at : Publication → ℕ → List Column
-columns_at publication place = unwrap_or (option_map (λ (article : Article). article.columns) (article_at publication place)) []
-
-abbrev pub types_at : Publication → ℕ → List ColType
-types_at publication place = map (λ (column : Column). column.ty) (columns_at publication place)
-
-abbrev pub identity_at : Publication → ℕ → Option Identity
-identity_at publication place = option_and_then (λ (article : Article). article.identity) (article_at publication place)
-
-abbrev pub identity_column : Publication → ℕ → Option ℕ
-identity_column publication place = option_map (λ (identity : Identity). identity.column) (identity_at publication place)
+pub use Rattle.merge_batch.specs.LocalChanges.{columns_at, identity_at, identity_column, tracking_at, types_at}
 
 abbrev pub resolver_at : Publication → ℕ → ℕ
 resolver_at publication place = unwrap_or (option_map (λ (article : Article). article.resolver) (article_at publication place)) 0
@@ -56,19 +37,6 @@ rule_of place = record {
 abbrev pub rules_of : Publication → List Rule
 rules_of publication = map rule_of (identities publication)
 
-abbrev pub subscription_at : Publication → ℕ → Option Subscription
-subscription_at publication site = find (λ (subscription : Subscription). subscription.site.0 == site) publication.subscriptions
-
 -- the subscriptions, by site
 abbrev pub by_site : Publication → List (ℕ × Subscription)
 by_site publication = fold (λ (others : List (ℕ × Subscription)) (subscription : Subscription). put_number others subscription.site.0 subscription) [] publication.subscriptions
-
--- the priority of a server; a client has none
-abbrev pub server_priority : Subscription → Option ℕ
-server_priority subscription = elim subscription.kind [
-  | kind.Server ↦ Some subscription.priority
-  | kind.Client ↦ None
-]
-
-abbrev pub priority_at : Publication → ℕ → Option ℕ
-priority_at publication site = option_and_then server_priority (subscription_at publication site)

@@ -8,7 +8,7 @@ use Rattle.merge_gens.specs.declared.sites.SiteState.{SiteState}
 use Rattle.merge_ident.specs.Holders.{Holder, new_holder}
 use Rattle.merge_schema.specs.declared.publication.Identity.{Identity}
 use Rattle.merge_schema.specs.declared.publication.Publication.{Publication}
-use Rattle.merge_batch.specs.Lineages.{is_subscription}
+use Rattle.merge_schema.specs.Places.{is_subscription}
 use Rattle.merge_batch.specs.declared.refusal.Refusal.{Refusal}
 use Rattle.merge_batch.specs.declared.refusal.Refusal.TheVariants.{Expired, NotJoined, Stale, UnknownSite}
 use Rattle.merge_model.specs.Keys.{at_number, put_number}

@@ -1,30 +1,30 @@
 -- A site asks for what was touched.
 use Rattle.std.specs.List.{last_or, range_with_len}
-use Rattle.std.specs.Prelude.{Bool, List, None, Option, Result, Some, [], count_by, false, filter, filter_map, if◌then◌else◌, map, max, min, nat_le, nat_lt, option_map, true, unwrap_or, ℕ, ◌&&◌, ◌+◌, ◌-◌, ◌==◌, ◌∷◌}
+use Rattle.std.specs.Prelude.{Bool, List, None, Option, Result, Some, [], count_by, filter, filter_map, if◌then◌else◌, map, max, min, nat_le, nat_lt, option_map, unwrap_or, ℕ, ◌&&◌, ◌+◌, ◌-◌, ◌==◌, ◌∷◌}
+use Rattle.merge_types.specs.Limits.{generation_limit, item_limit}
 use Rattle.merge_types.specs.declared.identifiers.Moment.{Moment}
 use Rattle.merge_types.specs.declared.identifiers.SiteId.{SiteId}
-use Rattle.merge_units.specs.Version.{cells_of, is_live}
-use Rattle.merge_units.specs.declared.version.Version.{Version}
 use Rattle.merge_gens.specs.Book.{moment_of}
 use Rattle.merge_gens.specs.declared.sites.SiteState.{SiteState}
 use Rattle.merge_schema.specs.declared.publication.Publication.{Publication}
+use Rattle.merge_batch.specs.Orders.{order_by}
 use Rattle.merge_batch.specs.declared.refusal.Refusal.{Refusal}
 use Rattle.merge_batch.specs.declared.refusal.Refusal.TheVariants.{WrongWatermark}
-use Rattle.merge_batch.specs.declared.reply.Act.{Act as Order}
 use Rattle.merge_batch.specs.declared.reply.DownloadItem.{DownloadItem}
 use Rattle.merge_batch.specs.declared.reply.Downloaded.{Downloaded}
 use Rattle.merge_batch.specs.declared.request.Download.{Download}
 use Rattle.merge_model.specs.Entries.{keys_of, partition_keys}
 use Rattle.merge_model.specs.Judge.{PublisherJudge}
 use Rattle.merge_model.specs.Keys.{has_key}
-use Rattle.merge_model.specs.Publications.{subscription_at}
+use Rattle.merge_resolve.specs.Priorities.{subscription_at}
 use Rattle.merge_model.specs.Publisher.{at_moment, closed, counters, last_closed, site_refusal, state_of, with_state}
 use Rattle.merge_model.specs.PublisherLocal.{version_at}
 use Rattle.merge_model.specs.Refusals.{counter_end, first_refusal, refused_if, unless}
-use Rattle.merge_model.specs.Tables.{Key, PublisherTables}
-use Rattle.merge_batch.specs.declared.reply.Act.TheVariants as order
+use Rattle.merge_types.specs.declared.row_key.RowKey.{RowKey as Key}
+use Rattle.merge_model.specs.Tables.{PublisherTables}
 
--- How far a site is in step: now, where it has all; else the moment at which the generation closed up to which it has all, where that is kept.
+-- How far a site is in step: up to now, where it holds all closed generations and the open one is empty; else up to the moment
+-- at which the last generation that it holds closed, and 0 where that is not kept.
 abbrev pub in_step : Download → PublisherTables → ℕ
 in_step m p = if (m.from == last_closed p) && (p.gens.filling.filled == 0) then p.latest.0 else unwrap_or (moment_of p.gens.closings m.from) 0
 
@@ -63,21 +63,9 @@ touched_rows publication judge site p = filter_map (touched_row judge site (insi
 abbrev pub is_between : ℕ → ℕ → TouchedRow → Bool
 is_between from to row = nat_lt from row.generation && nat_le row.generation to
 
--- at most so many generations go into one batch, and so many items
-abbrev pub generation_limit : ℕ
-generation_limit = 100
-
-abbrev pub item_limit : ℕ
-item_limit = 2000
-
--- the greatest generation behind one, up to another and within the limit, whose items are not too many
+-- the greatest generation behind one, up to another and within the limit of generations, whose items are not too many
 abbrev pub batch_end : (ℕ → ℕ) → ℕ → ℕ → ℕ
 batch_end items_up_to from last = unwrap_or (last_or None (filter (λ (to : ℕ). nat_le (items_up_to to) item_limit) (range_with_len (from + 1) (min generation_limit (last - from))))) from
-
-abbrev pub order_by : Bool → Option Version → Order
-order_by true (Some version) = order.Put version.lineage (cells_of version.body)
-order_by false (Some version) = if is_live version.body then order.RemoveLeft else order.RemoveDeleted
-order_by is_in None = order.RemoveDeleted
 
 abbrev pub item_of : PublisherTables → TouchedRow → DownloadItem
 item_of p row = record { article = row.key.article; row = row.key.row; act = order_by row.is_in (version_at p row.key) }

@@ -11,7 +11,10 @@ use Rattle.merge_batch.specs.declared.request.Join.{Join}
 use Rattle.merge_model.specs.Faults.{join_fault}
 use Rattle.merge_model.specs.Publisher.{at_moment, counters, state_of, unknown_site, with_state}
 use Rattle.merge_model.specs.Refusals.{counter_end, first_refusal, refused_if, unless}
-use Rattle.merge_model.specs.Tables.{Mapping, PublisherTables, RowSite, is_left}
+use Rattle.merge_gens.specs.declared.moves.Mapping.{Mapping}
+use Rattle.merge_gens.specs.declared.moves.RowSite.{RowSite}
+use Rattle.merge_gens.specs.Moves.{is_left}
+use Rattle.merge_model.specs.Tables.{PublisherTables}
 
 abbrev pub joined_state : Join → Moment → SiteState → SiteState
 joined_state m now state = record {

@@ -26,7 +26,9 @@ use Rattle.merge_model.specs.Keys.{at_number, put_number, row_at}
 use Rattle.merge_model.specs.Publications.{rules_of}
 use Rattle.merge_model.specs.Publisher.{at_moment, counters}
 use Rattle.merge_model.specs.Refusals.{counter_end, first_refusal}
-use Rattle.merge_model.specs.Tables.{Key, PublisherRow, PublisherTables}
+use Rattle.merge_types.specs.declared.row_key.RowKey.{RowKey as Key}
+use Rattle.merge_units.specs.declared.site_row.PublisherRow.{PublisherRow}
+use Rattle.merge_model.specs.Tables.{PublisherTables}
 
 abbrev pub version_at : PublisherTables → Key → Option Version
 version_at p key = option_map (λ (row : PublisherRow). row.version) (row_at p.rows key)

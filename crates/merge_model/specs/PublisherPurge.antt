@@ -6,7 +6,13 @@ use Rattle.merge_gens.specs.Book.{moment_of, purged}
 use Rattle.merge_gens.specs.declared.closings.Closing.{Closing}
 use Rattle.merge_schema.specs.declared.publication.Publication.{Publication}
 use Rattle.merge_model.specs.Publisher.{at_moment}
-use Rattle.merge_model.specs.Tables.{Key, Mapping, PublisherRow, PublisherTables, RowSite, is_left}
+use Rattle.merge_types.specs.declared.row_key.RowKey.{RowKey as Key}
+use Rattle.merge_gens.specs.declared.moves.Mapping.{Mapping}
+use Rattle.merge_units.specs.declared.site_row.PublisherRow.{PublisherRow}
+use Rattle.merge_gens.specs.declared.moves.RowSite.{RowSite}
+use Rattle.merge_gens.specs.Moves.{is_left}
+use Rattle.merge_model.specs.Tables.{PublisherTables}
+use Rattle.merge_model.specs.declared.outcome.Forgotten.{Forgotten}
 
 -- A generation is old where it closed longer ago than the retention and one day more.
 abbrev pub grace : ℕ
@@ -30,11 +36,6 @@ abbrev pub is_old_left : Publication → PublisherTables → RowSite × Mapping 
 is_old_left publication p entry = is_left entry.1.kind && is_old publication p entry.1.generation
 
 -- how many tombstones, mappings and closed generations are forgotten
-pub record Forgotten : Type 0 where
-  pub tombstones : ℕ
-  pub mappings : ℕ
-  pub generations : ℕ
-
 abbrev pub forgotten : Publication → PublisherTables → Forgotten
 forgotten publication p = record {
   tombstones = count_by (is_old_tombstone publication p) p.rows;

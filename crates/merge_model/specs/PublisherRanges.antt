@@ -6,7 +6,7 @@ use Rattle.merge_ident.specs.Answers.{Answer, ask_of, grants_with_all, plans_of}
 use Rattle.merge_ident.specs.declared.grants.Ask.{Ask}
 use Rattle.merge_ident.specs.declared.grants.GrantAnswer.TheVariants.{Granted, Kept}
 use Rattle.merge_ident.specs.declared.grants.IdentFault.TheVariants.{NoRange}
-use Rattle.merge_ident.specs.declared.grants.Planned.{Planned}
+use Rattle.merge_ident.specs.declared.grants.GrantPlan.{GrantPlan}
 use Rattle.merge_ident.specs.declared.grants.Range.{Range}
 use Rattle.merge_schema.specs.declared.publication.Publication.{Publication}
 use Rattle.merge_batch.specs.declared.refusal.Refusal.{Refusal}
@@ -26,7 +26,7 @@ abbrev pub ask_by : SiteId → Want → Ask
 ask_by site want = ask_of site want.article want.have want.due
 
 -- each ask is answered over the grants that those before it leave
-abbrev pub plans : Publication → RangeAsk → PublisherTables → List Planned
+abbrev pub plans : Publication → RangeAsk → PublisherTables → List GrantPlan
 plans publication m p = plans_of (rules_of publication) p.grants (map (ask_by m.site) m.wants)
 
 abbrev pub grant_of : ℕ → ℕ → Range → RangeGrant
@@ -43,14 +43,14 @@ abbrev pub ended_by : ℕ → Answer → Option Ended
 ended_by article (Err (NoRange next greatest)) = Some (record { article = article; next = next; greatest = greatest })
 ended_by article answer = None
 
-abbrev pub ranged : RangeAsk → List Planned → Ranged
+abbrev pub ranged : RangeAsk → List GrantPlan → Ranged
 ranged m planned = record {
   seq = m.seq;
-  grants = filter_map (λ (plan : Planned). granted_by plan.ask.article plan.answer) planned;
-  ended = filter_map (λ (plan : Planned). ended_by plan.ask.article plan.answer) planned;
+  grants = filter_map (λ (plan : GrantPlan). granted_by plan.ask.article plan.answer) planned;
+  ended = filter_map (λ (plan : GrantPlan). ended_by plan.ask.article plan.answer) planned;
 }
 
-abbrev pub with_grants : List Planned → PublisherTables → PublisherTables
+abbrev pub with_grants : List GrantPlan → PublisherTables → PublisherTables
 with_grants planned p = record p { grants = grants_with_all p.grants planned }
 
 abbrev pub ranges_refusal : Publication → PublisherJudge → Moment → RangeAsk → PublisherTables → Option Refusal

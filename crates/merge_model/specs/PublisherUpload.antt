@@ -11,7 +11,7 @@ use Rattle.merge_batch.specs.declared.refusal.Refusal.TheVariants.{Gap, TooManyR
 use Rattle.merge_batch.specs.declared.reply.Uploaded.{Uploaded}
 use Rattle.merge_batch.specs.declared.request.Upload.{Upload}
 use Rattle.merge_model.specs.Acts.{Act, Met, New, Unknown, acts_of, changes_by, lost_from, versions_of}
-use Rattle.merge_model.specs.Changes.{rows_limit}
+use Rattle.merge_types.specs.Limits.{rows_limit}
 use Rattle.merge_model.specs.Entries.{Changing, changed_by}
 use Rattle.merge_model.specs.Faults.{upload_fault}
 use Rattle.merge_model.specs.Judge.{PublisherJudge}
@@ -38,8 +38,8 @@ changing_by m acts = record {
 }
 
 -- what the acts lost, the publisher's own changes in them, and what the sites have
-abbrev pub with_acts : Publication → PublisherJudge → Upload → List Act → PublisherTables → PublisherTables
-with_acts publication judge m acts p = let lost = lost_from publication judge m.site p.latest (p.conflict_count + 1) acts in record p {
+abbrev pub with_acts : Publication → Upload → List Act → PublisherTables → PublisherTables
+with_acts publication m acts p = let lost = lost_from publication m.site p.latest (p.conflict_count + 1) acts in record p {
   changes = p.changes + changes_by acts;
   conflict_count = p.conflict_count + length lost;
   conflicts = p.conflicts ++ lost;
@@ -51,7 +51,7 @@ abbrev pub brings_news : PublisherJudge → Upload → Bool
 brings_news judge m = nat_lt (judge.received m.site.0) m.to
 
 abbrev pub taken_in : Publication → PublisherJudge → Upload → List Act → PublisherTables → PublisherTables
-taken_in publication judge m acts p = changed_by publication judge (changing_by m acts) (with_acts publication judge m acts p)
+taken_in publication judge m acts p = changed_by publication judge (changing_by m acts) (with_acts publication m acts p)
 
 abbrev pub uploaded : Publication → PublisherJudge → Upload → List Decision → PublisherTables → PublisherTables
 uploaded publication judge m decisions p = if brings_news judge m then taken_in publication judge m (acts_of judge m decisions p) p else p

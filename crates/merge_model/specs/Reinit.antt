@@ -2,12 +2,15 @@
 use Rattle.std.specs.Prelude.{List, None, Result, Some, [], false, filter_map, if◌then◌else◌, length, ℕ, ◌++◌, ◌+◌, ◌∷◌}
 use Rattle.merge_types.specs.declared.identifiers.Moment.{Moment}
 use Rattle.merge_units.specs.declared.version.Version.{Version}
+use Rattle.merge_conflict.specs.declared.kind.ConflictKind.TheVariants as kind
 use Rattle.merge_conflict.specs.declared.row.ConflictRow.{ConflictRow}
 use Rattle.merge_batch.specs.declared.refusal.Refusal.{Refusal}
 use Rattle.merge_model.specs.Judge.{SubscriberJudge}
 use Rattle.merge_model.specs.Refusals.{counter_end, unless}
 use Rattle.merge_model.specs.Subscriber.{sub_at_moment, sub_closed, sub_counters, sub_last_closed}
-use Rattle.merge_model.specs.Tables.{Key, SubscriberRow, SubscriberTables}
+use Rattle.merge_types.specs.declared.row_key.RowKey.{RowKey as Key}
+use Rattle.merge_units.specs.declared.site_row.SubscriberRow.{SubscriberRow}
+use Rattle.merge_model.specs.Tables.{SubscriberTables}
 use Rattle.merge_conflict.specs.declared.row.Verdict.TheVariants as verdict
 
 abbrev pub discarded_row : SubscriberTables → ℕ → Key → Version → ConflictRow
@@ -15,7 +18,7 @@ discarded_row s number key version = record {
   number = number;
   article = key.article;
   row = key.row;
-  kind = 0;
+  kind = kind.Discarded;
   losing = version;
   from = s.site;
   verdict = verdict.Discarded;

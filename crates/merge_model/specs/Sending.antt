@@ -16,7 +16,8 @@ use Rattle.merge_model.specs.Judge.{SubscriberJudge}
 use Rattle.merge_model.specs.PublisherDownload.{batch_end}
 use Rattle.merge_model.specs.Refusals.{counter_end, first_refusal, unless}
 use Rattle.merge_model.specs.Subscriber.{is_joining, sub_at_moment, sub_closed, sub_counters, sub_last_closed, sub_version_at}
-use Rattle.merge_model.specs.Tables.{Key, SubscriberTables}
+use Rattle.merge_types.specs.declared.row_key.RowKey.{RowKey as Key}
+use Rattle.merge_model.specs.Tables.{SubscriberTables}
 use Rattle.merge_batch.specs.declared.request.Outstanding.TheVariants as ask
 
 abbrev pub with_message : Outstanding → SubscriberTables → SubscriberTables

@@ -7,7 +7,6 @@ use Rattle.merge_types.specs.declared.identifiers.RowId.{RowId}
 use Rattle.merge_types.specs.declared.identifiers.SiteId.{SiteId}
 use Rattle.merge_units.specs.declared.result.Decision.{Decision}
 use Rattle.merge_units.specs.declared.result.Decision.TheVariants.{KeepPublisher}
-use Rattle.merge_conflict.specs.declared.case.ConflictCase.{ConflictCase}
 use Rattle.merge_resolve.specs.Asked.{decisions_of, tallies_after}
 use Rattle.merge_schema.specs.declared.publication.Publication.{Publication}
 use Rattle.merge_batch.specs.declared.refusal.Refusal.{Refusal}
@@ -22,21 +21,29 @@ use Rattle.merge_batch.specs.declared.request.Join.{Join}
 use Rattle.merge_batch.specs.declared.request.RangeAsk.{RangeAsk}
 use Rattle.merge_batch.specs.declared.request.Request.{Request}
 use Rattle.merge_batch.specs.declared.request.Upload.{Upload}
-use Rattle.merge_model.specs.Acts.{Question, counted, questions_of}
+use Rattle.merge_model.specs.Acts.{questions_of}
+use Rattle.merge_resolve.specs.Questions.{counted, question_of as asked_of}
+use Rattle.merge_resolve.specs.declared.asking.Question.{Question}
 use Rattle.merge_model.specs.Judge.{PublisherJudge}
 use Rattle.merge_model.specs.Publisher.{at_moment, close_generation}
 use Rattle.merge_model.specs.PublisherDownload.{download}
 use Rattle.merge_model.specs.PublisherJoin.{join}
 use Rattle.merge_model.specs.PublisherLocal.{local}
-use Rattle.merge_model.specs.PublisherPurge.{Forgotten, purge}
+use Rattle.merge_model.specs.PublisherPurge.{purge}
 use Rattle.merge_model.specs.PublisherRanges.{ranges}
 use Rattle.merge_model.specs.PublisherUpload.{upload}
 use Rattle.merge_model.specs.Reinit.{reinitialise}
 use Rattle.merge_model.specs.Sending.{make_ask, make_join, make_ranges, make_upload}
 use Rattle.merge_model.specs.Subscriber.{close_sub_generation, sub_local}
 use Rattle.merge_model.specs.Tables.{PublisherTables, SubscriberTables}
-use Rattle.merge_model.specs.Taking.{Taken, take_reply}
-use Rattle.merge_model.specs.World.{Asks, Judges, Letter, Message, Replies, Saying, World, by_tables, letter_at, subscriber_at, with_publisher, with_subscriber}
+use Rattle.merge_model.specs.Taking.{take_reply}
+use Rattle.merge_model.specs.declared.outcome.Taken.{Taken}
+use Rattle.merge_model.specs.World.{Judges, Saying, World, by_tables, letter_at, subscriber_at, with_publisher, with_subscriber}
+use Rattle.merge_model.specs.declared.letter.Message.TheVariants.{Asks, Replies}
+use Rattle.merge_model.specs.declared.letter.Letter.{Letter}
+use Rattle.merge_model.specs.declared.letter.Message.{Message}
+use Rattle.merge_model.specs.declared.outcome.Outcome.{Outcome}
+use Rattle.merge_model.specs.declared.outcome.Outcome.TheVariants.{Closes, Discards, Forgot, Made, NoLetter, NoPost, Passed, Posted, Refuses, Took}
 use Rattle.merge_batch.specs.declared.reply.Reply.TheVariants as reply
 use Rattle.merge_batch.specs.declared.request.Request.TheVariants as request
 
@@ -59,20 +66,8 @@ pub data Action : Type 0 where
   Deliver : ℕ → Action
   MakeAnew : SiteId → Action
   Forget : Action
-
--- what came of a step
-pub data Outcome : Type 0 where
-  Passed : Outcome
-  Made : RowId → Outcome
-  Closes : ℕ → Outcome
-  -- a message with this number was made, or there was none to make
-  Posted : ℕ → Outcome
-  NoPost : Outcome
-  Took : Taken → Outcome
-  NoLetter : Outcome
-  Discards : ℕ → Outcome
-  Forgot : Forgotten → Outcome
-  Refuses : Refusal → Outcome
+  -- a report, a restart, or an event that is refused for a name: it looks and changes nothing
+  Look : Action
 
 -- a message more
 abbrev pub post : SiteId → Message → World → World × Outcome
@@ -134,9 +129,6 @@ send judges site sending w = at_subscriber site w (send_from judges sending w)
 
 -- The questions of an upload that is not refused are asked one after the other.
 
-abbrev pub asked_of : Question → ℕ × ConflictCase
-asked_of question = (question.place, question.case)
-
 abbrev pub kept_decision : Question × Option Decision → Decision
 kept_decision pair = counted pair.0 (unwrap_or pair.1 KeepPublisher)
 
@@ -147,15 +139,15 @@ kept_decisions says tallies questions = map kept_decision (zip questions (decisi
 abbrev pub upload_questions : Publication → PublisherJudge → Moment → Upload → PublisherTables → List Question
 upload_questions publication judge now m p = questions_of publication judge m (at_moment now p)
 
-abbrev pub after_upload : Publication → Saying → PublisherJudge → Upload → World → Result (PublisherTables × Uploaded) Refusal → World × Outcome
-after_upload publication says judge m w done = unless_refused w done
-    (λ (made : PublisherTables × Uploaded). post m.site (Replies (reply.Uploaded made.1)) (record w {
+abbrev pub after_upload : Publication → Saying → PublisherJudge → SiteId → Upload → World → Result (PublisherTables × Uploaded) Refusal → World × Outcome
+after_upload publication says judge site m w done = unless_refused w done
+    (λ (made : PublisherTables × Uploaded). post site (Replies (reply.Uploaded made.1)) (record w {
       publisher = made.0;
       tallies = tallies_after w.tallies (map asked_of (upload_questions publication judge w.moment m w.publisher));
     }))
 
-abbrev pub deliver_upload : Publication → Saying → PublisherJudge → Upload → World → World × Outcome
-deliver_upload publication says judge m w = after_upload publication says judge m w
+abbrev pub deliver_upload : Publication → Saying → PublisherJudge → SiteId → Upload → World → World × Outcome
+deliver_upload publication says judge site m w = after_upload publication says judge site m w
     (upload publication judge w.moment m (kept_decisions says w.tallies (upload_questions publication judge w.moment m w.publisher)) w.publisher)
 
 abbrev pub answered : {A : Type 0} → SiteId → (A → Reply) → World → Result (PublisherTables × A) Refusal → World × Outcome
@@ -164,7 +156,7 @@ answered {A = A} site message w done = unless_refused w done
 
 abbrev pub deliver_request : Publication → Saying → PublisherJudge → SiteId → Request → World → World × Outcome
 deliver_request publication says judge site (request.Join m) w = answered site (λ (made : Joined). reply.Joined made) w (join publication w.moment m w.publisher)
-deliver_request publication says judge site (request.Upload m) w = deliver_upload publication says judge m w
+deliver_request publication says judge site (request.Upload m) w = deliver_upload publication says judge site m w
 deliver_request publication says judge site (request.Ranges m) w = answered site (λ (made : Ranged). reply.Ranged made) w (ranges publication judge w.moment m w.publisher)
 deliver_request publication says judge site (request.Download m) w = answered site (λ (made : Downloaded). reply.Downloaded made) w (download publication judge w.moment m w.publisher)
 
@@ -205,6 +197,7 @@ step_by publication says judges w (Send site sending) = send judges site sending
 step_by publication says judges w (Deliver number) = deliver publication says judges number w
 step_by publication says judges w (MakeAnew site) = at_subscriber site w (make_anew judges w)
 step_by publication says judges w Forget = forget publication w
+step_by publication says judges w Look = (w, Passed)
 
 -- the machine's step decides by the tables
 abbrev pub step : Publication → Saying → World → Action → World × Outcome

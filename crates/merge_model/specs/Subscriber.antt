@@ -19,7 +19,9 @@ use Rattle.merge_model.specs.Changes.{change_refusal, key_of, version_after}
 use Rattle.merge_model.specs.Keys.{at_number, put_number, put_row, row_at}
 use Rattle.merge_model.specs.Publisher.{later, new_holders, no_generations}
 use Rattle.merge_model.specs.Refusals.{counter_end, first_refusal, refused_if, unless}
-use Rattle.merge_model.specs.Tables.{Key, SubscriberRow, SubscriberTables}
+use Rattle.merge_types.specs.declared.row_key.RowKey.{RowKey as Key}
+use Rattle.merge_units.specs.declared.site_row.SubscriberRow.{SubscriberRow}
+use Rattle.merge_model.specs.Tables.{SubscriberTables}
 
 abbrev pub empty_subscriber : Publication → SiteId → SubscriberTables
 empty_subscriber publication site = record {

@@ -1,44 +1,18 @@
 -- The tables of the sites: what the stored records of a site hold, as lists.
-use Rattle.std.specs.Prelude.{Bool, List, Option, false, true, ℕ}
+use Rattle.std.specs.Prelude.{Bool, List, Option, ℕ}
 use Rattle.merge_types.specs.declared.identifiers.Moment.{Moment}
-use Rattle.merge_types.specs.declared.identifiers.RowId.{RowId}
 use Rattle.merge_types.specs.declared.identifiers.SiteId.{SiteId}
-use Rattle.merge_units.specs.declared.version.Version.{Version}
+use Rattle.merge_types.specs.declared.row_key.RowKey.{RowKey as Key}
+use Rattle.merge_units.specs.declared.site_row.PublisherRow.{PublisherRow}
+use Rattle.merge_units.specs.declared.site_row.SubscriberRow.{SubscriberRow}
 use Rattle.merge_gens.specs.Book.{Book}
+use Rattle.merge_gens.specs.declared.moves.Mapping.{Mapping}
+use Rattle.merge_gens.specs.declared.moves.RowSite.{RowSite}
 use Rattle.merge_gens.specs.declared.sites.SiteState.{SiteState}
 use Rattle.merge_ident.specs.Holders.{Holder}
 use Rattle.merge_ident.specs.declared.grants.Grant.{Grant}
 use Rattle.merge_conflict.specs.declared.row.ConflictRow.{ConflictRow}
 use Rattle.merge_batch.specs.declared.request.Outstanding.{Outstanding}
-
--- a row of an article, which is named by its place
-pub record Key : Type 0 where
-  pub article : ℕ
-  pub row : RowId
-
--- a row and a site
-pub record RowSite : Type 0 where
-  pub key : Key
-  pub site : ℕ
-
--- a row at the publisher, with the generation of its last change
-pub record PublisherRow : Type 0 where
-  pub version : Version
-  pub changed : ℕ
-
--- a row came into a site's partition, or left it
-pub data MoveKind : Type 0 where
-  Entered : MoveKind
-  Left : MoveKind
-
-abbrev pub is_left : MoveKind → Bool
-is_left Entered = false
-is_left Left = true
-
--- the last move of a row for a site, with its generation
-pub record Mapping : Type 0 where
-  pub kind : MoveKind
-  pub generation : ℕ
 
 -- All lists of pairs ascend: rows by article and row, mappings by row and site, the rest by number.
 -- A closed generation keeps the moment at which it closed.
@@ -59,11 +33,6 @@ pub record PublisherTables : Type 0 where
   -- the subscribers that ever joined
   pub sites : List (ℕ × SiteState)
 
--- a row at a subscriber, with the generations above the received one in which this site changed it, in ascending order
-pub record SubscriberRow : Type 0 where
-  pub version : Version
-  pub generations : List ℕ
-
 -- A closed generation keeps the number of this site's last change in it, in place of a moment.
 pub record SubscriberTables : Type 0 where
   pub site : SiteId
@@ -75,7 +44,8 @@ pub record SubscriberTables : Type 0 where
   pub seq : ℕ
   -- the message that is outstanding, with its number
   pub outstanding : Option (ℕ × Outstanding)
-  -- the last own generation that the publisher has taken
+  -- The own generations up to this one are done with: the publisher has taken them, or the site was made anew since, and
+  -- discarded what it had not sent.
   pub received : ℕ
   -- the last generation of the publisher that is held
   pub watermark : ℕ

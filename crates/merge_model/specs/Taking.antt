@@ -3,8 +3,7 @@ use Rattle.std.specs.List.{fold}
 use Rattle.std.specs.Prelude.{List, None, Ok, Option, Result, Some, [], filter, if◌then◌else◌, map, nat_lt, true, ℕ, ◌==◌}
 use Rattle.merge_types.specs.declared.identifiers.Moment.{Moment}
 use Rattle.merge_units.specs.declared.version.Body.TheVariants.{Live}
-use Rattle.merge_gens.specs.Book.{Book}
-use Rattle.merge_gens.specs.declared.closings.Closing.{Closing}
+use Rattle.merge_gens.specs.Book.{forgotten}
 use Rattle.merge_ident.specs.Holders.{Holder, after_receive}
 use Rattle.merge_schema.specs.declared.publication.Publication.{Publication}
 use Rattle.merge_batch.specs.declared.refusal.Refusal.{Refusal}
@@ -20,7 +19,11 @@ use Rattle.merge_model.specs.Judge.{SubscriberJudge}
 use Rattle.merge_model.specs.Keys.{at_number, drop_row, put_number, put_row}
 use Rattle.merge_model.specs.Refusals.{unless}
 use Rattle.merge_model.specs.Subscriber.{sub_at_moment}
-use Rattle.merge_model.specs.Tables.{Key, SubscriberRow, SubscriberTables}
+use Rattle.merge_types.specs.declared.row_key.RowKey.{RowKey as Key}
+use Rattle.merge_units.specs.declared.site_row.SubscriberRow.{SubscriberRow}
+use Rattle.merge_model.specs.Tables.{SubscriberTables}
+use Rattle.merge_model.specs.declared.outcome.Taken.{Taken}
+use Rattle.merge_model.specs.declared.outcome.Taken.TheVariants.{Acted, Missed}
 use Rattle.merge_batch.specs.declared.reply.Act.TheVariants as order
 use Rattle.merge_batch.specs.declared.reply.Reply.TheVariants as reply
 
@@ -28,14 +31,11 @@ use Rattle.merge_batch.specs.declared.reply.Reply.TheVariants as reply
 abbrev pub row_above : ℕ → Key × SubscriberRow → Key × SubscriberRow
 row_above received row = (row.0, record row.1 { generations = filter (λ (generation : ℕ). nat_lt received generation) row.1.generations })
 
-abbrev pub gens_above : ℕ → Book → Book
-gens_above received book = record book { closings = filter (λ (closing : Closing). nat_lt received closing.generation) book.closings }
-
 abbrev pub with_received : ℕ → SubscriberTables → SubscriberTables
 with_received received s = record s {
   received = received;
   rows = map (row_above received) s.rows;
-  gens = gens_above received s.gens;
+  gens = forgotten s.gens received;
 }
 
 -- ranges that were granted
@@ -48,7 +48,7 @@ with_grant held grant = elim (at_number held grant.article) [
 abbrev pub with_grants : Ranged → SubscriberTables → SubscriberTables
 with_grants m s = record s { held = fold with_grant s.held m.grants }
 
--- a row is put as the publisher has it, or dropped; one with a change that the publisher has not taken stays
+-- a row is put as the publisher has it, or dropped
 abbrev pub with_order : Key → Order → List (Key × SubscriberRow) → List (Key × SubscriberRow)
 with_order key (order.Put lineage live) rows = put_row rows key (record { version = record { lineage = lineage; body = Live live }; generations = [] })
 with_order key order.RemoveDeleted rows = drop_row rows key
@@ -57,6 +57,7 @@ with_order key order.RemoveLeft rows = drop_row rows key
 abbrev pub key_of_download : DownloadItem → Key
 key_of_download item = record { article = item.article; row = item.row }
 
+-- but one with a change that the publisher has not taken stays as it is
 abbrev pub with_item : SubscriberJudge → ℕ → List (Key × SubscriberRow) → DownloadItem → List (Key × SubscriberRow)
 with_item judge received rows item = if judge.is_unsent received (key_of_download item) then rows else with_order (key_of_download item) item.act rows
 
@@ -81,10 +82,7 @@ seq_of (reply.Ranged m) = m.seq
 seq_of (reply.Downloaded m) = m.seq
 seq_of (reply.Refused number values) = 0
 
--- what becomes of a reply. One that doesn't act is told with its number and that of the outstanding message, 0 where none is
-pub data Taken : Type 0 where
-  Acted : Taken
-  Missed : (seq outstanding : ℕ) → Taken
+-- One that doesn't act is told with its number and that of the outstanding message, 0 where none is.
 
 abbrev pub taken : SubscriberJudge → Moment → Reply → SubscriberTables → SubscriberTables
 taken judge now m s = after_reply judge m (record (sub_at_moment now s) { outstanding = None })

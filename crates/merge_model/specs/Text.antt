@@ -2,9 +2,6 @@
 use Rattle.std.specs.Prelude.{ℕ, suc, ℤ, List, [], ◌∷◌, ◌++◌, length, map, sum_by, codes, slice_get, Option, Some, None, option_map}
 use Rattle.std.specs.List.{flat_map}
 use Rattle.std.specs.Fmt.{decimal, signed_decimal}
-use Rattle.merge_types.specs.declared.identifiers.SiteId.{SiteId}
-use Rattle.merge_types.specs.declared.identifiers.RowId.{RowId}
-use Rattle.merge_types.specs.declared.values.Value.{Value}
 use Rattle.merge_types.specs.Literal.{printed}
 use Rattle.merge_types.specs.Rows.{row_text}
 use Rattle.merge_units.specs.declared.version.Cell.{Cell}
@@ -14,11 +11,17 @@ use Rattle.merge_gens.specs.declared.filling.Filling.{Filling}
 use Rattle.merge_gens.specs.declared.sites.SiteState.{SiteState}
 use Rattle.merge_gens.specs.declared.sites.Marks.{Marks}
 use Rattle.merge_ident.specs.declared.grants.Grant.{Grant}
-use Rattle.merge_ident.specs.Holders.{Holder, Received, next_of}
+use Rattle.merge_ident.specs.Holders.{Received, next_of}
+use Rattle.merge_conflict.specs.Kinds.{number_of_kind}
 use Rattle.merge_conflict.specs.declared.row.ConflictRow.{ConflictRow}
 use Rattle.merge_conflict.specs.declared.row.Verdict.{Verdict}
 use Rattle.merge_conflict.specs.declared.row.Verdict.TheVariants.{Publisher, Subscriber, Custom, Purged as PurgedRow, Discarded as DiscardedRow}
-use Rattle.merge_model.specs.Answers.{Answer, Now, RowMade, Fine, ClosedAt, Done, Stopped, Sent, Nothing, Applied, Ignored, NoMessage, Discarded, Purged, Rows, Partition, Counts, Conflicts, Grants, Held, OfPublisher, OfSubscriber, Refused, RefusedIn}
+use Rattle.merge_model.specs.declared.answer.Answer.{Answer}
+use Rattle.merge_model.specs.declared.answer.Answer.TheVariants.{Now, RowMade, Fine, ClosedAt, Done, Stopped, Sent, Nothing, Applied, Ignored, NoMessage, Discarded, Purged, Rows, Partition, Counts, Conflicts, Grants, Held, OfPublisher, OfSubscriber, Refused, RefusedIn}
+use Rattle.merge_model.specs.declared.answer.HeldRanges.{HeldRanges}
+use Rattle.merge_model.specs.declared.answer.ShownRow.{ShownRow}
+use Rattle.merge_model.specs.declared.answer.SiteStanding.{SiteStanding}
+use Rattle.merge_types.specs.declared.row_key.RowKey.{RowKey as Key}
 use Rattle.merge_batch.specs.declared.refusal.Refusal.{Refusal}
 use Rattle.merge_batch.specs.declared.refusal.Refusal.TheVariants.{UnknownSite, Expired, Stale, Gap, BadBatch, WrongWatermark, StoreFault, NoRow, WrongType, RowTooLong, IdentityUsedUp, TooManyRows, IdentityColumn, Damaged, Joining, CounterEnd, NotJoined, UnknownName, NoMemory}
 
@@ -42,7 +45,7 @@ count_line what count = line (what ∷ decimal count ∷ [])
 
 -- Refusals.
 
--- the number and the words of a refusal, with a column by what it is called. A damaged record is no answer of a script
+-- the number and the words of a refusal, with a column by what it is called. No step of a script is refused for a damaged record
 abbrev pub refusal_words : (ℕ → List ℕ) → Refusal → List (List ℕ)
 refusal_words column (UnknownSite site) = codes "refused 1 unknown site" ∷ decimal site.0 ∷ []
 refusal_words column (Expired last_sync now) = codes "refused 2 expired" ∷ decimal last_sync.0 ∷ decimal now.0 ∷ []
@@ -67,16 +70,16 @@ refusal_words column NoMemory = codes "no memory" ∷ []
 -- Reports.
 
 -- a row's identifier, and its values
-abbrev pub row_line : RowId × List Value → List ℕ
-row_line row = line (row_text row.0.0 ∷ map printed row.1)
+abbrev pub row_line : ShownRow → List ℕ
+row_line row = line (row_text row.row.0 ∷ map printed row.values)
 
-abbrev pub rows_text : List (RowId × List Value) → List ℕ
+abbrev pub rows_text : List ShownRow → List ℕ
 rows_text rows = flat_map row_line rows ++ count_line (codes "rows") (length rows)
 
-abbrev pub member_line : Names → ℕ × RowId → List ℕ
-member_line names row = line (names.article row.0 ∷ row_text row.1.0 ∷ [])
+abbrev pub member_line : Names → Key → List ℕ
+member_line names row = line (names.article row.article ∷ row_text row.row.0 ∷ [])
 
-abbrev pub partition_text : Names → List (ℕ × RowId) → List ℕ
+abbrev pub partition_text : Names → List Key → List ℕ
 partition_text names rows = flat_map (member_line names) rows ++ count_line (codes "rows") (length rows)
 
 -- the live rows of each article, of which the first has this place
@@ -104,7 +107,7 @@ conflict_line names row =
     decimal row.number
     ∷ names.article row.article
     ∷ row_text row.row.0
-    ∷ decimal row.kind
+    ∷ decimal (number_of_kind row.kind)
     ∷ decimal row.from.0
     ∷ verdict_text row.verdict
     ∷ decimal row.moment.0
@@ -138,19 +141,19 @@ next_and_end received = (next_of received, received.range.end)
 abbrev pub begin_and_end : Received → ℤ × ℤ
 begin_and_end received = (received.range.begin, received.range.end)
 
-abbrev pub holder_line : Names → ℕ × Holder → List ℕ
+abbrev pub holder_line : Names → HeldRanges → List ℕ
 holder_line names holder =
     line (
-    names.article holder.0
-    ∷ decimal holder.1.have
-    ∷ number_words (option_map next_and_end (slice_get holder.1.held 0))
-    ++ number_words (option_map begin_and_end (slice_get holder.1.held 1)))
+    names.article holder.article
+    ∷ decimal holder.ranges.have
+    ∷ number_words (option_map next_and_end (slice_get holder.ranges.held 0))
+    ++ number_words (option_map begin_and_end (slice_get holder.ranges.held 1)))
 
 -- how many ranges are held
-abbrev pub held_count : ℕ × Holder → ℕ
-held_count holder = length holder.1.held
+abbrev pub held_count : HeldRanges → ℕ
+held_count holder = length holder.ranges.held
 
-abbrev pub holders_text : Names → List (ℕ × Holder) → List ℕ
+abbrev pub holders_text : Names → List HeldRanges → List ℕ
 holders_text names holders = flat_map (holder_line names) holders ++ count_line (codes "ranges") (sum_by held_count holders)
 
 -- the last closed generation, and how many entries the open one has
@@ -167,10 +170,10 @@ state_words (Some state) =
     ∷ codes "synced" ∷ decimal state.last_sync
     ∷ []
 
-abbrev pub subscription_line : SiteId × Option SiteState → List ℕ
-subscription_line site = line (decimal site.0.0 ∷ state_words site.1)
+abbrev pub subscription_line : SiteStanding → List ℕ
+subscription_line standing = line (decimal standing.site.0 ∷ state_words standing.state)
 
-abbrev pub publisher_text : Filling → ℕ → List (SiteId × Option SiteState) → List ℕ
+abbrev pub publisher_text : Filling → ℕ → List SiteStanding → List ℕ
 publisher_text filling kept sites =
     line (filling_words filling.last_closed filling.filled ++ codes "kept" ∷ decimal kept ∷ []) ++ flat_map subscription_line sites
 

@@ -3,11 +3,9 @@ use Rattle.std.specs.Prelude.{List, None, Option, [], map, slice_get, suc, zero,
 use Rattle.merge_types.specs.declared.identifiers.Moment.{Moment}
 use Rattle.merge_types.specs.declared.identifiers.SiteId.{SiteId}
 use Rattle.merge_units.specs.declared.result.Decision.{Decision}
-use Rattle.merge_conflict.specs.declared.case.ConflictCase.{ConflictCase}
+use Rattle.merge_resolve.specs.declared.case.ConflictCase.{ConflictCase}
 use Rattle.merge_schema.specs.declared.publication.Publication.{Publication}
 use Rattle.merge_schema.specs.declared.publication.Subscription.{Subscription}
-use Rattle.merge_batch.specs.declared.reply.Reply.{Reply}
-use Rattle.merge_batch.specs.declared.request.Request.{Request}
 use Rattle.merge_model.specs.ByNumbers.{by_numbers, by_rows}
 use Rattle.merge_model.specs.Judge.{PublisherJudge, SubscriberJudge}
 use Rattle.merge_model.specs.Keys.{at_number, put_number}
@@ -15,15 +13,7 @@ use Rattle.merge_model.specs.Publications.{by_site}
 use Rattle.merge_model.specs.Publisher.{empty_publisher}
 use Rattle.merge_model.specs.Subscriber.{empty_subscriber}
 use Rattle.merge_model.specs.Tables.{PublisherTables, SubscriberTables}
-
-pub data Message : Type 0 where
-  Asks : Request → Message
-  Replies : Reply → Message
-
--- a message of a site, or a reply to it
-pub record Letter : Type 0 where
-  pub site : SiteId
-  pub message : Message
+use Rattle.merge_model.specs.declared.letter.Letter.{Letter}
 
 pub record World : Type 0 where
   pub publisher : PublisherTables

@@ -1,5 +1,5 @@
 //! What holds of every step. These functions do nothing: their contracts are the laws.
-ghost use Rattle.merge_model.specs.Laws.{RefusedChangesNothing, RefusedNotesNothing, ReportsChangeNothing, ReportsNoteNothing, AnsweredUploadChangesNothing, EventsKeepWhatStepsKeep, PublisherNumbersRise, RangesNeverOverlap, ModelRangesNeverOverlap, PublisherStaysSorted, SubscriberNumbersRise, SubscribersStaySorted, NoGenerationActsTwice, ActingAreNew};
+ghost use Rattle.merge_model.specs.Laws.{RefusedChangesNothing, RefusedNotesNothing, ReportsChangeNothing, ReportsNoteNothing, AnsweredUploadChangesNothing, EventsKeepWhatStepsKeep, FailingEventsKeepWhatStepsKeep, PublisherNumbersRise, RangesNeverOverlap, ModelRangesNeverOverlap, PublisherStaysSorted, SubscriberNumbersRise, SubscribersStaySorted, NoGenerationActsTwice, ActingAreNew};
 
 /// A step that is refused leaves the world as it was, and its history.
 pub fn refusals_change_nothing()
@@ -19,9 +19,10 @@ pub fn answered_uploads_change_nothing()
 {}
 
 /// What each step keeps is kept by sessions, which are steps one after the other, and by every
-/// list of events.
+/// list of events. Where steps may fail, so is what other tallies of resolvers keep too.
 pub fn events_keep_what_steps_keep()
-    ensures { EventsKeepWhatStepsKeep }
+    ensures made { EventsKeepWhatStepsKeep }
+    ensures failing { FailingEventsKeepWhatStepsKeep }
 {}
 
 /// The changes, closed generations, conflict rows and moments of the sites only rise, and the

@@ -12,12 +12,12 @@ use Rattle.merge_table.specs.declared.edit.Edit.{Edit}
 use Rattle.merge_table.specs.declared.edit.Edit.TheVariants.{Take}
 use Rattle.merge_table.specs.Edits.{key_of, row_of, rows_after, rows_after_all}
 use Rattle.merge_table.proofs.LookUps.{lookup-rows_after, lookup-insert_entry}
-use Rattle.merge_part.specs.declared.key.RowKey.{RowKey}
+use Rattle.merge_types.specs.declared.row_key.RowKey.{RowKey}
 use Rattle.merge_part.specs.declared.content.Content.{Content}
-use Rattle.merge_part.specs.Keys.{key_cmp}
+use Rattle.merge_types.specs.RowKeys.{key_cmp}
 use Rattle.merge_part.specs.Draft.{found, rows_in, edit_to}
 use Rattle.merge_part.specs.Places.{ArePlaces}
-use Rattle.merge_part.proofs.Sorted.{sorted_after_all}
+use Rattle.merge_table.proofs.Sorted.{sorted_after_all}
 
 pub key_total : IsTotalOrder key_cmp
 key_total = then_total (on_total (λ (k : RowKey). k.article) nat_cmp_total) (on_total (λ (k : RowKey). k.row.0) nat_cmp_total)

@@ -20,11 +20,11 @@ use Rattle.merge_schema.specs.EvaluationOrder.{IsEvaluationOrder}
 use Rattle.merge_schema.specs.Partition.{LiveRow, are_joined, is_empty, is_whole, passes, is_parent, has_parent, belongs, belongs_to, article_at, is_in}
 use Rattle.merge_schema.proofs.ListMembers.{any_found, any_at, contains_filter, contains_from_filter}
 use Rattle.merge_schema.proofs.Partitions.{partition_least, partition_only, in_by_partition}
-use Rattle.merge_part.specs.declared.key.RowKey.{RowKey}
+use Rattle.merge_types.specs.declared.row_key.RowKey.{RowKey}
 use Rattle.merge_part.specs.declared.sites.Sites.{Sites}
 use Rattle.merge_part.specs.declared.content.Content.{Content}
 use Rattle.merge_part.specs.declared.link.Link.{Link}
-use Rattle.merge_part.specs.Keys.{key_cmp}
+use Rattle.merge_types.specs.RowKeys.{key_cmp}
 use Rattle.merge_part.specs.Draft.{found}
 use Rattle.merge_part.specs.Filtering.{filter_at, true_for}
 use Rattle.merge_part.specs.Live.{values_held, live_of, live_row, live_rows}

@@ -6,11 +6,11 @@ use Rattle.std.specs.Ordering.{is_eq}
 use Rattle.std.specs.BTreeMap.{is_at}
 use Rattle.merge_types.specs.declared.values.Value.{Value}
 use Rattle.merge_schema.specs.Partition.{are_joined}
-use Rattle.merge_part.specs.declared.key.RowKey.{RowKey}
+use Rattle.merge_types.specs.declared.row_key.RowKey.{RowKey}
 use Rattle.merge_part.specs.declared.sites.Sites.{Sites}
 use Rattle.merge_part.specs.declared.content.Content.{Content}
 use Rattle.merge_part.specs.declared.link.Link.{Link}
-use Rattle.merge_part.specs.Keys.{key_cmp, key_exact}
+use Rattle.merge_types.specs.RowKeys.{key_cmp, key_exact}
 use Rattle.merge_part.specs.Sites.{has_site}
 use Rattle.merge_part.specs.Settling.{AllMeet, AreMarksOf, NoneFollowsItself}
 use Rattle.merge_part.specs.Rule.{value_at, parent_value, gives, IsAt, Parent, Meets}

@@ -1,6 +1,5 @@
 pub mod Bits
 pub mod Kept
-pub mod Sorted
 pub mod Drafts
 pub mod Walks
 pub mod Reasons
@@ -9,7 +8,9 @@ pub mod Settled
 pub mod Passing
 pub mod Taken
 pub mod LiveRows
-pub mod Entered
+pub mod Entries
+pub mod Found
+pub mod Values
 pub mod LinkLists
 pub mod InPartition
 pub mod MoveLists
@@ -18,7 +19,4 @@ pub mod SitePartitions
 pub mod Prepared
 pub mod Orders
 pub mod Begun
-pub mod Forgotten
-pub mod NotFound
-pub mod Once
 pub mod Trials

@@ -12,10 +12,10 @@ use Rattle.merge_table.specs.declared.edit.Edit.{Edit}
 use Rattle.merge_table.specs.Edits.{rows_after, rows_after_all}
 use Rattle.merge_schema.specs.declared.publication.Article.{Article}
 use Rattle.merge_schema.specs.declared.publication.Publication.{Publication}
-use Rattle.merge_part.specs.declared.key.RowKey.{RowKey}
+use Rattle.merge_types.specs.declared.row_key.RowKey.{RowKey}
 use Rattle.merge_part.specs.declared.content.Content.{Content}
 use Rattle.merge_part.specs.declared.change.RowChange.{RowChange}
-use Rattle.merge_part.specs.Keys.{key_cmp}
+use Rattle.merge_types.specs.RowKeys.{key_cmp}
 use Rattle.merge_part.specs.Draft.{edit_to}
 use Rattle.merge_part.specs.Live.{live_of, live_with, live_after}
 use Rattle.merge_part.specs.Sites.{has_site}
@@ -23,7 +23,7 @@ use Rattle.merge_part.specs.Taking.{HoldsNew, TakesUp, FitsArticle, fits_columns
 use Rattle.merge_part.specs.Rules.{AreFiltered}
 use Rattle.merge_part.proofs.Drafts.{rows_after_all-push}
 use Rattle.merge_part.proofs.Kept.{same_key}
-use Rattle.merge_part.proofs.Taken.{IsChangedTo}
+use Rattle.merge_part.specs.Entering.{IsChangedTo}
 
 live-insert_step : (key k : RowKey) (content x : Content) (rows : List (RowKey × Content)) → live_of (insert_entry key_cmp rows key content) ≡ insert_entry key_cmp (live_of rows) key content.values
     → (r : Ordering) → live_of (match_ordering r ((key, content) ∷ (k, x) ∷ rows) ((k, content) ∷ rows) ((k, x) ∷ insert_entry key_cmp rows key content))

@@ -5,11 +5,11 @@ use Rattle.std.proofs.lemmas.List.Elements.{Contains-append_left, Contains-appen
 use Rattle.merge_types.specs.declared.identifiers.SiteId.{SiteId}
 use Rattle.merge_schema.specs.declared.publication.Subscription.{Subscription}
 use Rattle.merge_schema.proofs.ListMembers.{contains_cases, contains_none}
-use Rattle.merge_part.specs.declared.key.RowKey.{RowKey}
+use Rattle.merge_types.specs.declared.row_key.RowKey.{RowKey}
 use Rattle.merge_part.specs.declared.sites.Sites.{Sites}
 use Rattle.merge_part.specs.declared.change.Move.{Move}
-use Rattle.merge_part.specs.declared.change.MoveKind.{MoveKind}
-use Rattle.merge_part.specs.declared.change.MoveKind.TheVariants.{Entered, Left}
+use Rattle.merge_gens.specs.declared.moves.MoveKind.{MoveKind}
+use Rattle.merge_gens.specs.declared.moves.MoveKind.TheVariants.{Entered, Left}
 use Rattle.merge_part.specs.Moves.{move_if, moves_from, all_moves, was_in}
 use Rattle.merge_part.specs.Sites.{has_site}
 

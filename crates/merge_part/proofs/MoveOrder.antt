@@ -11,8 +11,8 @@ use Rattle.std.proofs.lemmas.List.Kept.{IsStrictlySortedBy-dedup, Contains-dedup
 use Rattle.std.proofs.lemmas.List.Sorted.{Contains-permutation, IsPermutation-sym}
 use Rattle.std.proofs.lemmas.Map.Lookups.{exact_unsigned}
 use Rattle.merge_part.specs.declared.change.Move.{Move}
-use Rattle.merge_part.specs.declared.change.MoveKind.{MoveKind}
-use Rattle.merge_part.specs.declared.change.MoveKind.TheVariants.{Entered, Left}
+use Rattle.merge_gens.specs.declared.moves.MoveKind.{MoveKind}
+use Rattle.merge_gens.specs.declared.moves.MoveKind.TheVariants.{Entered, Left}
 use Rattle.merge_part.specs.Moves.{move_cmp, kind_number}
 use Rattle.merge_part.specs.contracts.change.MoveOrd.TheImpl as move_ord
 use Rattle.merge_part.specs.contracts.change.MovePartialEq.TheImpl as move_eq

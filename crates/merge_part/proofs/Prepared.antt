@@ -15,11 +15,11 @@ use Rattle.merge_table.specs.Edits.{rows_after, rows_after_all}
 use Rattle.merge_table.proofs.LookUps.{lookup-insert_entry, lookup-remove_entry}
 use Rattle.merge_table.proofs.Room.{rest_above}
 use Rattle.merge_table.proofs.Slots.{lookup_above}
-use Rattle.merge_part.specs.declared.key.RowKey.{RowKey}
+use Rattle.merge_types.specs.declared.row_key.RowKey.{RowKey}
 use Rattle.merge_part.specs.declared.sites.Sites.{Sites}
 use Rattle.merge_part.specs.declared.content.Content.{Content}
 use Rattle.merge_part.specs.declared.link.Link.{Link}
-use Rattle.merge_part.specs.Keys.{key_cmp}
+use Rattle.merge_types.specs.RowKeys.{key_cmp}
 use Rattle.std.specs.Prelude.{◌↔◌, not}
 use Rattle.std.specs.List.{Contains}
 use Rattle.merge_schema.specs.declared.publication.Publication.{Publication}
@@ -27,6 +27,8 @@ use Rattle.merge_schema.specs.Partition.{is_in_at}
 use Rattle.merge_part.specs.declared.change.Move.{Move}
 use Rattle.merge_part.specs.declared.change.RowChange.{RowChange}
 use Rattle.merge_part.specs.declared.index.Indexes.{Indexes}
+use Rattle.merge_part.specs.declared.index.DraftIndexes.{DraftIndexes}
+use Rattle.merge_part.specs.Index.{Entries, children_after, parents_after}
 use Rattle.merge_part.specs.declared.link.Rules.{Rules}
 use Rattle.merge_part.specs.Live.{live_of, live_rows, live_after_all}
 use Rattle.merge_part.specs.Moves.{move_cmp, all_moves, was_in, AreMoves}
@@ -36,7 +38,7 @@ use Rattle.merge_part.specs.Draft.{found, rows_in, no_sites, marks_of, marks_in,
 use Rattle.merge_part.specs.Rule.{value_at, gives, Parent, Reason, Meets}
 use Rattle.merge_part.specs.Sites.{has_site}
 use Rattle.merge_part.proofs.Drafts.{key_total}
-use Rattle.merge_part.proofs.Sorted.{sorted_after, sorted_after_all}
+use Rattle.merge_table.proofs.Sorted.{sorted_after, sorted_after_all}
 
 is_equal : (r : Ordering) → is_eq r ≡ true → r ≡ Equal
 is_equal Less h = absurd cc
@@ -110,21 +112,21 @@ meets_same links rows marks marks' same key meets = record {
 
 module _ (publication : Publication) (rules : Rules) (are : AreRules publication rules) (rows : List (RowKey × Content)) (marks drafted : List (RowKey × Sites))
     (sorted : IsStrictlySortedBy key_cmp (keys_of rows)) (sorted_marks : IsStrictlySortedBy key_cmp (keys_of marks)) (ordered : IsStrictlySortedBy key_cmp (keys_of drafted))
-    (index : Indexes) (changes : List RowChange) (edits : List (Edit RowKey Content)) (waiting : List RowKey) (taken : AreTaken publication rules index rows marks changes edits waiting)
+    (index : Indexes) (draft : DraftIndexes) (changes : List RowChange) (edits : List (Edit RowKey Content)) (waiting : List RowKey) (taken : AreTaken publication rules index draft rows marks changes edits waiting)
     (met : (key : RowKey) → Meets rules.links (rows_in rows edits) (marks_in marks drafted) key) where
   -- what is held after the plan agrees
-  pub prepared_kept : IsKept publication rules.links index (rows_after_all key_cmp rows edits) (rows_after_all key_cmp marks (mark_edits drafted))
+  pub prepared_kept : IsKept publication rules.links (children_after index draft) (parents_after index draft) (rows_after_all key_cmp rows edits) (rows_after_all key_cmp marks (mark_edits drafted))
   prepared_kept = record {
     met = λ key. meets_same rules.links (rows_in rows edits) (marks_in marks drafted) (marks_of (rows_after_all key_cmp marks (mark_edits drafted))) (marks_after marks drafted sorted_marks ordered) key (met key);
     filtered = taken.filtered;
-    indexed = taken.indexed;
+    indexed = taken.drafted.exact;
   }
 
   -- and the moves are the differences of the partitions
-  pub prepared_moves : (before : Indexes) → IsKept publication rules.links before rows marks → (moves : List Move) → IsStrictlySortedBy move_cmp moves
+  pub prepared_moves : (children parents : Entries) → IsKept publication rules.links children parents rows marks → (moves : List Move) → IsStrictlySortedBy move_cmp moves
       → ((one : Move) → Contains moves one ↔ Contains (all_moves publication.subscriptions (marks_of marks) drafted) one)
       → AreMoves publication (live_rows (live_of rows)) (live_rows (live_after_all (live_of rows) changes)) moves
-  prepared_moves before kept moves ascending each =
+  prepared_moves children parents kept moves ascending each =
       let differ = moves_differ publication rules are marks drafted ordered rows (rows_after_all key_cmp rows edits) sorted (sorted_after_all key_cmp key_total rows edits sorted) kept.met kept.filtered met taken.filtered in
       let after : live_rows (live_of (rows_after_all key_cmp rows edits)) ≡ live_rows (live_after_all (live_of rows) changes) = ap live_rows taken.live in
       record {

@@ -15,12 +15,12 @@ use Rattle.merge_types.specs.declared.identifiers.SiteId.{SiteId}
 use Rattle.merge_schema.specs.declared.publication.Publication.{Publication}
 use Rattle.merge_schema.specs.declared.publication.Subscription.{Subscription}
 use Rattle.merge_schema.specs.Partition.{LiveRow, is_in, is_in_at, is_in_where, host_of}
-use Rattle.merge_part.specs.declared.key.RowKey.{RowKey}
+use Rattle.merge_types.specs.declared.row_key.RowKey.{RowKey}
 use Rattle.merge_part.specs.declared.sites.Sites.{Sites}
 use Rattle.merge_part.specs.declared.content.Content.{Content}
 use Rattle.merge_part.specs.declared.change.Move.{Move}
 use Rattle.merge_part.specs.declared.link.Rules.{Rules}
-use Rattle.merge_part.specs.Keys.{key_cmp}
+use Rattle.merge_types.specs.RowKeys.{key_cmp}
 use Rattle.merge_part.specs.Draft.{found, marks_of, marks_in}
 use Rattle.merge_part.specs.Live.{live_of, live_rows}
 use Rattle.merge_part.specs.Moves.{all_moves, was_in}

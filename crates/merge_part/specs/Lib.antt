@@ -1,10 +1,9 @@
-pub mod Keys
 pub mod Sites
 pub mod Draft
 pub mod Places
 pub mod Rule
 pub mod Index
-pub mod Forgetting
+pub mod Entering
 pub mod Waiting
 pub mod Filtering
 pub mod Taking

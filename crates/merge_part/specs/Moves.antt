@@ -7,11 +7,11 @@ use Rattle.merge_types.specs.declared.identifiers.SiteId.{SiteId}
 use Rattle.merge_schema.specs.declared.publication.Publication.{Publication}
 use Rattle.merge_schema.specs.declared.publication.Subscription.{Subscription}
 use Rattle.merge_schema.specs.Partition.{LiveRow, is_in_at}
-use Rattle.merge_part.specs.declared.key.RowKey.{RowKey}
+use Rattle.merge_types.specs.declared.row_key.RowKey.{RowKey}
 use Rattle.merge_part.specs.declared.sites.Sites.{Sites}
 use Rattle.merge_part.specs.declared.change.Move.{Move}
-use Rattle.merge_part.specs.declared.change.MoveKind.{MoveKind}
-use Rattle.merge_part.specs.declared.change.MoveKind.TheVariants.{Entered, Left}
+use Rattle.merge_gens.specs.declared.moves.MoveKind.{MoveKind}
+use Rattle.merge_gens.specs.declared.moves.MoveKind.TheVariants.{Entered, Left}
 use Rattle.merge_part.specs.Sites.{has_site}
 
 abbrev pub kind_number : MoveKind → ℕ

@@ -1,14 +1,18 @@
 -- Which rows stand in a partition, given the rows that they follow.
-use Rattle.std.specs.Prelude.{◌≡◌, ◌<◌, ◌⊎◌, ℕ, Bool, true, ◌&&◌, List, length, slice_index_or, Option, None, Some}
+use Rattle.std.specs.Prelude.{◌≡◌, ◌<◌, ◌⊎◌, ℕ, Bool, true, false, ◌&&◌, List, length, slice_index_or, Option, None, Some}
 use Rattle.merge_types.specs.declared.identifiers.RowId.{RowId}
 use Rattle.merge_types.specs.declared.values.Value.{Value}
 use Rattle.merge_types.specs.declared.values.Value.TheVariants.{Null}
-use Rattle.merge_part.specs.declared.key.RowKey.{RowKey}
+use Rattle.merge_types.specs.declared.row_key.RowKey.{RowKey}
 use Rattle.merge_part.specs.declared.sites.Sites.{Sites}
 use Rattle.merge_part.specs.declared.content.Content.{Content}
 use Rattle.merge_part.specs.declared.link.Link.{Link}
 use Rattle.merge_part.specs.Sites.{has_site}
 use Rattle.merge_schema.specs.Partition.{are_joined}
+
+abbrev pub is_null : Value → Bool
+is_null Null = true
+is_null value = false
 
 abbrev pub value_at : List Value → ℕ → Value
 value_at values column = slice_index_or values column Null

@@ -1,25 +1,26 @@
 -- What a membership keeps.
-use Rattle.std.specs.Prelude.{◌≡◌, ◌<◌, ℕ, true, List, All, [], ◌∷◌, ◌++◌, map, length, suc, Option, Some}
+use Rattle.std.specs.Prelude.{◌≡◌, ◌<◌, ℕ, true, List, [], ◌∷◌, ◌++◌, map, length, suc, Option, Some}
 use Rattle.merge_schema.specs.declared.publication.Article.{Article}
 use Rattle.merge_schema.specs.declared.publication.JoinFilter.{JoinFilter}
 use Rattle.merge_schema.specs.declared.publication.Publication.{Publication}
 use Rattle.merge_schema.specs.EvaluationOrder.{IsEvaluationOrder}
 use Rattle.merge_schema.specs.ValidityLaws.{FiltersFit, SitesAreDistinct}
-use Rattle.merge_part.specs.declared.key.RowKey.{RowKey}
+use Rattle.merge_types.specs.declared.row_key.RowKey.{RowKey}
 use Rattle.merge_part.specs.declared.sites.Sites.{Sites}
 use Rattle.merge_part.specs.declared.content.Content.{Content}
 use Rattle.merge_part.specs.declared.index.Indexes.{Indexes}
+use Rattle.merge_part.specs.declared.index.DraftIndexes.{DraftIndexes}
 use Rattle.merge_part.specs.declared.link.Link.{Link}
 use Rattle.merge_part.specs.declared.link.Rules.{Rules}
 use Rattle.merge_table.specs.declared.edit.Edit.{Edit}
-use Rattle.merge_table.specs.Edits.{rows_after_all, key_of, row_of}
+use Rattle.merge_table.specs.Edits.{rows_after_all}
 use Rattle.merge_part.specs.declared.change.RowChange.{RowChange}
-use Rattle.merge_part.specs.Keys.{key_cmp}
+use Rattle.merge_types.specs.RowKeys.{key_cmp}
 use Rattle.merge_part.specs.Live.{live_of, live_after_all}
 use Rattle.merge_part.specs.Draft.{found, marks_of, rows_in}
 use Rattle.merge_part.specs.Sites.{has_site}
 use Rattle.merge_part.specs.Rule.{Meets}
-use Rattle.merge_part.specs.Index.{AreIndexed}
+use Rattle.merge_part.specs.Index.{Entries, AreExact, AreDrafted}
 use Rattle.merge_part.specs.Settling.{AllMeet, pends, ParentsComeFirst, NoneFollowsItself, LinksAreWithin, is_among}
 use Rattle.merge_part.specs.Taking.{filtered_in}
 
@@ -51,19 +52,14 @@ abbrev pub AreFiltered : Publication → (RowKey → Option Content) → Type 0
 AreFiltered publication rows = (key : RowKey) (content : Content) → rows key ≡ Some content → (place : ℕ) → has_site content.filtered place ≡ filtered_in publication key.article content.values place
 
 -- what is held of the rows, the partitions that they are in, and where they are found, agree
-pub record IsKept (publication : Publication) (links : List Link) (index : Indexes) (rows : List (RowKey × Content)) (marks : List (RowKey × Sites)) : Type 0 where
+pub record IsKept (publication : Publication) (links : List Link) (children parents : Entries) (rows : List (RowKey × Content)) (marks : List (RowKey × Sites)) : Type 0 where
   pub met : (key : RowKey) → Meets links (found rows) (marks_of marks) key
   pub filtered : AreFiltered publication (found rows)
-  pub indexed : AreIndexed links index (found rows)
-
--- no change is undone by a later one
-abbrev pub AreLast : List (RowKey × Content) → List (Edit RowKey Content) → Type 0
-AreLast rows edits = All (λ edit. rows_in rows edits (key_of edit) ≡ row_of edit) edits
+  pub indexed : AreExact links children parents (found rows)
 
 -- the changes are made in the draft, and each row that does not wait meets the rule
-pub record AreTaken (publication : Publication) (rules : Rules) (index : Indexes) (rows : List (RowKey × Content)) (marks : List (RowKey × Sites)) (changes : List RowChange) (edits : List (Edit RowKey Content)) (waiting : List RowKey) : Type 0 where
+pub record AreTaken (publication : Publication) (rules : Rules) (index : Indexes) (draft : DraftIndexes) (rows : List (RowKey × Content)) (marks : List (RowKey × Sites)) (changes : List RowChange) (edits : List (Edit RowKey Content)) (waiting : List RowKey) : Type 0 where
   pub live : live_of (rows_after_all key_cmp rows edits) ≡ live_after_all (live_of rows) changes
   pub filtered : AreFiltered publication (rows_in rows edits)
-  pub indexed : AreIndexed rules.links index (rows_in rows edits)
+  pub drafted : AreDrafted rules.links index draft (rows_in rows edits)
   pub met : AllMeet rules.links (rows_in rows edits) (marks_of marks) (pends rules.order waiting)
-  pub once : AreLast rows edits

@@ -2,14 +2,19 @@
 use Rattle.std.specs.Prelude.{◌≡◌, ◌<◌, ◌+◌, ◌⊎◌, ℕ, Bool, true, false, ◌&&◌, ◌==◌, List, length, drop, slice_index, Option, Some}
 use Rattle.std.specs.List.{list_any}
 use Rattle.std.specs.BTreeMap.{is_at}
-use Rattle.merge_part.specs.declared.key.RowKey.{RowKey}
+use Rattle.merge_types.specs.declared.row_key.RowKey.{RowKey}
 use Rattle.merge_part.specs.declared.sites.Sites.{Sites}
 use Rattle.merge_part.specs.declared.content.Content.{Content}
 use Rattle.merge_part.specs.declared.link.Link.{Link}
-use Rattle.merge_part.specs.Keys.{key_cmp}
+use Rattle.merge_types.specs.RowKeys.{key_cmp}
 use Rattle.merge_part.specs.Sites.{has_site}
-use Rattle.merge_part.specs.Rule.{IsAt, Reason, Meets}
-use Rattle.merge_part.specs.Index.{Entries}
+use Rattle.std.specs.Map.{lookup}
+use Rattle.merge_types.specs.declared.identifiers.RowId.{RowId}
+use Rattle.merge_types.specs.declared.values.Value.{Value}
+use Rattle.merge_join.specs.declared.entry.JoinEntry.{JoinEntry}
+use Rattle.merge_join.specs.Entries.{entry_cmp}
+use Rattle.merge_part.specs.Rule.{IsAt, row_gives, Reason, Meets}
+use Rattle.merge_part.specs.Index.{Entries, HasEntry, first_of}
 use Rattle.merge_part.specs.Waiting.{waits, ReachedByMarks}
 
 -- these marks of a row are what the rule says of it
@@ -22,6 +27,16 @@ pub record IsSettled (links : List Link) (children : Entries) (rows : RowKey →
   pub others : (k : RowKey) → is_at (key_cmp key) k ≡ false → marks' k ≡ marks k
   pub itself : AreMarksOf links rows marks key (marks' key)
   pub children_wait : (marks' key ≡ marks key) ⊎ ReachedByMarks links (length links) children key.article (rows key) waiting
+
+-- these are the partitions that a child with the value has a place in by the parents that are found by it
+pub record AreGiven (entries : Entries) (rows : RowKey → Option Content) (marks : RowKey → Sites) (number : ℕ) (link : Link) (value : Value) (sites : Sites) : Type 0 where
+  pub given : (place : ℕ) → has_site sites place ≡ true → (row : RowId) × (row_gives rows marks value link place row ≡ true)
+  pub all : (place : ℕ) (row : RowId) → HasEntry entries number value row → row_gives rows marks value link place row ≡ true → has_site sites place ≡ true
+
+-- what is remembered of values is so at each link from the article
+abbrev pub AreKnown : List Link → Entries → (RowKey → Option Content) → (RowKey → Sites) → ℕ → List (JoinEntry × Sites) → Type 0
+AreKnown links entries rows marks article memo =
+    (number : ℕ) (value : Value) (sites : Sites) → lookup (is_at (entry_cmp (first_of number value))) memo ≡ Some sites → (link : Link) → IsAt links number link → link.child ≡ article → AreGiven entries rows marks number link value sites
 
 -- each row that does not wait meets the rule
 abbrev pub AllMeet : List Link → (RowKey → Option Content) → (RowKey → Sites) → (RowKey → Bool) → Type 0

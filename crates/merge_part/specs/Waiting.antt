@@ -5,12 +5,13 @@ use Rattle.std.specs.BTreeMap.{is_at}
 use Rattle.merge_types.specs.declared.identifiers.RowId.{RowId}
 use Rattle.merge_types.specs.declared.values.Value.{Value}
 use Rattle.merge_types.specs.declared.values.Value.TheVariants.{Null}
-use Rattle.merge_part.specs.declared.key.RowKey.{RowKey}
+use Rattle.merge_types.specs.declared.row_key.RowKey.{RowKey}
 use Rattle.merge_part.specs.declared.content.Content.{Content}
 use Rattle.merge_part.specs.declared.link.Link.{Link}
-use Rattle.merge_part.specs.Keys.{key_cmp}
+use Rattle.merge_types.specs.RowKeys.{key_cmp}
 use Rattle.merge_part.specs.Rule.{parent_value, IsAt}
-use Rattle.merge_part.specs.Index.{Entries, HasEntry}
+use Rattle.merge_join.specs.Index.{has}
+use Rattle.merge_part.specs.Index.{Entries, HasEntry, first_of}
 
 abbrev pub waits : List RowKey → RowKey → Bool
 waits waiting key = list_any (is_at (key_cmp key)) waiting
@@ -25,13 +26,21 @@ ChildrenWait children number link value waiting = (row : RowId) → HasEntry chi
 abbrev pub KeepsWaiting : (old new : List RowKey) → Type 0
 KeepsWaiting old new = (key : RowKey) → waits old key ≡ true → waits new key ≡ true
 
+-- the children of each value that was reached wait
+abbrev pub AreReached : List Link → Entries → Entries → List RowKey → Type 0
+AreReached links children values waiting = (number : ℕ) (value : Value) → has values (first_of number value) ≡ true → (link : Link) → IsAt links number link → ChildrenWait children number link value waiting
+
 -- at each link from the article below this number, the children of a row with this content wait
 abbrev pub ReachedByMarks : List Link → ℕ → Entries → ℕ → Option Content → List RowKey → Type 0
 ReachedByMarks links count children article content waiting =
     (number : ℕ) (link : Link) → number < count → IsAt links number link → link.parent ≡ article → ChildrenWait children number link (parent_value link content) waiting
 
--- at each link from the article below this number, the parent value stays or the children of both wait
+-- the parent value stays, or the children of the one before and of the one after wait
+abbrev pub ReachedAt : Entries → ℕ → Link → (old new : Option Content) → List RowKey → Type 0
+ReachedAt children number link old new waiting =
+    (parent_value link old ≡ parent_value link new) ⊎ (ChildrenWait children number link (parent_value link old) waiting × ChildrenWait children number link (parent_value link new) waiting)
+
+-- so it is at each link from the article below this number
 abbrev pub ReachedByRow : List Link → ℕ → Entries → ℕ → (old new : Option Content) → List RowKey → Type 0
 ReachedByRow links count children article old new waiting =
-    (number : ℕ) (link : Link) → number < count → IsAt links number link → link.parent ≡ article
-    → (parent_value link old ≡ parent_value link new) ⊎ (ChildrenWait children number link (parent_value link old) waiting × ChildrenWait children number link (parent_value link new) waiting)
+    (number : ℕ) (link : Link) → number < count → IsAt links number link → link.parent ≡ article → ReachedAt children number link old new waiting

@@ -1,8 +1,8 @@
 //! Changes of rows, and what they move.
 ghost use Rattle.std.specs.Prelude.{◌≡◌};
 
-use crate::key::RowKey;
-use merge_types::{Exact, Listing, RowId, SiteId, Values};
+use merge_gens::MoveKind;
+use merge_types::{Exact, Listing, RowId, RowKey, SiteId, Values};
 
 /// A change of a row of an article, which is named by its place in the publication.
 #[derive(Debug, Drop)]
@@ -23,13 +23,6 @@ impl RowChange {
             row: self.row,
         }
     }
-}
-
-/// Whether a row entered a partition or left it.
-#[derive(Clone, Copy, Debug, PartialEq, Eq, PartialOrd, Ord)]
-pub enum MoveKind {
-    Entered,
-    Left,
 }
 
 /// A row that entered or left the partition of a site.

@@ -4,14 +4,15 @@ ghost use Rattle.std.specs.List.Sorted.{IsStrictlySortedBy};
 ghost use Rattle.std.specs.Map.{keys_of};
 ghost use Rattle.merge_table.specs.declared.edit.Edit.{Edit as OneEdit};
 ghost use Rattle.merge_table.specs.Edits.{row_of};
-ghost use Rattle.merge_part.specs.Keys.{key_cmp};
+ghost use Rattle.merge_types.specs.RowKeys.{key_cmp};
 ghost use Rattle.merge_part.specs.Draft.{rows_in, marks_in, marks_of, edit_to};
 
 use crate::content::Content;
-use crate::key::RowKey;
+use crate::index::DraftIndexes;
 use crate::sites::Sites;
+use crate::waiting::Waiting;
 use merge_table::{Edit, Table};
-use merge_types::NoMemory;
+use merge_types::{NoMemory, RowKey};
 use std::alloc::Global;
 use std::marker::Model;
 
@@ -22,11 +23,13 @@ pub struct Held {
     pub marks: Table<RowKey, Sites>,
 }
 
-/// What is to take the place of what is held.
+/// What is to take the place of what is kept, and the rows that wait to be looked at.
 #[derive(Drop)]
 pub struct Draft {
     pub rows: DraftRows,
+    pub index: DraftIndexes,
     pub marks: Table<RowKey, Sites>,
+    pub waiting: Waiting,
 }
 
 /// A change of what is held of a row.
@@ -42,7 +45,7 @@ pub struct DraftRows {
 impl Model for DraftRows {
     ghost use Rattle.std.specs.Prelude.{List};
     ghost use Rattle.merge_table.specs.declared.edit.Edit.{Edit};
-    ghost use Rattle.merge_part.specs.declared.key.RowKey.{RowKey};
+    ghost use Rattle.merge_types.specs.declared.row_key.RowKey.{RowKey};
     ghost use Rattle.merge_part.specs.declared.content.Content.{Content};
     ghost use Rattle.merge_part.specs.Places.{ArePlaces};
 
@@ -68,7 +71,7 @@ impl DraftRows {
     pub fn get<'a>(&'a self, held: &'a Table<RowKey, Content>, key: &RowKey) -> Option<&'a Content>
         ensures { option_copied result ≡ rows_in held.now.rows self.now key.now }
     {
-        let _ = held.iter();
+        held.is_ordered();
         let edits = self.edits.as_slice();
         match self.places.get(key) {
             Some(place) => row_at(edits, *place),

@@ -1,21 +1,25 @@
 //! What a parent gives its children.
-ghost use Rattle.std.specs.Prelude.{◌≡◌, ℕ, true, option_copied, unwrap_or};
+ghost use Rattle.std.specs.Prelude.{◌≡◌, ◌<◌, ◌^◌, ℕ, true, length, IfOk, OnOk, option_copied, unwrap_or};
 ghost use Rattle.std.specs.List.{list_any};
-ghost use Rattle.merge_types.specs.declared.identifiers.RowId.{RowId as OneRow};
+ghost use Rattle.std.specs.Map.{keys_of};
 ghost use Rattle.merge_types.specs.declared.values.Value.TheVariants.{Null};
 ghost use Rattle.merge_schema.specs.Partition.{are_joined};
 ghost use Rattle.merge_part.specs.Draft.{rows_in, marks_in};
-ghost use Rattle.merge_part.specs.Index.{HasEntry, AreParentsIndexed};
-ghost use Rattle.merge_part.specs.Rule.{content_value, Reason, gives, row_gives, parent_value, value_at};
+ghost use Rattle.merge_part.specs.declared.link.Link.{Link as OneLink};
+ghost use Rattle.merge_part.specs.Index.{AreParentsIndexed, parents_found};
+ghost use Rattle.merge_part.specs.Settling.{AreGiven, AreKnown};
+ghost use Rattle.merge_part.specs.Rule.{IsAt, is_null, content_value, Reason, gives, row_gives, parent_value, value_at};
 ghost use Rattle.merge_part.specs.Sites.{has_site};
 
 use crate::content::Content;
-use crate::draft::{Draft, Held, marks_at};
-use crate::key::RowKey;
+use crate::draft::{Draft, marks_at};
+use crate::index::entry_for;
+use crate::keeping::Kept;
 use crate::link::Link;
 use crate::sites::Sites;
-use merge_join::JoinIndex;
-use merge_types::{RowId, Value};
+use merge_join::JoinEntry;
+use merge_table::{Rows, Table};
+use merge_types::{NoMemory, RowId, RowKey, Value};
 
 /// Whether a child row with the one value follows a parent row with the other.
 pub fn are_joined(child: &Value, parent: &Value) -> bool
@@ -34,6 +38,13 @@ pub fn are_joined(child: &Value, parent: &Value) -> bool
         (Value::Bytes(a), Value::Bytes(b)) => a.as_slice().cmp(b.as_slice()).is_eq(),
         _ => false,
     }
+}
+
+/// Whether a value is Null.
+pub fn is_null(value: &Value) -> bool
+    ensures { result ≡ is_null value.now }
+{
+    matches!(value, Value::Null)
 }
 
 /// The value in the column, if the row has one.
@@ -73,61 +84,110 @@ fn given(value: &Value, link: &Link, content: Option<&Content>, sites: Sites) ->
     }
 }
 
-// The partitions in which a child with the value has a place by the parents among these rows.
-fn sites_by_parents(rows: &[RowId], value: &Value, link: &Link, held: &Held, draft: &Draft) -> Sites
-    ensures { (place : ℕ) → has_site result place ≡ list_any (row_gives (rows_in held.now.rows.rows draft.now.rows) (marks_in held.now.marks.rows draft.now.marks.rows) value.now link.now place) rows.now }
+// The partitions in which a child with the value has a place by the parents among these entries.
+fn sites_by_parents(
+    kept: &Kept,
+    draft: &Draft,
+    entries: Rows<'_, JoinEntry, ()>,
+    link: &Link,
+    value: &Value,
+) -> Sites
+    ensures { (place : ℕ) → has_site result place ≡ list_any (λ entry. row_gives (rows_in kept.now.held.rows.rows draft.now.rows) (marks_in kept.now.held.marks.rows draft.now.marks.rows) value.now link.now place entry.child) (keys_of entries.entry) }
 {
     let mut found = Sites::none();
-    for row in rows {
+    for (entry, _) in entries {
         let parent = RowKey {
             article: link.parent,
-            row: *row,
+            row: entry.child,
         };
-        let content = draft.rows.get(&held.rows, &parent);
-        let sites = marks_at(&held.marks, &draft.marks, &parent);
+        let content = draft.rows.get(&kept.held.rows, &parent);
+        let sites = marks_at(&kept.held.marks, &draft.marks, &parent);
         found = found.union(given(value, link, content, sites));
     }
     found
 }
 
-// The partitions in which the row has a place by its parents at one link.
-fn sites_by_link(
-    parents: &JoinIndex,
+// The partitions in which a child with the value has a place by its parents at one link.
+fn sites_by_value(
+    kept: &Kept,
+    draft: &Draft,
     number: usize,
     link: &Link,
-    held: &Held,
-    draft: &Draft,
-    content: &Content,
-) -> Sites
-    ensures given { (place : ℕ) → has_site result place ≡ true → (row : OneRow) × (row_gives (rows_in held.now.rows.rows draft.now.rows) (marks_in held.now.marks.rows draft.now.marks.rows) (value_at content.now.values link.now.column) link.now place row ≡ true) }
-    ensures all { (place : ℕ) (row : OneRow) → HasEntry parents.now number (value_at content.now.values link.now.column) row → row_gives (rows_in held.now.rows.rows draft.now.rows) (marks_in held.now.marks.rows draft.now.marks.rows) (value_at content.now.values link.now.column) link.now place row ≡ true → has_site result place ≡ true }
+    value: &Value,
+) -> Result<Sites, NoMemory>
+    requires { number < 2 ^ 63 }
+    ensures { IfOk result (AreGiven (parents_found kept.now.index draft.now.index) (rows_in kept.now.held.rows.rows draft.now.rows) (marks_in kept.now.held.marks.rows draft.now.marks.rows) number link.now value.now) }
 {
+    let held = kept.index.parents.children_of(number, value)?;
+    let come = draft.index.parents.come.children_of(number, value)?;
+    let by_held = sites_by_parents(kept, draft, held, link, value);
+    Ok(by_held.union(sites_by_parents(kept, draft, come, link, value)))
+}
+
+/// What was worked out for each value at a link, by the first entry that the value may have.
+pub type Memo = Table<JoinEntry, Sites>;
+
+// The same, worked out once for a value.
+fn known_sites(
+    kept: &Kept,
+    draft: &Draft,
+    memo: &mut Memo,
+    number: usize,
+    value: &Value,
+) -> Result<Sites, NoMemory>
+    requires number { number < length kept.now.rules.links }
+    ensures known { OnOk result ((article : ℕ) → AreKnown kept.now.rules.links (parents_found kept.now.index draft.now.index) (rows_in kept.now.held.rows.rows draft.now.rows) (marks_in kept.now.held.marks.rows draft.now.marks.rows) article memo.old.rows → AreKnown kept.now.rules.links (parents_found kept.now.index draft.now.index) (rows_in kept.now.held.rows.rows draft.now.rows) (marks_in kept.now.held.marks.rows draft.now.marks.rows) article memo.new.rows) }
+    ensures given { IfOk result (λ sites. (article : ℕ) → AreKnown kept.now.rules.links (parents_found kept.now.index draft.now.index) (rows_in kept.now.held.rows.rows draft.now.rows) (marks_in kept.now.held.marks.rows draft.now.marks.rows) article memo.old.rows → (link : OneLink) → IsAt kept.now.rules.links number link → link.child ≡ article → AreGiven (parents_found kept.now.index draft.now.index) (rows_in kept.now.held.rows.rows draft.now.rows) (marks_in kept.now.held.marks.rows draft.now.marks.rows) number link value.now sites) }
+{
+    let first = entry_for(number, value, RowId(0))?;
+    if let Some(sites) = memo.get(&first) {
+        return Ok(*sites);
+    }
+    let link = kept.rules.links.as_slice()[number];
+    let sites = sites_by_value(kept, draft, number, &link, value)?;
+    memo.insert(first, sites)?;
+    Ok(sites)
+}
+
+// The partitions in which a row with this content has a place by its parents at one link.
+fn sites_by_link(
+    kept: &Kept,
+    draft: &Draft,
+    memo: &mut Memo,
+    number: usize,
+    content: &Content,
+) -> Result<Sites, NoMemory>
+    requires number { number < length kept.now.rules.links }
+    ensures known { OnOk result ((article : ℕ) → AreKnown kept.now.rules.links (parents_found kept.now.index draft.now.index) (rows_in kept.now.held.rows.rows draft.now.rows) (marks_in kept.now.held.marks.rows draft.now.marks.rows) article memo.old.rows → AreKnown kept.now.rules.links (parents_found kept.now.index draft.now.index) (rows_in kept.now.held.rows.rows draft.now.rows) (marks_in kept.now.held.marks.rows draft.now.marks.rows) article memo.new.rows) }
+    ensures given { IfOk result (λ sites. (article : ℕ) → AreKnown kept.now.rules.links (parents_found kept.now.index draft.now.index) (rows_in kept.now.held.rows.rows draft.now.rows) (marks_in kept.now.held.marks.rows draft.now.marks.rows) article memo.old.rows → (link : OneLink) → IsAt kept.now.rules.links number link → link.child ≡ article → AreGiven (parents_found kept.now.index draft.now.index) (rows_in kept.now.held.rows.rows draft.now.rows) (marks_in kept.now.held.marks.rows draft.now.marks.rows) number link (value_at content.now.values link.column) sites) }
+{
+    let link = kept.rules.links.as_slice()[number];
     match value_of(content.values.as_slice(), link.column) {
-        Some(value) => {
-            sites_by_parents(parents.children_of(number, value), value, link, held, draft)
-        }
-        None => Sites::none(),
+        Some(value) => known_sites(kept, draft, memo, number, value),
+        None => Ok(Sites::none()),
     }
 }
 
 /// The partitions that a row with this content is in, by its filter and its parents.
 pub fn sites_of(
-    links: &[Link],
-    parents: &JoinIndex,
-    held: &Held,
+    kept: &Kept,
     draft: &Draft,
+    memo: &mut Memo,
     key: RowKey,
     content: &Content,
-) -> Sites
-    requires { AreParentsIndexed links.now parents.now (rows_in held.now.rows.rows draft.now.rows) }
-    ensures reason { (place : ℕ) → has_site result place ≡ true → Reason links.now (rows_in held.now.rows.rows draft.now.rows) (marks_in held.now.marks.rows draft.now.marks.rows) key content.now place }
-    ensures reached { (place : ℕ) → Reason links.now (rows_in held.now.rows.rows draft.now.rows) (marks_in held.now.marks.rows draft.now.marks.rows) key content.now place → has_site result place ≡ true }
+) -> Result<Sites, NoMemory>
+    requires parents { AreParentsIndexed kept.now.rules.links (parents_found kept.now.index draft.now.index) (rows_in kept.now.held.rows.rows draft.now.rows) }
+    requires known { AreKnown kept.now.rules.links (parents_found kept.now.index draft.now.index) (rows_in kept.now.held.rows.rows draft.now.rows) (marks_in kept.now.held.marks.rows draft.now.marks.rows) key.article memo.old.rows }
+    ensures known { OnOk result (AreKnown kept.now.rules.links (parents_found kept.now.index draft.now.index) (rows_in kept.now.held.rows.rows draft.now.rows) (marks_in kept.now.held.marks.rows draft.now.marks.rows) key.article memo.new.rows) }
+    ensures reason { IfOk result (λ sites. (place : ℕ) → has_site sites place ≡ true → Reason kept.now.rules.links (rows_in kept.now.held.rows.rows draft.now.rows) (marks_in kept.now.held.marks.rows draft.now.marks.rows) key content.now place) }
+    ensures reached { IfOk result (λ sites. (place : ℕ) → Reason kept.now.rules.links (rows_in kept.now.held.rows.rows draft.now.rows) (marks_in kept.now.held.marks.rows draft.now.marks.rows) key content.now place → has_site sites place ≡ true) }
 {
     let mut found = content.filtered;
-    for (number, link) in links.iter().enumerate() {
+    for (number, link) in kept.rules.links.as_slice().iter().enumerate() {
         if link.child == key.article {
-            found = found.union(sites_by_link(parents, number, link, held, draft, content));
+            let sites = sites_by_link(kept, draft, memo, number, content)?;
+            found = found.union(sites);
         }
     }
-    found
+    Ok(found)
 }

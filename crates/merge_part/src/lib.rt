@@ -4,11 +4,11 @@
 mod change;
 mod content;
 mod draft;
+mod entering;
 mod filtering;
-mod forgetting;
 mod index;
 mod joined;
-mod key;
+mod keeping;
 mod link;
 mod membership;
 mod moves;
@@ -26,6 +26,5 @@ mod waiting;
 #[cfg(test)]
 mod worked;
 
-pub use change::{Move, MoveKind, Moves, RowChange};
-pub use key::RowKey;
+pub use change::{Move, Moves, RowChange};
 pub use membership::{Membership, MembershipPlan};

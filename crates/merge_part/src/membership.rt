@@ -4,13 +4,15 @@ ghost use Rattle.merge_schema.specs.Partition.{is_in_at};
 ghost use Rattle.merge_part.specs.Live.{live_rows, live_after_all};
 ghost use Rattle.merge_part.specs.Moves.{AreMoves};
 ghost use Rattle.merge_part.specs.Taking.{FitsArticle, EachRowOnce, living};
-ghost use Rattle.merge_table.specs.Edits.{IsReady, rows_after_all};
-ghost use Rattle.merge_part.specs.Keys.{key_cmp};
+ghost use Rattle.merge_table.specs.Edits.{IsReady};
+ghost use Rattle.merge_types.specs.RowKeys.{key_cmp};
 ghost use Rattle.std.specs.List.Sorted.{IsStrictlySortedBy};
 ghost use Rattle.std.specs.Map.{keys_of};
-ghost use Rattle.merge_part.specs.declared.key.RowKey.{RowKey as OneKey};
+ghost use Rattle.merge_types.specs.declared.row_key.RowKey.{RowKey as OneKey};
 ghost use Rattle.merge_part.specs.Draft.{rows_in, marks_of, marks_in, mark_edit, mark_edits};
-ghost use Rattle.merge_part.specs.Index.{AreIndexed};
+ghost use Rattle.merge_join.specs.Entries.{entry_cmp};
+ghost use Rattle.merge_part.specs.Index.{AreDrafted, children_found};
+ghost use Rattle.merge_part.specs.Waiting.{AreReached};
 ghost use Rattle.merge_part.specs.Rule.{Meets};
 ghost use Rattle.merge_part.specs.Settling.{AllMeet, pends, ParentsComeFirst, NoneFollowsItself};
 ghost use Rattle.merge_schema.specs.Valid.{IsValid};
@@ -19,19 +21,18 @@ ghost use Rattle.merge_part.specs.View.{live_in, live_after_plan, IsPrepared};
 
 use crate::change::{Moves, RowChange};
 use crate::draft::{Draft, Held, RowEdit, marks_held};
-use crate::forgetting::forget_rows;
-use crate::index::Indexes;
-use crate::key::RowKey;
+use crate::index::{DraftIndexes, Indexes};
+use crate::keeping::Kept;
 use crate::link::{Rules, links_of};
 use crate::moves::moves_of;
 use crate::settling::settle;
 use crate::sites::Sites;
 use crate::subscribers::place_of;
-use crate::taking::{Taken, take_up_all};
-use merge_join::JoinIndex;
+use crate::taking::take_up_all;
+use merge_join::{JoinChange, JoinIndex};
 use merge_schema::Publication;
 use merge_table::{Edit, Table};
-use merge_types::{Listing, NoMemory, RowId, SiteId, Steps};
+use merge_types::{Listing, NoMemory, RowId, RowKey, SiteId, Steps};
 use std::alloc::Global;
 use std::marker::Model;
 use std::sync::ledger::Ledger;
@@ -46,9 +47,7 @@ use std::sync::ledger::Ledger;
 pub struct Membership {
     alloc: Global,
     publication: Publication,
-    rules: Rules,
-    index: Indexes,
-    held: Held,
+    kept: Kept,
 }
 
 impl Model for Membership {
@@ -59,9 +58,9 @@ impl Model for Membership {
 
     ghost coded = { Prim.hlevel (codes, filter_code) };
 
-    ghost view = { λ m. record { publication = m.publication; rules = m.rules; index = m.index; held = m.held } };
+    ghost view = { λ m. record { publication = m.publication; rules = m.kept.rules; index = m.kept.index; held = m.kept.held } };
 
-    ghost invariant = { λ m. IsSound (record { publication = m.publication; rules = m.rules; index = m.index; held = m.held }) };
+    ghost invariant = { λ m. IsSound (record { publication = m.publication; rules = m.kept.rules; index = m.kept.index; held = m.kept.held }) };
 }
 
 /// The changes of a step, for which a membership has taken the memory.
@@ -69,6 +68,8 @@ impl Model for Membership {
 pub struct MembershipPlan {
     rows: Vec<RowEdit>,
     marks: Vec<Edit<RowKey, Sites>>,
+    children: Vec<JoinChange>,
+    parents: Vec<JoinChange>,
 }
 
 impl Model for MembershipPlan {
@@ -76,7 +77,7 @@ impl Model for MembershipPlan {
 
     ghost Value = { Plan };
 
-    ghost view = { λ p. record { rows = p.rows.items; marks = p.marks.items } };
+    ghost view = { λ p. record { rows = p.rows.items; marks = p.marks.items; children = p.children.items; parents = p.parents.items } };
 }
 
 impl Membership {
@@ -91,14 +92,16 @@ impl Membership {
         Ok(Membership {
             alloc,
             publication: publication.copy()?,
-            rules: Rules { links, order },
-            index: Indexes {
-                children: JoinIndex::new(alloc),
-                parents: JoinIndex::new(alloc),
-            },
-            held: Held {
-                rows: Table::new(alloc),
-                marks: Table::new(alloc),
+            kept: Kept {
+                rules: Rules { links, order },
+                index: Indexes {
+                    children: JoinIndex::new(alloc),
+                    parents: JoinIndex::new(alloc),
+                },
+                held: Held {
+                    rows: Table::new(alloc),
+                    marks: Table::new(alloc),
+                },
             },
         })
     }
@@ -128,19 +131,11 @@ impl Membership {
         ensures live { live_in self.new ≡ live_in self.old }
         ensures cost { steps.new ≤ steps.old + length self.old.publication.subscriptions * living changes.now }
     {
-        let taken = take_up_all(
-            self.alloc,
-            &self.publication,
-            &self.rules,
-            &mut self.index,
-            &self.held,
-            changes,
-            steps,
-        )?;
-        let draft = settled(self.alloc, &self.rules, &self.index, &self.held, taken)?;
+        let taken = take_up_all(self.alloc, &self.publication, &self.kept, changes, steps)?;
+        let draft = settled(self.alloc, &self.kept, taken)?;
         let subscriptions = self.publication.subscriptions.as_slice();
-        let moves = moves_of(self.alloc, subscriptions, &self.held, &draft.marks)?;
-        let plan = planned(self.alloc, &mut self.held, draft)?;
+        let moves = moves_of(self.alloc, subscriptions, &self.kept.held, &draft.marks)?;
+        let plan = planned(self.alloc, &mut self.kept, draft)?;
         Ok((Listing::new(moves), plan))
     }
 
@@ -151,10 +146,16 @@ impl Membership {
         ensures publication { self.new.publication ≡ self.old.publication }
         ensures live { live_in self.new ≡ live_after_plan self.old plan }
     {
-        let MembershipPlan { rows, marks } = plan;
-        forget_rows(&self.rules, &mut self.index, &self.held, &rows);
-        apply(&mut self.held.rows, rows);
-        apply(&mut self.held.marks, marks);
+        let MembershipPlan {
+            rows,
+            marks,
+            children,
+            parents,
+        } = plan;
+        self.kept.index.children.settle(children);
+        self.kept.index.parents.settle(parents);
+        self.kept.held.rows.apply_and_sweep(rows);
+        self.kept.held.marks.apply_and_sweep(marks);
     }
 
     /// Makes the changes, and gives the moves that they make: each row that entered the partition
@@ -184,69 +185,71 @@ impl Membership {
     pub fn is_in(&self, article: u8, row: RowId, site: SiteId) -> bool
         ensures { result ≡ is_in_at self.now.publication site (live_rows (live_in self.now)) article row }
     {
-        let _ = self.held.rows.iter();
+        self.kept.held.rows.is_ordered();
         match place_of(self.publication.subscriptions.as_slice(), site) {
-            Some(place) => marks_held(&self.held.marks, &RowKey { article, row }).contains(place),
+            Some(place) => marks_held(&self.kept.held.marks, &RowKey { article, row }).contains(
+                place,
+            ),
             None => false,
         }
     }
 }
 
-// Makes the changes in their order, and lets go of spare slots once they are the most.
-fn apply<V: Drop>(table: &mut Table<RowKey, V>, edits: Vec<Edit<RowKey, V>>)
-    requires { IsReady key_cmp table.old.slots edits.items }
-    ensures { table.new.rows ≡ rows_after_all key_cmp table.old.rows edits.items }
-{
-    table.apply(edits);
-    if table.spare() > table.len() {
-        table.sweep();
-    }
-}
-
-// The draft of the changes that were taken up, in which each row is marked by the rule.
-fn settled(
-    alloc: Global,
-    rules: &Rules,
-    index: &Indexes,
-    held: &Held,
-    taken: Taken,
-) -> Result<Draft, NoMemory>
-    requires indexed { AreIndexed rules.now.links index.now (rows_in held.now.rows.rows taken.rows) }
-    requires apart { NoneFollowsItself rules.now.links }
-    requires order { ParentsComeFirst rules.now.links rules.now.order }
-    requires met { AllMeet rules.now.links (rows_in held.now.rows.rows taken.rows) (marks_of held.now.marks.rows) (pends rules.now.order taken.waiting.items) }
+// The draft of the changes that were taken up, with each row marked by the rule.
+fn settled(alloc: Global, kept: &Kept, taken: Draft) -> Result<Draft, NoMemory>
+    requires drafted { AreDrafted kept.now.rules.links kept.now.index taken.index (rows_in kept.now.held.rows.rows taken.rows) }
+    requires apart { NoneFollowsItself kept.now.rules.links }
+    requires order { ParentsComeFirst kept.now.rules.links kept.now.rules.order }
+    requires marks { taken.marks.rows ≡ [] }
+    requires reached { AreReached kept.now.rules.links (children_found kept.now.index taken.index) (keys_of taken.waiting.values.rows) taken.waiting.rows.items }
+    requires met { AllMeet kept.now.rules.links (rows_in kept.now.held.rows.rows taken.rows) (marks_of kept.now.held.marks.rows) (pends kept.now.rules.order taken.waiting.rows.items) }
     ensures rows { IfOk result (λ draft. draft.rows ≡ taken.rows) }
-    ensures met { IfOk result (λ draft. (key : OneKey) → Meets rules.now.links (rows_in held.now.rows.rows taken.rows) (marks_in held.now.marks.rows draft.marks.rows) key) }
+    ensures index { IfOk result (λ draft. draft.index ≡ taken.index) }
+    ensures met { IfOk result (λ draft. (key : OneKey) → Meets kept.now.rules.links (rows_in kept.now.held.rows.rows taken.rows) (marks_in kept.now.held.marks.rows draft.marks.rows) key) }
     ensures drafted { IfOk result (λ draft. IsStrictlySortedBy key_cmp (keys_of draft.marks.rows)) }
-    ensures ordered { IsStrictlySortedBy key_cmp (keys_of held.now.rows.rows) }
-    ensures marked { IsStrictlySortedBy key_cmp (keys_of held.now.marks.rows) }
+    ensures ordered { IsStrictlySortedBy key_cmp (keys_of kept.now.held.rows.rows) }
+    ensures marked { IsStrictlySortedBy key_cmp (keys_of kept.now.held.marks.rows) }
 {
-    let Taken { rows, waiting } = taken;
-    let mut draft = Draft {
-        rows,
-        marks: Table::new(alloc),
-    };
-    let _ = held.rows.iter();
-    let _ = held.marks.iter();
-    settle(alloc, rules, index, held, &mut draft, waiting)?;
-    let _ = draft.marks.iter();
+    let mut draft = taken;
+    kept.held.rows.is_ordered();
+    kept.held.marks.is_ordered();
+    settle(alloc, kept, &mut draft)?;
+    draft.marks.is_ordered();
     Ok(draft)
 }
 
 // What a draft changes, with the memory for it taken.
-fn planned(alloc: Global, held: &mut Held, draft: Draft) -> Result<MembershipPlan, NoMemory>
-    ensures rows { held.new.rows.rows ≡ held.old.rows.rows }
-    ensures marks { held.new.marks.rows ≡ held.old.marks.rows }
+fn planned(alloc: Global, kept: &mut Kept, draft: Draft) -> Result<MembershipPlan, NoMemory>
+    ensures rules { kept.new.rules ≡ kept.old.rules }
+    ensures rows { kept.new.held.rows.rows ≡ kept.old.held.rows.rows }
+    ensures marks { kept.new.held.marks.rows ≡ kept.old.held.marks.rows }
+    ensures children { kept.new.index.children.set ≡ kept.old.index.children.set }
+    ensures parents { kept.new.index.parents.set ≡ kept.old.index.parents.set }
     ensures edits { IfOk result (λ plan. plan.rows ≡ draft.rows) }
     ensures marked { IfOk result (λ plan. plan.marks ≡ mark_edits draft.marks.rows) }
-    ensures rows_ready { IfOk result (λ plan. IsReady key_cmp held.new.rows.slots plan.rows) }
-    ensures marks_ready { IfOk result (λ plan. IsReady key_cmp held.new.marks.slots plan.marks) }
+    ensures as_children { IfOk result (λ plan. plan.children ≡ draft.index.children.changes.items) }
+    ensures as_parents { IfOk result (λ plan. plan.parents ≡ draft.index.parents.changes.items) }
+    ensures rows_ready { IfOk result (λ plan. IsReady key_cmp kept.new.held.rows.slots plan.rows) }
+    ensures marks_ready { IfOk result (λ plan. IsReady key_cmp kept.new.held.marks.slots plan.marks) }
+    ensures children_ready { IfOk result (λ plan. IsReady entry_cmp kept.new.index.children.room plan.children) }
+    ensures parents_ready { IfOk result (λ plan. IsReady entry_cmp kept.new.index.parents.room plan.parents) }
 {
     let marks = mark_edits(alloc, &draft.marks)?;
-    let rows = draft.rows.into_edits();
-    held.rows.prepare(&rows)?;
-    held.marks.prepare(&marks)?;
-    Ok(MembershipPlan { rows, marks })
+    let Draft { rows, index, .. } = draft;
+    let DraftIndexes { children, parents } = index;
+    let rows = rows.into_edits();
+    let children = children.into_changes();
+    let parents = parents.into_changes();
+    kept.held.rows.prepare(&rows)?;
+    kept.held.marks.prepare(&marks)?;
+    kept.index.children.prepare(&children)?;
+    kept.index.parents.prepare(&parents)?;
+    Ok(MembershipPlan {
+        rows,
+        marks,
+        children,
+        parents,
+    })
 }
 
 // The changes by which the drafted marks take their place.

@@ -5,13 +5,13 @@ ghost use Rattle.merge_part.specs.declared.change.Move.{Move as OneMove};
 ghost use Rattle.merge_part.specs.Draft.{marks_of};
 ghost use Rattle.merge_part.specs.Moves.{move_cmp, move_if, moves_from, all_moves};
 
-use crate::change::{Move, MoveKind};
+use crate::change::Move;
 use crate::draft::{Held, marks_held};
-use crate::key::RowKey;
 use crate::sites::Sites;
+use merge_gens::MoveKind;
 use merge_schema::Subscription;
 use merge_table::Table;
-use merge_types::{NoMemory, SiteId};
+use merge_types::{NoMemory, RowKey, SiteId};
 use std::alloc::Global;
 
 // Adds the row's move at one site, if it moves there.

@@ -1,66 +1,65 @@
 //! Works out the marks of waiting rows anew.
 ghost use Rattle.std.specs.Prelude.{◌≡◌, ◌==◌, ℕ, List, ◌∷◌, All, filter, IfOk, OnOk};
-ghost use Rattle.merge_part.specs.declared.key.RowKey.{RowKey as OneKey};
+ghost use Rattle.std.specs.Map.{keys_of};
+ghost use Rattle.merge_types.specs.declared.row_key.RowKey.{RowKey as OneKey};
 ghost use Rattle.merge_part.specs.Draft.{rows_in, marks_in};
-ghost use Rattle.merge_part.specs.Index.{AreIndexed};
-ghost use Rattle.merge_part.specs.Settling.{AreMarksOf, IsSettled, AllMeet, pends, ChildrenCome, ParentsComeFirst, NoneFollowsItself};
+ghost use Rattle.merge_part.specs.Index.{AreChildrenIndexed, AreParentsIndexed, children_found, parents_found};
+ghost use Rattle.merge_part.specs.Settling.{AreKnown, AreMarksOf, IsSettled, AllMeet, pends, ChildrenCome, ParentsComeFirst, NoneFollowsItself};
 ghost use Rattle.merge_part.specs.Rule.{Meets};
-ghost use Rattle.merge_part.specs.Waiting.{KeepsWaiting};
+ghost use Rattle.merge_part.specs.Waiting.{AreReached, KeepsWaiting};
 
-use crate::draft::{Draft, Held, marks_at};
-use crate::index::Indexes;
-use crate::joined::sites_of;
-use crate::key::RowKey;
-use crate::link::Rules;
+use crate::draft::{Draft, marks_at};
+use crate::index::Finder;
+use crate::joined::{Memo, sites_of};
+use crate::keeping::Kept;
 use crate::sites::Sites;
 use crate::waiting::wait_by_marks;
-use merge_types::NoMemory;
+use merge_table::Table;
+use merge_types::{NoMemory, RowKey};
 use std::alloc::Global;
 
 // The partitions that the row is in, by the rule.
-fn sites_by_rule(rules: &Rules, index: &Indexes, held: &Held, draft: &Draft, key: RowKey) -> Sites
-    requires { AreIndexed rules.now.links index.now (rows_in held.now.rows.rows draft.now.rows) }
-    ensures { AreMarksOf rules.now.links (rows_in held.now.rows.rows draft.now.rows) (marks_in held.now.marks.rows draft.now.marks.rows) key result }
+fn sites_by_rule(
+    kept: &Kept,
+    draft: &Draft,
+    memo: &mut Memo,
+    key: RowKey,
+) -> Result<Sites, NoMemory>
+    requires known { AreKnown kept.now.rules.links (parents_found kept.now.index draft.now.index) (rows_in kept.now.held.rows.rows draft.now.rows) (marks_in kept.now.held.marks.rows draft.now.marks.rows) key.article memo.old.rows }
+    requires parents { AreParentsIndexed kept.now.rules.links (parents_found kept.now.index draft.now.index) (rows_in kept.now.held.rows.rows draft.now.rows) }
+    ensures known { OnOk result (AreKnown kept.now.rules.links (parents_found kept.now.index draft.now.index) (rows_in kept.now.held.rows.rows draft.now.rows) (marks_in kept.now.held.marks.rows draft.now.marks.rows) key.article memo.new.rows) }
+    ensures marks { IfOk result (λ sites. AreMarksOf kept.now.rules.links (rows_in kept.now.held.rows.rows draft.now.rows) (marks_in kept.now.held.marks.rows draft.now.marks.rows) key sites) }
 {
-    match draft.rows.get(&held.rows, &key) {
-        Some(content) => sites_of(
-            rules.links.as_slice(),
-            &index.parents,
-            held,
-            draft,
-            key,
-            content,
-        ),
-        None => Sites::none(),
+    match draft.rows.get(&kept.held.rows, &key) {
+        Some(content) => sites_of(kept, draft, memo, key, content),
+        None => Ok(Sites::none()),
     }
 }
 
 // Gives the row the marks that the rule says of it, and lets its children wait where these change.
-fn settle_row(
-    rules: &Rules,
-    index: &Indexes,
-    held: &Held,
-    draft: &mut Draft,
-    key: RowKey,
-    waiting: &mut Vec<RowKey>,
-) -> Result<(), NoMemory>
-    requires { AreIndexed rules.now.links index.now (rows_in held.now.rows.rows draft.old.rows) }
+fn settle_row(kept: &Kept, draft: &mut Draft, memo: &mut Memo, key: RowKey) -> Result<(), NoMemory>
+    requires apart { NoneFollowsItself kept.now.rules.links }
+    requires known { AreKnown kept.now.rules.links (parents_found kept.now.index draft.old.index) (rows_in kept.now.held.rows.rows draft.old.rows) (marks_in kept.now.held.marks.rows draft.old.marks.rows) key.article memo.old.rows }
+    requires reached { AreReached kept.now.rules.links (children_found kept.now.index draft.old.index) (keys_of draft.old.waiting.values.rows) draft.old.waiting.rows.items }
+    requires parents { AreParentsIndexed kept.now.rules.links (parents_found kept.now.index draft.old.index) (rows_in kept.now.held.rows.rows draft.old.rows) }
     ensures rows { draft.new.rows ≡ draft.old.rows }
-    ensures kept { KeepsWaiting waiting.old.items waiting.new.items }
-    ensures ok { OnOk result (IsSettled rules.now.links index.now.children (rows_in held.now.rows.rows draft.old.rows) (marks_in held.now.marks.rows draft.old.marks.rows) (marks_in held.now.marks.rows draft.new.marks.rows) key waiting.new.items) }
+    ensures index { draft.new.index ≡ draft.old.index }
+    ensures known { OnOk result (AreKnown kept.now.rules.links (parents_found kept.now.index draft.old.index) (rows_in kept.now.held.rows.rows draft.old.rows) (marks_in kept.now.held.marks.rows draft.new.marks.rows) key.article memo.new.rows) }
+    ensures reached { OnOk result (AreReached kept.now.rules.links (children_found kept.now.index draft.old.index) (keys_of draft.new.waiting.values.rows) draft.new.waiting.rows.items) }
+    ensures kept { KeepsWaiting draft.old.waiting.rows.items draft.new.waiting.rows.items }
+    ensures ok { OnOk result (IsSettled kept.now.rules.links (children_found kept.now.index draft.old.index) (rows_in kept.now.held.rows.rows draft.old.rows) (marks_in kept.now.held.marks.rows draft.old.marks.rows) (marks_in kept.now.held.marks.rows draft.new.marks.rows) key draft.new.waiting.rows.items) }
 {
-    let sites = sites_by_rule(rules, index, held, draft, key);
-    if sites == marks_at(&held.marks, &draft.marks, &key) {
+    let sites = sites_by_rule(kept, draft, memo, key)?;
+    if sites == marks_at(&kept.held.marks, &draft.marks, &key) {
         return Ok(());
     }
-    let content = draft.rows.get(&held.rows, &key);
-    wait_by_marks(
-        rules.links.as_slice(),
-        &index.children,
-        key.article,
-        content,
-        waiting,
-    )?;
+    let content = draft.rows.get(&kept.held.rows, &key);
+    let children = Finder {
+        links: kept.rules.links.as_slice(),
+        held: &kept.index.children,
+        come: &draft.index.children.come,
+    };
+    wait_by_marks(&children, key.article, content, &mut draft.waiting)?;
     draft.marks.insert(key, sites)?;
     Ok(())
 }
@@ -82,45 +81,43 @@ fn batch_of(alloc: Global, article: u8, waiting: &[RowKey]) -> Result<Vec<RowKey
 // Settles the waiting rows of an article whose parents' articles are settled.
 fn settle_article(
     alloc: Global,
-    rules: &Rules,
-    index: &Indexes,
-    held: &Held,
+    kept: &Kept,
     draft: &mut Draft,
     article: u8,
-    waiting: &mut Vec<RowKey>,
 ) -> Result<(), NoMemory>
-    requires indexed { AreIndexed rules.now.links index.now (rows_in held.now.rows.rows draft.old.rows) }
-    requires apart { NoneFollowsItself rules.now.links }
+    requires children { AreChildrenIndexed kept.now.rules.links (children_found kept.now.index draft.old.index) (rows_in kept.now.held.rows.rows draft.old.rows) }
+    requires parents { AreParentsIndexed kept.now.rules.links (parents_found kept.now.index draft.old.index) (rows_in kept.now.held.rows.rows draft.old.rows) }
+    requires reached { AreReached kept.now.rules.links (children_found kept.now.index draft.old.index) (keys_of draft.old.waiting.values.rows) draft.old.waiting.rows.items }
+    requires apart { NoneFollowsItself kept.now.rules.links }
     ensures rows { draft.new.rows ≡ draft.old.rows }
-    ensures ok { OnOk result ((articles : List ℕ) → ChildrenCome rules.now.links article articles
-        → AllMeet rules.now.links (rows_in held.now.rows.rows draft.old.rows) (marks_in held.now.marks.rows draft.old.marks.rows) (pends (article ∷ articles) waiting.old.items)
-        → AllMeet rules.now.links (rows_in held.now.rows.rows draft.old.rows) (marks_in held.now.marks.rows draft.new.marks.rows) (pends articles waiting.new.items)) }
+    ensures index { draft.new.index ≡ draft.old.index }
+    ensures reached { OnOk result (AreReached kept.now.rules.links (children_found kept.now.index draft.old.index) (keys_of draft.new.waiting.values.rows) draft.new.waiting.rows.items) }
+    ensures ok { OnOk result ((articles : List ℕ) → ChildrenCome kept.now.rules.links article articles
+        → AllMeet kept.now.rules.links (rows_in kept.now.held.rows.rows draft.old.rows) (marks_in kept.now.held.marks.rows draft.old.marks.rows) (pends (article ∷ articles) draft.old.waiting.rows.items)
+        → AllMeet kept.now.rules.links (rows_in kept.now.held.rows.rows draft.old.rows) (marks_in kept.now.held.marks.rows draft.new.marks.rows) (pends articles draft.new.waiting.rows.items)) }
 {
-    let batch = batch_of(alloc, article, waiting)?;
+    let batch = batch_of(alloc, article, &draft.waiting.rows)?;
+    let mut memo = Table::new(alloc);
     for key in &batch {
-        settle_row(rules, index, held, draft, *key, waiting)?;
+        settle_row(kept, draft, &mut memo, *key)?;
     }
     Ok(())
 }
 
 /// Settles all waiting rows, article by article with parents first. Then each row meets the rule.
-pub fn settle(
-    alloc: Global,
-    rules: &Rules,
-    index: &Indexes,
-    held: &Held,
-    draft: &mut Draft,
-    mut waiting: Vec<RowKey>,
-) -> Result<(), NoMemory>
-    requires indexed { AreIndexed rules.now.links index.now (rows_in held.now.rows.rows draft.old.rows) }
-    requires apart { NoneFollowsItself rules.now.links }
-    requires order { ParentsComeFirst rules.now.links rules.now.order }
-    requires met { AllMeet rules.now.links (rows_in held.now.rows.rows draft.old.rows) (marks_in held.now.marks.rows draft.old.marks.rows) (pends rules.now.order waiting.items) }
+pub fn settle(alloc: Global, kept: &Kept, draft: &mut Draft) -> Result<(), NoMemory>
+    requires children { AreChildrenIndexed kept.now.rules.links (children_found kept.now.index draft.old.index) (rows_in kept.now.held.rows.rows draft.old.rows) }
+    requires parents { AreParentsIndexed kept.now.rules.links (parents_found kept.now.index draft.old.index) (rows_in kept.now.held.rows.rows draft.old.rows) }
+    requires reached { AreReached kept.now.rules.links (children_found kept.now.index draft.old.index) (keys_of draft.old.waiting.values.rows) draft.old.waiting.rows.items }
+    requires apart { NoneFollowsItself kept.now.rules.links }
+    requires order { ParentsComeFirst kept.now.rules.links kept.now.rules.order }
+    requires met { AllMeet kept.now.rules.links (rows_in kept.now.held.rows.rows draft.old.rows) (marks_in kept.now.held.marks.rows draft.old.marks.rows) (pends kept.now.rules.order draft.old.waiting.rows.items) }
     ensures rows { draft.new.rows ≡ draft.old.rows }
-    ensures ok { OnOk result ((key : OneKey) → Meets rules.now.links (rows_in held.now.rows.rows draft.old.rows) (marks_in held.now.marks.rows draft.new.marks.rows) key) }
+    ensures index { draft.new.index ≡ draft.old.index }
+    ensures ok { OnOk result ((key : OneKey) → Meets kept.now.rules.links (rows_in kept.now.held.rows.rows draft.old.rows) (marks_in kept.now.held.marks.rows draft.new.marks.rows) key) }
 {
-    for article in rules.order.as_slice() {
-        settle_article(alloc, rules, index, held, draft, *article, &mut waiting)?;
+    for article in kept.rules.order.as_slice() {
+        settle_article(alloc, kept, draft, *article)?;
     }
     Ok(())
 }

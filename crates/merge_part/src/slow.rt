@@ -3,8 +3,9 @@ ghost use Rattle.std.specs.Prelude.{length};
 ghost use Rattle.merge_schema.specs.Valid.{FilterFits};
 ghost use Rattle.merge_schema.specs.ValidityLaws.{FiltersFit};
 
-use crate::{Move, MoveKind};
+use crate::Move;
 use merge_filter::{Truth, eval};
+use merge_gens::MoveKind;
 use merge_schema::{Article, JoinFilter, Publication};
 use merge_types::{HostName, NoMemory, RowId, SiteId, Steps, Value, Values};
 use std::alloc::Global;

@@ -1,24 +1,29 @@
 //! Takes changes of rows up into a draft.
-ghost use Rattle.std.specs.Prelude.{◌≡◌, ◌≤◌, ◌<◌, ◌+◌, ◌*◌, All, length, IfOk, OnOk, IsTrue};
+ghost use Rattle.std.specs.Prelude.{◌≡◌, ◌≤◌, ◌<◌, ◌+◌, ◌*◌, [], All, length, IfOk, OnOk, IsTrue};
 ghost use Rattle.merge_part.specs.declared.sites.Sites.{Sites as OneSites};
-ghost use Rattle.merge_part.specs.declared.key.RowKey.{RowKey as OneKey};
+ghost use Rattle.merge_types.specs.declared.row_key.RowKey.{RowKey as OneKey};
 ghost use Rattle.merge_part.specs.Draft.{rows_in};
-ghost use Rattle.merge_part.specs.Index.{AreIndexed, KeepsEntries, IsContentIndexed};
+ghost use Rattle.std.specs.Map.{keys_of};
+ghost use Rattle.merge_part.specs.Index.{AreDrafted, children_found};
+ghost use Rattle.merge_part.specs.Waiting.{AreReached};
+ghost use Rattle.merge_join.specs.Entries.{entry_cmp};
+ghost use Rattle.std.specs.List.Sorted.{IsStrictlySortedBy};
 ghost use Rattle.merge_part.specs.Settling.{AllMeet, pends, is_among, LinksAreWithin};
-ghost use Rattle.merge_part.specs.Taking.{HoldsNew, TakesUp, FitsArticle, EachRowOnce, count_if_some, living};
+ghost use Rattle.merge_part.specs.Taking.{HoldsNew, TakesUp, FitsArticle, count_if_some, living};
 ghost use Rattle.merge_schema.specs.ValidityLaws.{FiltersFit};
 ghost use Rattle.merge_part.specs.Rules.{AreRules, IsKept, AreTaken};
 
 use crate::change::RowChange;
 use crate::content::Content;
-use crate::draft::{DraftRows, Held};
+use crate::draft::{Draft, DraftRows};
+use crate::entering::enter_row;
 use crate::filtering::filtered;
-use crate::index::Indexes;
-use crate::key::RowKey;
-use crate::link::Rules;
-use crate::waiting::{enter_row, wait_by_row};
+use crate::index::{DraftIndexes, Finder};
+use crate::keeping::Kept;
+use crate::waiting::{Waiting, wait_by_row};
 use merge_schema::Publication;
-use merge_types::{NoMemory, Steps};
+use merge_table::Table;
+use merge_types::{NoMemory, RowKey, Steps};
 use std::alloc::Global;
 use std::sync::ledger::Ledger;
 
@@ -50,111 +55,83 @@ fn content_of<L: Ledger>(
     }))
 }
 
-// Lets the new content be found by its values.
-fn enter_content(
-    rules: &Rules,
-    index: &mut Indexes,
-    key: RowKey,
-    content: &Option<Content>,
-) -> Result<(), NoMemory>
-    ensures kept_children { KeepsEntries index.old.children index.new.children }
-    ensures kept_parents { KeepsEntries index.old.parents index.new.parents }
-    ensures ok { OnOk result (IsContentIndexed rules.now.links index.new key content.now) }
-{
-    match content {
-        Some(content) => enter_row(
-            rules.links.as_slice(),
-            &mut index.children,
-            &mut index.parents,
-            key,
-            content.values.as_slice(),
-        ),
-        None => Ok(()),
-    }
-}
-
 /// Takes a change up. Its row waits, and so do the children that it reaches.
 pub fn take_up<L: Ledger>(
     publication: &Publication,
-    rules: &Rules,
-    index: &mut Indexes,
-    held: &Held,
-    draft: &mut DraftRows,
-    waiting: &mut Vec<RowKey>,
+    kept: &Kept,
+    draft: &mut Draft,
     change: &RowChange,
     steps: &mut Steps<L>,
 ) -> Result<(), NoMemory>
     requires few { length publication.now.subscriptions < 64 }
     requires filters { FiltersFit publication.now }
     requires fits { FitsArticle publication.now change.now }
-    requires indexed { AreIndexed rules.now.links index.old (rows_in held.now.rows.rows draft.old) }
-    ensures kept_children { KeepsEntries index.old.children index.new.children }
-    ensures kept_parents { KeepsEntries index.old.parents index.new.parents }
-    ensures edits { OnOk result (TakesUp publication.now change.now draft.old draft.new) }
+    requires children { IsStrictlySortedBy entry_cmp kept.now.index.children.set }
+    requires parents { IsStrictlySortedBy entry_cmp kept.now.index.parents.set }
+    requires drafted { AreDrafted kept.now.rules.links kept.now.index draft.old.index (rows_in kept.now.held.rows.rows draft.old.rows) }
+    requires reached { AreReached kept.now.rules.links (children_found kept.now.index draft.old.index) (keys_of draft.old.waiting.values.rows) draft.old.waiting.rows.items }
+    ensures reached { OnOk result (AreReached kept.now.rules.links (children_found kept.now.index draft.new.index) (keys_of draft.new.waiting.values.rows) draft.new.waiting.rows.items) }
+    ensures edits { OnOk result (TakesUp publication.now change.now draft.old.rows draft.new.rows) }
+    ensures marks { draft.new.marks ≡ draft.old.marks }
     ensures cost { steps.new ≤ steps.old + length publication.now.subscriptions * count_if_some change.now.new }
-    ensures indexed { OnOk result (AreIndexed rules.now.links index.new (rows_in held.now.rows.rows draft.new)) }
-    ensures met { OnOk result ((marks : OneKey → OneSites) → LinksAreWithin rules.now.links rules.now.order → IsTrue (is_among rules.now.order change.now.article)
-        → AllMeet rules.now.links (rows_in held.now.rows.rows draft.old) marks (pends rules.now.order waiting.old.items)
-        → AllMeet rules.now.links (rows_in held.now.rows.rows draft.new) marks (pends rules.now.order waiting.new.items)) }
+    ensures drafted { OnOk result (AreDrafted kept.now.rules.links kept.now.index draft.new.index (rows_in kept.now.held.rows.rows draft.new.rows)) }
+    ensures met { OnOk result ((marks : OneKey → OneSites) → LinksAreWithin kept.now.rules.links kept.now.rules.order → IsTrue (is_among kept.now.rules.order change.now.article)
+        → AllMeet kept.now.rules.links (rows_in kept.now.held.rows.rows draft.old.rows) marks (pends kept.now.rules.order draft.old.waiting.rows.items)
+        → AllMeet kept.now.rules.links (rows_in kept.now.held.rows.rows draft.new.rows) marks (pends kept.now.rules.order draft.new.waiting.rows.items)) }
 {
     let key = change.key();
+    let links = kept.rules.links.as_slice();
     let content = content_of(publication, change, steps)?;
-    enter_content(rules, index, key, &content)?;
-    let _ = held.rows.iter();
-    let old = draft.get(&held.rows, &key);
+    kept.held.rows.is_ordered();
+    let old = draft.rows.get(&kept.held.rows, &key);
+    draft.waiting.rows.push(key)?;
+    enter_row(links, &mut draft.index, key, old, content.as_ref())?;
+    let children = Finder {
+        links,
+        held: &kept.index.children,
+        come: &draft.index.children.come,
+    };
     wait_by_row(
-        rules.links.as_slice(),
-        &index.children,
+        &children,
         key.article,
         old,
         content.as_ref(),
-        waiting,
+        &mut draft.waiting,
     )?;
-    waiting.push(key)?;
-    draft.push(key, content)?;
+    draft.rows.push(key, content)?;
     Ok(())
 }
 
-/// Changes that were taken up, and the rows that wait since.
-#[derive(Drop)]
-pub struct Taken {
-    pub rows: DraftRows,
-    pub waiting: Vec<RowKey>,
-}
-
-/// Takes all changes up, in order.
+/// Takes all changes up, in order, into a draft in which no row is marked yet.
 pub fn take_up_all<L: Ledger>(
     alloc: Global,
     publication: &Publication,
-    rules: &Rules,
-    index: &mut Indexes,
-    held: &Held,
+    kept: &Kept,
     changes: &[RowChange],
     steps: &mut Steps<L>,
-) -> Result<Taken, NoMemory>
-    requires rules { AreRules publication.now rules.now }
+) -> Result<Draft, NoMemory>
+    requires rules { AreRules publication.now kept.now.rules }
     requires fits { All (FitsArticle publication.now) changes.now }
-    requires once { EachRowOnce changes.now }
-    requires kept { IsKept publication.now rules.now.links index.old held.now.rows.rows held.now.marks.rows }
-    ensures kept_children { KeepsEntries index.old.children index.new.children }
-    ensures kept_parents { KeepsEntries index.old.parents index.new.parents }
-    ensures taken { IfOk result (λ taken. AreTaken publication.now rules.now index.new held.now.rows.rows held.now.marks.rows changes.now taken.rows taken.waiting.items) }
+    requires kept { IsKept publication.now kept.now.rules.links kept.now.index.children.set kept.now.index.parents.set kept.now.held.rows.rows kept.now.held.marks.rows }
+    ensures marks { IfOk result (λ draft. draft.marks.rows ≡ []) }
+    ensures reached { IfOk result (λ draft. AreReached kept.now.rules.links (children_found kept.now.index draft.index) (keys_of draft.waiting.values.rows) draft.waiting.rows.items) }
+    ensures taken { IfOk result (λ draft. AreTaken publication.now kept.now.rules kept.now.index draft.index kept.now.held.rows.rows kept.now.held.marks.rows changes.now draft.rows draft.waiting.rows.items) }
     ensures cost { steps.new ≤ steps.old + length publication.now.subscriptions * living changes.now }
 {
-    let mut rows = DraftRows::new(alloc);
-    let mut waiting = Vec::new(alloc);
-    let _ = held.rows.iter();
+    let mut draft = Draft {
+        rows: DraftRows::new(alloc),
+        index: DraftIndexes::new(alloc),
+        marks: Table::new(alloc),
+        waiting: Waiting {
+            rows: Vec::new(alloc),
+            values: Table::new(alloc),
+        },
+    };
+    kept.held.rows.is_ordered();
+    kept.index.children.is_ordered();
+    kept.index.parents.is_ordered();
     for change in changes {
-        take_up(
-            publication,
-            rules,
-            index,
-            held,
-            &mut rows,
-            &mut waiting,
-            change,
-            steps,
-        )?;
+        take_up(publication, kept, &mut draft, change, steps)?;
     }
-    Ok(Taken { rows, waiting })
+    Ok(draft)
 }

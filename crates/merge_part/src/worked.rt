@@ -4,7 +4,8 @@ ghost use Rattle.merge_part.specs.Taking.{count_if_some};
 
 use crate::trial::Cell::{Int, Null, Text};
 use crate::trial::{Line, are_fit, change_of, gone, put};
-use crate::{Membership, Move, MoveKind, Moves};
+use crate::{Membership, Move, Moves};
+use merge_gens::MoveKind;
 use merge_schema::{SchemaFault, read};
 use merge_types::{Listing, NoMemory, RowId, SiteId, Steps};
 use std::alloc::Global;

@@ -1,2 +1,5 @@
+pub mod Entries
 pub mod Faults
+pub mod Keeping
+pub mod Opened
 pub mod Parts

@@ -1,7 +1,11 @@
-//! Where bytes come from and where they go, as traits. Each object may tell its bytes and counts its faults.
+//! What the program is joined to, as traits: where bytes come from and where they go, and what keeps
+//! the records of sites. Each object may tell its content, and counts its faults.
 #![tactic(auto)]
 
+mod entry;
+mod keeper;
 mod memory;
+mod outside;
 mod ports;
 mod short;
 mod streams;
@@ -9,7 +13,10 @@ mod streams;
 mod tests;
 mod whole;
 
+pub use entry::{Entries, EntryEdit, EntryKey};
+pub use keeper::{KeepFault, Keeper};
 pub use memory::{MemorySink, MemorySource};
+pub use outside::{Counts, OpenFault, Outside};
 pub use ports::{Failed, Sink, Source};
 pub use short::Short;
 pub use streams::{Reading, Writing};

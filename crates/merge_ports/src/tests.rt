@@ -19,7 +19,7 @@ fn reads_to_the_end(rt: HostRuntime) -> Result<(), Fail> {
     let input = octets(rt.alloc(), b"abcde")?;
     let port = MemorySource::new(input, calls(rt.alloc(), &[])?);
     let mut source = Short { port, most: 2 };
-    let read = read_whole(rt.alloc(), &mut source)?;
+    let read = read_whole(rt.alloc(), &mut source, 5)?;
     assert_eq!(rt; read.as_slice(), b"abcde".as_slice());
     assert_eq!(rt; source.port.calls, 4);
     assert_eq!(rt; source.faults(), 0);
@@ -32,7 +32,7 @@ fn each_failing_read_ends_the_reading(rt: HostRuntime) -> Result<(), Fail> {
         let input = octets(rt.alloc(), b"abcde")?;
         let port = MemorySource::new(input, calls(rt.alloc(), &[failing])?);
         let mut source = Short { port, most: 2 };
-        let fault = read_whole(rt.alloc(), &mut source).err();
+        let fault = read_whole(rt.alloc(), &mut source, 5).err();
         assert_eq!(rt; fault, Some(ReadFault::Failed), "at {failing}");
         assert_eq!(rt; source.faults(), 1, "at {failing}");
     }
@@ -55,7 +55,7 @@ fn each_failing_write_leaves_a_front(rt: HostRuntime) -> Result<(), Fail> {
 #[test]
 fn streams_of_std_are_ports(rt: HostRuntime) -> Result<(), Fail> {
     let mut source = Reading::new(b"abc".as_slice());
-    let read = read_whole(rt.alloc(), &mut source)?;
+    let read = read_whole(rt.alloc(), &mut source, 5)?;
     let mut sink = Writing::new(Vec::new(rt.alloc()));
     assert_eq!(rt; write_whole(&mut sink, read.as_slice()), Ok(()));
     assert_eq!(rt; sink.inner.as_slice(), b"abc".as_slice());

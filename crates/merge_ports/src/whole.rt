@@ -45,16 +45,21 @@ impl From<Failed> for ReadFault {
     }
 }
 
-/// Reads an input to its end. One that has more bytes than the limit is refused once so many were
+/// Reads a source to its end. One that has more bytes than the limit is refused once so many were
 /// read, and a fault ends the reading at once.
-pub fn read_whole<S: Source>(alloc: Global, source: &mut S) -> Result<Octets, ReadFault>
+pub fn read_whole<S: Source>(
+    alloc: Global,
+    source: &mut S,
+    limit: usize,
+) -> Result<Octets, ReadFault>
     ensures whole { IfOk result (λ input. IfSome (S.left source.old) (λ left. input ≡ left)) }
     ensures end { OnOk result (IsAtEnd (S.left source.new)) }
-    ensures fits { IfOk result (λ input. length input ≤ INPUT_LIMIT) }
-    ensures long { result ≡ Err ReadFault.TooLong → IfSome (S.left source.old) (λ left. INPUT_LIMIT < length left) }
+    ensures fits { IfOk result (λ input. length input ≤ limit) }
+    ensures long { result ≡ Err ReadFault.TooLong → IfSome (S.left source.old) (λ left. limit < length left) }
     ensures failed { result ≡ Err ReadFault.Failed → Rose (S.count source.old) (S.count source.new) }
     ensures front { ConsumesFront (S.left source.old) (S.left source.new) }
     ensures later { S.count source.old ≤ S.count source.new }
+    ensures kept { OnOk result (S.count source.new ≡ S.count source.old) }
 {
     let mut input = Octets::empty(alloc);
     let mut piece = [0; 4096];
@@ -63,7 +68,7 @@ pub fn read_whole<S: Source>(alloc: Global, source: &mut S) -> Result<Octets, Re
         if taken == 0 {
             return Ok(input);
         }
-        if taken > INPUT_LIMIT - input.len() {
+        if taken > limit - input.len() {
             return Err(ReadFault::TooLong);
         }
         input.extend(&piece[..taken])?;

@@ -15,5 +15,7 @@ pub mod Building
 pub mod Answers
 pub mod Built
 pub mod EvaluationOrder
+pub mod Faults
 pub mod Partition
+pub mod Places
 pub mod PartitionLaws

@@ -1,5 +1,5 @@
 -- The partition of a site: the live rows that it gets.
-use Rattle.std.specs.Prelude.{ℕ, zero, suc, Bool, true, false, ◌&&◌, ◌||◌, ◌==◌, List, [], ◌∷◌, length, filter, slice_get, slice_index_or, Option, Some, None, option_map, find, is_none}
+use Rattle.std.specs.Prelude.{ℕ, zero, suc, Bool, true, false, ◌&&◌, ◌||◌, ◌==◌, List, [], ◌∷◌, length, filter, slice_index_or, Option, Some, None, option_map, find, is_none}
 use Rattle.std.specs.List.{list_any, flat_map, range_with_len}
 use Rattle.merge_types.specs.declared.identifiers.HostName.{HostName}
 use Rattle.merge_types.specs.declared.identifiers.RowId.{RowId}
@@ -15,6 +15,7 @@ use Rattle.merge_schema.specs.declared.publication.Article.{Article}
 use Rattle.merge_schema.specs.declared.publication.JoinFilter.{JoinFilter}
 use Rattle.merge_schema.specs.declared.publication.Publication.{Publication}
 use Rattle.merge_schema.specs.declared.publication.Subscription.{Subscription}
+pub use Rattle.merge_schema.specs.Places.{article_at}
 
 -- a live row of an article, which is named by its place
 pub record LiveRow : Type 0 where
@@ -25,9 +26,6 @@ pub record LiveRow : Type 0 where
 -- the value in a column, and Null where the row has no such column
 abbrev pub value_at : LiveRow → ℕ → Value
 value_at row column = slice_index_or row.values column values.Null
-
-abbrev pub article_at : Publication → ℕ → Option Article
-article_at publication place = slice_get publication.articles place
 
 abbrev pub joins_of : Option Article → List JoinFilter
 joins_of None = []

@@ -1,6 +1,7 @@
 -- What the tables of a publication file say, before the names in them are looked up: a line for each key.
 use Rattle.std.specs.Prelude.{List, [], ◌∷◌, ℕ, ◌+◌, pos, Bool, true, false, ◌&&◌, ◌||◌, not, ◌==◌, nat_lt, codes, bytes_eq, if◌then◌else◌, Option, Some, None, is_some, Result, Ok, Err}
 use Rattle.toml.specs.Data.{Data, Members}
+use Rattle.merge_types.specs.Limits.{filter_limit}
 use Rattle.merge_types.specs.declared.changes.Tracking.{Tracking}
 use Rattle.merge_types.specs.declared.changes.Tracking.TheVariants.{Row, ByColumn}
 use Rattle.merge_types.specs.declared.values.Column.{Column}
@@ -157,7 +158,7 @@ article_of resolvers ms = do
   _ ← known_only shapes.Article ms
   name ← needed (codes "name") name_text ms
   tracking ← tracking_at ms
-  filter ← optional (codes "filter") None (some_text_within 4000) ms
+  filter ← optional (codes "filter") None (some_text_within filter_limit) ms
   resolver ← resolver_at resolvers ms
   by_column ← resolver_column resolver ms
   column_tables ← needed (codes "column") (tables_from 1 64) ms

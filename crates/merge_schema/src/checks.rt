@@ -1,7 +1,6 @@
 //! What is asked of the names in a publication file.
 ghost use Rattle.std.specs.Prelude.{◌≡◌, find, not, option_copied};
 ghost use Rattle.std.specs.List.{list_any};
-ghost use Rattle.merge_filter.specs.Types.{column_type};
 ghost use Rattle.merge_schema.specs.declared.draft.JoinDraft.{JoinDraft};
 ghost use Rattle.merge_schema.specs.declared.fault.SchemaFault.TheVariants.{BadValue};
 ghost use Rattle.merge_schema.specs.Checks.{distinct_columns, parents_known, lacks_column, lacks_parent_column, lacks_resolver_column, lacks_named, is_compared, is_added, is_identity, can_decide, decides_by, cannot_decide, names_checked};
@@ -16,7 +15,8 @@ use crate::names::{
 };
 use crate::publication::Identity;
 use crate::values::bad_value;
-use merge_types::{ColType, Column, Words};
+use merge_filter::column_type;
+use merge_types::{ColType, Words};
 use std::alloc::Global;
 
 fn distinct_columns(alloc: Global, articles: &[ArticleDraft]) -> Result<(), SchemaFault>
@@ -113,16 +113,6 @@ fn is_identity(identity: Option<Identity>, place: usize) -> bool
     match identity {
         None => false,
         Some(identity) => identity.column as usize == place,
-    }
-}
-
-/// The type of the column at a place.
-pub fn column_type(columns: &[Column], place: usize) -> Option<ColType>
-    ensures { result ≡ column_type columns.now place }
-{
-    match columns.get(place) {
-        Some(column) => Some(column.ty),
-        None => None,
     }
 }
 

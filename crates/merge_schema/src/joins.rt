@@ -1,30 +1,15 @@
 //! Joins between articles: their types, and the articles that they lead to.
 ghost use Rattle.std.specs.Prelude.{◌≡◌, ◌==◌, ◌||◌, IfOk, length, map, slice_get, slice_index_or, false, not};
 ghost use Rattle.std.specs.List.{list_any};
-ghost use Rattle.merge_filter.specs.Types.{column_type, are_alike};
 ghost use Rattle.merge_schema.specs.declared.publication.Article.{Article};
 ghost use Rattle.merge_schema.specs.Ancestors.{columns_if, is_unlike, joins_alike, leads_to, descendants_within, is_ancestor, no_own_ancestor, joins_checked};
 ghost use Rattle.merge_schema.specs.Steps.{Gives, every};
 
-use crate::checks::column_type;
 use crate::fault::SchemaFault;
 use crate::publication::{Article, JoinFilter};
-use merge_types::{ColType, Column, Listing, NoMemory};
+use merge_filter::{are_alike, column_type};
+use merge_types::{Column, Listing, NoMemory};
 use std::alloc::Global;
-
-fn are_alike(left: Option<ColType>, right: Option<ColType>) -> bool
-    ensures { result ≡ are_alike left right }
-{
-    match (left, right) {
-        (Some(ColType::Int), Some(ColType::Int)) => true,
-        (Some(ColType::Bit), Some(ColType::Bit)) => true,
-        (Some(ColType::Text), Some(ColType::Text)) => true,
-        (Some(ColType::Day), Some(ColType::Day)) => true,
-        (Some(ColType::Guid), Some(ColType::Guid)) => true,
-        (Some(ColType::Bytes), Some(ColType::Bytes)) => true,
-        _ => false,
-    }
-}
 
 // The columns of the article at a place.
 fn columns_at(articles: &[Article], place: usize) -> &[Column]

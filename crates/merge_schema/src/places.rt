@@ -1,8 +1,9 @@
 //! Places in a publication, by name and by site.
-ghost use Rattle.std.specs.Prelude.{◌≡◌, ◌<◌, ◌==◌, IfSome, bytes_eq, length, position};
+ghost use Rattle.std.specs.Prelude.{◌≡◌, ◌<◌, ◌==◌, IfSome, bytes_eq, length, option_copied, position};
 ghost use Rattle.merge_schema.specs.declared.publication.Article.{Article};
 ghost use Rattle.merge_schema.specs.declared.publication.Subscription.{Subscription};
 ghost use Rattle.merge_schema.specs.Lookups.{column_place};
+ghost use Rattle.merge_schema.specs.Places.{article_at, is_subscription};
 
 use crate::names;
 use crate::publication::{Article, Publication};
@@ -18,6 +19,23 @@ impl Publication {
         articles
             .iter()
             .position(|article| article.name.as_str() == name)
+    }
+
+    /// The article at a place, and none where there are not so many.
+    pub fn article_at(&self, place: u8) -> Option<&Article>
+        ensures { option_copied result ≡ article_at self.now place }
+    {
+        self.articles.as_slice().get(place as usize)
+    }
+
+    /// Whether a site subscribes.
+    pub fn is_subscription(&self, site: SiteId) -> bool
+        ensures { result ≡ is_subscription self.now site.0 }
+    {
+        let subscriptions = self.subscriptions.as_slice();
+        subscriptions
+            .iter()
+            .any(|subscription| subscription.site.0 == site.0)
     }
 
     /// The place of the subscription of a site, and none where it does not subscribe.

@@ -22,6 +22,7 @@ use crate::values::{
     bad_value, count_at, count_from, count_or, fitting, integer_or, missing, name_at, one_table,
     short_text_at, short_text_if, tables_at, tables_or_none, text_at, text_if, text_or, value_at,
 };
+use merge_types::limits::FILTER_LIMIT;
 use merge_types::{ColType, Column, HostName, Listing, SiteId, Tracking, Words};
 use std::alloc::Global;
 use toml::{Table, Value};
@@ -33,8 +34,6 @@ const COLUMNS: usize = 64;
 const JOINS: usize = 8;
 
 const SUBSCRIPTIONS: usize = 63;
-
-const FILTER_BYTES: usize = 4000;
 
 const HOST_BYTES: usize = 128;
 
@@ -230,7 +229,7 @@ fn article_of(alloc: Global, table: &Table, resolvers: usize) -> Result<ArticleD
     known_only(alloc, table, Shape::Article)?;
     let name = name_at(alloc, table, "name")?;
     let tracking = tracking_at(alloc, table)?;
-    let filter = short_text_if(alloc, table, "filter", FILTER_BYTES)?;
+    let filter = short_text_if(alloc, table, "filter", FILTER_LIMIT)?;
     let resolver = resolver_at(alloc, table, resolvers)?;
     let resolver_column = resolver_column_at(alloc, table, resolver)?;
     let column_tables = tables_at(alloc, table, "column", COLUMNS)?;

@@ -782,3 +782,60 @@ fn handlers(rt: HostRuntime) -> Result<(), Fail> {
     }
     Ok(())
 }
+
+#[test]
+fn keys_that_are_no_names_are_told_in_quotes(rt: HostRuntime) -> Result<(), Fail> {
+    for (expected, keys) in [
+        ("bad value \"a\\nb\"", "\"a\\nb\" = 1\n"),
+        ("bad value \"a-b\"", "a-b = 1\n"),
+        ("bad value \"\"", "\"\" = 1\n"),
+        (
+            "unknown article \"\\u001b[0m\"",
+            "join = [{ column = \"qty\", parent = \"\\u001b[0m\", parent_column = \"x\" }]\n",
+        ),
+    ] {
+        let told = article(rt.alloc(), keys)?;
+        assert_eq!(rt; told.as_str(), expected, "{keys}");
+    }
+    Ok(())
+}
+
+#[test]
+fn faults_have_numbers(rt: HostRuntime) -> Result<(), Fail> {
+    let alloc = rt.alloc();
+    for (number, keys) in [
+        (2, "resolver = \"maximum\"\n"),
+        (3, "tracking = 1\n"),
+        (
+            5,
+            "join = [{ column = \"qty\", parent = \"far\", parent_column = \"x\" }]\n",
+        ),
+        (
+            6,
+            "join = [{ column = \"qty\", parent = \"item\", parent_column = \"qty\" }]\n",
+        ),
+    ] {
+        let text = text_of(alloc, &[TOP, ITEM, keys, QTY])?;
+        let told = match read(alloc, text.as_bytes(), 5) {
+            Ok(_) => None,
+            Err(fault) => fault.number(),
+        };
+        assert_eq!(rt; told, Some(number), "{keys}");
+    }
+    Ok(())
+}
+
+#[test]
+fn articles_and_sites_are_looked_up(rt: HostRuntime) -> Result<(), Fail> {
+    let alloc = rt.alloc();
+    let text = text_of(alloc, &[TOP, ITEM, QTY, SITE])?;
+    let Ok(publication) = read(alloc, text.as_bytes(), 5) else {
+        assert!(rt; false, "refused");
+        return Ok(());
+    };
+    assert!(rt; publication.article_at(1).is_none());
+    let first = publication.article_at(0).ok_or("no article")?;
+    assert_eq!(rt; first.name.as_str(), "item");
+    assert!(rt; publication.is_subscription(SiteId(1)) && !publication.is_subscription(SiteId(0)));
+    Ok(())
+}

@@ -1,18 +1,8 @@
 -- Names and plain decimals.
-use Rattle.std.specs.Char.{is_ascii_alphabetic, is_ascii_alphanumeric, is_ascii_digit}
+use Rattle.std.specs.Char.{is_ascii_digit}
 use Rattle.std.specs.List.{list_all}
-use Rattle.std.specs.Prelude.{ℕ, ◌+◌, ◌-◌, ◌*◌, ◌^◌, List, [], ◌∷◌, length, Bool, true, false, nat_lt, nat_le, ◌==◌, ◌||◌, ◌&&◌, not, Option, Some, None, if◌then◌else◌}
-
-abbrev pub begins_name : ℕ → Bool
-begins_name byte = is_ascii_alphabetic byte || (byte == 95)
-
-abbrev pub continues_name : ℕ → Bool
-continues_name byte = is_ascii_alphanumeric byte || (byte == 95)
-
--- a letter or _, and then letters, digits or _, at most 64 bytes
-abbrev pub is_name_text : List ℕ → Bool
-is_name_text [] = false
-is_name_text (first ∷ rest) = (begins_name first && list_all continues_name rest) && nat_le (length (first ∷ rest)) 64
+use Rattle.std.specs.Prelude.{ℕ, ◌+◌, ◌-◌, ◌*◌, ◌^◌, List, [], ◌∷◌, Bool, true, false, nat_lt, ◌==◌, ◌&&◌, not, Option, Some, None, if◌then◌else◌}
+pub use Rattle.merge_types.specs.Names.{begins_name, continues_name, is_name_text}
 
 -- there is a first digit, which is 0 only where it stands alone
 abbrev pub begins_decimal : List ℕ → Bool

@@ -10,5 +10,7 @@ mod words;
 
 pub use input::{bar_cuts_its_input, cut_input};
 pub use lines::{cut_line, is_text};
-pub use names::{NAME_LIMIT, decimals_are_read_as_printed, is_name, read_decimal};
+pub use merge_types::is_name;
+pub use merge_types::limits::NAME_LIMIT;
+pub use names::{decimals_are_read_as_printed, read_decimal};
 pub use words::{is_quiet, split_words, words_part_their_line};

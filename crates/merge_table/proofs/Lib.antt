@@ -4,3 +4,7 @@ pub mod Counts
 pub mod Ranges
 pub mod Edits
 pub mod LookUps
+pub mod Sorted
+pub mod Takes
+pub mod Puts
+pub mod Given

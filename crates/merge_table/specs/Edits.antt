@@ -1,5 +1,5 @@
 -- Changes of a table, and what they make of a list of rows.
-use Rattle.std.specs.Prelude.{◌≡◌, true, List, [], ◌∷◌, Bool}
+use Rattle.std.specs.Prelude.{◌≡◌, true, List, [], ◌∷◌, Bool, if◌then◌else◌}
 use Rattle.std.specs.List.{All}
 use Rattle.std.specs.declared.option.Option.{Option}
 use Rattle.std.specs.declared.option.Option.TheVariants.{None, Some}
@@ -30,6 +30,11 @@ rows_after cmp rows (Take key) = remove_entry (is_at (cmp key)) rows
 abbrev pub rows_after_all : {K V : Type 0} → (K → K → Ordering) → List (K × V) → List (Edit K V) → List (K × V)
 rows_after_all cmp rows [] = rows
 rows_after_all cmp rows (edit ∷ edits) = rows_after_all cmp (rows_after cmp rows edit) edits
+
+-- the changes that take each row out that a test refuses
+abbrev pub takes_of : {K V : Type 0} → (K × V → Bool) → List (K × V) → List (Edit K V)
+takes_of keep [] = []
+takes_of keep (row ∷ rows) = if keep row then takes_of keep rows else Take row.0 ∷ takes_of keep rows
 
 -- the slots after room is made for one change
 abbrev pub slots_for : {K V : Type 0} → (K → K → Ordering) → List K → Edit K V → List K

@@ -1,5 +1,5 @@
 //! Changes of a table, one at a time and all of a step at once.
-ghost use Rattle.std.specs.Prelude.{◌≡◌, true, IsTrue, IsOk, OnOk, OnErr};
+ghost use Rattle.std.specs.Prelude.{◌≡◌, ◌≤◌, ◌*◌, true, length, IsTrue, IsOk, OnOk, OnErr};
 ghost use Rattle.merge_table.specs.Contents.{has_room};
 ghost use Rattle.merge_table.specs.Edits.{rows_after, rows_after_all, slots_for, slots_for_all, is_ready, IsReady};
 
@@ -77,5 +77,15 @@ impl<K: TableKey, V: Drop> Table<K, V> {
         for edit in edits {
             self.edit(edit);
         }
+    }
+
+    /// The same, and lets go of room once it is the most.
+    pub fn apply_and_sweep(&mut self, edits: Vec<Edit<K, V>>)
+        requires { IsReady K.cmp self.old.slots edits.items }
+        ensures rows { self.new.rows ≡ rows_after_all K.cmp self.old.rows edits.items }
+        ensures spare { length self.new.slots ≤ 2 * length self.new.rows }
+    {
+        self.apply(edits);
+        self.sweep_if_due();
     }
 }

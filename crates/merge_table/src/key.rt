@@ -4,7 +4,7 @@ ghost use Rattle.std.specs.declared.cmp.Ordering.TheVariants.{Equal};
 ghost use Rattle.std.proofs.Common.{rules};
 ghost use Rattle.std.proofs.lemmas.Map.Lookups.{exact_unsigned, exact_pairs};
 
-use merge_types::RowKey;
+use merge_types::{Exact, Listing, RowKey, SiteId, Value, Words};
 
 /// A key of which equal values are one, and clones too.
 ///
@@ -57,4 +57,36 @@ impl TableKey for RowKey {
     ghost equal_is_same = { key_exact };
 
     ghost clone_is_same = { Prim.search rules };
+}
+
+impl TableKey for SiteId {
+    ghost use Rattle.merge_types.specs.Orders.{site_exact};
+
+    ghost equal_is_same = { site_exact };
+
+    ghost clone_is_same = { Prim.search rules };
+}
+
+impl TableKey for Words {
+    ghost use Rattle.std.proofs.lemmas.Map.Lookups.{exact_bytes};
+
+    ghost equal_is_same = { exact_bytes };
+
+    ghost clone_is_same = { λ old new same. same };
+}
+
+impl<T: TableKey + Exact> TableKey for Listing<T> {
+    ghost use Rattle.merge_types.specs.Orders.{exact_lists};
+
+    ghost equal_is_same = { exact_lists T.cmp T.equal_is_same };
+
+    ghost clone_is_same = { λ old new same. same };
+}
+
+impl TableKey for Value {
+    ghost use Rattle.merge_types.specs.Orders.{value_exact};
+
+    ghost equal_is_same = { value_exact };
+
+    ghost clone_is_same = { λ old new same. same };
 }

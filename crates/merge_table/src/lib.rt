@@ -6,6 +6,7 @@
 #![tactic(auto)]
 
 mod edit;
+mod kept;
 mod key;
 mod laws;
 mod rows;
@@ -14,6 +15,7 @@ mod table;
 mod tests;
 
 pub use edit::Edit;
+pub use kept::RowTest;
 pub use key::TableKey;
 pub use laws::{look_ups_after, rows_from_look_ups};
 pub use rows::Rows;

@@ -1,5 +1,5 @@
 //! The table.
-ghost use Rattle.std.specs.Prelude.{◌≡◌, ◌+◌, ◌<◌, ◌^◌, true, [], IsTrue, IsOk, IfOk, OnOk, OnErr, OnSome, is_some, length, filter, option_copied};
+ghost use Rattle.std.specs.Prelude.{◌≡◌, ◌↔◌, ◌+◌, ◌*◌, ◌<◌, ◌≤◌, ◌^◌, true, [], IsTrue, IsOk, IfOk, OnOk, OnErr, OnSome, is_some, length, filter, option_copied};
 ghost use Rattle.std.specs.Option.{option_flatten};
 ghost use Rattle.std.specs.List.{All};
 ghost use Rattle.std.specs.Map.{lookup, set_value, remove_entry, keys_of};
@@ -11,6 +11,7 @@ ghost use Rattle.std.specs.List.Sorted.{IsStrictlySortedBy};
 ghost use Rattle.merge_table.specs.Contents.{count_of, has_room};
 
 use crate::{Rows, TableKey};
+use merge_types::Exact;
 use std::alloc::{AllocError, Global};
 use std::collections::BTreeMap;
 use std::marker::Model;
@@ -65,10 +66,28 @@ impl<K: TableKey, V: Drop> Table<K, V> {
         self.slots.len() - self.held
     }
 
+    /// Whether there are no rows.
+    pub fn is_empty(&self) -> bool
+        ensures { IsTrue result ↔ (self.now.rows ≡ []) }
+    {
+        self.held == 0
+    }
+
+    /// That the rows stand in the order of their keys, each in its slot. It is a fact for proofs,
+    /// and does nothing.
+    pub fn is_ordered(&self)
+        ensures rows { IsStrictlySortedBy K.cmp (keys_of self.now.rows) }
+        ensures slots { IsStrictlySortedBy K.cmp self.now.slots }
+        ensures room { All (λ row. IsTrue (has_room K.cmp self.now.slots row.0)) self.now.rows }
+    {
+        let _ = &self.held;
+    }
+
     /// The row at the key.
     pub fn get(&self, key: &K) -> Option<&V>
         ensures row { option_copied result ≡ lookup (is_at (K.cmp key.now)) self.now.rows }
         ensures room { OnSome result (IsTrue (has_room K.cmp self.now.slots key.now)) }
+        ensures ordered { IsStrictlySortedBy K.cmp (keys_of self.now.rows) }
     {
         match self.slots.get(key) {
             Some(slot) => slot.as_ref(),
@@ -182,6 +201,35 @@ impl<K: TableKey, V: Drop> Table<K, V> {
     {
         drop_room(&mut self.slots);
     }
+
+    /// Lets go of the slots that have no row once these are the most, so that a table is never more
+    /// than half room, and each sweep is paid for by the changes that made it due.
+    pub fn sweep_if_due(&mut self)
+        ensures rows { self.new.rows ≡ self.old.rows }
+        ensures spare { length self.new.slots ≤ 2 * length self.new.rows }
+    {
+        if self.spare() > self.len() {
+            self.sweep();
+        }
+    }
+}
+
+/// A copy has the same rows and the same room.
+impl<K: TableKey, V: Exact + Drop> Clone for Table<K, V> {
+    ghost use Rattle.std.specs.Prelude.{◌≡◌};
+
+    ghost is_clone = { λ old new. new ≡ old };
+
+    fn clone(&self) -> Result<Table<K, V>, AllocError> {
+        Ok(Table {
+            slots: self.slots.clone()?,
+            held: self.held,
+        })
+    }
+}
+
+impl<K: TableKey, V: Exact + Drop> Exact for Table<K, V> {
+    ghost exact = { λ value copy same. same };
 }
 
 // Puts the value into the key's slot, if it has one, and answers the row that was there.

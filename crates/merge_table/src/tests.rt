@@ -1,4 +1,5 @@
-use crate::{Edit, Rows, Table};
+use crate::{Edit, RowTest, Rows, Table};
+use merge_types::{Octets, RowId, RowKey, Value};
 use std::alloc::{AllocError, Global};
 use std::test::Fail;
 
@@ -78,5 +79,73 @@ fn a_step_makes_its_changes_in_order(rt: HostRuntime) -> Result<(), Fail> {
     assert_eq!(rt; table.spare(), 2);
     table.sweep();
     assert_eq!(rt; (table.len(), table.spare()), (1, 0));
+    Ok(())
+}
+
+// Whether a count is even.
+struct Even;
+
+impl RowTest<Place, u32> for Even {
+    ghost use Rattle.std.specs.Prelude.{◌%◌, ◌==◌};
+
+    ghost passes = { λ _ row. row.1 % 2 == 0 };
+
+    fn passes(&self, _key: &Place, row: &u32) -> bool {
+        *row % 2 == 0
+    }
+}
+
+#[test]
+fn rows_that_fail_a_test_are_taken(rt: HostRuntime) -> Result<(), Fail> {
+    let mut table = stock(
+        rt.alloc(),
+        &[((1, 4), 14), ((1, 9), 19), ((2, 1), 21), ((3, 3), 33)],
+    )?;
+    assert!(rt; !table.is_empty());
+    let takes = table.takes(rt.alloc(), &Even)?;
+    assert_eq!(rt; takes.len(), 3);
+    table.apply_and_sweep(takes);
+    let rows = listed(rt.alloc(), table.iter())?;
+    assert_eq!(rt; rows.as_slice(), [((1, 4), 14)].as_slice());
+    assert_eq!(rt; table.spare(), 0);
+    Ok(())
+}
+
+#[test]
+fn a_copy_has_the_same_rows_and_room(rt: HostRuntime) -> Result<(), Fail> {
+    let mut table: Table<RowKey, Value> = Table::new(rt.alloc());
+    table.insert(
+        RowKey {
+            article: 1,
+            row: RowId(5),
+        },
+        Value::Int(7),
+    )?;
+    table.make_room(RowKey {
+        article: 2,
+        row: RowId(1),
+    })?;
+    let copy = table.clone()?;
+    assert_eq!(rt; (copy.len(), copy.spare()), (1, 1));
+    let key = RowKey {
+        article: 1,
+        row: RowId(5),
+    };
+    assert!(rt; copy.get(&key) == Some(&Value::Int(7)));
+    Ok(())
+}
+
+#[test]
+fn values_and_lists_are_keys(rt: HostRuntime) -> Result<(), Fail> {
+    let mut table: Table<Value, u32> = Table::new(rt.alloc());
+    table.insert(Value::Int(7), 1)?;
+    table.insert(Value::Bytes(Octets::new(vec![in rt.alloc(); 1, 2]?)), 2)?;
+    table.insert(Value::Int(-7), 3)?;
+    assert_eq!(rt; table.get(&Value::Int(7)).copied(), Some(1));
+    assert_eq!(rt; table.iter().next().map(|(_, count)| *count), Some(3));
+    let mut lists: Table<Octets, u32> = Table::new(rt.alloc());
+    lists.insert(Octets::new(vec![in rt.alloc(); 1, 2]?), 5)?;
+    let key = Octets::new(vec![in rt.alloc(); 1, 2]?);
+    assert_eq!(rt; lists.get(&key).copied(), Some(5));
     Ok(())
 }

@@ -3,6 +3,7 @@ pub mod Days
 pub mod Guids
 pub mod Points
 pub mod Printed
+pub mod RowTexts
 pub mod Spelling
 pub mod Texts
 pub mod Unique

@@ -1,11 +1,15 @@
 -- Days, counted from 1970-01-01, and their dates in the Gregorian calendar.
-use Rattle.std.specs.Prelude.{◌≡◌, ℕ, ◌+◌, ◌-◌, ◌*◌, ◌/◌, ◌%◌, ◌≤◌, nat_lt, if◌then◌else◌, ℤ, pos, ◌+ℤ◌, unsigned_abs, List, [], ◌∷◌, ◌++◌}
+use Rattle.std.specs.Prelude.{◌≡◌, Bool, ◌&&◌, int_le, ℕ, ◌+◌, ◌-◌, ◌*◌, ◌/◌, ◌%◌, ◌≤◌, nat_lt, if◌then◌else◌, ℤ, pos, ◌+ℤ◌, unsigned_abs, List, [], ◌∷◌, ◌++◌}
 use Rattle.jiff_core.specs.Calendar.{IsBetween, IsDate, days_from_civil}
 use Rattle.merge_types.specs.Limits.{first_day, last_day}
 
 -- a day from 0001-01-01 to 9999-12-31
 abbrev pub IsDay : ℤ → Type 0
 IsDay day = IsBetween first_day last_day day
+
+-- the same as a test
+abbrev pub is_day : ℤ → Bool
+is_day day = int_le first_day day && int_le day last_day
 
 -- the calendar has this date, in a year from 1 on, and the day is its number
 pub record IsDateOf (year month date : ℕ) (day : ℤ) : Type 0 where

@@ -10,7 +10,7 @@ pub enum Tracking {
 }
 
 /// A column, by its place, and the value that it gets.
-#[derive(Debug, Drop)]
+#[derive(Debug, Drop, PartialEq, Eq)]
 pub struct Setting {
     pub column: u8,
     pub value: Value,
@@ -20,7 +20,7 @@ pub struct Setting {
 pub type Settings = Listing<Setting>;
 
 /// A change of one row. An article is named by its place in the publication.
-#[derive(Debug, Drop)]
+#[derive(Debug, Drop, PartialEq, Eq)]
 pub enum Change {
     Insert {
         article: u8,

@@ -109,6 +109,7 @@ impl RowId {
     pub fn read(text: &[u8]) -> Option<Self>
         ensures some { IfSome result (λ row. IsRowLiteral text.now row.0) }
         ensures none { IfNone result ((row : ℕ) → IsRowLiteral text.now row → ⊥) }
+        ensures one { (row other : ℕ) → IsRowLiteral text.now row → IsRowLiteral text.now other → row ≡ other }
     {
         if let Some(number) = read_guid(text) {
             let row = RowId(number);

@@ -3,10 +3,12 @@
 
 mod changes;
 mod fault;
+mod fitting;
 mod identifiers;
 pub mod limits;
 mod listing;
 mod literal;
+mod names;
 mod row_key;
 mod steps;
 #[cfg(test)]
@@ -19,7 +21,8 @@ pub use fault::NoMemory;
 pub use identifiers::{Dot, HostName, Moment, RowId, SiteId};
 pub use listing::{Exact, Listing, Octets};
 pub use literal::{read_day, read_decimal, read_guid, read_int};
+pub use names::{Shown, begins_name, continues_name, is_name};
 pub use row_key::RowKey;
 pub use steps::Steps;
 pub use values::{ColType, Column, Value, Values};
-pub use words::Words;
+pub use words::{Words, words_are_utf8};

@@ -1,5 +1,5 @@
 //! Values as literals.
-ghost use Rattle.std.specs.Prelude.{◌≡◌, ◌↔◌, Bool, IsTrue, IfOk, IfSome, IfNone, codes};
+ghost use Rattle.std.specs.Prelude.{◌≡◌, Bool, IfOk, IfSome, IfNone, codes};
 ghost use Rattle.merge_types.specs.declared.values.Value.{Value as AnyValue};
 ghost use Rattle.merge_types.specs.Literal.{IsLiteral, IsProper, bit_text, printed};
 
@@ -16,16 +16,6 @@ pub use number::{read_decimal, read_int};
 use std::alloc::Global;
 
 impl Value {
-    /// Whether a row may hold the value: a day lies in the years 0001 to 9999.
-    pub fn is_proper(&self) -> bool
-        ensures { IsTrue result ↔ IsProper self.now }
-    {
-        match self {
-            Value::Day(day) => day::is_proper(*day),
-            _ => true,
-        }
-    }
-
     /// The value that a literal stands for, and none for any other text.
     pub fn read(alloc: Global, text: &[u8]) -> Result<Option<Value>, NoMemory>
         ensures some { IfOk result (λ read. IfSome read (IsLiteral text.now)) }

@@ -1,4 +1,5 @@
 //! Literals at their edges, by the formats' own words.
+use super::limits::{LAST_DAY, VALUE_LIMIT};
 use super::*;
 use std::test::Fail;
 
@@ -141,11 +142,79 @@ fn values_have_stored_lengths(rt: HostRuntime) -> Result<(), Fail> {
             .ok()
             .ok_or("no memory")?
             .ok_or("none")?;
-        assert_eq!(rt; value.length(), length, "at {text}");
+        assert_eq!(rt; value.stored_len(), length, "at {text}");
         assert_eq!(rt; value.weight(), weight, "at {text}");
         row.push(value).ok().ok_or("no memory")?;
     }
-    assert_eq!(rt; row.length(), 45);
+    assert_eq!(rt; row.stored_len(), 45);
     assert_eq!(rt; row.weight(), 44);
+    Ok(())
+}
+
+#[test]
+fn values_fit_columns_of_their_type(rt: HostRuntime) -> Result<(), Fail> {
+    for (text, ty) in [
+        ("7", ColType::Int),
+        ("true", ColType::Bit),
+        ("\"ab\"", ColType::Text),
+        ("9999-12-31", ColType::Day),
+        ("00000000-0000-8000-8000-000000000001", ColType::Guid),
+        ("x00ff00", ColType::Bytes),
+    ] {
+        let value = Value::read(rt.alloc(), text.as_bytes())
+            .ok()
+            .ok_or("no memory")?
+            .ok_or("none")?;
+        assert!(rt; value.fits(ty), "at {text}");
+        assert!(rt; Value::Null.fits(ty), "Null at {text}");
+        assert_eq!(rt; value.fits(ColType::Day), ty == ColType::Day, "at {text}");
+    }
+    assert!(rt; !Value::Day(LAST_DAY + 1).fits(ColType::Day));
+    assert!(rt; Value::Day(LAST_DAY + 1).has_type(ColType::Day));
+    for (len, want) in [(VALUE_LIMIT, true), (VALUE_LIMIT + 1, false)] {
+        let bytes = vec![in rt.alloc(); 7; len]?;
+        let value = Value::Bytes(Octets::new(bytes));
+        assert_eq!(rt; value.content_len(), len);
+        assert_eq!(rt; value.fits(ColType::Bytes), want, "at {len}");
+    }
+    Ok(())
+}
+
+#[test]
+fn lists_and_texts_have_an_order(rt: HostRuntime) -> Result<(), Fail> {
+    let short = Octets::new(vec![in rt.alloc(); 1, 2]?);
+    let long = Octets::new(vec![in rt.alloc(); 1, 2, 0]?);
+    let high = Octets::new(vec![in rt.alloc(); 1, 3]?);
+    assert!(rt; short < long && long < high && !short.is_empty());
+    assert_eq!(rt; long.iter().count(), 3);
+    let words = Words::of(rt.alloc(), "a\u{e9}").ok().ok_or("no memory")?;
+    let more = Words::of(rt.alloc(), "b").ok().ok_or("no memory")?;
+    assert!(rt; words < more && !words.is_empty());
+    assert!(rt; Value::Null < Value::Int(9) && Value::Int(9) < Value::Bit(false));
+    let shown = format!(in rt.alloc(); "{words}")?;
+    assert_eq!(rt; shown.as_str(), "a\u{e9}");
+    Ok(())
+}
+
+#[test]
+fn notes_show_names_bare_and_other_texts_in_quotes(rt: HostRuntime) -> Result<(), Fail> {
+    for (text, want) in [
+        ("qty", "qty"),
+        ("_1", "_1"),
+        ("", "\"\""),
+        ("1a", "\"1a\""),
+        ("a-b", "\"a-b\""),
+        ("a\nb", "\"a\\nb\""),
+        ("\u{1b}[0m", "\"\\u001b[0m\""),
+        ("\"\\\r\t\u{7f}", "\"\\\"\\\\\\r\\t\\u007f\""),
+        ("\u{e9}", "\"\u{e9}\""),
+    ] {
+        let words = Words::of(rt.alloc(), text).ok().ok_or("no memory")?;
+        let shown = words.shown();
+        let told = format!(in rt.alloc(); "{shown}")?;
+        assert_eq!(rt; told.as_str(), want);
+        let printed = Value::Text(words).text(rt.alloc()).ok().ok_or("no memory")?;
+        assert!(rt; is_name(text.as_bytes()) || printed.as_str() == want);
+    }
     Ok(())
 }

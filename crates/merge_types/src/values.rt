@@ -6,7 +6,7 @@ use crate::{Exact, Listing, Octets, Words};
 use std::alloc::AllocError;
 
 /// The type of a column.
-#[derive(Clone, Copy, Debug, PartialEq, Eq)]
+#[derive(Clone, Copy, Debug, PartialEq, Eq, PartialOrd, Ord)]
 pub enum ColType {
     Int,
     Bit,
@@ -17,14 +17,17 @@ pub enum ColType {
 }
 
 /// A column of an article.
-#[derive(Debug, Drop)]
+#[derive(Debug, Drop, PartialEq, Eq)]
 pub struct Column {
     pub name: Words,
     pub ty: ColType,
 }
 
 /// A value of a column. A day counts from 1970-01-01 and lies in the years 0001 to 9999.
-#[derive(Debug, Drop, PartialEq, Eq)]
+///
+/// Values are ordered by type, in the order of the variants, and then by what they hold: texts and
+/// bytes by their bytes.
+#[derive(Debug, Drop, PartialEq, Eq, PartialOrd, Ord)]
 pub enum Value {
     Null,
     Int(i64),
@@ -40,7 +43,7 @@ pub type Values = Listing<Value>;
 
 impl Value {
     /// How many bytes the value takes where it is stored.
-    pub fn length(&self) -> u64
+    pub fn stored_len(&self) -> u64
         ensures { result ≡ stored_length self.now }
     {
         match self {
@@ -60,19 +63,26 @@ impl Value {
     {
         match self {
             Value::Null => 0,
-            _ => self.length(),
+            _ => self.stored_len(),
         }
+    }
+
+    /// The same as `stored_len`.
+    pub fn length(&self) -> u64
+        ensures { result ≡ stored_length self.now }
+    {
+        self.stored_len()
     }
 }
 
 impl Listing<Value> {
     /// How many bytes the values take where they are stored, as far as a `u64` goes.
-    pub fn length(&self) -> u64
+    pub fn stored_len(&self) -> u64
         ensures { result ≡ min (row_length self.now) (2 ^ 64 - 1) }
     {
         let mut total = 0u64;
         for value in self.as_slice() {
-            total = total.saturating_add(value.length());
+            total = total.saturating_add(value.stored_len());
         }
         total
     }
@@ -86,6 +96,13 @@ impl Listing<Value> {
             total = total.saturating_add(value.weight());
         }
         total
+    }
+
+    /// The same as `stored_len`.
+    pub fn length(&self) -> u64
+        ensures { result ≡ min (row_length self.now) (2 ^ 64 - 1) }
+    {
+        self.stored_len()
     }
 }
 

@@ -1,8 +1,10 @@
 //! Texts, which contracts see as their bytes.
-ghost use Rattle.std.specs.Prelude.{◌≡◌, length, IfOk, string_bytes};
+ghost use Rattle.std.specs.Prelude.{◌≡◌, ◌↔◌, [], length, IsTrue, IfOk, IsUtf8, string_bytes};
 
 use crate::{Exact, NoMemory};
 use std::alloc::{AllocError, Global};
+use std::cmp::Ordering;
+use std::fmt;
 use std::marker::Model;
 
 /// A text in UTF-8.
@@ -45,7 +47,8 @@ impl Words {
 
     /// The text as a slice.
     pub fn as_str(&self) -> &str
-        ensures { result.now ≡ self.now }
+        ensures text { result.now ≡ self.now }
+        ensures utf8 { IsUtf8 self.now }
     {
         self.text.as_str()
     }
@@ -55,6 +58,30 @@ impl Words {
         ensures { result ≡ length self.now }
     {
         self.text.len()
+    }
+
+    /// Whether the text has no bytes.
+    pub fn is_empty(&self) -> bool
+        ensures { IsTrue result ↔ (self.now ≡ []) }
+    {
+        self.text.is_empty()
+    }
+}
+
+/// Every text is in UTF-8.
+pub fn words_are_utf8(words: &Words)
+    ensures { IsUtf8 words.now }
+{
+    let _ = words.as_str();
+}
+
+impl fmt::Display for Words {
+    ghost use Rattle.std.specs.Prelude.{Some};
+
+    ghost output = { λ words. Some words };
+
+    fn fmt<W: fmt::Write>(&self, f: &mut fmt::Formatter<W>) -> fmt::Result {
+        f.write_str(self.text.as_str())
     }
 }
 
@@ -92,4 +119,37 @@ impl Eq for Words {
     ghost use Rattle.std.specs.Cmp.Lexicographic.{nat_list_eq_equiv};
 
     ghost laws = { nat_list_eq_equiv };
+}
+
+impl PartialOrd for Words {
+    ghost use Rattle.std.specs.Prelude.{Some};
+    ghost use Rattle.std.specs.Ordering.{nat_cmp};
+    ghost use Rattle.std.specs.Cmp.Lexicographic.{slice_cmp, texts_po};
+
+    ghost partial_cmp = { λ a b. Some (slice_cmp nat_cmp a b) };
+
+    ghost laws = { texts_po };
+
+    fn partial_cmp(&self, other: &Words) -> Option<Ordering> {
+        Some(self.cmp(other))
+    }
+}
+
+/// Texts are ordered by their bytes.
+impl Ord for Words {
+    ghost use Rattle.std.proofs.Common.{refl};
+    ghost use Rattle.std.specs.Ordering.{nat_cmp};
+    ghost use Rattle.std.specs.Cmp.Lexicographic.{slice_cmp, nat_list_cmp_total, texts_ties};
+
+    ghost cmp = { slice_cmp nat_cmp };
+
+    ghost total = { nat_list_cmp_total };
+
+    ghost matches_partial_cmp = { λ a b. refl };
+
+    ghost matches_eq = { texts_ties };
+
+    fn cmp(&self, other: &Words) -> Ordering {
+        self.text.as_str().cmp(other.text.as_str())
+    }
 }

@@ -16,8 +16,10 @@ use Rattle.merge_model.specs.History.{MadeChange, Past, has, past_at, past_in}
 use Rattle.merge_model.specs.Keys.{at_number, same_key}
 use Rattle.merge_model.specs.Model.{Model}
 use Rattle.merge_model.specs.Promises.{AllAccounted, AllStand, IsSettled, LetterStands, RowsStand, SettledHoldsPartition, StandsFor, TableStands, is_accounted, key_of_conflict, lineages_in, lost_at, publisher_versions, subscriber_versions, versions_held, versions_owed}
-use Rattle.merge_model.specs.Tables.{Key, SubscriberTables}
-use Rattle.merge_model.specs.World.{Letter, letter_at}
+use Rattle.merge_types.specs.declared.row_key.RowKey.{RowKey as Key}
+use Rattle.merge_model.specs.Tables.{SubscriberTables}
+use Rattle.merge_model.specs.World.{letter_at}
+use Rattle.merge_model.specs.declared.letter.Letter.{Letter}
 use Rattle.merge_worked.specs.Happened.{all_are_accounted, all_letters_stand, all_rows_stand, all_tables_stand, held_at_settled, is_settled, letter_stands, lost_row_stands, owed_to_settled, row_stands, says_the_same, stands_for, table_stands}
 
 -- Lists.

@@ -27,8 +27,10 @@ use Rattle.merge_model.specs.Reading.{events_of}
 use Rattle.merge_model.specs.Resolvers.{rules_say}
 use Rattle.merge_model.specs.Sending.{unsent_rows}
 use Rattle.merge_model.specs.Session.{Session, session}
-use Rattle.merge_model.specs.Tables.{Key, SubscriberTables}
-use Rattle.merge_model.specs.World.{Letter, subscriber_at}
+use Rattle.merge_types.specs.declared.row_key.RowKey.{RowKey as Key}
+use Rattle.merge_model.specs.Tables.{SubscriberTables}
+use Rattle.merge_model.specs.World.{subscriber_at}
+use Rattle.merge_model.specs.declared.letter.Letter.{Letter}
 
 -- the model after the events of an input, which begins empty
 abbrev pub model_after : Publication → List ℕ → Model
@@ -45,7 +47,7 @@ changes_made m = length m.history.made
 
 -- those that were discarded as their site was made anew, and that its join then covered
 abbrev pub changes_given_up : Model → ℕ
-changes_given_up m = count_by (λ (change : MadeChange). is_given_up m change.dot) m.history.made
+changes_given_up m = count_by (λ (change : MadeChange). is_given_up m.world.publisher m.history change.dot) m.history.made
 
 -- those that are lost: at some place only a version in a conflict table descends from them
 abbrev pub is_lost_at : Model → MadeChange → Place → Bool
@@ -91,7 +93,7 @@ all_are_accounted m = list_all (is_accounted m) m.history.made
 abbrev pub says_the_same : Model → Key → List Dot → Past → MadeChange → Bool
 says_the_same m key lineage past change =
     not (same_key change.key key)
-    || is_given_up m change.dot
+    || is_given_up m.world.publisher m.history change.dot
     || beq (has past.known change.dot) (knows lineage change.dot)
 
 abbrev pub stands_for : Model → Key → List Dot → Past → Bool

@@ -24,3 +24,6 @@ pub mod BothChangesSum
 pub mod ColumnUpdateStays
 pub mod Happened
 pub mod EverythingHappens
+pub mod HundredGenerations
+pub mod DaysWork
+pub mod HandedIn

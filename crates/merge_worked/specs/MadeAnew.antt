@@ -1,10 +1,7 @@
 -- A subscriber is made anew. What it had not sent is in its conflict table, and old messages are stale.
-use Rattle.std.specs.Prelude.{List, [], ◌∷◌, ℕ, ℤ, pos, codes, Some, None}
+use Rattle.std.specs.Prelude.{[], ◌∷◌, codes, None}
 use Rattle.merge_types.specs.declared.values.ColType.TheVariants as ty
 use Rattle.merge_types.specs.declared.changes.Tracking.TheVariants as tracking
-use Rattle.merge_filter.specs.Syntax.{Compare, Not, IsNull}
-use Rattle.merge_filter.specs.declared.tree.Operand.TheVariants as operand
-use Rattle.merge_filter.specs.declared.word.Sign.TheVariants as sign
 use Rattle.merge_schema.specs.declared.publication.Publication.{Publication}
 use Rattle.merge_schema.specs.declared.publication.SubKind.TheVariants as kind
 use Rattle.merge_worked.specs.Worked.{Worked}

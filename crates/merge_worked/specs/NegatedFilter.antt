@@ -1,8 +1,8 @@
 -- Nor does it pass the negated one.
-use Rattle.std.specs.Prelude.{List, [], ◌∷◌, ℕ, ℤ, pos, codes, Some, None}
+use Rattle.std.specs.Prelude.{[], ◌∷◌, codes, Some, None}
 use Rattle.merge_types.specs.declared.values.ColType.TheVariants as ty
 use Rattle.merge_types.specs.declared.changes.Tracking.TheVariants as tracking
-use Rattle.merge_filter.specs.Syntax.{Compare, Not, IsNull}
+use Rattle.merge_filter.specs.Syntax.{Compare, Not}
 use Rattle.merge_filter.specs.declared.tree.Operand.TheVariants as operand
 use Rattle.merge_filter.specs.declared.word.Sign.TheVariants as sign
 use Rattle.merge_schema.specs.declared.publication.Publication.{Publication}
@@ -18,7 +18,7 @@ publication = record {
     name = codes "customer";
     columns = (record { name = codes "region"; ty = ty.Text } ∷ []);
     tracking = tracking.Row;
-    filter = (Some (Not (Compare (operand.Column 0) sign.Equal 7 operand.Host)));
+    filter = (Some (Not (Compare (operand.Column 0) sign.Equal 11 operand.Host)));
     joins = [];
     identity = None;
     resolver = 0;

@@ -1,8 +1,8 @@
 -- A row that left the partition stays at the subscriber that changed it until the change is sent.
-use Rattle.std.specs.Prelude.{List, [], ◌∷◌, ℕ, ℤ, pos, codes, Some, None}
+use Rattle.std.specs.Prelude.{[], ◌∷◌, codes, Some, None}
 use Rattle.merge_types.specs.declared.values.ColType.TheVariants as ty
 use Rattle.merge_types.specs.declared.changes.Tracking.TheVariants as tracking
-use Rattle.merge_filter.specs.Syntax.{Compare, Not, IsNull}
+use Rattle.merge_filter.specs.Syntax.{Compare}
 use Rattle.merge_filter.specs.declared.tree.Operand.TheVariants as operand
 use Rattle.merge_filter.specs.declared.word.Sign.TheVariants as sign
 use Rattle.merge_schema.specs.declared.publication.Publication.{Publication}

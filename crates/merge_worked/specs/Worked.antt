@@ -1,7 +1,12 @@
 -- A worked script: a publication, an input that the program gets behind it, and the answers.
 use Rattle.std.specs.Prelude.{◌≡◌, ℕ, List}
 use Rattle.merge_schema.specs.declared.publication.Publication.{Publication}
-use Rattle.merge_model.specs.Play.{played, told}
+use Rattle.merge_model.specs.Events.{after, machine}
+use Rattle.merge_model.specs.Play.{machine_text, model_text, played, told}
+use Rattle.merge_model.specs.Reading.{events_of}
+use Rattle.merge_model.specs.World.{Saying, empty_world}
+use Rattle.merge_script.specs.Input.{script_of}
+use Rattle.merge_script.specs.Lines.{lines_of}
 
 pub record Worked : Type 0 where
   pub publication : Publication
@@ -15,3 +20,15 @@ IsPlayed worked = played worked.publication worked.input ≡ worked.answers
 -- and so does the model, which decides by histories
 abbrev pub IsTold : Worked → Type 0
 IsTold worked = told worked.publication worked.input ≡ worked.answers
+
+-- The same where a program hands in other resolvers, of which none was asked before.
+
+abbrev pub IsPlayedBy : Saying → List ℕ → Worked → Type 0
+IsPlayedBy says tallies worked = machine_text worked.publication says tallies (script_of worked.input) ≡ worked.answers
+
+abbrev pub IsToldBy : Saying → List ℕ → Worked → Type 0
+IsToldBy says tallies worked = model_text worked.publication says tallies (script_of worked.input) ≡ worked.answers
+
+-- how often each was asked
+abbrev pub tallies_by : Saying → List ℕ → Worked → List ℕ
+tallies_by says tallies worked = (after worked.publication (machine worked.publication says) (empty_world worked.publication tallies) (events_of (lines_of (script_of worked.input)))).tallies

@@ -1,7 +1,7 @@
 //! One function for each script. They do nothing: their contracts say what is computed.
 ghost use Rattle.std.specs.Prelude.{◌≡◌, ◌∷◌, [], pos, true};
 ghost use Rattle.merge_model.specs.Promises.{AllAccounted, AllStand, SettledHoldsPartition};
-ghost use Rattle.merge_worked.specs.Worked.{IsPlayed, IsTold};
+ghost use Rattle.merge_worked.specs.Worked.{IsPlayed, IsPlayedBy, IsTold, IsToldBy, tallies_by};
 ghost use Rattle.merge_worked.specs.ARowGoesOver.{a_row_goes_over as a_row_goes_over_worked};
 ghost use Rattle.merge_worked.specs.FirstUpdateStays.{first_update_stays as first_update_stays_worked};
 ghost use Rattle.merge_worked.specs.HigherPriorityWins.{higher_priority_wins as higher_priority_wins_worked};
@@ -18,6 +18,9 @@ ghost use Rattle.merge_worked.specs.NegatedFilter.{negated_filter as negated_fil
 ghost use Rattle.merge_worked.specs.FilterForNull.{filter_for_null as filter_for_null_worked};
 ghost use Rattle.merge_worked.specs.ChildrenFollow.{children_follow as children_follow_worked};
 ghost use Rattle.merge_worked.specs.UnsentRowStays.{unsent_row_stays as unsent_row_stays_worked};
+ghost use Rattle.merge_worked.specs.HundredGenerations.{hundred_generations as hundred_generations_worked};
+ghost use Rattle.merge_worked.specs.DaysWork.{days_work as days_work_worked};
+ghost use Rattle.merge_worked.specs.HandedIn.{decided_by_one_value as decided_by_one_value_worked, decided_by_two_values as decided_by_two_values_worked, one_value, two_values};
 ghost use Rattle.merge_worked.specs.ManyGenerations.{many_generations as many_generations_worked};
 ghost use Rattle.merge_worked.specs.ExpiredSite.{expired_site as expired_site_worked};
 ghost use Rattle.merge_worked.specs.IdentityValues.{identity_values as identity_values_worked};
@@ -197,4 +200,32 @@ pub fn everything_happens()
     ensures sessions { all_sessions_settle publication purge_comes ≡ true }
     ensures old { old_generations publication purge_comes ≡ 1 ∷ 2 ∷ 3 ∷ 4 ∷ [] }
     ensures past { old_are_past publication purge_comes ≡ true }
+{}
+
+/// A hundred generations go into one upload: the batch ends at its limit.
+pub fn hundred_generations()
+    ensures { IsPlayed hundred_generations_worked }
+{}
+
+/// A day's work of three sites that each have their customers and the orders of these. One upload acts
+/// whose answer is lost, and another is never delivered: both come again with the next session.
+pub fn days_work()
+    ensures machine { IsPlayed days_work_worked }
+    ensures model { IsTold days_work_worked }
+{}
+
+/// A resolver that is handed in decides a conflict with a value of its own. Both versions are lost, and
+/// it is asked once.
+pub fn decided_by_one_value()
+    ensures machine { IsPlayedBy one_value (0 ∷ 0 ∷ 0 ∷ 0 ∷ 0 ∷ 0 ∷ []) decided_by_one_value_worked }
+    ensures model { IsToldBy one_value (0 ∷ 0 ∷ 0 ∷ 0 ∷ 0 ∷ 0 ∷ []) decided_by_one_value_worked }
+    ensures asked { tallies_by one_value (0 ∷ 0 ∷ 0 ∷ 0 ∷ 0 ∷ 0 ∷ []) decided_by_one_value_worked ≡ 0 ∷ 0 ∷ 0 ∷ 0 ∷ 0 ∷ 1 ∷ [] }
+{}
+
+/// One that decides with more values than the row has columns counts as one that keeps the publisher's
+/// version. It is asked once too.
+pub fn decided_by_two_values()
+    ensures machine { IsPlayedBy two_values (0 ∷ 0 ∷ 0 ∷ 0 ∷ 0 ∷ 0 ∷ []) decided_by_two_values_worked }
+    ensures model { IsToldBy two_values (0 ∷ 0 ∷ 0 ∷ 0 ∷ 0 ∷ 0 ∷ []) decided_by_two_values_worked }
+    ensures asked { tallies_by two_values (0 ∷ 0 ∷ 0 ∷ 0 ∷ 0 ∷ 0 ∷ []) decided_by_two_values_worked ≡ 0 ∷ 0 ∷ 0 ∷ 0 ∷ 0 ∷ 1 ∷ [] }
 {}

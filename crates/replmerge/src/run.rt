@@ -6,7 +6,7 @@ ghost use Rattle.replmerge.specs.Headline.{is_play, is_publication, IsTaken, IsR
 
 use crate::play::{Stop, play};
 use crate::publication::is_publication_text;
-use merge_ports::{ReadFault, Sink, Source, read_whole};
+use merge_ports::{INPUT_LIMIT, ReadFault, Sink, Source, read_whole};
 use merge_script::cut_input;
 use merge_types::Words;
 use std::alloc::Global;
@@ -96,7 +96,7 @@ pub fn run<I: Source, O: Sink>(alloc: Global, words: &[Words], host: &mut Host<I
     if !is_play_alone(words) {
         return Status::USAGE;
     }
-    match read_whole(alloc, &mut host.input) {
+    match read_whole(alloc, &mut host.input, INPUT_LIMIT) {
         Ok(input) => play_input(alloc, input.as_slice(), &mut host.output),
         Err(ReadFault::Failed) => Status::READ_FAULT,
         Err(ReadFault::TooLong) => Status::TOO_LONG,

@@ -5,9 +5,7 @@ ghost use Rattle.merge_first.specs.World.{empty_world, Step, InsertStep, SyncSte
 ghost use Rattle.replmerge.specs.Session.{FitsEvent, TakesReply};
 
 use crate::publication::{SUBSCRIBER, sites};
-use merge_first::{Answer, Downloaded, Event, Refusal};
-use merge_pub::Publisher;
-use merge_sub::Subscriber;
+use merge_first::{Answer, Downloaded, Event, Publisher, Refusal, Subscriber};
 use merge_types::{Change, Listing, Moment, NoMemory, Setting, Settings, SiteId, Steps, Value};
 use std::alloc::Global;
 use std::marker::{Brand, Model};

@@ -1,18 +1,10 @@
 //! Days as dates.
-ghost use Rattle.std.specs.Prelude.{◌≡◌, ◌↔◌, ℕ, ℤ, ◌+◌, ◌*◌, ◌<◌, [], ◌∷◌, ◌++◌, IsTrue, IfOk, IfSome, IfNone, OnOk, string_bytes};
+ghost use Rattle.std.specs.Prelude.{◌≡◌, ℕ, ℤ, ◌+◌, ◌*◌, ◌<◌, [], ◌∷◌, ◌++◌, IfOk, IfSome, IfNone, OnOk, string_bytes};
 ghost use Rattle.merge_types.specs.Day.{IsDay, IsDateOf, IsDayText, year_of, month_of, date_of, two_digits, date_text, day_text};
 
-use crate::limits::{FIRST_DAY, LAST_DAY};
 use crate::{NoMemory, Words};
 use jiff_core::civil::Date;
 use std::alloc::{AllocError, Global};
-
-/// Whether the day lies in the years 0001 to 9999.
-pub fn is_proper(day: i32) -> bool
-    ensures { IsTrue result ↔ IsDay day }
-{
-    FIRST_DAY <= day && day <= LAST_DAY
-}
 
 /// The date of a day, as YYYY-MM-DD.
 pub fn print(alloc: Global, day: i32) -> Result<Words, NoMemory>

@@ -9,5 +9,5 @@ returns-clause-fit c = grants-permutation _ _ c.sort_unstable_by_key.ensures.per
 pub returns-clause-in_order : goal.returns-clause-in_order
 returns-clause-in_order c =
     let fit = grants-permutation _ _ c.sort_unstable_by_key.ensures.permutation c.requires in
-    in_order-sorted c.sort_unstable_by_key.new.self fit.disjoint fit.ranges
+    in_order-sorted c.sort_unstable_by_key.new.self fit.disjoint fit.ranges fit.rising
     (sorted-by_key c.sort_unstable_by_key.new.self (c.sort_unstable_by_key.ensures.sorted key_of (answers_always _ _ _ (λ f a r f' called. search rules))))

@@ -1,8 +1,8 @@
 use Rattle.std.specs.Prelude.{◌≤◌, ℕ, ℤ, count_by}
 use Rattle.std.proofs.Common.{arith}
 use Rattle.merge_schema.specs.declared.publication.Publication.{Publication}
-use Rattle.merge_model.specs.Model.{Model, empty_model, model}
-use Rattle.merge_model.specs.Events.{after}
+use Rattle.merge_model.specs.Runs.{model_behind}
+use Rattle.merge_model.specs.Model.{Model}
 use Rattle.merge_model.specs.Promises.{IdentitiesApart}
 use Rattle.merge_laws.specs.Identities.{TakenWereGranted, gives_to, holder_in, holders_at, takes_at}
 use Rattle.merge_laws.proofs.IdentityCalls.{held-granted}
@@ -25,7 +25,7 @@ module _ (publication : Publication) (m : Model) (i : Apart publication m.world 
   granted site article value some = omega (arith, some, taken-granted site article value)
 
 pub returns-clause-apart : goal.returns-clause-apart
-returns-clause-apart c = λ publication fit says tallies events. (let m : Model = after publication (model publication says) (empty_model publication tallies) events in apart publication m (identities-always publication fit says tallies events))
+returns-clause-apart c = λ publication fit says tallies slips events. (let m : Model = model_behind publication says tallies slips events in apart publication m (identities-always publication fit says tallies slips events))
 
 pub returns-clause-granted : goal.returns-clause-granted
-returns-clause-granted c = λ publication fit says tallies events. (let m : Model = after publication (model publication says) (empty_model publication tallies) events in granted publication m (identities-always publication fit says tallies events))
+returns-clause-granted c = λ publication fit says tallies slips events. (let m : Model = model_behind publication says tallies slips events in granted publication m (identities-always publication fit says tallies slips events))

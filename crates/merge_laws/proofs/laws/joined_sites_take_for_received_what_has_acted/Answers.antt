@@ -1,9 +1,9 @@
 use Rattle.std.specs.Prelude.{◌≡◌, ◌≤◌, ℕ, true, nat_le}
 use Rattle.std.proofs.Common.{arith, ◌∙◌}
 use Rattle.std.proofs.lemmas.Bool.Decides.{nat_tests}
+use Rattle.merge_model.specs.Runs.{model_behind}
 use Rattle.merge_model.specs.ByNumbers.{received_by_number}
-use Rattle.merge_model.specs.Events.{after}
-use Rattle.merge_model.specs.Model.{Model, empty_model, model}
+use Rattle.merge_model.specs.Model.{Model}
 use Rattle.merge_laws.specs.Behind.{Behind}
 use Rattle.merge_laws.specs.Laws.{JoinedTakesActed}
 use Rattle.merge_laws.specs.Received.{Received}
@@ -17,4 +17,4 @@ acted : (m : Model) → Received m.world m.history → Behind m.world → Joined
 acted m r i site generation s at joins from up = r.done site generation from ∙ within generation s.received (received_by_number m.world.publisher site) up ((i.subscribers site s at).behind joins)
 
 pub returns : goal.returns
-returns c publication says tallies events = (let i = behind-always publication says tallies events in acted (after publication (model publication says) (empty_model publication tallies) events) i.0 i.1)
+returns c publication says tallies slips events = (let i = behind-always publication says tallies slips events in acted (model_behind publication says tallies slips events) i.0 i.1)

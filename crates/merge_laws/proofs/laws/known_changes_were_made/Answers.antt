@@ -3,6 +3,6 @@ use Rattle.merge_laws.proofs.laws.known_changes_were_made.Goals as goal
 
 pub returns : goal.returns
 returns c = record {
-  numbered = λ publication says tallies events. (known-always publication says tallies events).numbered;
-  known = λ publication says tallies events. (known-always publication says tallies events).knowledge;
+  numbered = λ publication says tallies slips events. (known-always publication says tallies slips events).numbered;
+  known = λ publication says tallies slips events. (known-always publication says tallies slips events).knowledge;
 }

@@ -1,9 +1,10 @@
+use Rattle.merge_model.specs.Failing.{Slips}
 use Rattle.std.specs.Prelude.{ℕ, List}
 use Rattle.std.proofs.Common.{sym, ◌∙◌}
 use Rattle.merge_schema.specs.declared.publication.Publication.{Publication}
+use Rattle.merge_model.specs.Runs.{model_behind}
 use Rattle.merge_model.specs.declared.event.Event.{Event}
-use Rattle.merge_model.specs.Events.{after}
-use Rattle.merge_model.specs.Model.{Model, empty_model, model}
+use Rattle.merge_model.specs.Model.{Model}
 use Rattle.merge_model.specs.World.{Saying}
 use Rattle.merge_laws.specs.Laws.{ClosingsKeepTheLast, ReceivedNumberIsDone, UnmetIsDone, UploadsTellTheLast}
 use Rattle.merge_laws.specs.Numbered.{Numbered}
@@ -25,13 +26,13 @@ kept m i site generation s at low up = (i.subscribers site s at).keeps generatio
 told : (m : Model) → Received m.world m.history → Numbered m.world m.history → UploadsTellTheLast m
 told m r i number site u at goes = upload-says m.world m.history r i number site u at goes
 
-abbrev reached : Publication → Saying → List ℕ → List Event → Model
-reached publication says tallies events = after publication (model publication says) (empty_model publication tallies) events
+abbrev reached : Publication → Saying → List ℕ → Slips → List Event → Model
+reached publication says tallies slips events = model_behind publication says tallies slips events
 
 pub returns : goal.returns
 returns c = record {
-  number = λ publication says tallies events. (let i = numbered-always publication says tallies events in number (reached publication says tallies events) i.0 i.1);
-  unmet = λ publication says tallies events. (let i = numbered-always publication says tallies events in unmet (reached publication says tallies events) i.0 i.1);
-  kept = λ publication says tallies events. (let i = numbered-always publication says tallies events in kept (reached publication says tallies events) i.1);
-  told = λ publication says tallies events. (let i = numbered-always publication says tallies events in told (reached publication says tallies events) i.0 i.1);
+  number = λ publication says tallies slips events. (let i = numbered-always publication says tallies slips events in number (reached publication says tallies slips events) i.0 i.1);
+  unmet = λ publication says tallies slips events. (let i = numbered-always publication says tallies slips events in unmet (reached publication says tallies slips events) i.0 i.1);
+  kept = λ publication says tallies slips events. (let i = numbered-always publication says tallies slips events in kept (reached publication says tallies slips events) i.1);
+  told = λ publication says tallies slips events. (let i = numbered-always publication says tallies slips events in told (reached publication says tallies slips events) i.0 i.1);
 }

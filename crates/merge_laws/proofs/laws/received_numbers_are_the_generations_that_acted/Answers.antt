@@ -1,10 +1,11 @@
+use Rattle.merge_model.specs.Failing.{Slips}
 use Rattle.std.specs.Prelude.{ℕ, List}
 use Rattle.std.proofs.Common.{sym}
 use Rattle.merge_schema.specs.declared.publication.Publication.{Publication}
+use Rattle.merge_model.specs.Runs.{model_behind}
 use Rattle.merge_model.specs.declared.event.Event.{Event}
 use Rattle.merge_model.specs.World.{Saying}
-use Rattle.merge_model.specs.Events.{after}
-use Rattle.merge_model.specs.Model.{Model, empty_model, model}
+use Rattle.merge_model.specs.Model.{Model}
 use Rattle.merge_laws.specs.Received.{Received}
 use Rattle.merge_laws.specs.Laws.{ReceivedIsDone, ActedIsDone, GapIsDone, TakesOnlyClosed}
 use Rattle.merge_laws.proofs.Models.{received-always, gap-is}
@@ -23,13 +24,13 @@ gap m r site from = gap-is m.history m.world.publisher site from r.done
 closed : (m : Model) → Received m.world m.history → TakesOnlyClosed m
 closed m r site s at = let f = r.subscribers site s at in (f.own, f.taken)
 
-abbrev reached : Publication → Saying → List ℕ → List Event → Model
-reached publication says tallies events = after publication (model publication says) (empty_model publication tallies) events
+abbrev reached : Publication → Saying → List ℕ → Slips → List Event → Model
+reached publication says tallies slips events = model_behind publication says tallies slips events
 
 pub returns : goal.returns
 returns c = record {
-  received = λ publication says tallies events. received (reached publication says tallies events) (received-always publication says tallies events);
-  acted = λ publication says tallies events. acted (reached publication says tallies events) (received-always publication says tallies events);
-  gap = λ publication says tallies events. gap (reached publication says tallies events) (received-always publication says tallies events);
-  closed = λ publication says tallies events. closed (reached publication says tallies events) (received-always publication says tallies events);
+  received = λ publication says tallies slips events. received (reached publication says tallies slips events) (received-always publication says tallies slips events);
+  acted = λ publication says tallies slips events. acted (reached publication says tallies slips events) (received-always publication says tallies slips events);
+  gap = λ publication says tallies slips events. gap (reached publication says tallies slips events) (received-always publication says tallies slips events);
+  closed = λ publication says tallies slips events. closed (reached publication says tallies slips events) (received-always publication says tallies slips events);
 }

@@ -1,6 +1,6 @@
 use Rattle.std.proofs.Common.{arith}
-use Rattle.merge_model.specs.Events.{after}
-use Rattle.merge_model.specs.Model.{Model, empty_model, model}
+use Rattle.merge_model.specs.Runs.{model_behind}
+use Rattle.merge_model.specs.Model.{Model}
 use Rattle.merge_laws.specs.Laws.{SubscribersDecideAlike}
 use Rattle.merge_laws.specs.Unsent.{Unsent}
 use Rattle.merge_laws.proofs.UnsentKept.{Base, decides-alike, unsent-always}
@@ -10,4 +10,4 @@ alike : (m : Model) → Base m.world m.history → Unsent m.world m.history → 
 alike m b u s from at = decides-alike m b u s (λ own. grind (arith, from, own)) at
 
 pub returns : goal.returns
-returns c publication says tallies events = (let i = unsent-always publication says tallies events in alike (after publication (model publication says) (empty_model publication tallies) events) i.0 i.1)
+returns c publication says tallies slips events = (let i = unsent-always publication says tallies slips events in alike (model_behind publication says tallies slips events) i.0 i.1)

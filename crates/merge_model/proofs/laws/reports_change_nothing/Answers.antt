@@ -1,10 +1,10 @@
 use Rattle.merge_model.specs.Events.{machine}
 use Rattle.merge_model.specs.Model.{model}
-use Rattle.merge_model.proofs.Reports.{report-stays}
+use Rattle.merge_model.proofs.Reports.{report-looks}
 use Rattle.merge_model.proofs.laws.reports_change_nothing.Goals as goal
 
 pub returns : goal.returns
 returns c = record {
-  world = λ publication says w e is. report-stays publication (machine publication says) w e is;
-  history = λ publication says m e is. report-stays publication (model publication says) m e is;
+  world = λ publication says w e is. report-looks publication (machine publication says) w e is;
+  history = λ publication says m e is. report-looks publication (model publication says) m e is;
 }

@@ -1,6 +1,6 @@
 use Rattle.std.proofs.Common.{◌≡◌, ◌++◌, drop}
 use Rattle.std.specs.Prelude.{◌==◌, filter, All}
-use Rattle.merge_part.specs.declared.key.RowKey.{RowKey}
+use Rattle.merge_types.specs.declared.row_key.RowKey.{RowKey}
 use Rattle.merge_part.proofs.settling.batch_of.Given as goal
 
 abbrev pub invariant-loop-key : goal.invariant-loop-key

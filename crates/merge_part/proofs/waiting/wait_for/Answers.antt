@@ -1,9 +1,17 @@
-use Rattle.std.proofs.Common.{◌≡◌, ◌<◌, true, subst, arith}
-use Rattle.merge_types.specs.declared.identifiers.RowId.{RowId}
-use Rattle.merge_part.specs.Waiting.{waits}
+use Rattle.std.proofs.Common.{◌≡◌, ◌||◌, true, sym, ◌∙◌}
+use Rattle.std.specs.List.{list_any}
+use Rattle.std.specs.Map.{keys_of}
+use Rattle.merge_part.proofs.Found.{is_row, wait_step, waits_on, or_end, or_right}
 use Rattle.merge_part.proofs.waiting.wait_for.Goals as goal
 
+pub loop-entry-init : goal.loop-entry-init
+loop-entry-init c = record { kept = λ key h. h; added = λ row h. or_right _ (list_any (is_row row) (keys_of c.into_iter-entry-iterator.result)) (rw c.into_iter-entry-iterator.ensures.into_iter_gives h) }
+
+pub loop-entry-preserved : goal.loop-entry-preserved
+loop-entry-preserved c = record {
+  kept = λ key h. rw c.in_ok-push.ensures.items (waits_on c.loop-entry.waiting.items _ key (c.loop-entry.invariant.kept key h));
+  added = λ row h. rw c.in_ok-push.ensures.items (wait_step c.args.article row c.loop-entry.waiting.items c.in-Some.entry.now (keys_of c.next.new.self) (rw c.in-Some.ensures.steps at (c.loop-entry.invariant.added row h)));
+}
+
 pub returns-clause-ok : goal.returns-clause-ok
-returns-clause-ok c = λ row at.
-    let below : at.0 < c.loop-row.row-index = omega (arith, at.1) in
-    subst (λ (r : RowId). waits c.loop-row.waiting.items (record { article = c.args.article; row = r }) ≡ true) at.2 (c.loop-row.invariant.added at.0 row below)
+returns-clause-ok c = λ row h. sym (or_end _) ∙ (rw c.in-None.ensures.steps.0 at (c.loop-entry.invariant.added row h))

@@ -1,10 +1,13 @@
-use Rattle.std.proofs.Common.{◌≡◌, ◌<◌, ℕ, true, get_or}
+use Rattle.std.proofs.Common.{◌≡◌, ◌||◌, true}
+use Rattle.std.specs.List.{list_any}
+use Rattle.std.specs.Map.{keys_of}
 use Rattle.merge_types.specs.declared.identifiers.RowId.{RowId}
 use Rattle.merge_part.specs.Waiting.{waits, KeepsWaiting}
+use Rattle.merge_part.proofs.Found.{is_row}
 use Rattle.merge_part.proofs.waiting.wait_for.Given as goal
 
-abbrev pub invariant-loop-row : goal.invariant-loop-row
-invariant-loop-row l = record {
+abbrev pub invariant-loop-entry : goal.invariant-loop-entry
+invariant-loop-entry l = record {
   kept : KeepsWaiting l.fn.waiting.items l.waiting.items;
-  added : (k : ℕ) (d : RowId) → k < l.row-index → waits l.waiting.items (record { article = l.article; row = get_or l.rows k d }) ≡ true;
+  added : (row : RowId) → list_any (is_row row) (keys_of l.fn.entries) ≡ true → (waits l.waiting.items (record { article = l.article; row = row }) || list_any (is_row row) (keys_of l.entry-iterator)) ≡ true;
 }

@@ -12,6 +12,7 @@ pub returns-clause-ready : goal.returns-clause-ready
 returns-clause-ready c =
     let book : Book = record { filling = c.self.inside.filling; closings = c.self.inside.closings.items } in
     record {
+      current = c.in_ok-answers.ensures.before;
       room = grind (arith, common_steps, c.in_ok-reserve.ensures.ok, c.len.ensures);
       sound = rw c.in_ok-reserve.ensures.items (subst IsSound (sym (settled_is book c.in_ok-answers.plan c.args.changes.now c.in_ok-answers.ensures.plan)) (sound_changed book c.args.changes.now c.self.invariant));
     }

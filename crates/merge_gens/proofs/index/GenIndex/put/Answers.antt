@@ -1,5 +1,6 @@
 use Rattle.merge_gens.specs.Entries.{entry_cmp, entry_exact}
-use Rattle.merge_gens.proofs.Sets.{sorted_put, set_put}
+use Rattle.merge_table.proofs.Sorted.{sorted_put}
+use Rattle.merge_gens.proofs.Sets.{set_put}
 use Rattle.merge_gens.proofs.EntryLists.{entry_total}
 use Rattle.merge_gens.proofs.index.GenIndex.put.Goals as goal
 
@@ -7,4 +8,4 @@ pub invariant_of-self-2 : goal.invariant_of-self-2
 invariant_of-self-2 c = rw c.in_ok-insert.ensures.rows (sorted_put entry_cmp entry_total _ tt _ c.self.invariant)
 
 pub returns-clause-ok : goal.returns-clause-ok
-returns-clause-ok c = rw (c.in_ok-insert.ensures.rows, c.new.ensures, ← c.self.view_is) (set_put entry_cmp entry_total entry_exact _ tt c.self.inside.entries.rows)
+returns-clause-ok c = rw (c.in_ok-insert.ensures.rows, ← c.self.view_is) (set_put entry_cmp entry_total entry_exact _ tt c.self.inside.entries.rows)

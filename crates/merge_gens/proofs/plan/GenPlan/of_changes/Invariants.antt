@@ -1,5 +1,5 @@
 use Rattle.std.proofs.Common.{◌≡◌, ◌<◌, ◌++◌, [], drop}
-use Rattle.merge_gens.specs.Filling.{entry_limit}
+use Rattle.merge_types.specs.Limits.{entry_limit}
 use Rattle.merge_gens.specs.Plan.{answers_of, book_after_all, AreAllowed}
 use Rattle.merge_gens.proofs.plan.GenPlan.of_changes.Given as goal
 

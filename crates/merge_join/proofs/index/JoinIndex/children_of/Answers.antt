@@ -1,10 +1,11 @@
-use Rattle.std.specs.List.Sorted.{IsStrictlySortedBy}
+use Rattle.std.proofs.Common.{ap, ◌∙◌}
+use Rattle.std.specs.Map.{keys_of}
+use Rattle.merge_join.proofs.Blocks.{keys-between, forward}
 use Rattle.merge_join.proofs.index.JoinIndex.children_of.Goals as goal
 
-pub returns-then-is_null-clause-ascending : goal.returns-then-is_null-clause-ascending
-unfolding IsStrictlySortedBy
-returns-then-is_null-clause-ascending c = tt
+pub range-requires : goal.range-requires
+range-requires c = rw (c.in_ok-first.ensures, c.in_ok-behind.ensures) (forward c.args.join c.args.value.now)
 
-pub returns-in-None-clause-ascending : goal.returns-in-None-clause-ascending
-unfolding IsStrictlySortedBy
-returns-in-None-clause-ascending c = tt
+pub returns : goal.returns
+returns c =
+    rw (← c.self.view_is) (ap keys_of (rw (c.in_ok-first.ensures, c.in_ok-behind.ensures) at c.range.ensures.between tt) ∙ keys-between c.args.join c.args.value.now c.self.inside.entries.rows)

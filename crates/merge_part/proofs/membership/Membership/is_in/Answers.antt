@@ -12,6 +12,6 @@ returns-in-Some c =
     rw (← c.self.view_is)
     (c.contains.ensures
     ∙ ap (λ sites. has_site sites c.in-Some.place) c.marks_held.ensures
-    ∙ ap (has_site (marks_of c.self.inside.held.marks.rows (record { article = c.args.article; row = c.args.row }))) (sym at.1)
-    ∙ sym (in_by_marks c.self.inside.publication c.self.inside.rules c.self.invariant.rules c.self.inside.held.rows.rows c.iter.ensures.ordered (marks_of c.self.inside.held.marks.rows)
+    ∙ ap (has_site (marks_of c.self.inside.kept.held.marks.rows (record { article = c.args.article; row = c.args.row }))) (sym at.1)
+    ∙ sym (in_by_marks c.self.inside.publication c.self.inside.kept.rules c.self.invariant.rules c.self.inside.kept.held.rows.rows c.is_ordered.ensures.rows (marks_of c.self.inside.kept.held.marks.rows)
     c.self.invariant.kept.met c.self.invariant.kept.filtered c.args.site at.0 (record { article = c.args.article; row = c.args.row })))

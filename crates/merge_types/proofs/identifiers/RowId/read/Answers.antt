@@ -4,6 +4,7 @@ use Rattle.merge_types.specs.Guid.{IsGuidText}
 use Rattle.merge_types.specs.Rows.{IsDotText, IsMadeBy}
 use Rattle.merge_types.proofs.Guids.{IsGuidText-one, length-IsGuidText}
 use Rattle.merge_types.proofs.Points.{length-IsDotText}
+use Rattle.merge_types.proofs.RowTexts.{one_row}
 use Rattle.merge_types.proofs.identifiers.RowId.read.Goals as goal
 
 not_made : (text : List ℕ) (row other site number : ℕ) → IsGuidText text row → ((s n : ℕ) → IsMadeBy row s n → ⊥)
@@ -15,3 +16,12 @@ not_made text row other site number is none made (inr dot) =
 
 pub returns-in-None-clause-none : goal.returns-in-None-clause-none
 returns-in-None-clause-none c = λ row is. not_made c.args.text.now c.in-Some.number row is.site is.number c.in-Some.ensures.some c.in-None.ensures.none is.made is.named
+
+pub returns-in-Some-maker-clause-one : goal.returns-in-Some-maker-clause-one
+returns-in-Some-maker-clause-one c = one_row c.args.text.now
+
+pub returns-in-None-clause-one : goal.returns-in-None-clause-one
+returns-in-None-clause-one c = one_row c.args.text.now
+
+pub returns-in-Some-read_dot-clause-one : goal.returns-in-Some-read_dot-clause-one
+returns-in-Some-read_dot-clause-one c = one_row c.args.text.now

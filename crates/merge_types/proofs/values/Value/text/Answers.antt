@@ -12,8 +12,8 @@ use Rattle.merge_types.proofs.values.Value.text.Goals as goal
 
 pub returns-in-Text-clause-reads_back : goal.returns-in-Text-clause-reads_back
 returns-in-Text-clause-reads_back c =
-    let is_text : IsUtf8 c.in-Text.words = subst IsUtf8 c.as_str.ensures c.as_str.utf8 in
-    rw c.in-Text.is (IfOk-weaker c.print-in-Text.result _ _ (λ words e. subst (λ (t : List ℕ). IsQuoted t c.in-Text.words) (sym (e ∙ ap quoted c.as_str.ensures)) (IsQuoted-quoted c.in-Text.words is_text)) c.print-in-Text.ensures)
+    let is_text : IsUtf8 c.in-Text.words = c.as_str.ensures.utf8 in
+    rw c.in-Text.is (IfOk-weaker c.print-in-Text.result _ _ (λ words e. subst (λ (t : List ℕ). IsQuoted t c.in-Text.words) (sym (e ∙ ap quoted c.as_str.ensures.text)) (IsQuoted-quoted c.in-Text.words is_text)) c.print-in-Text.ensures)
 
 pub returns-in-Day-clause-reads_back : goal.returns-in-Day-clause-reads_back
 returns-in-Day-clause-reads_back c =

@@ -1,0 +1,7 @@
+use Rattle.std.proofs.Common.{take}
+use Rattle.merge_ident.specs.Grants.{AreGrants}
+use Rattle.merge_ident.proofs.first_bad.first_bad_grant.Given as goal
+
+-- those so far are grants of a book
+abbrev pub invariant-loop-at : goal.invariant-loop-at
+invariant-loop-at l = AreGrants (take l.at l.grants)

@@ -1,0 +1,11 @@
+//! What the lines of a script say.
+#![tactic(auto)]
+
+mod events;
+mod line;
+mod stop;
+#[cfg(test)]
+mod tests;
+mod word;
+
+pub use line::read_line;

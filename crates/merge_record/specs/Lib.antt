@@ -1,0 +1,5 @@
+pub mod Codec
+pub mod Reading
+pub mod Rows
+pub mod Tables
+pub mod Versions

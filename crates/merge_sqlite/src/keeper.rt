@@ -1,0 +1,212 @@
+//! A keeper over a SQLite file: one table, three statements that are prepared once, and one
+//! transaction for each commit.
+ghost use Rattle.std.specs.Prelude.{◌≡◌, false, IfOk};
+ghost use Rattle.merge_ports.specs.Keeping.{HasKeepCause};
+ghost use Rattle.merge_sqlite.specs.Causes.{fault_of, count_after};
+
+use merge_ports::{Entries, EntryEdit, EntryKey, KeepFault, Keeper};
+use merge_types::{Listing, NoMemory};
+use sqlite::{Alter, Connection, Error, ErrorCode, FileStore, Row, Statement, params};
+use sqlite_std_file::File;
+use std::alloc::Global;
+
+// The only table of a store. A key is a table's number and bytes, which SQLite orders as memcmp does.
+const MAKE: &str =
+    "CREATE TABLE entry (tab INTEGER NOT NULL CHECK (tab BETWEEN 0 AND 255), k BLOB NOT NULL, v BLOB NOT NULL, PRIMARY KEY (tab, k)) STRICT";
+
+const FOUND: &str = "SELECT sql FROM sqlite_schema WHERE sql IS NOT NULL";
+
+const ALL: &str = "SELECT tab, k, v FROM entry ORDER BY tab, k";
+
+const PUT: &str = "INSERT OR REPLACE INTO entry (tab, k, v) VALUES (?1, ?2, ?3)";
+
+const TAKE: &str = "DELETE FROM entry WHERE tab = ?1 AND k = ?2";
+
+/// Why a call stopped, before the count of faults is raised.
+#[derive(Clone, Copy, Debug, PartialEq, Eq)]
+pub enum Stop {
+    NoMemory,
+    /// SQLite refused for another cause.
+    Refused,
+}
+
+/// A keeper over a SQLite file. It tells nothing of its map.
+///
+/// A commit that was answered is on the disk: it is written to the log beside the file and synced.
+/// Where the disk failed, the database is closed, and each later call fails.
+#[derive(Drop)]
+pub struct SqliteKeeper<S: Alter> {
+    conn: Connection<S>,
+    all: Statement,
+    put: Statement,
+    take: Statement,
+    alloc: Global,
+    count: u64,
+}
+
+impl From<Error> for Stop {
+    fn from(error: Error) -> Stop {
+        match error {
+            Error::SqliteFailure(ErrorCode::OutOfMemory) => Stop::NoMemory,
+            _ => Stop::Refused,
+        }
+    }
+}
+
+impl From<NoMemory> for Stop {
+    fn from(_: NoMemory) -> Stop {
+        Stop::NoMemory
+    }
+}
+
+impl SqliteKeeper<FileStore<File>> {
+    /// The keeper of the store file at a path, which is made where there is no file. It has no faults.
+    ///
+    /// `Failed` comes for a file that is no database, for one that has other tables than a store has,
+    /// for one that another keeper or process holds, and for a folder in which no file can be made;
+    /// what stands there is left as it is.
+    pub fn open(rt: &HostRuntime, path: &str) -> Result<Self, KeepFault>
+        ensures { IfOk result (λ keeper. keeper.count ≡ 0) }
+    {
+        match opened(rt, path) {
+            Ok(keeper) => Ok(keeper),
+            Err(Stop::NoMemory) => Err(KeepFault::NoMemory),
+            Err(Stop::Refused) => Err(KeepFault::Failed),
+        }
+    }
+}
+
+fn opened(rt: &HostRuntime, path: &str) -> Result<SqliteKeeper<FileStore<File>>, Stop>
+    ensures { IfOk result (λ keeper. keeper.count ≡ 0) }
+{
+    let mut conn = Connection::open(rt, path)?;
+    make_table(&mut conn)?;
+    let all = conn.prepare(ALL)?;
+    let put = conn.prepare(PUT)?;
+    let take = conn.prepare(TAKE)?;
+    Ok(SqliteKeeper {
+        conn,
+        all,
+        put,
+        take,
+        alloc: rt.alloc(),
+        count: 0,
+    })
+}
+
+// Makes the table in an empty database. A database that has anything else is not a store's.
+fn make_table<S: Alter>(conn: &mut Connection<S>) -> Result<(), Stop> {
+    let found = conn.query_all(FOUND, &[])?;
+    match found.as_slice() {
+        [] => {
+            conn.execute_batch(MAKE)?;
+            Ok(())
+        }
+        [table] => {
+            let text: String = table.get(0)?;
+            if text.as_str() == MAKE {
+                Ok(())
+            } else {
+                Err(Stop::Refused)
+            }
+        }
+        _ => Err(Stop::Refused),
+    }
+}
+
+fn add_entry(entries: &mut Entries, row: &Row) -> Result<(), Stop> {
+    let table: i64 = row.get(0)?;
+    let key: Vec<u8> = row.get(1)?;
+    let value: Vec<u8> = row.get(2)?;
+    let Ok(table) = u8::try_from(table) else {
+        return Err(Stop::Refused);
+    };
+    let key = EntryKey {
+        table,
+        key: Listing::new(key),
+    };
+    entries.insert(key, Listing::new(value))?;
+    Ok(())
+}
+
+fn read_all<S: Alter>(
+    alloc: Global,
+    conn: &mut Connection<S>,
+    all: &Statement,
+) -> Result<Entries, Stop> {
+    let mut entries = Entries::empty(alloc);
+    let rows = all.query_all(conn, &[])?;
+    for row in &rows {
+        add_entry(&mut entries, row)?;
+    }
+    Ok(entries)
+}
+
+// A transaction that is given up is rolled back.
+fn write_all<S: Alter>(
+    conn: &mut Connection<S>,
+    put: &Statement,
+    take: &Statement,
+    edits: &[EntryEdit],
+) -> Result<(), Error>
+    requires { conn.old.in_transaction ≡ false }
+{
+    let mut transaction = conn.transaction();
+    for edit in edits {
+        let table = i64::from(edit.table);
+        let key = edit.key.as_slice();
+        match &edit.value {
+            Some(value) => {
+                transaction.execute_prepared(put, params![table, key, value.as_slice()])?;
+            }
+            None => {
+                transaction.execute_prepared(take, params![table, key])?;
+            }
+        }
+    }
+    transaction.commit()
+}
+
+// Why a call fails. All but want of memory is counted.
+fn noted<T: Drop>(count: &mut u64, stop: Stop) -> Result<T, KeepFault>
+    ensures fault { result ≡ Err (fault_of stop) }
+    ensures count { count.new ≡ count_after stop count.old }
+    ensures cause { HasKeepCause count.old count.new result }
+{
+    match stop {
+        Stop::NoMemory => Err(KeepFault::NoMemory),
+        Stop::Refused => {
+            *count = count.saturating_add(1);
+            Err(KeepFault::Failed)
+        }
+    }
+}
+
+impl<S: Alter + Drop> Keeper for SqliteKeeper<S> {
+    ghost use Rattle.std.specs.Prelude.{None};
+
+    ghost told = { λ k. None };
+
+    ghost count = { λ k. k.count };
+
+    fn load(&mut self) -> Result<Entries, KeepFault> {
+        match read_all(self.alloc, &mut self.conn, &self.all) {
+            Ok(entries) => Ok(entries),
+            Err(stop) => noted(&mut self.count, stop),
+        }
+    }
+
+    fn commit(&mut self, edits: &[EntryEdit]) -> Result<(), KeepFault> {
+        if !self.conn.is_autocommit() {
+            return noted(&mut self.count, Stop::Refused);
+        }
+        match write_all(&mut self.conn, &self.put, &self.take, edits) {
+            Ok(()) => Ok(()),
+            Err(error) => noted(&mut self.count, error.into()),
+        }
+    }
+
+    fn faults(&self) -> u64 {
+        self.count
+    }
+}

@@ -1,8 +1,0 @@
-//! The subscriber's site.
-#![tactic(auto)]
-
-mod subscriber;
-#[cfg(test)]
-mod tests;
-
-pub use subscriber::{Subscriber, UnknownSite};

@@ -1,0 +1,15 @@
+use Rattle.std.specs.Prelude.{refl}
+use Rattle.merge_model.specs.Play.{opened_play}
+use Rattle.merge_worked.proofs.rows.decided_by_one_value.Goals as goal
+
+pub returns-clause-machine : goal.returns-clause-machine
+unfolding opened_play
+returns-clause-machine c = refl
+
+pub returns-clause-model : goal.returns-clause-model
+unfolding opened_play
+returns-clause-model c = refl
+
+pub returns-clause-asked : goal.returns-clause-asked
+unfolding opened_play
+returns-clause-asked c = refl
