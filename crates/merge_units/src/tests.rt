@@ -1,7 +1,8 @@
 //! Versions of rows, with the cases and results that the rules give.
 use crate::{
     Body, Case, Cell, Cells, Decision, Side, Version, apply, can_change, change, classify,
-    fits_decision, have_equal_counts, is_new_where_decided, remove, stored_length,
+    fits_bodies, fits_decision, have_equal_counts, insert, is_new_where_decided, remove,
+    stored_length,
 };
 use merge_lineage::{Lineage, are_ascending};
 use merge_types::{Dot, Octets, Setting, SiteId, Tracking, Value, Values};
@@ -220,6 +221,76 @@ fn each_cell_is_by_its_side(rt: HostRuntime) -> Result<(), Fail> {
         let version = decide(&rt, alloc, &publisher, &incoming, decision)?;
         let want = [*first, (OURS, 0), (THEIRS, 1)];
         expect_cells(&rt, alloc, &version, &[*known, THEIRS], &want)?;
+    }
+    Ok(())
+}
+
+// What a case makes of two versions, where it is told beforehand.
+fn settle(
+    rt: &impl Abort,
+    alloc: Global,
+    publisher: &Version,
+    incoming: &Version,
+    decision: &Decision,
+) -> Result<Version, Fail> {
+    assert!(rt; have_equal_counts(&publisher.body, &incoming.body));
+    let case = classify(alloc, publisher, incoming)?;
+    assert!(rt; fits_bodies(&case, &publisher.body, &incoming.body, decision));
+    assert!(rt; is_new_where_decided(&publisher.lineage, &incoming.lineage, decision, NEXT));
+    Ok(case.apply(alloc, publisher, incoming, decision, NEXT)?)
+}
+
+#[test]
+fn each_case_applies_itself(rt: HostRuntime) -> Result<(), Fail> {
+    let alloc = rt.alloc();
+    let keep = Decision::KeepPublisher;
+    // Nothing, Take, Merge and Conflict, by the tops of two cells on both sides.
+    let cases: [([Dot; 2], [Dot; 2], &[(Dot, i64)]); 4] = [
+        ([OURS, OLD], [OLD, OLD], &[(OURS, 0), (OLD, 0)]),
+        ([OLD, OLD], [OLD, THEIRS], &[(OLD, 1), (THEIRS, 1)]),
+        ([OURS, OLD], [OLD, THEIRS], &[(OURS, 0), (THEIRS, 1)]),
+        ([OURS, OLD], [THEIRS, OLD], &[(OURS, 0), (OLD, 0)]),
+    ];
+    for ([a, b], [c, d], want) in cases {
+        let publisher = ours(&rt, alloc, live(alloc, &[(a, 0), (b, 0)])?)?;
+        let incoming = theirs(&rt, alloc, live(alloc, &[(c, 1), (d, 1)])?)?;
+        let version = settle(&rt, alloc, &publisher, &incoming, &keep)?;
+        expect_cells(&rt, alloc, &version, &[OURS, THEIRS], want)?;
+    }
+    // Unite and LifeConflict.
+    let our_delete = ours(&rt, alloc, Body::Dead(OURS))?;
+    let their_delete = theirs(&rt, alloc, Body::Dead(THEIRS))?;
+    let united = settle(&rt, alloc, &our_delete, &their_delete, &keep)?;
+    assert!(rt; matches!(united.body, Body::Dead(OURS)));
+    assert_eq!(rt; united.lineage.dots(), [OURS, THEIRS].as_slice());
+    let publisher = ours(&rt, alloc, live(alloc, &[(OURS, 0)])?)?;
+    let kept = settle(&rt, alloc, &publisher, &their_delete, &keep.clone()?)?;
+    expect_cells(&rt, alloc, &kept, &[OURS, THEIRS], &[(OURS, 0)])?;
+    let taken = settle(
+        &rt,
+        alloc,
+        &publisher,
+        &their_delete,
+        &Decision::TakeSubscriber,
+    )?;
+    assert!(rt; matches!(taken.body, Body::Dead(THEIRS)));
+    Ok(())
+}
+
+#[test]
+fn an_insert_has_its_change_as_top(rt: HostRuntime) -> Result<(), Fail> {
+    let alloc = rt.alloc();
+    let mut values = Values::empty(alloc);
+    values.push(Value::Int(4))?;
+    values.push(Value::Int(5))?;
+    let columns = insert(alloc, NEXT, values.clone()?, Tracking::ByColumn)?;
+    expect_cells(&rt, alloc, &columns, &[NEXT], &[(NEXT, 4), (NEXT, 5)])?;
+    let row = insert(alloc, NEXT, values.clone()?, Tracking::Row)?;
+    match &row.body {
+        Body::Live(cells) => {
+            assert_eq!(rt; cells.as_slice(), [Cell { top: NEXT, values }].as_slice());
+        }
+        Body::Dead(_) => assert!(rt; false, "not live"),
     }
     Ok(())
 }
