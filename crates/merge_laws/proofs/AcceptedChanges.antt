@@ -42,7 +42,7 @@ use Rattle.merge_laws.specs.LineagesStand.{OfMessage}
 use Rattle.merge_laws.specs.Numbered.{Numbered}
 use Rattle.merge_laws.proofs.AcceptedOrder.{was-below}
 use Rattle.merge_laws.proofs.AcceptedParts.{PastFits, SiteFits, all-fit, count-on, lines-accept, nothing-fits, others-accepted, publisher-accepted, send-on}
-use Rattle.merge_laws.proofs.Arrivals.{first-none}
+use Rattle.merge_model.proofs.Refusals.{first-none}
 use Rattle.merge_model.proofs.Finding.{found-named}
 use Rattle.merge_laws.proofs.Ground.{Ground}
 use Rattle.merge_model.proofs.KeyLookUps.{keys-same}

@@ -36,7 +36,7 @@ use Rattle.merge_laws.specs.Knowledge.{KnowsItsPast}
 use Rattle.merge_laws.proofs.AccountChains.{cells-known, chain_at}
 use Rattle.merge_laws.proofs.AccountChanges.{count_by_tracking, deleted-grown, inserted-grown, updated-grown}
 use Rattle.merge_laws.proofs.AccountHolds.{AreCells, deleted-ends, deleted-holds, held-past, inserted-ends, inserted-holds, updated-ends, updated-holds, updated-past}
-use Rattle.merge_laws.proofs.Arrivals.{first-none}
+use Rattle.merge_model.proofs.Refusals.{first-none}
 use Rattle.merge_laws.proofs.ChangeDots.{AreDistinct}
 use Rattle.merge_model.proofs.Finding.{some_same}
 use Rattle.merge_model.proofs.KeyLookUps.{key-itself}

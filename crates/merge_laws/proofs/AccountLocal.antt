@@ -40,7 +40,7 @@ use Rattle.merge_laws.proofs.AccountFits.{ChangeFits, IsHeld, change-fits, made_
 use Rattle.merge_laws.proofs.AccountHistory.{traced-new}
 use Rattle.merge_laws.proofs.AccountSending.{received-safe, site-away}
 use Rattle.merge_laws.proofs.AccountSites.{held-made, received-own, sent-made, sub-accounts}
-use Rattle.merge_laws.proofs.Arrivals.{first-none}
+use Rattle.merge_model.proofs.Refusals.{first-none}
 use Rattle.merge_model.proofs.Finding.{all-weaker, some_same}
 use Rattle.merge_laws.proofs.Ground.{Ground}
 use Rattle.merge_model.proofs.KeyLookUps.{key-itself, keys-same}

@@ -25,7 +25,7 @@ use Rattle.merge_laws.proofs.AccountLocal.{none-made, with-some}
 use Rattle.merge_laws.proofs.AccountNotes.{lines-accounts, same-accounts}
 use Rattle.merge_laws.proofs.AccountRows.{at-key, row-accounts}
 use Rattle.merge_laws.proofs.AccountSites.{held-made}
-use Rattle.merge_laws.proofs.Arrivals.{first-none}
+use Rattle.merge_model.proofs.Refusals.{first-none}
 use Rattle.merge_laws.proofs.ChangeDots.{made-distinct}
 use Rattle.merge_laws.proofs.Ground.{Ground}
 use Rattle.merge_model.proofs.KeyLookUps.{key-itself}

@@ -29,7 +29,7 @@ use Rattle.merge_model.specs.declared.letter.Letter.{Letter}
 use Rattle.merge_laws.specs.ActsOnce.{ActedItemsDoNothing, delivered, with_pool, without_acted}
 use Rattle.merge_laws.proofs.ActsOnceRules.{fewer-fine}
 use Rattle.merge_laws.proofs.ActsOnceSteps.{answer, delivered-by, judge, refusal, taken_by}
-use Rattle.merge_laws.proofs.Arrivals.{first-none}
+use Rattle.merge_model.proofs.Refusals.{first-none}
 use Rattle.merge_laws.proofs.ToldItems.{fault-none}
 use Rattle.merge_laws.proofs.Walking.{here}
 

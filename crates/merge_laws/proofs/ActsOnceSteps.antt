@@ -40,7 +40,7 @@ use Rattle.merge_model.specs.declared.letter.Letter.{Letter}
 use Rattle.merge_model.specs.declared.letter.Message.TheVariants.{Replies}
 use Rattle.merge_laws.specs.ActsOnce.{ActedRowsStay, ActedUploadsOnlyAnswer, AllActed, IsUpload, OnlyAnswers, delivered, of_row, row_has_acted}
 use Rattle.merge_laws.proofs.ActsOnceRows.{acting-elsewhere, acts-elsewhere, noted-stays, tables-stay}
-use Rattle.merge_laws.proofs.Arrivals.{first-none}
+use Rattle.merge_model.proofs.Refusals.{first-none}
 use Rattle.merge_laws.proofs.Noted.{acts-own}
 use Rattle.merge_laws.proofs.Publishing.{member-step}
 use Rattle.merge_laws.proofs.ToldItems.{fault-none}

@@ -33,7 +33,7 @@ use Rattle.merge_model.specs.Tables.{PublisherTables}
 use Rattle.merge_model.specs.World.{Saying, World}
 use Rattle.merge_model.specs.declared.letter.Message.TheVariants.{Replies}
 use Rattle.merge_laws.proofs.AlikeUploads.{ItemAgrees, acting-same, acts-from-same, questions-same}
-use Rattle.merge_laws.proofs.Arrivals.{first-none}
+use Rattle.merge_model.proofs.Refusals.{first-none}
 use Rattle.merge_model.proofs.Lists.{all-filter}
 
 -- What two ways to decide agree on, of the sites that have joined and of moves.

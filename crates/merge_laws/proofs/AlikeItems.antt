@@ -36,7 +36,7 @@ use Rattle.merge_laws.proofs.AlikeArrivals.{SitesAgree}
 use Rattle.merge_laws.proofs.AlikeCases.{Meets, case-same, held-meets, items-meet, news-same}
 use Rattle.merge_laws.proofs.AlikeFields.{acted-alike, gap-alike, left-alike, number-alike, received-alike, unmet-alike}
 use Rattle.merge_laws.proofs.AlikeUploads.{ItemAgrees, MetAgrees}
-use Rattle.merge_laws.proofs.Arrivals.{first-none}
+use Rattle.merge_model.proofs.Refusals.{first-none}
 use Rattle.merge_laws.proofs.Ground.{Ground}
 use Rattle.merge_model.proofs.Lists.{all-both}
 use Rattle.merge_laws.proofs.ToldItems.{fault-none}

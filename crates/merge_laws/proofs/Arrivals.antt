@@ -1,5 +1,5 @@
 -- Joins and uploads that come to the publisher.
-use Rattle.std.specs.Prelude.{◌≡◌, ◌≤◌, ◌<◌, ◌==◌, ◌&&◌, ◌||◌, ℕ, List, [], ◌∷◌, Bool, true, false, Option, Some, None, refl, if◌then◌else◌, nat_le, nat_lt, is_some, unwrap_or}
+use Rattle.std.specs.Prelude.{◌≡◌, ◌≤◌, ◌<◌, ◌==◌, ◌&&◌, ◌||◌, ℕ, List, [], Bool, true, false, Option, Some, None, refl, if◌then◌else◌, nat_le, nat_lt, is_some, unwrap_or}
 use Rattle.std.proofs.Common.{arith, subst, sym, ap, ◌∙◌}
 use Rattle.std.proofs.lemmas.Bool.Decides.{nat_tests}
 use Rattle.merge_types.specs.declared.identifiers.SiteId.{SiteId}
@@ -14,7 +14,7 @@ use Rattle.merge_batch.specs.declared.reply.Reply.TheVariants as reply
 use Rattle.merge_schema.specs.declared.publication.Publication.{Publication}
 use Rattle.merge_model.specs.Tables.{PublisherTables, SubscriberTables}
 use Rattle.merge_model.specs.Keys.{at_number}
-use Rattle.merge_model.specs.Refusals.{first_refusal, refused_if}
+use Rattle.merge_model.specs.Refusals.{refused_if}
 use Rattle.merge_model.specs.Judge.{PublisherJudge}
 use Rattle.merge_model.specs.ByNumbers.{received_by_number}
 use Rattle.merge_model.specs.Acts.{Act}
@@ -28,6 +28,7 @@ use Rattle.merge_model.specs.declared.letter.Message.TheVariants.{Asks, Replies}
 use Rattle.merge_model.specs.History.{History, is_done}
 use Rattle.merge_model.specs.Noting
 use Rattle.merge_laws.specs.Received.{joined_at, MessageFits, LetterFits, SubscriberFits, DoneIsReceived, Received}
+use Rattle.merge_model.proofs.Refusals.{first-none, state-known}
 use Rattle.merge_model.proofs.Finding.{all-weaker}
 use Rattle.merge_laws.proofs.MessageFacts.{acts-later}
 use Rattle.merge_laws.proofs.Publishing.{done-joins, joined-received, joined-joined, upload-received, upload-joined, number_in, sites_taken}
@@ -151,14 +152,6 @@ upload-fits m acts w q h e known begins goes_on closed r = record {
 }
 
 -- what is known of an upload that is not refused
-pub first-none : (refusal : Option Refusal) (rest : List (Option Refusal)) → first_refusal (refusal ∷ rest) ≡ None → (refusal ≡ None) × (first_refusal rest ≡ None)
-first-none (Some why) rest e = absurd (grind (arith, e))
-first-none None rest e = (refl, e)
-
-pub state-known : (publication : Publication) (seq : ℕ) (now : Moment) (found : Option SiteState) → state_refusal publication seq now found ≡ None → is_some found ≡ true
-state-known publication seq now None e = absurd (grind (arith, e))
-state-known publication seq now (Some state) e = refl
-
 pub not-refused : (b : Bool) (refusal : Refusal) → refused_if b refusal ≡ None → b ≡ false
 not-refused true refusal e = absurd (grind (arith, e))
 not-refused false refusal e = refl

@@ -52,7 +52,8 @@ use Rattle.merge_model.proofs.KeptFailing.{runs-keep}
 use Rattle.merge_laws.proofs.Tallied.{behind-tallied, received-tallied}
 use Rattle.merge_laws.specs.Behind.{Behind, StaysBehind, TellsActed}
 use Rattle.merge_laws.specs.Received.{JoinFits, MessageFits, Received, joined_at}
-use Rattle.merge_laws.proofs.Arrivals.{first-none, upload-known}
+use Rattle.merge_laws.proofs.Arrivals.{upload-known}
+use Rattle.merge_model.proofs.Refusals.{first-none}
 use Rattle.merge_laws.proofs.Deliveries.{news-above}
 use Rattle.merge_model.proofs.Finding.{all-at, all-more, all-weaker, at_put_other, at_put_same}
 use Rattle.merge_laws.proofs.MessageFacts.{acts-later, join-up, letter-fits}

@@ -40,7 +40,8 @@ use Rattle.merge_model.specs.Promises.{is_given_up}
 use Rattle.merge_laws.specs.LineagesStand.{UploadCounts, can_act, counts_in}
 use Rattle.merge_laws.specs.Numbered.{JoinTells, Numbered, last_of}
 use Rattle.merge_laws.specs.Received.{Received}
-use Rattle.merge_laws.proofs.Arrivals.{first-none, not-refused, upload-known}
+use Rattle.merge_laws.proofs.Arrivals.{not-refused, upload-known}
+use Rattle.merge_model.proofs.Refusals.{first-none}
 use Rattle.merge_laws.proofs.Deliveries.{news-above}
 use Rattle.merge_model.proofs.Finding.{letter-zip}
 use Rattle.merge_model.proofs.Lists.{any-among}

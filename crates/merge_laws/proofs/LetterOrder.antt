@@ -37,7 +37,8 @@ use Rattle.merge_model.specs.declared.letter.Message.{Message}
 use Rattle.merge_laws.proofs.Tallied.{order-tallied}
 use Rattle.merge_laws.specs.LetterOrder.{JoinIsLater, LetterOrder, last_upload, upload_seq}
 use Rattle.merge_laws.specs.Received.{LetterFits, MessageFits, Received, joined_at}
-use Rattle.merge_laws.proofs.Arrivals.{first-none, joined-rises}
+use Rattle.merge_laws.proofs.Arrivals.{joined-rises}
+use Rattle.merge_model.proofs.Refusals.{first-none}
 use Rattle.merge_model.proofs.Finding.{all-more, all-weaker, at_put_other, at_put_same}
 use Rattle.merge_model.proofs.Lists.{all-both}
 use Rattle.merge_laws.proofs.MessageFacts.{acts-later}

@@ -28,7 +28,8 @@ use Rattle.merge_units.specs.declared.site_row.SubscriberRow.{SubscriberRow}
 use Rattle.merge_model.specs.Tables.{PublisherTables, SubscriberTables}
 use Rattle.merge_laws.specs.Knowledge.{AreNumbered, Knows, is_made}
 use Rattle.merge_laws.specs.KnownMakers.{IsAfterMaker, KnowsMaker}
-use Rattle.merge_laws.proofs.Arrivals.{first-none, not-refused}
+use Rattle.merge_laws.proofs.Arrivals.{not-refused}
+use Rattle.merge_model.proofs.Refusals.{first-none}
 use Rattle.merge_laws.proofs.Knowing.{fresh-above, fresh-any}
 
 -- An insert makes the row that is named by its dot.

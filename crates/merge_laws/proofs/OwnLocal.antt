@@ -24,7 +24,8 @@ use Rattle.merge_model.specs.Tables.{PublisherTables, SubscriberTables}
 use Rattle.merge_model.specs.World.{World, subscriber_at}
 use Rattle.merge_laws.specs.Knowledge.{Knowledge, Known, Knows, changes_of, is_made}
 use Rattle.merge_laws.specs.LetterNumbers.{AreNamed}
-use Rattle.merge_laws.proofs.Arrivals.{first-none, not-refused}
+use Rattle.merge_laws.proofs.Arrivals.{not-refused}
+use Rattle.merge_model.proofs.Refusals.{first-none}
 use Rattle.merge_model.proofs.KeyLookUps.{keys-same}
 use Rattle.merge_laws.proofs.Knowing.{IsFresh, fresh-above, fresh-any}
 use Rattle.merge_laws.proofs.KnownCounts.{own-count}

@@ -22,7 +22,7 @@ use Rattle.merge_types.specs.declared.row_key.RowKey.{RowKey as Key}
 use Rattle.merge_model.specs.World.{Saying, World, empty_world}
 use Rattle.merge_laws.specs.LineagesStand.{AllTold, Owns}
 use Rattle.merge_laws.specs.Seen.{Seen, greatest_in}
-use Rattle.merge_laws.proofs.Arrivals.{first-none, state-known}
+use Rattle.merge_model.proofs.Refusals.{first-none, state-known}
 use Rattle.merge_model.proofs.Finding.{at_put_other}
 use Rattle.merge_laws.proofs.Ground.{Ground}
 use Rattle.merge_laws.proofs.NotesLeave.{discarded-leave, fold-leave, lines-accepted, reply-leave}

@@ -53,7 +53,7 @@ use Rattle.merge_model.specs.World.{Saying, World, subscriber_at, with_publisher
 use Rattle.merge_model.specs.declared.letter.Message.TheVariants.{Asks, Replies}
 use Rattle.merge_model.specs.declared.letter.Letter.{Letter}
 use Rattle.merge_model.specs.declared.letter.Message.{Message}
-use Rattle.merge_laws.proofs.Arrivals.{first-none}
+use Rattle.merge_model.proofs.Refusals.{first-none}
 use Rattle.merge_model.proofs.Finding.{at_put_same}
 use Rattle.merge_laws.proofs.IdentityNotes.{taker-made}
 use Rattle.merge_laws.proofs.Sendings.{batch-bound}

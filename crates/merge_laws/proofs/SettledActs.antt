@@ -35,7 +35,8 @@ use Rattle.merge_model.specs.Tables.{PublisherTables, SubscriberTables}
 use Rattle.merge_model.specs.World.{Saying, World}
 use Rattle.merge_model.proofs.Sorted.{closed_filling-rises}
 use Rattle.merge_laws.specs.Settled.{SendsChanged, TouchedInOrder, changed_of, has_item, is_expired_by, site_view, touched_at}
-use Rattle.merge_laws.proofs.Arrivals.{first-none, not-refused, upload-known}
+use Rattle.merge_laws.proofs.Arrivals.{not-refused, upload-known}
+use Rattle.merge_model.proofs.Refusals.{first-none}
 use Rattle.merge_laws.proofs.BehindKept.{upload-sets}
 use Rattle.merge_laws.proofs.Ground.{Ground}
 use Rattle.merge_laws.proofs.PurgeModels.{old-is-past}

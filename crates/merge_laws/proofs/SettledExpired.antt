@@ -24,7 +24,8 @@ use Rattle.merge_model.specs.Refusals.{refused_if}
 use Rattle.merge_model.specs.Tables.{PublisherTables}
 use Rattle.merge_model.specs.World.{World}
 use Rattle.merge_laws.specs.Settled.{is_expired_by}
-use Rattle.merge_laws.proofs.Arrivals.{first-none, not-refused}
+use Rattle.merge_laws.proofs.Arrivals.{not-refused}
+use Rattle.merge_model.proofs.Refusals.{first-none}
 use Rattle.merge_model.proofs.Finding.{at_put_other}
 use Rattle.merge_laws.proofs.PurgeSteps.{if-entry, taken_entry}
 use Rattle.merge_laws.proofs.Subscribing.{same_number}

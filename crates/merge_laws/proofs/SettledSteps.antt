@@ -51,7 +51,7 @@ use Rattle.merge_model.proofs.Sorted.{closed_filling-rises}
 use Rattle.merge_laws.specs.Received.{JoinFits, LetterFits, joined_at}
 use Rattle.merge_laws.specs.Settled.{LetterSettles, MessageSettles, OfPublisher, OfSites, SendsChanged, SiteHolds, SitesSettle, TouchedInOrder, changed_of, held_at, live_only, made_in, site_view, touched_at}
 use Rattle.merge_laws.specs.Watermarks.{AskHolds, LetterHolds, StateHolds, state_in}
-use Rattle.merge_laws.proofs.Arrivals.{first-none}
+use Rattle.merge_model.proofs.Refusals.{first-none}
 use Rattle.merge_model.proofs.Finding.{pool-at}
 use Rattle.merge_laws.proofs.Ground.{Ground}
 use Rattle.merge_model.proofs.KeyLookUps.{row-put}

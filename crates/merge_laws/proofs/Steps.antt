@@ -31,7 +31,7 @@ use Rattle.merge_model.proofs.Finding.{at_put_same}
 use Rattle.merge_laws.proofs.Subscribing.{Goes, closing-goes, made-goes}
 use Rattle.merge_laws.proofs.Publishing.{same-sites}
 use Rattle.merge_laws.proofs.Worlds.{posted-fits, subscriber-goes, publisher-same}
-use Rattle.merge_laws.proofs.Arrivals.{first-none}
+use Rattle.merge_model.proofs.Refusals.{first-none}
 
 module _ (w : World) (h : History) (r : Received w h) where
   -- a step of the publisher that leaves the numbers of the sites

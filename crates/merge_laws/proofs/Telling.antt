@@ -29,7 +29,7 @@ use Rattle.merge_types.specs.declared.row_key.RowKey.{RowKey as Key}
 use Rattle.merge_model.specs.Tables.{SubscriberTables}
 use Rattle.merge_model.specs.Taking.{with_received}
 use Rattle.merge_laws.specs.Numbered.{InOrder, Tells, last_of}
-use Rattle.merge_laws.proofs.Arrivals.{first-none}
+use Rattle.merge_model.proofs.Refusals.{first-none}
 use Rattle.merge_laws.proofs.Subscribing.{filling-closed, filling-rises}
 use Rattle.merge_laws.proofs.Through.{kept-above, last-newest, last-older, moved-new, moved-none, moved-old, order-later, order-within}
 

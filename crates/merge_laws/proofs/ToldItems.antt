@@ -24,7 +24,7 @@ use Rattle.merge_model.specs.PublisherUpload.{too_many_new, upload_refusal}
 use Rattle.merge_model.specs.Refusals.{counter_end, refused_if}
 use Rattle.merge_types.specs.declared.row_key.RowKey.{RowKey as Key}
 use Rattle.merge_model.specs.Tables.{PublisherTables}
-use Rattle.merge_laws.proofs.Arrivals.{first-none}
+use Rattle.merge_model.proofs.Refusals.{first-none}
 use Rattle.merge_model.proofs.Finding.{all-weaker}
 use Rattle.merge_model.proofs.Lists.{all-filter}
 

@@ -56,7 +56,7 @@ use Rattle.merge_model.specs.World.{Saying, World, subscriber_at, with_publisher
 use Rattle.merge_model.specs.declared.letter.Message.TheVariants.{Asks, Replies}
 use Rattle.merge_model.proofs.Sorted.{key_total, step-sorted}
 use Rattle.merge_laws.specs.LineagesStand.{EveryVersion}
-use Rattle.merge_laws.proofs.Arrivals.{first-none}
+use Rattle.merge_model.proofs.Refusals.{first-none}
 use Rattle.merge_model.proofs.Finding.{found-named}
 use Rattle.merge_laws.proofs.Ground.{Ground}
 use Rattle.merge_model.proofs.Lists.{all-filter}

@@ -51,7 +51,7 @@ use Rattle.merge_model.proofs.KeptFailing.{runs-keep}
 use Rattle.merge_laws.proofs.Tallied.{received-tallied}
 use Rattle.merge_laws.specs.Received.{joined_at, JoinFits, MessageFits, LetterFits, Received}
 use Rattle.merge_laws.specs.Watermarks.{AskHolds, HoldsWatermark, HoldsWatermarks, LetterHolds, StateHolds, Watermarks, WatermarksAreHeld, state_in}
-use Rattle.merge_laws.proofs.Arrivals.{first-none}
+use Rattle.merge_model.proofs.Refusals.{first-none}
 use Rattle.merge_model.proofs.Finding.{all-at, at_put_same}
 use Rattle.merge_laws.proofs.Models.{model-fine, received-always}
 use Rattle.merge_laws.proofs.PurgeSteps.{if-entry, taken_entry}

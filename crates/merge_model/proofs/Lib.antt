@@ -40,3 +40,5 @@ pub mod EntryLists
 pub mod StepParts
 pub mod StepMoves
 pub mod Downloads
+pub mod Refusals
+pub mod Quiet

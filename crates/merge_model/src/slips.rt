@@ -1,4 +1,5 @@
 //! What holds of runs in which steps may fail. These functions do nothing: their contracts are the laws.
+ghost use Rattle.merge_model.specs.Quiet.{QuietClosings, QuietReplies, QuietRequests, QuietSubClosings};
 ghost use Rattle.merge_model.specs.SlipLaws.{CallsAreSteps, FailuresShow, FailuresShowInModel, NoneFails, NoneFailsInModel};
 
 /// Where no step fails, a run is that of a world in which none can.
@@ -18,4 +19,12 @@ pub fn steps_that_fail_show()
 /// A call of the publisher that meets its contract is a step of a world that may fail.
 pub fn calls_are_steps()
     ensures { CallsAreSteps }
+{}
+
+/// A call that commits nothing leaves the tables of its site as they are, so a site may leave the store alone.
+pub fn quiet_calls_change_nothing()
+    ensures requests { QuietRequests }
+    ensures closings { QuietClosings }
+    ensures sub_closings { QuietSubClosings }
+    ensures replies { QuietReplies }
 {}

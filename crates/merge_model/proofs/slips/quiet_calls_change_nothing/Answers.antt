@@ -1,0 +1,10 @@
+use Rattle.merge_model.proofs.Quiet.{closings-quiet, replies-quiet, requests-quiet, sub-closings-quiet}
+use Rattle.merge_model.proofs.slips.quiet_calls_change_nothing.Goals as goal
+
+pub returns : goal.returns
+returns c = record {
+  requests = requests-quiet;
+  closings = closings-quiet;
+  sub_closings = sub-closings-quiet;
+  replies = replies-quiet;
+}
