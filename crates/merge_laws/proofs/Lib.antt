@@ -196,3 +196,4 @@ pub mod LeavingsSeen
 pub mod LeavingsOwed
 pub mod RoundStays
 pub mod RoundLaw
+pub mod BoundsEnough

@@ -27,3 +27,4 @@ pub mod Promised
 pub mod RestsOn
 pub mod Leavings
 pub mod Rounds
+pub mod Bounds

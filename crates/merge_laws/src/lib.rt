@@ -2,6 +2,7 @@
 //! are the laws.
 #![tactic(auto)]
 
+mod bounds;
 mod effects;
 mod laws;
 mod leavings;
@@ -9,6 +10,7 @@ mod promised;
 mod rests_on;
 mod rounds;
 
+pub use bounds::bounds_never_end_a_session;
 pub use effects::no_generation_takes_effect_twice;
 pub use laws::{
     downloads_stay_in_the_partition, finished_sessions_settle_their_sites,
