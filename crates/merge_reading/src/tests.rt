@@ -68,11 +68,9 @@ fn are_quantity_and_note(values: &NamedValues, quantity: i64) -> bool {
     }
 }
 
-#[test]
-fn local_changes_are_read(rt: HostRuntime) -> Result<(), Fail> {
-    let alloc = rt.alloc();
-    let row = RowId(0x0000_0000_0001_8000_8000_0000_0000_0002);
-    match event(alloc, b"insert 1 item  qty=-3\tnote=null")? {
+// Whether the event is an insert at site 1 of an item of which there lack three.
+fn inserts_lack(event: &Option<Event>) -> bool {
+    match event {
         Some(
             Event::Insert {
                 site,
@@ -80,36 +78,40 @@ fn local_changes_are_read(rt: HostRuntime) -> Result<(), Fail> {
                 values,
             },
         ) => {
-            assert_eq!(rt; (site, article.as_str()), (SiteId(1), "item"));
-            assert!(rt; are_quantity_and_note(&values, -3));
+            *site == SiteId(1) && article.as_str() == "item" && are_quantity_and_note(values, -3)
         }
-        _ => assert!(rt; false),
+        _ => false,
     }
-    match event(alloc, b"update 1 item 1.2 qty=4 note=null")? {
-        Some(
-            Event::Update {
-                row: named,
-                values,
-                ..
-            },
-        ) => {
-            assert_eq!(rt; named, row);
-            assert!(rt; are_quantity_and_note(&values, 4));
+}
+
+// Whether the event is an update of this row.
+fn updates(event: &Option<Event>, changed: RowId) -> bool {
+    match event {
+        Some(Event::Update { row, values, .. }) => {
+            *row == changed && are_quantity_and_note(values, 4)
         }
-        _ => assert!(rt; false),
+        _ => false,
     }
-    match event(alloc, b"delete 0 item 00000000-0001-8000-8000-000000000002")? {
-        Some(
-            Event::Delete {
-                site,
-                row: named,
-                ..
-            },
-        ) => {
-            assert_eq!(rt; (site, named), (SiteId(0), row));
-        }
-        _ => assert!(rt; false),
+}
+
+// Whether the event is a delete of this row at the publisher.
+fn deletes(event: &Option<Event>, gone: RowId) -> bool {
+    match event {
+        Some(Event::Delete { site, row, .. }) => *site == SiteId(0) && *row == gone,
+        _ => false,
     }
+}
+
+#[test]
+fn local_changes_are_read(rt: HostRuntime) -> Result<(), Fail> {
+    let alloc = rt.alloc();
+    let row = RowId(0x0000_0000_0001_8000_8000_0000_0000_0002);
+    let insert = event(alloc, b"insert 1 item  qty=-3\tnote=null")?;
+    assert!(rt; inserts_lack(&insert));
+    let update = event(alloc, b"update 1 item 1.2 qty=4 note=null")?;
+    assert!(rt; updates(&update, row));
+    let delete = event(alloc, b"delete 0 item 00000000-0001-8000-8000-000000000002")?;
+    assert!(rt; deletes(&delete, row));
     Ok(())
 }
 
