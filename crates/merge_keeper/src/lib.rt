@@ -5,6 +5,8 @@ mod laws;
 mod memory;
 mod states;
 mod stored;
+#[cfg(test)]
+mod tests;
 
 pub use laws::{edits_follow, state_records};
 pub use memory::{MemoryKeeper, Stop};
