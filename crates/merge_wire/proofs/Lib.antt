@@ -1,0 +1,10 @@
+pub mod FieldLemmas
+pub mod HeadLemmas
+pub mod MessageLemmas
+pub mod FaultLemmas
+pub mod ResponseLemmas
+pub mod Trimmed
+pub mod WrittenLemmas
+pub mod OneMessage
+pub mod ResponseWritten
+pub mod PieceLemmas

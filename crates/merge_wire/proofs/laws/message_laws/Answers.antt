@@ -1,0 +1,16 @@
+use Rattle.merge_wire.proofs.OneMessage.{one_request, one_response}
+use Rattle.merge_wire.proofs.ResponseWritten.{response_reads_back}
+use Rattle.merge_wire.proofs.WrittenLemmas.{request_reads_back}
+use Rattle.merge_wire.proofs.laws.message_laws.Goals as goal
+
+pub returns-clause-requests_read_back : goal.returns-clause-requests_read_back
+returns-clause-requests_read_back c = request_reads_back
+
+pub returns-clause-responses_read_back : goal.returns-clause-responses_read_back
+returns-clause-responses_read_back c = response_reads_back
+
+pub returns-clause-one_request : goal.returns-clause-one_request
+returns-clause-one_request c = one_request
+
+pub returns-clause-one_response : goal.returns-clause-one_response
+returns-clause-one_response c = one_response

@@ -1,0 +1,74 @@
+//! The head of a request.
+ghost use Rattle.std.specs.Prelude.{◌≡◌, ◌≤◌, ◌⊎◌, [], ◌∷◌, length, Err, IfOk, IfErr, IfSome, IfNone, IsErr};
+ghost use Rattle.std.specs.Io.KnownBytes.{Consumes, Keeps};
+ghost use Rattle.httparse.specs.Grammar.{HasNoRequest};
+ghost use Rattle.httparse.specs.Spans.{IsRequestOf, IsRequestWithin, RequestOverflows};
+ghost use Rattle.merge_ports.specs.Parts.{ConsumesFront};
+ghost use Rattle.merge_wire.specs.Faults.{IsHeadFault, IsByteFault};
+ghost use Rattle.merge_wire.specs.Heads.{head_limit, field_limit};
+
+use crate::WireFault;
+use crate::message::HEAD_LIMIT;
+use httparse::Status;
+use httparse::spans::{HeaderSpan, RequestSpans, parse_request};
+use merge_ports::Source;
+use merge_types::Octets;
+use std::alloc::Global;
+
+// Reads a head and no byte behind it.
+#[tactic(auto, using(crate::proofs::HeadLemmas::no_empty))]
+pub fn read_head<S: Source>(
+    alloc: Global,
+    source: &mut S,
+    fields: &mut [HeaderSpan; 32],
+) -> Result<(Octets, RequestSpans), WireFault>
+    ensures head { IfOk result (λ x. IsRequestOf x.0 fields.new x.1) }
+    ensures within { IfOk result (λ x. IsRequestWithin x.0 fields.new x.1) }
+    ensures whole { IfOk result (λ x. x.1.len ≡ length x.0) }
+    ensures limit { IfOk result (λ x. length x.0 ≤ head_limit) }
+    ensures taken { IfOk result (λ x. Consumes (S.left source.old) (S.left source.new) x.0) }
+    ensures fault { IfErr result (IsHeadFault (S.left source.old) (S.left source.new) (S.count source.old) (S.count source.new)) }
+    ensures front { ConsumesFront (S.left source.old) (S.left source.new) }
+    ensures later { S.count source.old ≤ S.count source.new }
+    ensures kept { (result ≡ Err WireFault.ReadFault → ⊥) → S.count source.new ≡ S.count source.old }
+{
+    let mut head = Octets::empty(alloc);
+    for _ in 0..HEAD_LIMIT {
+        let byte = next(source)?;
+        head.push(byte)?;
+        if let Some(spans) = head_of(head.as_slice(), fields)? {
+            return Ok((head, spans));
+        }
+    }
+    Err(WireFault::BadHead)
+}
+
+// The head at the front of the bytes, and none where more bytes are wanted.
+fn head_of(bytes: &[u8], fields: &mut [HeaderSpan; 32]) -> Result<Option<RequestSpans>, WireFault>
+    ensures some { IfOk result (λ found. IfSome found (IsRequestOf bytes.now fields.new)) }
+    ensures within { IfOk result (λ found. IfSome found (IsRequestWithin bytes.now fields.new)) }
+    ensures none { IfOk result (λ found. IfNone found (HasNoRequest bytes.now)) }
+    ensures bad { IfErr result (λ e. (e ≡ WireFault.BadHead) × RequestOverflows field_limit bytes.now) }
+{
+    match parse_request(bytes, fields) {
+        Ok(Status::Complete(spans)) => Ok(Some(spans)),
+        Ok(Status::Partial) => Ok(None),
+        Err(_) => Err(WireFault::BadHead),
+    }
+}
+
+// The next byte.
+fn next<S: Source>(source: &mut S) -> Result<u8, WireFault>
+    ensures taken { IfOk result (λ byte. Consumes (S.left source.old) (S.left source.new) (byte ∷ [])) }
+    ensures left { IsErr result → Keeps (S.left source.old) (S.left source.new) }
+    ensures fault { IfErr result (IsByteFault (S.left source.new) (S.count source.old) (S.count source.new)) }
+    ensures later { S.count source.old ≤ S.count source.new }
+    ensures kept { (result ≡ Err WireFault.ReadFault → ⊥) → S.count source.new ≡ S.count source.old }
+{
+    let mut piece = [0];
+    let taken = source.read(&mut piece)?;
+    if taken == 0 {
+        return Err(WireFault::Ended);
+    }
+    Ok(piece[0])
+}

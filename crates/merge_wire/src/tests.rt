@@ -1,0 +1,324 @@
+//! The example of the format, cut, faulty and hostile inputs.
+use crate::{Message, WireFault, is_visible, read_message, read_response, write_message};
+use merge_ports::{MemorySink, MemorySource, Short, Sink, Source};
+use merge_types::{Listing, Octets, Words};
+use std::alloc::Global;
+use std::test::Fail;
+
+const JOIN: &[u8] =
+    b"POST /merge/join HTTP/1.1\r\nHost: 127.0.0.1:7000\r\nContent-Type: application/json\r\nContent-Length: 44\r\nConnection: close\r\n\r\n{\"generation\":0,\"number\":0,\"seq\":1,\"site\":1}";
+
+const JOINED: &[u8] =
+    b"HTTP/1.1 200 OK\r\nContent-Type: application/json\r\nContent-Length: 9\r\nConnection: close\r\n\r\n{\"seq\":1}";
+
+fn octets(alloc: Global, bytes: &[u8]) -> Result<Octets, Fail> {
+    Ok(Listing::new(bytes.to_vec(alloc)?))
+}
+
+fn source(alloc: Global, bytes: &[u8], failing: &[u64]) -> Result<MemorySource, Fail> {
+    let failing = Listing::new(failing.to_vec(alloc)?);
+    Ok(MemorySource::new(octets(alloc, bytes)?, failing))
+}
+
+// How a request is at fault, and none where it is read.
+fn request_fault(alloc: Global, bytes: &[u8]) -> Result<Option<WireFault>, Fail> {
+    let mut source = source(alloc, bytes, &[])?;
+    match read_message(alloc, &mut source) {
+        Ok(_) => Ok(None),
+        Err(fault) => Ok(Some(fault)),
+    }
+}
+
+fn response_fault(alloc: Global, bytes: &[u8]) -> Result<Option<WireFault>, Fail> {
+    match read_response(alloc, bytes) {
+        Ok(_) => Ok(None),
+        Err(fault) => Ok(Some(fault)),
+    }
+}
+
+#[test]
+fn the_first_join_is_read(rt: HostRuntime) -> Result<(), Fail> {
+    let mut bytes = octets(rt.alloc(), JOIN)?;
+    bytes.extend(b"behind")?;
+    let port = MemorySource::new(bytes, Listing::empty(rt.alloc()));
+    let mut source = Short { port, most: 7 };
+    let message = read_message(rt.alloc(), &mut source)?;
+    assert_eq!(rt; message.method.as_str(), "POST");
+    assert_eq!(rt; message.path.as_str(), "/merge/join");
+    assert_eq!(rt; message.host.as_str(), "");
+    assert_eq!(rt; message.status, 0);
+    assert_eq!(rt;
+        message.body.as_slice(),
+        br#"{"generation":0,"number":0,"seq":1,"site":1}"#.as_slice()
+    );
+    assert_eq!(rt; source.port.taken, JOIN.len());
+    Ok(())
+}
+
+#[test]
+fn the_answer_is_read(rt: HostRuntime) -> Result<(), Fail> {
+    let mut bytes = octets(rt.alloc(), JOINED)?;
+    bytes.extend(b"behind")?;
+    let message = read_response(rt.alloc(), bytes.as_slice())?;
+    assert_eq!(rt; message.status, 200);
+    assert_eq!(rt;
+        message.method.len() + message.path.len() + message.host.len(),
+        0
+    );
+    assert_eq!(rt; message.body.as_slice(), br#"{"seq":1}"#.as_slice());
+    Ok(())
+}
+
+#[test]
+fn a_cut_message_has_ended(rt: HostRuntime) -> Result<(), Fail> {
+    for length in 0..JOIN.len() {
+        let fault = request_fault(rt.alloc(), &JOIN[..length])?;
+        assert_eq!(rt; fault, Some(WireFault::Ended), "at {length}");
+    }
+    assert_eq!(rt; request_fault(rt.alloc(), JOIN)?, None);
+    for length in 0..JOINED.len() {
+        let fault = response_fault(rt.alloc(), &JOINED[..length])?;
+        assert_eq!(rt; fault, Some(WireFault::Ended), "at {length}");
+    }
+    assert_eq!(rt; response_fault(rt.alloc(), JOINED)?, None);
+    Ok(())
+}
+
+#[test]
+fn each_failing_read_is_a_read_fault(rt: HostRuntime) -> Result<(), Fail> {
+    // 122 bytes of the head, and the body at once
+    for failing in 0..123 {
+        let mut source = source(rt.alloc(), JOIN, &[failing])?;
+        let fault = read_message(rt.alloc(), &mut source).err();
+        assert_eq!(rt; fault, Some(WireFault::ReadFault), "at {failing}");
+        assert_eq!(rt; source.faults(), 1, "at {failing}");
+    }
+    let mut source = source(rt.alloc(), JOIN, &[123])?;
+    assert!(rt; read_message(rt.alloc(), &mut source).is_ok());
+    assert_eq!(rt; source.calls, 123);
+    Ok(())
+}
+
+// Writes a request to a sink that takes so many bytes in one call, and fails at the calls that are told.
+fn write_join(
+    alloc: Global,
+    failing: &[u64],
+    most: usize,
+) -> Result<(bool, Short<MemorySink>), Fail> {
+    let host = "127.0.0.1:7000";
+    let path = "/merge/join";
+    if !is_visible(host) || !is_visible(path) {
+        return Err(Fail::from("not visible"));
+    }
+    let body = octets(alloc, br#"{"generation":0,"number":0,"seq":1,"site":1}"#)?;
+    let join = Message::request(
+        alloc,
+        Words::of(alloc, path)?,
+        Words::of(alloc, host)?,
+        body,
+    )?;
+    let port = MemorySink::new(alloc, Listing::new(failing.to_vec(alloc)?));
+    let mut sink = Short { port, most };
+    let result = write_message(&mut sink, &join);
+    Ok((result.is_ok(), sink))
+}
+
+#[test]
+fn a_request_is_written_line_by_line(rt: HostRuntime) -> Result<(), Fail> {
+    let (done, sink) = write_join(rt.alloc(), &[], 1000)?;
+    assert!(rt; done);
+    assert_eq!(rt; sink.port.bytes.as_slice(), JOIN);
+    Ok(())
+}
+
+#[test]
+fn each_failing_write_leaves_a_front(rt: HostRuntime) -> Result<(), Fail> {
+    for failing in 0..30 {
+        let (done, sink) = write_join(rt.alloc(), &[failing], 20)?;
+        assert_eq!(rt; done, sink.faults() == 0, "at {failing}");
+        assert!(rt; JOIN.starts_with(sink.port.bytes.as_slice()));
+        assert_eq!(rt; done, sink.port.bytes.len() == JOIN.len(), "at {failing}");
+    }
+    Ok(())
+}
+
+#[test]
+fn responses_are_written_line_by_line(rt: HostRuntime) -> Result<(), Fail> {
+    let body = octets(rt.alloc(), br#"{"seq":1}"#)?;
+    let mut sink = MemorySink::new(rt.alloc(), Listing::empty(rt.alloc()));
+    let joined = Message::response(rt.alloc(), 200, body);
+    assert_eq!(rt; write_message(&mut sink, &joined), Ok(()));
+    assert_eq!(rt; sink.bytes.as_slice(), JOINED);
+
+    let mut sink = MemorySink::new(rt.alloc(), Listing::empty(rt.alloc()));
+    let refused = Message::response(rt.alloc(), 405, Octets::empty(rt.alloc()));
+    assert_eq!(rt; write_message(&mut sink, &refused), Ok(()));
+    assert_eq!(rt;
+        sink.bytes.as_slice(),
+        b"HTTP/1.1 405 Method Not Allowed\r\nContent-Type: application/json\r\nContent-Length: 0\r\nConnection: close\r\nAllow: POST\r\n\r\n".as_slice()
+    );
+    let message = read_response(rt.alloc(), sink.bytes.as_slice())?;
+    assert_eq!(rt; message.status, 405);
+    Ok(())
+}
+
+// A head with so many fields more, and a body of one byte.
+fn with_fields(alloc: Global, field: &str, times: u32) -> Result<String, Fail> {
+    let mut text = String::from_str(alloc, "POST / HTTP/1.1\r\nContent-Length: 1\r\n")?;
+    for _ in 0..times {
+        text.push_str(field)?;
+    }
+    text.push_str("\r\nx")?;
+    Ok(text)
+}
+
+#[test]
+fn odd_heads(rt: HostRuntime) -> Result<(), Fail> {
+    let heads = [
+        (b"GET /x HTTP/1.0\ncontent-length:0\n\n".as_slice(), None),
+        (
+            b"\r\n\nPOST /x HTTP/1.1\r\nCONTENT-LENGTH: \t 0 \r\n\r\n",
+            None,
+        ),
+        (b"POST /x HTTP/1.1\r\n\r\n", Some(WireFault::BadLength)),
+        (
+            b"POST /x HTTP/1.1\r\nContent-Length: 1\r\nContent-Length: 1\r\n\r\nx",
+            Some(WireFault::BadLength),
+        ),
+        (
+            b"POST /x HTTP/1.1\r\nContent-Length: 1, 1\r\n\r\nx",
+            Some(WireFault::BadLength),
+        ),
+        (
+            b"POST /x HTTP/1.1\r\nContent-Length: +1\r\n\r\nx",
+            Some(WireFault::BadLength),
+        ),
+        (
+            b"POST /x HTTP/1.1\r\nContent-Length: -1\r\n\r\nx",
+            Some(WireFault::BadLength),
+        ),
+        (
+            b"POST /x HTTP/1.1\r\nContent-Length: 01\r\n\r\nx",
+            Some(WireFault::BadLength),
+        ),
+        (
+            b"POST /x HTTP/1.1\r\nContent-Length: 0x1\r\n\r\nx",
+            Some(WireFault::BadLength),
+        ),
+        (
+            b"POST /x HTTP/1.1\r\nContent-Length:\r\n\r\nx",
+            Some(WireFault::BadLength),
+        ),
+        (
+            b"POST /x HTTP/1.1\r\nContent-Length: 18446744073709551616\r\n\r\nx",
+            Some(WireFault::BadLength),
+        ),
+        (
+            b"POST /x HTTP/1.1\r\nContent-Length: 1\r\nTransfer-Encoding: chunked\r\n\r\nx",
+            Some(WireFault::BadLength),
+        ),
+        (
+            b"POST /x HTTP/1.1\r\nContent-Length: 134217729\r\n\r\nx",
+            Some(WireFault::TooLong {
+                length: 134_217_729,
+            }),
+        ),
+        (
+            b"POST /x HTTP/1.1\r\nContent-Length: 18446744073709551615\r\n\r\nx",
+            Some(WireFault::TooLong {
+                length: 18_446_744_073_709_551_615,
+            }),
+        ),
+        (
+            b"POST /x HTTP/1.1\r\nContent-Length: 134217728\r\n\r\n0123456789",
+            Some(WireFault::Ended),
+        ),
+        (
+            b"POST /x HTTP/2.0\r\nContent-Length: 0\r\n\r\n",
+            Some(WireFault::BadHead),
+        ),
+        (
+            b"POST  /x HTTP/1.1\r\nContent-Length: 0\r\n\r\n",
+            Some(WireFault::BadHead),
+        ),
+        (
+            b"POST /x HTTP/1.1\r\nContent Length: 0\r\n\r\n",
+            Some(WireFault::BadHead),
+        ),
+        (b"\x16\x03\x01\x02\x00", Some(WireFault::BadHead)),
+        (b"", Some(WireFault::Ended)),
+    ];
+    for (head, fault) in heads {
+        assert_eq!(rt; request_fault(rt.alloc(), head)?, fault, "{head:?}");
+    }
+    // at most 32 fields, and 8,192 bytes
+    let text = with_fields(rt.alloc(), "a:\r\n", 31)?;
+    assert_eq!(rt; request_fault(rt.alloc(), text.as_bytes())?, None);
+    let text = with_fields(rt.alloc(), "a:\r\n", 32)?;
+    assert_eq!(rt;
+        request_fault(rt.alloc(), text.as_bytes())?,
+        Some(WireFault::BadHead)
+    );
+    // 42 bytes of the head stand around the value
+    for (padding, fault) in [(8150, None), (8151, Some(WireFault::BadHead))] {
+        let mut field = String::from_str(rt.alloc(), "a:")?;
+        for _ in 0..padding {
+            field.push('b')?;
+        }
+        field.push_str("\r\n")?;
+        let text = with_fields(rt.alloc(), field.as_str(), 1)?;
+        assert_eq!(rt;
+            request_fault(rt.alloc(), text.as_bytes())?,
+            fault,
+            "{padding}"
+        );
+    }
+    Ok(())
+}
+
+#[test]
+fn a_told_length_takes_no_reads(rt: HostRuntime) -> Result<(), Fail> {
+    let head = b"POST /x HTTP/1.1\r\nContent-Length: 134217728\r\n\r\n0123456789";
+    let mut source = source(rt.alloc(), head, &[])?;
+    assert_eq!(rt;
+        read_message(rt.alloc(), &mut source).err(),
+        Some(WireFault::Ended)
+    );
+    assert!(rt; source.calls <= head.len() as u64 + 2);
+    Ok(())
+}
+
+#[test]
+fn odd_responses(rt: HostRuntime) -> Result<(), Fail> {
+    let responses = [
+        (
+            b"HTTP/1.1 404\r\nContent-Length: 0\r\n\r\n".as_slice(),
+            None,
+        ),
+        (b"HTTP/1.1 200 OK\r\nContent-Length: 3\r\n\r\nabcd", None),
+        (
+            b"HTTP/1.1 200 OK\r\nContent-Length: 5\r\n\r\nabcd",
+            Some(WireFault::Ended),
+        ),
+        (b"HTTP/1.1 200 OK\r\n\r\n", Some(WireFault::BadLength)),
+        (
+            b"HTTP/1.1 200 OK\r\nContent-Length: 134217729\r\n\r\n",
+            Some(WireFault::TooLong {
+                length: 134_217_729,
+            }),
+        ),
+        (
+            b"HTTP/1.1 20 OK\r\nContent-Length: 0\r\n\r\n",
+            Some(WireFault::BadHead),
+        ),
+        (b"HTTP/1.1 ", Some(WireFault::Ended)),
+        (
+            b"POST / HTTP/1.1\r\nContent-Length: 0\r\n\r\n",
+            Some(WireFault::BadHead),
+        ),
+    ];
+    for (bytes, fault) in responses {
+        assert_eq!(rt; response_fault(rt.alloc(), bytes)?, fault, "{bytes:?}");
+    }
+    Ok(())
+}
