@@ -38,8 +38,8 @@ fn new_value_length(identity: Option<u8>, settings: &[Setting], column: usize) -
     match identity {
         Some(place) if column == place as usize => IDENTITY_LENGTH,
         _ => match set_value(settings, column) {
-            Some(value) => value.length(),
-            None => Value::Null.length(),
+            Some(value) => value.stored_len(),
+            None => Value::Null.stored_len(),
         },
     }
 }
@@ -71,8 +71,8 @@ fn value_length(value: &Value, settings: &[Setting], column: usize) -> u64
     ensures { result ≡ stored_length (value_after settings.now (column, value.now)) }
 {
     match set_value(settings, column) {
-        Some(value) => value.length(),
-        None => value.length(),
+        Some(value) => value.stored_len(),
+        None => value.stored_len(),
     }
 }
 
@@ -92,7 +92,7 @@ fn cell_length(cell: &Cell, settings: &[Setting], column: usize) -> u64
     ensures { (dot : Dot) → result ≡ min (row_length (cell_after dot settings.now (column, cell.now)).values) (2 ^ 64 - 1) }
 {
     match set_value(settings, column) {
-        Some(value) => value.length(),
-        None => cell.values.length(),
+        Some(value) => value.stored_len(),
+        None => cell.values.stored_len(),
     }
 }

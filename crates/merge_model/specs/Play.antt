@@ -2,7 +2,6 @@
 use Rattle.std.specs.Prelude.{List, [], option_map, slice_get, unwrap_or, ℕ, ◌∷◌}
 use Rattle.merge_types.specs.declared.values.Column.{Column}
 use Rattle.merge_units.specs.Cases.{side_by}
-use Rattle.merge_resolve.specs.Counted.{fits_column}
 use Rattle.merge_schema.specs.declared.publication.Article.{Article}
 use Rattle.merge_schema.specs.declared.publication.Publication.{Publication}
 use Rattle.merge_schema.specs.Places.{article_at}
@@ -51,5 +50,5 @@ told publication input = model_text publication rules_say (0 ∷ 0 ∷ 0 ∷ 0 �
 
 -- all that computes here and is shut elsewhere
 unfoldable pub opened_play : List ℕ
-unfolding opened has_type maker_of broken_by_upload broken_by_join broken_by_ranges broken_by_reply side_by fits_column
+unfolding opened has_type maker_of broken_by_upload broken_by_join broken_by_ranges broken_by_reply side_by
 opened_play = []

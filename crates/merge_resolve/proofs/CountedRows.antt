@@ -32,7 +32,8 @@ use Rattle.merge_units.proofs.Limit.{rows_stay_by}
 use Rattle.merge_resolve.specs.declared.case.CaseKind.{CaseKind}
 use Rattle.merge_resolve.specs.declared.case.ConflictCase.{ConflictCase}
 use Rattle.merge_resolve.specs.declared.question.Meeting.{Meeting}
-use Rattle.merge_resolve.specs.Counted.{is_by_row, fits_column, fits_place, fit_all, fit_columns, own_placed, with_own, side_length, kept_length, is_within, within_or_kept}
+use Rattle.merge_types.specs.Fitting.{fits_column}
+use Rattle.merge_resolve.specs.Counted.{is_by_row, fits_place, fit_all, fit_columns, own_placed, with_own, side_length, kept_length, is_within, within_or_kept}
 use Rattle.merge_resolve.specs.Columns.{body_value}
 use Rattle.merge_resolve.specs.Questions.{Asked, tracking_kind, both_place, case_asked, question_asked, counted}
 use Rattle.merge_resolve.specs.CountedLaws.{HasColumns, CountedFits, CountedStaysInLimit}

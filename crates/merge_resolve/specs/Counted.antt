@@ -1,6 +1,7 @@
 -- What a decision counts as.
 use Rattle.std.specs.Prelude.{ℕ, int_le, nat_le, ◌+◌, ◌==◌, ◌&&◌, Bool, true, false, if◌then◌else◌, List, [], ◌∷◌, length, slice_get, slice_set, Option, Some, None}
-use Rattle.merge_types.specs.Limits.{value_limit, row_limit, first_day, last_day}
+use Rattle.merge_types.specs.Fitting.{fits_column}
+use Rattle.merge_types.specs.Limits.{row_limit}
 use Rattle.merge_types.specs.declared.ColType.{ColType}
 use Rattle.merge_types.specs.declared.ColType.TheVariants as column
 use Rattle.merge_types.specs.declared.Value.{Value}
@@ -18,18 +19,7 @@ use Rattle.merge_resolve.specs.declared.case.CaseKind.TheVariants as kind
 use Rattle.merge_resolve.specs.declared.case.ConflictCase.{ConflictCase}
 use Rattle.merge_resolve.specs.Columns.{body_value}
 
--- a Null, or a value of the column's type: a text or bytes within the limit, a day of the years 0001 to 9999
-unfoldable pub fits_column : ColType → Value → Bool
-fits_column ty Null = true
-fits_column column.Int (Int number) = true
-fits_column column.Bit (Bit bit) = true
-fits_column column.Text (Text text) = nat_le (length text) value_limit
-fits_column column.Day (Day day) = int_le first_day day && int_le day last_day
-fits_column column.Guid (Guid guid) = true
-fits_column column.Bytes (Bytes bytes) = nat_le (length bytes) value_limit
-fits_column _ _ = false
-
--- the same, of the column at a place
+-- whether the column at a place may have a value
 abbrev pub fits_some : Option ColType → Value → Bool
 fits_some None value = false
 fits_some (Some ty) value = fits_column ty value

@@ -1,12 +1,13 @@
 //! What a decision counts as.
 ghost use Rattle.std.specs.Prelude.{◌≡◌, ◌-◌, ◌^◌, ◌==◌, ◌&&◌, IsTrue, false, IsOk, min, nat_le, IfOk, length, if◌then◌else◌, slice_set, slice_get};
 ghost use Rattle.std.specs.Option.{option_copied};
+ghost use Rattle.merge_types.specs.Fitting.{fits_column};
 ghost use Rattle.merge_types.specs.Length.{row_length};
-ghost use Rattle.merge_resolve.specs.Counted.{is_custom, is_by_row, fits_column, fits_place, fit_all, fit_columns, own_placed, with_own_value, with_own, side_length, kept_length, is_within, counted_list, counted_decision};
+ghost use Rattle.merge_resolve.specs.Counted.{is_custom, is_by_row, fits_place, fit_all, fit_columns, own_placed, with_own_value, with_own, side_length, kept_length, is_within, counted_list, counted_decision};
 
 use crate::values::body_value;
 use crate::{CaseKind, ConflictCase};
-use merge_types::limits::{FIRST_DAY, LAST_DAY, ROW_LIMIT, VALUE_LIMIT};
+use merge_types::limits::ROW_LIMIT;
 use merge_types::{ColType, NoMemory, Value, Values};
 use merge_units::{Body, Cell, Decision, Side};
 use std::alloc::Global;
@@ -86,7 +87,7 @@ fn fit_row(types: &[ColType], values: &[Value]) -> bool
         return false;
     }
     for at in 0..types.len() {
-        if !fits_column(types[at], &values[at]) {
+        if !values[at].fits(types[at]) {
             return false;
         }
     }
@@ -112,25 +113,8 @@ fn fits_place(types: &[ColType], place: u8, value: &Value) -> bool
     ensures { result ≡ fits_place types.now place value.now }
 {
     match types.get(place as usize) {
-        Some(ty) => fits_column(*ty, value),
+        Some(ty) => value.fits(*ty),
         None => false,
-    }
-}
-
-// Whether a column of the type may have the value.
-#[tactic(auto, unfolding(crate::specs::Counted::fits_column))]
-fn fits_column(ty: ColType, value: &Value) -> bool
-    ensures { result ≡ fits_column ty value.now }
-{
-    match (ty, value) {
-        (_, Value::Null) => true,
-        (ColType::Int, Value::Int(_)) => true,
-        (ColType::Bit, Value::Bit(_)) => true,
-        (ColType::Text, Value::Text(text)) => text.len() <= VALUE_LIMIT,
-        (ColType::Day, Value::Day(day)) => FIRST_DAY <= *day && *day <= LAST_DAY,
-        (ColType::Guid, Value::Guid(_)) => true,
-        (ColType::Bytes, Value::Bytes(bytes)) => bytes.len() <= VALUE_LIMIT,
-        _ => false,
     }
 }
 
@@ -240,8 +224,8 @@ fn side_length(side: Side, our: &Cell, their: &Cell) -> u64
 {
     match side {
         Side::Both => 0,
-        Side::Incoming => their.values.length(),
-        Side::Neither | Side::Publisher => our.values.length(),
+        Side::Incoming => their.values.stored_len(),
+        Side::Neither | Side::Publisher => our.values.stored_len(),
     }
 }
 
@@ -250,7 +234,7 @@ fn values_length(values: &[Value]) -> u64
 {
     let mut total = 0u64;
     for value in values {
-        total = total.saturating_add(value.length());
+        total = total.saturating_add(value.stored_len());
     }
     total
 }

@@ -66,13 +66,6 @@ impl Value {
             _ => self.stored_len(),
         }
     }
-
-    /// The same as `stored_len`.
-    pub fn length(&self) -> u64
-        ensures { result ≡ stored_length self.now }
-    {
-        self.stored_len()
-    }
 }
 
 impl Listing<Value> {
@@ -96,13 +89,6 @@ impl Listing<Value> {
             total = total.saturating_add(value.weight());
         }
         total
-    }
-
-    /// The same as `stored_len`.
-    pub fn length(&self) -> u64
-        ensures { result ≡ min (row_length self.now) (2 ^ 64 - 1) }
-    {
-        self.stored_len()
     }
 }
 

@@ -10,7 +10,7 @@ pub fn stored_length(cells: &[Cell]) -> u64
 {
     let mut total = 0u64;
     for cell in cells {
-        total = total.saturating_add(cell.values.length());
+        total = total.saturating_add(cell.values.stored_len());
     }
     total
 }

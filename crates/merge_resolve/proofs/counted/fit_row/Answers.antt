@@ -1,5 +1,5 @@
 use Rattle.std.proofs.Common.{sym}
-use Rattle.merge_resolve.specs.Counted.{fits_column}
+use Rattle.merge_types.specs.Fitting.{fits_column}
 use Rattle.merge_resolve.proofs.FitLists.{fit_all-uneven}
 use Rattle.merge_resolve.proofs.counted.fit_row.Goals as goal
 

@@ -1,5 +1,6 @@
 use Rattle.std.proofs.Common.{◌≡◌, drop}
-use Rattle.merge_resolve.specs.Counted.{fits_column, fit_all}
+use Rattle.merge_types.specs.Fitting.{fits_column}
+use Rattle.merge_resolve.specs.Counted.{fit_all}
 use Rattle.merge_resolve.proofs.counted.fit_row.Given as goal
 
 -- all fit just when those that are left do
