@@ -94,16 +94,21 @@ fn or_of(left: Truth, right: Truth) -> Truth
     }
 }
 
-/// What a tree says of a row.
+/// What a tree says of a row. The right side of an AND or an OR is not looked at where the left one
+/// decides.
 pub fn node_truth(node: &Node, row: &[Value], host: &HostName) -> Truth
     requires { width (syntax node.now) ≤ length row.now }
     ensures { result ≡ truth (syntax node.now) row.now host.now }
 {
     match node {
-        Node::Or(left, right) => or_of(node_truth(left, row, host), node_truth(right, row, host)),
-        Node::And(left, right) => {
-            and_of(node_truth(left, row, host), node_truth(right, row, host))
-        }
+        Node::Or(left, right) => match node_truth(left, row, host) {
+            Truth::True => Truth::True,
+            open => or_of(open, node_truth(right, row, host)),
+        },
+        Node::And(left, right) => match node_truth(left, row, host) {
+            Truth::False => Truth::False,
+            open => and_of(open, node_truth(right, row, host)),
+        },
         Node::Not(part) => not_of(node_truth(part, row, host)),
         Node::Compare(left, sign, _, right) => {
             compared(datum_in(left, row, host), *sign, datum_in(right, row, host))
