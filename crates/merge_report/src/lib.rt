@@ -1,0 +1,14 @@
+//! The texts of answers, line by line as a script's reader sees them.
+#![tactic(auto)]
+
+mod answers;
+mod conflicts;
+mod generations;
+mod names;
+mod ranges;
+mod refusals;
+mod rows;
+#[cfg(test)]
+mod tests;
+
+pub use answers::{text_of, texts_of};

@@ -1,0 +1,79 @@
+//! Refusals, by their numbers and words.
+ghost use Rattle.std.specs.Prelude.{◌≡◌, ◌++◌, ◌∷◌, List, ℕ, OnOk, drop, option_copied, string_bytes};
+ghost use Rattle.merge_model.specs.Text.{refusal_words};
+ghost use Rattle.merge_report.specs.Words.{called, first_word, spaced};
+
+use crate::names::column_name;
+use merge_batch::Refusal;
+use merge_types::{Column, NoMemory};
+
+/// The number of a refusal and what it says, without its fields.
+pub fn phrase(refusal: &Refusal) -> &'static str
+    ensures { (column : ℕ → List ℕ) → result.now ≡ first_word (refusal_words column refusal.now) }
+{
+    match refusal {
+        Refusal::UnknownSite { .. } => "refused 1 unknown site",
+        Refusal::Expired { .. } => "refused 2 expired",
+        Refusal::Stale { .. } => "refused 3 stale",
+        Refusal::Gap { .. } => "refused 4 gap",
+        Refusal::BadBatch { .. } => "refused 5 bad batch",
+        Refusal::WrongWatermark { .. } => "refused 6 wrong watermark",
+        Refusal::StoreFault => "refused 7 store fault",
+        Refusal::NoRow => "refused 8 no row",
+        Refusal::WrongType { .. } => "refused 9 wrong type",
+        Refusal::RowTooLong { .. } => "refused 10 row too long",
+        Refusal::IdentityUsedUp { .. } => "refused 11 identity used up",
+        Refusal::TooManyRows { .. } => "refused 12 too many rows",
+        Refusal::IdentityColumn { .. } => "refused 13 identity column",
+        Refusal::Damaged { .. } => "refused 14 damaged",
+        Refusal::Joining => "refused 15 joining",
+        Refusal::CounterEnd { .. } => "refused 16 counter end",
+        Refusal::NotJoined => "refused 17 not joined",
+        Refusal::UnknownName { .. } => "refused 18 name",
+        Refusal::NoMemory => "no memory",
+    }
+}
+
+// Adds what a column is called: its name, or its place where no columns are given.
+fn add_column(text: &mut String, columns: Option<&[Column]>, place: u8) -> Result<(), NoMemory>
+    ensures { OnOk result (string_bytes text.new ≡ string_bytes text.old ++ (32 ∷ called (option_copied columns.entry) place)) }
+{
+    match columns {
+        Some(columns) => write!(text, " {}", column_name(columns, place))?,
+        None => write!(text, " {place}")?,
+    }
+    Ok(())
+}
+
+/// Adds the fields of a refusal, with a blank before each.
+pub fn add_fields(
+    text: &mut String,
+    columns: Option<&[Column]>,
+    refusal: &Refusal,
+) -> Result<(), NoMemory>
+    ensures { OnOk result (string_bytes text.new ≡ string_bytes text.old ++ spaced (drop 1 (refusal_words (called (option_copied columns.entry)) refusal.now))) }
+{
+    match refusal {
+        Refusal::UnknownSite { site } => write!(text, " {}", site.0)?,
+        Refusal::Expired { last_sync, now } => write!(text, " {} {}", last_sync.0, now.0)?,
+        Refusal::Stale { seq, joined_at } => write!(text, " {seq} {joined_at}")?,
+        Refusal::Gap { from, received } => write!(text, " {from} {received}")?,
+        Refusal::BadBatch { item, rule } => write!(text, " {item} {rule}")?,
+        Refusal::WrongWatermark { from, last } => write!(text, " {from} {last}")?,
+        Refusal::WrongType { column } | Refusal::IdentityColumn { column } => {
+            add_column(text, columns, *column)?;
+        }
+        Refusal::RowTooLong { length } => write!(text, " {length}")?,
+        Refusal::IdentityUsedUp { end } => write!(text, " {end}")?,
+        Refusal::TooManyRows { count } => write!(text, " {count}")?,
+        Refusal::Damaged { table, .. } => write!(text, " {table}")?,
+        Refusal::CounterEnd { value } => write!(text, " {value}")?,
+        Refusal::UnknownName { name } => write!(text, " {name}")?,
+        Refusal::StoreFault
+        | Refusal::NoRow
+        | Refusal::Joining
+        | Refusal::NotJoined
+        | Refusal::NoMemory => {}
+    }
+    Ok(())
+}
