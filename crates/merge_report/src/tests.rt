@@ -94,21 +94,32 @@ fn what_was_done(rt: HostRuntime) -> Result<(), Fail> {
 #[test]
 fn messages(rt: HostRuntime) -> Result<(), Fail> {
     let alloc = rt.alloc();
-    let done = Answer::Done {
-        uploads: 1,
-        downloads: 2,
-        watermark: 7,
-    };
-    assert!(rt; says(alloc, &done, "done 1 2 7\n")?);
     assert!(rt; says(alloc, &Answer::Sent(4), "message 4\n")?);
     assert!(rt; says(alloc, &Answer::Nothing, "nothing\n")?);
+    assert!(rt; says(alloc, &Answer::NoMessage(9), "no message 9\n")?);
+    Ok(())
+}
+
+#[test]
+fn replies(rt: HostRuntime) -> Result<(), Fail> {
+    let alloc = rt.alloc();
     assert!(rt; says(alloc, &Answer::Applied, "applied\n")?);
     let ignored = Answer::Ignored {
         seq: 3,
         outstanding: 0,
     };
     assert!(rt; says(alloc, &ignored, "ignored 3 0\n")?);
-    assert!(rt; says(alloc, &Answer::NoMessage(9), "no message 9\n")?);
+    Ok(())
+}
+
+#[test]
+fn sessions(rt: HostRuntime) -> Result<(), Fail> {
+    let done = Answer::Done {
+        uploads: 1,
+        downloads: 2,
+        watermark: 7,
+    };
+    assert!(rt; says(rt.alloc(), &done, "done 1 2 7\n")?);
     Ok(())
 }
 
