@@ -118,57 +118,10 @@ fn counters_end(rt: HostRuntime) -> Result<(), Fail> {
     Ok(())
 }
 
-// The version of the row that an insert makes at a site that holds it not.
-fn inserted(
-    alloc: Global,
-    publication: &Publication,
-    making: &Making,
-) -> Result<Option<Version>, Fail>
-    requires { (resolvers : ℕ) × IsValid resolvers publication.now }
-{
-    if !can_be_asked(publication, making.change) {
-        return Err(Fail::from("no such article"));
-    }
-    match check_change(publication, making.change, None, 0) {
-        Ok(()) => Ok(version_after(alloc, publication, making, None)?),
-        Err(_) => Err(Fail::from("refused")),
-    }
-}
-
-// Whether a version has one live cell, of this change and with these values.
-fn has_cell(version: &Option<Version>, top: Dot, values: &[Value]) -> bool {
-    match version {
-        Some(version) => match &version.body {
-            Body::Live(cells) => match cells.as_slice() {
-                [cell] => cell.top == top && cell.values.as_slice() == values,
-                _ => false,
-            },
-            Body::Dead(_) => false,
-        },
-        None => false,
-    }
-}
-
 const FIRST: Dot = Dot {
     site: SiteId(1),
     number: 1,
 };
-
-#[test]
-fn version_of_a_new_row(rt: HostRuntime) -> Result<(), Fail> {
-    let alloc = rt.alloc();
-    let publication = read(alloc, PUBLICATION.as_bytes(), 5)?;
-    let change = insert(alloc, TICKET, 1, Value::Null)?;
-    let making = Making {
-        change: &change,
-        dot: FIRST,
-        identity: Value::Int(7),
-    };
-    let version = inserted(alloc, &publication, &making)?;
-    let values = [Value::Int(7), Value::Null];
-    assert!(rt; has_cell(&version, FIRST, values.as_slice()));
-    Ok(())
-}
 
 #[test]
 fn rows_of_changes(rt: HostRuntime) -> Result<(), Fail> {
