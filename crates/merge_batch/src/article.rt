@@ -8,14 +8,14 @@ use merge_types::limits::ROW_LIMIT;
 use merge_types::{ColType, Column, Tracking, Value};
 use merge_units::{Body, Cell, fits_tracking, stored_length};
 
-// Whether the article exists.
+/// Whether the article exists.
 pub fn has_article(publication: &Publication, place: u8) -> bool
     ensures { result ≡ has_article publication.now place }
 {
     publication.article_at(place).is_some()
 }
 
-// Whether the article exists and the row fits it.
+/// Whether the article exists and the row fits it.
 pub fn fits_article(publication: &Publication, place: u8, body: &Body) -> bool
     ensures { result ≡ fits_article publication.now place body.now }
 {

@@ -20,9 +20,12 @@ mod tests;
 mod upload;
 
 pub use answer::reply_fault;
+pub use article::{fits_article, has_article};
 pub use asks::{join_fault, ranges_fault};
 pub use holdings::{HeardRanges, Holdings};
 pub use laws::{maker_law, search_laws, validity_laws};
+pub use lineage::{is_site, knows_tops};
+pub use maker::maker as maker_of;
 pub use refusal::Refusal;
 pub use reply::{
     Act, DownloadItem, DownloadItems, Downloaded, Ended, EndedRanges, Joined, RangeGrant,

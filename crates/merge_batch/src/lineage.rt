@@ -12,7 +12,8 @@ use merge_types::limits::NUMBER_LIMIT;
 use merge_types::{Dot, SiteId};
 use merge_units::{Body, Cell};
 
-fn is_site(publication: &Publication, site: SiteId) -> bool
+/// Whether the site is the publisher, or subscribes.
+pub fn is_site(publication: &Publication, site: SiteId) -> bool
     ensures { result ≡ is_site publication.now site.0 }
 {
     site.0 == 0 || publication.is_subscription(site)
@@ -68,7 +69,7 @@ fn is_top(publication: &Publication, dot: Dot) -> bool
     is_site(publication, dot.site) && dot.number > 0
 }
 
-// Whether the lineage knows each top of live cells.
+/// Whether the lineage knows each top of live cells.
 pub fn knows_tops(lineage: &Lineage, cells: &[Cell]) -> bool
     ensures { result ≡ knows_tops lineage.now (Live cells.now) }
 {

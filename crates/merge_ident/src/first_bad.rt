@@ -23,8 +23,9 @@ pub fn first_bad_grant(grants: &[Grant]) -> Option<usize>
     None
 }
 
-// Whether the grant can come behind others.
-fn can_follow(before: &[Grant], grant: Grant) -> bool
+/// Whether the grant can come behind others: it has values from 1 on and the next number of its
+/// site, begins behind the site's others, and shares no value with any.
+pub fn can_follow(before: &[Grant], grant: Grant) -> bool
     ensures { result ≡ can_follow before.now grant }
 {
     has_values(grant) && has_next_number(before, grant) && all_clear(before, grant)

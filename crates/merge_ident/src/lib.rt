@@ -16,7 +16,7 @@ mod slots;
 mod tests;
 
 pub use book::RangeBook;
-pub use first_bad::first_bad_grant;
+pub use first_bad::{can_follow, first_bad_grant};
 pub use grants::{
     Answer, Ask, Grant, GrantAnswer, GrantPlan, GrantPlans, Grants, IdentFault, Range, Rule, Rules,
 };

@@ -1,8 +1,15 @@
 pub mod Bytes
+pub mod Counted
+pub mod EditLists
 pub mod Encoding
+pub mod First
 pub mod Follow
 pub mod FollowAll
+pub mod HeldLists
 pub mod KeptLemmas
 pub mod Lists
+pub mod Loads
 pub mod Parts
+pub mod Places
 pub mod StateCodecs
+pub mod SubscriberLoad

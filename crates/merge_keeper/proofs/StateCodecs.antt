@@ -1,8 +1,7 @@
 -- States and conflicts are read as they are spelled.
-use Rattle.std.proofs.Common.{◌≡◌, ◌∙◌, ℕ, zero, suc, ◌^◌, ◌<◌, ◌==◌, lit<, Bool, true, false, cond, List, [], ◌∷◌, ◌++◌, Option, Some, None, refl, ap, subst}
+use Rattle.std.proofs.Common.{◌≡◌, ℕ, zero, suc, ◌^◌, ◌<◌, ◌==◌, lit<, Bool, true, false, cond, List, [], ◌∷◌, ◌++◌, Option, Some, None, refl, subst}
 use Rattle.std.specs.Int.{w8, w16, w64, w128, to_be_bytes}
 use Rattle.std.proofs.lemmas.Bool.{eqb-true}
-use Rattle.merge_units.specs.declared.version.Version.{Version}
 use Rattle.merge_conflict.specs.declared.row.Verdict.{Verdict}
 use Rattle.merge_conflict.specs.declared.row.Verdict.TheVariants.{Publisher, Subscriber, Custom, Purged, Discarded}
 use Rattle.merge_record.specs.Reading.{Reader, number_at, pair_at}

@@ -1,5 +1,5 @@
 -- The entries of a site's records: the key and the value of each.
-use Rattle.std.specs.Prelude.{◌≡◌, ℕ, ℤ, pos, ◌<◌, ◌^◌, Bool, true, false, nat_lt, List, [], ◌∷◌, ◌++◌, map, filter, Option, Some, None}
+use Rattle.std.specs.Prelude.{ℕ, ℤ, pos, Bool, nat_lt, List, [], ◌∷◌, ◌++◌, map, filter}
 use Rattle.std.specs.Int.{w8, w16, w64, w128, to_be_bytes}
 use Rattle.merge_types.specs.declared.identifiers.Moment.{Moment}
 use Rattle.merge_types.specs.declared.row_key.RowKey.{RowKey}
@@ -16,8 +16,6 @@ use Rattle.merge_conflict.specs.Kinds.{number_of_kind}
 use Rattle.merge_conflict.specs.declared.row.ConflictRow.{ConflictRow}
 use Rattle.merge_conflict.specs.declared.row.Verdict.{Verdict}
 use Rattle.merge_conflict.specs.declared.row.Verdict.TheVariants.{Publisher, Subscriber, Custom, Purged, Discarded}
-use Rattle.merge_batch.specs.declared.request.Outstanding.{Outstanding}
-use Rattle.merge_batch.specs.declared.request.Outstanding.TheVariants.{Join, Upload, Ranges, Download}
 use Rattle.merge_ports.specs.declared.entry.EntryKey.{EntryKey}
 use Rattle.merge_ports.specs.Entries.{Map, entry_cmp}
 use Rattle.merge_record.specs.Rows.{publisher_row_bytes, subscriber_row_bytes}

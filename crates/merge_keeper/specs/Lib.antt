@@ -1,5 +1,11 @@
+pub mod Counts
+pub mod Edits
 pub mod Encoded
 pub mod Entries
 pub mod Kept
+pub mod PublisherStart
+pub mod Start
 pub mod States
 pub mod Stored
+pub mod SubscriberRules
+pub mod SubscriberStart

@@ -1,7 +1,6 @@
 -- The records of states and of conflicts: how they are read, how they are spelled, and which have a spelling.
-use Rattle.std.specs.Prelude.{◌≡◌, ℕ, ◌<◌, ◌^◌, ◌==◌, ◌&&◌, ◌||◌, Bool, nat_le, zero, suc, List, [], ◌∷◌, ◌++◌, Option, Some, None, true, if◌then◌else◌}
+use Rattle.std.specs.Prelude.{◌≡◌, ℕ, ◌<◌, ◌^◌, ◌==◌, ◌&&◌, ◌||◌, Bool, nat_le, zero, suc, List, ◌∷◌, ◌++◌, Some, None, true, if◌then◌else◌}
 use Rattle.std.specs.Int.{w8, w16, w64, w128, to_be_bytes}
-use Rattle.merge_types.specs.declared.identifiers.Moment.{Moment}
 use Rattle.merge_units.specs.declared.version.Version.{Version}
 use Rattle.merge_conflict.specs.declared.row.Verdict.{Verdict}
 use Rattle.merge_conflict.specs.declared.row.Verdict.TheVariants.{Publisher, Subscriber, Custom, Purged, Discarded}

@@ -1,14 +1,28 @@
 //! What a site stores, and the keeper in memory that holds it.
 #![tactic(auto)]
 
+mod counts;
+mod edits;
 mod laws;
 mod memory;
+mod publisher_record;
+mod publisher_start;
+mod start;
+#[cfg(test)]
+mod start_tests;
 mod states;
 mod stored;
+mod subscriber_record;
+mod subscriber_start;
 #[cfg(test)]
 mod tests;
 
-pub use laws::{edits_follow, state_records};
+pub use laws::{damage_is_first, edits_follow, state_records, stored_tables_load};
 pub use memory::{MemoryKeeper, Stop};
+pub use publisher_record::PublisherRecord;
+pub use publisher_start::start_publisher;
+pub use start::StartFault;
 pub use states::{ConflictHead, ConflictValue, Front, PublisherState, SubscriberState, Talk};
 pub use stored::{PublisherChanges, PublisherStored, SubscriberChanges, SubscriberStored};
+pub use subscriber_record::SubscriberRecord;
+pub use subscriber_start::start_subscriber;

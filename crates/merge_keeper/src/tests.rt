@@ -1,7 +1,13 @@
-use crate::{ConflictValue, MemoryKeeper, PublisherState, Stop, SubscriberState};
+use crate::{
+    ConflictValue, MemoryKeeper, PublisherChanges, PublisherState, Stop, SubscriberChanges,
+    SubscriberState,
+};
+use merge_gens::Filling;
+use merge_ident::{Grant, Range, Ranges};
 use merge_ports::{Entries, EntryEdit, KeepFault, Keeper};
 use merge_record::Field;
-use merge_types::{Listing, Octets};
+use merge_table::Edit;
+use merge_types::{Listing, Moment, Octets, SiteId};
 use std::alloc::{AllocError, Global};
 use std::test::Fail;
 
@@ -102,5 +108,72 @@ fn what_breaks_the_grammar_is_no_state(rt: HostRuntime) -> Result<(), Fail> {
     subscriber[66] = 5;
     subscriber[91] = 1;
     assert!(rt; SubscriberState::read(alloc, &subscriber)?.is_none());
+    Ok(())
+}
+
+// Whether the edits are of these tables, in this order.
+fn are_of(edits: &[EntryEdit], tables: &[u8]) -> bool {
+    edits.len() == tables.len() && (0..edits.len()).all(|at| edits[at].table == tables[at])
+}
+
+#[test]
+fn a_step_of_the_publisher_puts_its_state_first(rt: HostRuntime) -> Result<(), Fail> {
+    let alloc = rt.alloc();
+    let grant = Grant {
+        article: 0,
+        site: SiteId(1),
+        number: 1,
+        range: Range { begin: 1, end: 10 },
+    };
+    let mut changes = PublisherChanges {
+        changes: 0,
+        filling: Filling {
+            last_closed: 3,
+            filled: 0,
+        },
+        conflict_count: 0,
+        latest: Moment(9),
+        rows: Listing::empty(alloc),
+        mappings: Listing::empty(alloc),
+        closings: Listing::empty(alloc),
+        conflicts: Listing::empty(alloc),
+        grants: Listing::empty(alloc),
+        held: Listing::empty(alloc),
+        sites: Listing::empty(alloc),
+    };
+    changes.closings.push(Edit::Put(3, Moment(9)))?;
+    changes.closings.push(Edit::Take(1))?;
+    changes.grants.push(grant)?;
+    changes.held.push((0, Ranges::new(80)))?;
+    changes.sites.push(Edit::Take(2))?;
+    let edits = changes.edits(alloc)?;
+    assert!(rt; are_of(&edits, &[1, 4, 4, 6, 6, 7]));
+    Ok(())
+}
+
+#[test]
+fn a_step_of_a_subscriber_puts_its_state_first(rt: HostRuntime) -> Result<(), Fail> {
+    let alloc = rt.alloc();
+    let mut changes = SubscriberChanges {
+        changes: 2,
+        filling: Filling {
+            last_closed: 1,
+            filled: 0,
+        },
+        conflict_count: 0,
+        latest: Moment(9),
+        seq: 1,
+        outstanding: None,
+        received: 0,
+        watermark: 0,
+        is_joined: true,
+        rows: Listing::empty(alloc),
+        closings: Listing::empty(alloc),
+        conflicts: Listing::empty(alloc),
+        held: Listing::empty(alloc),
+    };
+    changes.closings.push(Edit::Put(1, Moment(2)))?;
+    let edits = changes.edits(alloc, SiteId(1))?;
+    assert!(rt; are_of(&edits, &[1, 4]));
     Ok(())
 }

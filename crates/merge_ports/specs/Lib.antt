@@ -3,3 +3,4 @@ pub mod Faults
 pub mod Keeping
 pub mod Opened
 pub mod Parts
+pub mod Stores

@@ -5,6 +5,7 @@
 mod entry;
 mod keeper;
 mod memory;
+mod memory_outside;
 mod outside;
 mod ports;
 mod short;
@@ -16,6 +17,7 @@ mod whole;
 pub use entry::{Entries, EntryEdit, EntryKey};
 pub use keeper::{KeepFault, Keeper};
 pub use memory::{MemorySink, MemorySource};
+pub use memory_outside::MemoryOutside;
 pub use outside::{Counts, OpenFault, Outside};
 pub use ports::{Failed, Sink, Source};
 pub use short::Short;

@@ -1,0 +1,28 @@
+-- What an outside in memory tells of its stores. A store has the empty path.
+use Rattle.std.specs.Prelude.{◌≡◌, ℕ, List, [], ◌∷◌, IsTrue}
+use Rattle.std.specs.declared.option.Option.{Option}
+use Rattle.std.specs.declared.option.Option.TheVariants.{None, Some}
+use Rattle.std.specs.Map.{lookup}
+use Rattle.std.specs.BTreeMap.{is_at}
+use Rattle.std.specs.Ordering.{nat_cmp}
+use Rattle.merge_table.specs.Contents.{has_room}
+use Rattle.merge_types.specs.declared.identifiers.SiteId.{SiteId}
+use Rattle.merge_ports.specs.Entries.{Map}
+
+-- what a keeper tells, where it is there
+abbrev pub told_by : {K : Type 0} → (K → Option Map) → Option K → Option Map
+told_by told None = None
+told_by told (Some keeper) = told keeper
+
+abbrev pub told_in : {K : Type 0} → (K → Option Map) → List (ℕ × K) → SiteId → List ℕ → Option Map
+told_in told rows site [] = told_by told (lookup (is_at (nat_cmp site.0)) rows)
+told_in told rows site (byte ∷ path) = None
+
+-- there is room for the keeper of a site
+abbrev pub HasPlace : List ℕ → SiteId → List ℕ → Type 0
+HasPlace slots site path = (path ≡ []) × IsTrue (has_room nat_cmp slots site.0)
+
+-- a keeper is there, and none of its calls has failed
+abbrev pub IsFresh : {K : Type 0} → (K → ℕ) → Option K → Type 0
+IsFresh count None = ⊥
+IsFresh count (Some keeper) = count keeper ≡ 0
