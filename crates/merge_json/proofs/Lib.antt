@@ -1,0 +1,10 @@
+pub mod Each
+pub mod DayTexts
+pub mod Again
+pub mod RequestsAgain
+pub mod RepliesAgain
+pub mod Plain
+pub mod Sent
+pub mod Proper
+pub mod ProperMessages
+pub mod ToldRefusals

@@ -1,0 +1,12 @@
+pub mod Reading
+pub mod Outcomes
+pub mod Written
+pub mod Days
+pub mod Values
+pub mod Rows
+pub mod Requests
+pub mod Replies
+pub mod Bodies
+pub mod WrittenRequests
+pub mod WrittenReplies
+pub mod Sendable
