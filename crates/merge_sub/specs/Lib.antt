@@ -1,0 +1,5 @@
+pub mod Anew
+pub mod Begin
+pub mod Drafts
+pub mod Held
+pub mod Local

@@ -1,0 +1,23 @@
+//! A subscriber: what it holds, the changes that are made there, and what it says to the publisher
+//! and hears from it.
+#![tactic(auto)]
+
+mod anew;
+mod begin;
+mod changes;
+mod closing;
+mod generations;
+mod local;
+mod prepared;
+mod sending;
+mod state;
+mod still;
+mod subscriber;
+#[cfg(test)]
+mod tests;
+mod told;
+
+pub use anew::Discarding;
+pub use changes::{Changes, Draft};
+pub use state::{Phase, State};
+pub use subscriber::Subscriber;
