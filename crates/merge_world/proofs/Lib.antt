@@ -1,0 +1,10 @@
+pub mod Doing
+pub mod Finding
+pub mod Locals
+pub mod Messages
+pub mod Deliveries
+pub mod Sessions
+pub mod Turns
+pub mod Loops
+pub mod Rounds
+pub mod Happenings

@@ -1,0 +1,36 @@
+-- Events that happen to all sites.
+use Rattle.std.specs.Prelude.{List, if◌then◌else◌, ℕ, ◌+◌, ◌≡◌}
+use Rattle.merge_types.specs.declared.identifiers.SiteId.{SiteId}
+use Rattle.merge_schema.specs.declared.publication.Publication.{Publication}
+use Rattle.merge_model.specs.Reach.{Happens}
+use Rattle.merge_model.specs.World.{Saying, World}
+use Rattle.merge_model.specs.declared.answer.Answer.{Answer}
+use Rattle.merge_model.specs.declared.event.Event.{Event}
+use Rattle.merge_model.specs.declared.event.Event.TheVariants as event
+use Rattle.merge_world.specs.declared.sending.Sending.{Sending as Told}
+use Rattle.merge_world.specs.declared.sending.Sending.TheVariants as told
+use Rattle.merge_world.specs.Views.{HandedView, SitesView, world_of}
+
+-- by how much an event moves the moment
+abbrev pub seconds_of : Event → ℕ
+seconds_of (event.Wait seconds) = seconds
+seconds_of e = 0
+
+-- an event happens: it stays shut where it is cited, since what is in it is large
+unfoldable pub Comes : Publication → Saying → World → Event → World → Answer → ℕ → ℕ → Type 0
+Comes publication says w e v answer before after = Happens publication says w e v answer before after
+
+pub record Happened (e : Event) (old new : SitesView) (before after : HandedView) (answer : Answer) : Type 0 where
+  pub comes : Comes old.publication before.says (world_of old before.tallies) e (world_of new after.tallies) answer old.faults new.faults
+  pub publication : new.publication ≡ old.publication
+  pub sites : new.sites ≡ old.sites
+  pub publications : new.publications ≡ old.publications
+  pub says : after.says ≡ before.says
+  pub moment : new.moment.0 ≡ old.moment.0 + seconds_of e
+
+-- the event that tells a subscriber to make a message
+abbrev pub send_event : Told → SiteId → Event
+send_event told.Join site = event.SendJoin site
+send_event told.Upload site = event.SendUpload site
+send_event told.Ranges site = event.SendRanges site
+send_event told.Download site = event.SendDownload site

@@ -1,0 +1,6 @@
+pub mod Views
+pub mod Restarts
+pub mod Reports
+pub mod Messages
+pub mod Sessions
+pub mod Happenings
