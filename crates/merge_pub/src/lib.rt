@@ -7,8 +7,6 @@ mod changes;
 mod closing;
 mod move_entry;
 mod publisher;
-#[cfg(test)]
-mod tests;
 
 pub use changes::{Changes, Draft, IndexChanges};
 pub use move_entry::MoveEntry;

@@ -13,8 +13,6 @@ mod sending;
 mod state;
 mod still;
 mod subscriber;
-#[cfg(test)]
-mod tests;
 mod told;
 
 pub use anew::Discarding;
