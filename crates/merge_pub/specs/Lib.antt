@@ -5,3 +5,11 @@ pub mod Keeps
 pub mod After
 pub mod Held
 pub mod Beginning
+pub mod Working
+pub mod Rows
+pub mod Refused
+pub mod Touches
+pub mod Walks
+pub mod MoveWalks
+pub mod Forgetting
+pub mod Ranging

@@ -2,11 +2,25 @@
 //! then put in place.
 #![tactic(auto)]
 
+#[cfg(test)]
+mod asking_tests;
+mod batch_walk;
 mod beginning;
 mod changes;
 mod closing;
+mod downloading;
+mod edits;
+mod forgetting;
+mod joining;
 mod move_entry;
+mod move_walk;
 mod publisher;
+mod ranging;
+mod site;
+mod site_drafts;
+#[cfg(test)]
+mod tests;
+mod touches;
 
 pub use changes::{Changes, Draft, IndexChanges};
 pub use move_entry::MoveEntry;

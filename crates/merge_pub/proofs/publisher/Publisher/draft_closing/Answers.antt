@@ -1,0 +1,29 @@
+use Rattle.std.proofs.Common.{rules}
+use Rattle.std.proofs.lemmas.List.{append-nil}
+use Rattle.merge_table.specs.Edits.{IsReady}
+use Rattle.merge_pub.proofs.publisher.Publisher.draft_closing.Goals as goal
+
+pub returns-clause-ready : goal.returns-clause-ready
+unfolding IsReady
+returns-clause-ready c = record {
+  rows = search rules;
+  mappings = search rules;
+  sites = search rules;
+  held = search rules;
+  gens = search rules;
+  conflicts = search rules;
+  grants = search rules;
+  plan = search rules;
+  changed = search rules;
+  moved = search rules;
+  live = search rules;
+  indexed = search rules;
+  move_indexed = search rules;
+  keeps = rw c.site_draft.ensures.changes (record {
+    rows = c.self.invariant.keeps.rows;
+    rising = rw (append-nil c.self.inside.conflicts.rows) c.self.invariant.keeps.rising;
+    conflicts = rw (append-nil c.self.inside.conflicts.rows) c.self.invariant.keeps.conflicts;
+    held = c.self.invariant.keeps.held;
+    heard = c.self.invariant.keeps.heard;
+  });
+}

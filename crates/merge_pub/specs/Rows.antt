@@ -1,0 +1,30 @@
+-- The edits of the index of mappings.
+use Rattle.std.specs.Prelude.{Bool, false, List, [], ◌∷◌, ◌++◌, Option, Some, None, flat_map, option_map, unwrap_or}
+use Rattle.merge_table.specs.Edits.{key_of}
+use Rattle.merge_table.specs.declared.edit.Edit.{Edit}
+use Rattle.merge_table.specs.declared.edit.Edit.TheVariants.{Put, Take}
+use Rattle.merge_gens.specs.Moves.{is_left}
+use Rattle.merge_gens.specs.declared.moves.Mapping.{Mapping}
+use Rattle.merge_gens.specs.declared.moves.RowSite.{RowSite}
+use Rattle.merge_model.specs.Keys.{at_row_site}
+use Rattle.merge_pub.specs.MoveEntries.{move_entry}
+use Rattle.merge_pub.specs.declared.move_entry.MoveEntry.{MoveEntry}
+
+-- whether a row left the site's partition, by its mapping
+abbrev pub has_left_at : List (RowSite × Mapping) → RowSite → Bool
+has_left_at mappings place = unwrap_or (option_map (λ (mapping : Mapping). is_left mapping.kind) (at_row_site mappings place)) false
+
+-- the edits of the index of mappings for one mapping, by the mapping before
+abbrev pub old_entry : RowSite → Option Mapping → List (Edit MoveEntry (Unit {0}))
+old_entry place None = []
+old_entry place (Some mapping) = Take (move_entry place mapping.generation) ∷ []
+
+abbrev pub new_entry : Edit RowSite Mapping → List (Edit MoveEntry (Unit {0}))
+new_entry (Put place mapping) = Put (move_entry place mapping.generation) tt ∷ []
+new_entry (Take place) = []
+
+abbrev pub moved_edit : List (RowSite × Mapping) → Edit RowSite Mapping → List (Edit MoveEntry (Unit {0}))
+moved_edit mappings edit = old_entry (key_of edit) (at_row_site mappings (key_of edit)) ++ new_entry edit
+
+abbrev pub moved_edits : List (RowSite × Mapping) → List (Edit RowSite Mapping) → List (Edit MoveEntry (Unit {0}))
+moved_edits mappings edits = flat_map (moved_edit mappings) edits

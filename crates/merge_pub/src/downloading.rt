@@ -1,0 +1,109 @@
+//! A site asks for what was touched.
+ghost use Rattle.std.specs.Prelude.{◌≡◌, ◌<◌, ◌≤◌, ◌⊎◌, ◌^◌, Err, IfOk, Ok, OnOk, Some};
+ghost use Rattle.merge_batch.specs.declared.refusal.Refusal.{Refusal as OneRefusal};
+ghost use Rattle.merge_batch.specs.declared.refusal.Refusal.TheVariants.{NoMemory as no_memory};
+ghost use Rattle.merge_model.specs.ByNumbers.{by_numbers};
+ghost use Rattle.merge_model.specs.Keys.{at_number};
+ghost use Rattle.merge_model.specs.Publisher.{closed};
+ghost use Rattle.merge_model.specs.PublisherDownload.{download, download_refusal, reply_to, synced};
+ghost use Rattle.merge_pub.specs.After.{after};
+ghost use Rattle.merge_pub.specs.Held.{IsDrafted, publication_of, tables_of};
+ghost use Rattle.merge_pub.specs.Refused.{refusal_of};
+
+use crate::changes::Draft;
+use crate::closing::counters_go_on;
+use crate::publisher::Publisher;
+use merge_batch::{Download, Downloaded, Refusal};
+use merge_gens::SiteState;
+use merge_types::{Moment, NoMemory};
+
+impl Publisher {
+    // Refuses what is refused of every request, a site that asks for what lies above the last closed
+    // generation, and a step past the limit of a counter. Gives what is remembered of the site.
+    fn check_download(&self, now: Moment, m: &Download) -> Result<SiteState, Refusal>
+        ensures state { IfOk result (λ state. at_number (tables_of self.now).sites m.now.site.0 ≡ Some state) }
+        ensures refusal { refusal_of result ≡ download_refusal (publication_of self.now) now m.now (tables_of self.now) }
+        ensures order { OnOk result (m.now.from ≤ self.now.gens.book.filling.last_closed) }
+        ensures low { OnOk result (self.now.gens.book.filling.last_closed < 2 ^ 61) }
+    {
+        let state = self.check_site(now, m.site, m.seq)?;
+        let last = self.gens.last_closed();
+        if last < m.from {
+            return Err(Refusal::WrongWatermark { from: m.from, last });
+        }
+        counters_go_on(self.changes, last, self.conflict_count)?;
+        Ok(state)
+    }
+
+    // The last closed generation once the open one closes.
+    fn last_after_closing(&self) -> u64
+        requires { self.now.gens.book.filling.last_closed < 2 ^ 61 }
+        ensures last { result ≡ (closed (tables_of self.now)).gens.filling.last_closed }
+        ensures onward { self.now.gens.book.filling.last_closed ≤ result }
+        ensures low { result < 2 ^ 62 }
+    {
+        if self.gens.filled() == 0 {
+            return self.gens.last_closed();
+        }
+        self.gens.last_closed() + 1
+    }
+
+    // What the site is told once the open generation has closed, of which the publisher has taken
+    // the generations up to `received`.
+    fn reply(&self, m: &Download, received: u64) -> Result<Downloaded, NoMemory>
+        requires order { m.now.from ≤ self.now.gens.book.filling.last_closed }
+        requires low { self.now.gens.book.filling.last_closed < 2 ^ 61 }
+        ensures { IfOk result (λ reply. received ≡ (by_numbers (tables_of self.now)).received m.now.site.0 → reply ≡ reply_to (publication_of self.now) (by_numbers (tables_of self.now)) m.now (closed (tables_of self.now))) }
+    {
+        let last = self.last_after_closing();
+        let to = self.batch_end(m.site, m.from, last)?;
+        let items = self.items(m.site, m.from, to)?;
+        Ok(Downloaded {
+            seq: m.seq,
+            from: m.from,
+            to,
+            last,
+            received,
+            items,
+        })
+    }
+
+    // What is remembered of a site that asks: it holds the generations up to the one that it asks
+    // from, and is in step up to now where these are all and the open one is empty, and else up to
+    // the moment at which the last of them closed.
+    fn synced(&self, m: &Download, latest: Moment, state: SiteState) -> SiteState
+        ensures { result ≡ synced m.now (record (tables_of self.now) { latest = latest }) state }
+    {
+        let in_step = if m.from == self.gens.last_closed() && self.gens.filled() == 0 {
+            latest.0
+        } else {
+            self.gens.closed_at(m.from).unwrap_or(0)
+        };
+        SiteState {
+            watermark: state.watermark.max(m.from),
+            last_sync: state.last_sync.max(in_step),
+            ..state
+        }
+    }
+
+    /// Works out a request for a download, and what the site is told. The time grows with the rows
+    /// that changed in the generations that the reply reaches over, or moved for the site in them,
+    /// and in one more.
+    pub fn draft_download(
+        &mut self,
+        now: Moment,
+        m: &Download,
+    ) -> Result<(Draft, Downloaded), Refusal>
+        ensures made { IfOk result (λ d. download (publication_of self.old) (by_numbers (tables_of self.old)) now m.now (tables_of self.old) ≡ Ok (after d.0.changes (tables_of self.old), d.1)) }
+        ensures ready { IfOk result (λ d. IsDrafted self.new d.0) }
+        ensures refused { (refusal : OneRefusal) → result ≡ Err refusal → (refusal ≡ no_memory) ⊎ (download (publication_of self.old) (by_numbers (tables_of self.old)) now m.now (tables_of self.old) ≡ Err refusal) }
+        ensures same { tables_of self.new ≡ tables_of self.old }
+        ensures publication { publication_of self.new ≡ publication_of self.old }
+    {
+        let state = self.check_download(now, m)?;
+        let reply = self.reply(m, state.received)?;
+        let latest = self.moment_at(now);
+        let draft = self.draft_closing(latest, m.site, self.synced(m, latest, state))?;
+        Ok((draft, reply))
+    }
+}
