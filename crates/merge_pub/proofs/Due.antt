@@ -37,7 +37,7 @@ changed-is : (found : Option PublisherRow) (g : ℕ) → option_map (λ (row : P
 changed-is None g e = absurd cc
 changed-is (Some row) g e = let same : row.changed ≡ g = cc in grind (arith, nat_tests, same)
 
-changed-found : (p : PublisherTables) (entries : set.FinSet entry_cmp) (from to : ℕ) (found : List Key) (key : Key) (g : ℕ) → AreIndexed p.rows entries → AddsRowsBetween entries from to [] found
+pub changed-found : (p : PublisherTables) (entries : set.FinSet entry_cmp) (from to : ℕ) (found : List Key) (key : Key) (g : ℕ) → AreIndexed p.rows entries → AddsRowsBetween entries from to [] found
     → from < g → g ≤ to → changed_in p key ≡ Some g → list_any (is_at (key_cmp key)) found ≡ true
 unfolding AreIndexed
 changed-found p entries from to found key g indexed adds above below changed =

@@ -20,3 +20,10 @@ pub mod RangePlans
 pub mod RangeChecks
 pub mod JoinForgets
 pub mod DraftFits
+pub mod GivenRows
+pub mod OldSpans
+pub mod OldRows
+pub mod SortedPlaces
+pub mod OldMappings
+pub mod Purged
+pub mod PurgeMade

@@ -14,21 +14,21 @@ use Rattle.merge_pub.specs.MoveEntries.{move_entry_cmp}
 use Rattle.merge_pub.specs.MoveWalks.{is_in_walk, is_within, key_of_move, keys_in_walk}
 use Rattle.merge_pub.specs.declared.move_entry.MoveEntry.{MoveEntry}
 
-abbrev Entries : Type 0
+abbrev pub Entries : Type 0
 Entries = List (MoveEntry × Unit {0})
 
 -- the first entry that there could be of a site from a generation on
-abbrev start_of : ℕ → ℕ → MoveEntry
+abbrev pub start_of : ℕ → ℕ → MoveEntry
 start_of site first = record { site = site; generation = first; key = record { article = 0; row = record { 0 = 0 } } }
 
-abbrev is_from : ℕ → ℕ → MoveEntry → Bool
+abbrev pub is_from : ℕ → ℕ → MoveEntry → Bool
 is_from site first entry = range_contains move_entry_cmp (Included (start_of site first)) Unbounded entry
 
 -- what stands from there on
-abbrev not_below : ℕ → ℕ → MoveEntry → Bool
+abbrev pub not_below : ℕ → ℕ → MoveEntry → Bool
 not_below site first entry = nat_lt site entry.site || ((entry.site == site) && nat_le first entry.generation)
 
-from-is : (site first : ℕ) (e : MoveEntry) → is_from site first e ≡ not_below site first e
+pub from-is : (site first : ℕ) (e : MoveEntry) → is_from site first e ≡ not_below site first e
 from-is site first e = grind (arith, nat_tests)
 
 below-fails : (site first : ℕ) (to : Option ℕ) (e : MoveEntry) (within : Bool) → not_below site first e ≡ false → ((e.site == site) && (nat_le first e.generation && within)) ≡ false
@@ -75,11 +75,11 @@ behind-step : (site first : ℕ) (e : MoveEntry) (u : Unit {0}) (rest : Entries)
 behind-step site first e u rest true is all = (sym (from-is site first e) ∙ is, all)
 behind-step site first e u rest false is all = all
 
-start-behind : (site first : ℕ) (es : Entries) → AllByRecursion (λ (x : MoveEntry). not_below site first x ≡ true) (keys_of (entries_between move_entry_cmp (Included (start_of site first)) Unbounded es))
+pub start-behind : (site first : ℕ) (es : Entries) → AllByRecursion (λ (x : MoveEntry). not_below site first x ≡ true) (keys_of (entries_between move_entry_cmp (Included (start_of site first)) Unbounded es))
 start-behind site first [] = tt
 start-behind site first ((e, u) ∷ es) = behind-step site first e u (entries_between move_entry_cmp (Included (start_of site first)) Unbounded es) (is_from site first e) refl (start-behind site first es)
 
-keys-filter : (test : MoveEntry → Bool) (es : Entries) → keys_of (filter (λ (e : MoveEntry × Unit {0}). test e.0) es) ≡ filter test (keys_of es)
+pub keys-filter : (test : MoveEntry → Bool) (es : Entries) → keys_of (filter (λ (e : MoveEntry × Unit {0}). test e.0) es) ≡ filter test (keys_of es)
 keys-filter test [] = refl
 keys-filter test ((e, u) ∷ es) = elim (test e) as (λ (b : Bool). keys_of (cond b ((e, u) ∷ filter (λ (x : MoveEntry × Unit {0}). test x.0) es) (filter (λ (x : MoveEntry × Unit {0}). test x.0) es)) ≡ cond b (e ∷ filter test (keys_of es)) (filter test (keys_of es))) [
   | true ↦ ap (λ (ks : List MoveEntry). e ∷ ks) (keys-filter test es)

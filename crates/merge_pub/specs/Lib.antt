@@ -13,3 +13,6 @@ pub mod Walks
 pub mod MoveWalks
 pub mod Forgetting
 pub mod Ranging
+pub mod Given
+pub mod Purging
+pub mod OldSpans

@@ -6,6 +6,7 @@ ghost use Rattle.merge_batch.specs.declared.refusal.Refusal.TheVariants.{NoMemor
 ghost use Rattle.merge_model.specs.Publisher.{close_generation, later};
 ghost use Rattle.merge_pub.specs.After.{after};
 ghost use Rattle.merge_pub.specs.Held.{IsDrafted, publication_of, tables_of};
+ghost use Rattle.merge_pub.specs.Refused.{RefusesAs};
 
 use crate::changes::{Changes, Draft, IndexChanges};
 use crate::publisher::Publisher;
@@ -79,6 +80,7 @@ impl Publisher {
         ensures made { IfOk result (λ d. close_generation now (tables_of self.old) ≡ Ok (after d.0.changes (tables_of self.old), d.1)) }
         ensures ready { IfOk result (λ d. IsDrafted self.new d.0) }
         ensures refused { (refusal : OneRefusal) → result ≡ Err refusal → (refusal ≡ no_memory) ⊎ (close_generation now (tables_of self.old) ≡ Err refusal) }
+        ensures refuses { RefusesAs (close_generation now (tables_of self.old)) result }
         ensures same { tables_of self.new ≡ tables_of self.old }
         ensures publication { publication_of self.new ≡ publication_of self.old }
     {

@@ -8,7 +8,7 @@ ghost use Rattle.merge_model.specs.Publisher.{closed};
 ghost use Rattle.merge_model.specs.PublisherDownload.{download, download_refusal, reply_to, synced};
 ghost use Rattle.merge_pub.specs.After.{after};
 ghost use Rattle.merge_pub.specs.Held.{IsDrafted, publication_of, tables_of};
-ghost use Rattle.merge_pub.specs.Refused.{refusal_of};
+ghost use Rattle.merge_pub.specs.Refused.{RefusesAs, refusal_of};
 
 use crate::changes::Draft;
 use crate::closing::counters_go_on;
@@ -97,6 +97,7 @@ impl Publisher {
         ensures made { IfOk result (λ d. download (publication_of self.old) (by_numbers (tables_of self.old)) now m.now (tables_of self.old) ≡ Ok (after d.0.changes (tables_of self.old), d.1)) }
         ensures ready { IfOk result (λ d. IsDrafted self.new d.0) }
         ensures refused { (refusal : OneRefusal) → result ≡ Err refusal → (refusal ≡ no_memory) ⊎ (download (publication_of self.old) (by_numbers (tables_of self.old)) now m.now (tables_of self.old) ≡ Err refusal) }
+        ensures refuses { RefusesAs (download (publication_of self.old) (by_numbers (tables_of self.old)) now m.now (tables_of self.old)) result }
         ensures same { tables_of self.new ≡ tables_of self.old }
         ensures publication { publication_of self.new ≡ publication_of self.old }
     {

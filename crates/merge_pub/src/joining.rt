@@ -9,7 +9,7 @@ ghost use Rattle.merge_model.specs.PublisherJoin.{join, join_refusal, joined_sta
 ghost use Rattle.merge_pub.specs.After.{after};
 ghost use Rattle.merge_pub.specs.Forgetting.{is_left_at, take_at};
 ghost use Rattle.merge_pub.specs.Held.{IsDrafted, publication_of, tables_of};
-ghost use Rattle.merge_pub.specs.Refused.{refusal_of};
+ghost use Rattle.merge_pub.specs.Refused.{RefusesAs, refusal_of};
 ghost use Rattle.merge_pub.specs.Working.{AreApart, places_of};
 
 use crate::changes::Draft;
@@ -151,6 +151,7 @@ impl Publisher {
         ensures made { IfOk result (λ d. join (publication_of self.old) now m.now (tables_of self.old) ≡ Ok (after d.0.changes (tables_of self.old), d.1)) }
         ensures ready { IfOk result (λ d. IsDrafted self.new d.0) }
         ensures refused { (refusal : OneRefusal) → result ≡ Err refusal → (refusal ≡ no_memory) ⊎ (join (publication_of self.old) now m.now (tables_of self.old) ≡ Err refusal) }
+        ensures refuses { RefusesAs (join (publication_of self.old) now m.now (tables_of self.old)) result }
         ensures same { tables_of self.new ≡ tables_of self.old }
         ensures publication { publication_of self.new ≡ publication_of self.old }
     {

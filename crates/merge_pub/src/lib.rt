@@ -14,10 +14,15 @@ mod forgetting;
 mod joining;
 mod move_entry;
 mod move_walk;
+mod old_mappings;
+mod old_rows;
+mod old_spans;
 mod publisher;
+mod purging;
 mod ranging;
 mod site;
 mod site_drafts;
+mod staying;
 #[cfg(test)]
 mod tests;
 mod touches;

@@ -9,7 +9,7 @@ ghost use Rattle.merge_model.specs.PublisherRanges.{ask_by, ended_by, granted_by
 ghost use Rattle.merge_pub.specs.After.{after};
 ghost use Rattle.merge_pub.specs.Held.{IsDrafted, publication_of, tables_of};
 ghost use Rattle.merge_pub.specs.Ranging.{AreRuled, IsForOthers};
-ghost use Rattle.merge_pub.specs.Refused.{refusal_of};
+ghost use Rattle.merge_pub.specs.Refused.{RefusesAs, refusal_of};
 
 use crate::changes::Draft;
 use crate::closing::counters_go_on;
@@ -184,6 +184,7 @@ impl Publisher {
         ensures made { IfOk result (λ d. ranges (publication_of self.old) (by_numbers (tables_of self.old)) now m.now (tables_of self.old) ≡ Ok (after d.0.changes (tables_of self.old), d.1)) }
         ensures ready { IfOk result (λ d. IsDrafted self.new d.0) }
         ensures refused { (refusal : OneRefusal) → result ≡ Err refusal → (refusal ≡ no_memory) ⊎ (ranges (publication_of self.old) (by_numbers (tables_of self.old)) now m.now (tables_of self.old) ≡ Err refusal) }
+        ensures refuses { RefusesAs (ranges (publication_of self.old) (by_numbers (tables_of self.old)) now m.now (tables_of self.old)) result }
         ensures same { tables_of self.new ≡ tables_of self.old }
         ensures publication { publication_of self.new ≡ publication_of self.old }
     {

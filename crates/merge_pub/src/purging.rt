@@ -1,0 +1,101 @@
+//! The publisher forgets what is old.
+ghost use Rattle.std.specs.Prelude.{◌≡◌, [], IfOk, OnErr, count_by, filter, nat_lt, not};
+ghost use Rattle.merge_table.specs.Edits.{takes_of};
+ghost use Rattle.merge_gens.specs.Book.{purged};
+ghost use Rattle.merge_model.specs.PublisherPurge.{cutoff, purge};
+ghost use Rattle.merge_pub.specs.After.{after};
+ghost use Rattle.merge_pub.specs.Forgetting.{LeavesAll};
+ghost use Rattle.merge_pub.specs.Held.{IsDrafted, publication_of, tables_of};
+ghost use Rattle.merge_pub.specs.Purging.{is_old_mapping, is_old_row};
+
+use crate::changes::Draft;
+use crate::forgetting::Forgetting;
+use crate::old_rows::{entry_takes, row_takes};
+use crate::publisher::Publisher;
+use merge_model::Forgotten;
+use merge_types::{Listing, Moment, NoMemory};
+
+const DAY_SECONDS: u64 = 86_400;
+
+impl Publisher {
+    // The moment before which a generation is old: the retention and a day of grace ago.
+    fn cutoff(&self, now: Moment) -> Moment
+        ensures { result ≡ cutoff (publication_of self.now) (record (tables_of self.now) { latest = now }) }
+    {
+        let days = u64::from(self.publication().retention_days);
+        Moment(now.0.saturating_sub(days * DAY_SECONDS + DAY_SECONDS))
+    }
+
+    // The edits by which all is forgotten that is old at the moment.
+    fn old_edits(&self, cutoff: Moment) -> Result<Forgetting, NoMemory>
+        ensures rows { IfOk result (λ edits. edits.rows ≡ takes_of (λ row. not (is_old_row (tables_of self.now).gens.closings cutoff row)) (tables_of self.now).rows) }
+        ensures mappings { IfOk result (λ edits. edits.mappings ≡ takes_of (λ entry. not (is_old_mapping (tables_of self.now).gens.closings cutoff entry)) (tables_of self.now).mappings) }
+        ensures sites { IfOk result (λ edits. edits.sites ≡ []) }
+        ensures leaves { IfOk result (λ edits. LeavesAll self.now edits) }
+    {
+        self.rows.is_ordered();
+        self.mappings.is_ordered();
+        let gone = self.gone_entries(cutoff)?;
+        let rows = row_takes(self.alloc, &gone)?;
+        let entries = entry_takes(self.alloc, &gone)?;
+        let mappings = self.old_mappings(cutoff)?;
+        Ok(Forgetting {
+            rows,
+            entries,
+            mappings,
+            sites: Listing::empty(self.alloc),
+        })
+    }
+
+    // Works out a purge, but for the closed generations that are forgotten, and how much it forgets.
+    fn draft_purge(
+        &mut self,
+        latest: Moment,
+        cutoff: Moment,
+    ) -> Result<(Draft, Forgotten), NoMemory>
+        ensures made { IfOk result (λ d. after d.0.changes (tables_of self.old) ≡ record (tables_of self.old) { latest = latest; rows = filter (λ row. not (is_old_row (tables_of self.old).gens.closings cutoff row)) (tables_of self.old).rows; mappings = filter (λ entry. not (is_old_mapping (tables_of self.old).gens.closings cutoff entry)) (tables_of self.old).mappings }) }
+        ensures forgotten { IfOk result (λ d. d.1 ≡ record { tombstones = count_by (is_old_row (tables_of self.old).gens.closings cutoff) (tables_of self.old).rows; mappings = count_by (is_old_mapping (tables_of self.old).gens.closings cutoff) (tables_of self.old).mappings; generations = count_by (λ closing. nat_lt closing.moment.0 cutoff.0) (tables_of self.old).gens.closings }) }
+        ensures ready { IfOk result (λ d. IsDrafted self.new d.0) }
+        ensures same { tables_of self.new ≡ tables_of self.old }
+        ensures publication { publication_of self.new ≡ publication_of self.old }
+    {
+        self.rows.is_ordered();
+        self.mappings.is_ordered();
+        let edits = self.old_edits(cutoff)?;
+        let rows = edits.rows.len() as u64;
+        let mappings = edits.mappings.len() as u64;
+        let forgotten = Forgotten {
+            tombstones: rows,
+            mappings,
+            generations: self.gens.count_before(cutoff),
+        };
+        let draft = self.draft_forgetting(latest, edits)?;
+        Ok((draft, forgotten))
+    }
+
+    /// Forgets the tombstones of rows that died, the mappings of rows that left a partition, and the
+    /// closed generations, where the generation closed longer ago than the retention and one day
+    /// more. Live rows and their generations stay. The time grows with the rows and mappings that
+    /// changed or moved last in the generations that it forgets, and with the closed generations that
+    /// are kept.
+    pub fn purge(&mut self, now: Moment) -> Result<Forgotten, NoMemory>
+        ensures ok { IfOk result (λ forgotten. purge (publication_of self.old) now (tables_of self.old) ≡ (tables_of self.new, forgotten)) }
+        ensures err { OnErr result (tables_of self.new ≡ tables_of self.old) }
+        ensures publication { publication_of self.new ≡ publication_of self.old }
+    {
+        let latest = self.moment_at(now);
+        let cutoff = self.cutoff(latest);
+        let (draft, forgotten) = self.draft_purge(latest, cutoff)?;
+        self.settle(draft);
+        self.forget_closings(cutoff);
+        Ok(forgotten)
+    }
+
+    // Forgets the generations that closed before the moment.
+    fn forget_closings(&mut self, cutoff: Moment)
+        ensures tables { tables_of self.new ≡ record (tables_of self.old) { gens = purged (tables_of self.old).gens cutoff } }
+        ensures publication { publication_of self.new ≡ publication_of self.old }
+    {
+        self.gens.purge(cutoff);
+    }
+}
