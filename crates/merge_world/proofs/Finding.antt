@@ -4,11 +4,16 @@ use Rattle.std.specs.List.{last_or, position, position_or_len, slice_get}
 use Rattle.std.proofs.lemmas.Bool.Decides.{nat_tests}
 use Rattle.std.proofs.lemmas.List.{get_or-map, length-map}
 use Rattle.std.proofs.lemmas.List.Quantifiers.{position-Some}
+use Rattle.merge_types.specs.declared.changes.Change.{Change}
 use Rattle.merge_types.specs.declared.identifiers.Moment.{Moment}
 use Rattle.merge_types.specs.declared.identifiers.SiteId.{SiteId}
+use Rattle.merge_schema.specs.declared.publication.Publication.{Publication}
+use Rattle.merge_batch.specs.Articles.{has_article}
+use Rattle.merge_batch.specs.LocalChanges.{article_of}
 use Rattle.merge_model.specs.Keys.{at_number}
 use Rattle.merge_model.specs.World.{subscriber_at}
 use Rattle.merge_model.specs.declared.letter.Letter.{Letter}
+use Rattle.merge_world.specs.Naming.{IsPlaced}
 use Rattle.merge_world.specs.Sessions.{last_in}
 use Rattle.merge_world.specs.Views.{IsOrdered, PublisherView, SubscriberView, entry_of, site_of, sites_view, world_of}
 use Rattle.merge_world.proofs.Doing.{found-at, publication-at}
@@ -71,6 +76,12 @@ module _ {S : Type 0} (f : S → SubscriberView) where
   pub publication-place : (p : PublisherView) (pool : List Letter) (moment : Moment) (items : List S) (i : ℕ) (s : S) → IsOrdered (sites_view p (map f items) pool moment)
       → i < length items → s ≡ get_or items i s → (f s).publication ≡ p.publication
   publication-place p pool moment items i s ordered lt here = publication-at p pool moment (map f items) i (f s) ordered (within items i lt) (at-place items i s lt here)
+
+  -- a change that has its places there
+  pub placed-place : (p : PublisherView) (pool : List Letter) (moment : Moment) (items : List S) (i : ℕ) (s : S) (site : ℕ) (change : Change) → IsOrdered (sites_view p (map f items) pool moment)
+      → Some i ≡ position (is_of site) items → s ≡ get_or items i s → IsPlaced p.publication change → has_article (f s).publication (article_of change) ≡ true
+  placed-place p pool moment items i s site change ordered found here is = subst (λ (q : Publication). has_article q (article_of change) ≡ true)
+      (sym (publication-place p pool moment items i s ordered (placed items i s site found here).0 here)) is.article
 
 less-one : (n : ℕ) → n ≡ suc n - 1
 less-one n = omega arith

@@ -22,10 +22,11 @@ use Rattle.merge_model.proofs.Calling.{made, wants}
 use Rattle.merge_model.proofs.Reached.{same-start, stays, under}
 use Rattle.merge_model.proofs.ReachedEvents.{synced, waiting}
 use Rattle.merge_world.proofs.Doing.{same-count}
+use Rattle.merge_world.proofs.Locals.{stays-same}
 use Rattle.merge_world.specs.Happenings.{Comes, Happened, seconds_of, send_event}
 use Rattle.merge_world.specs.Messages.{sending_of}
 use Rattle.merge_world.specs.Sessions.{Synced, Syncs, watermark_at}
-use Rattle.merge_world.specs.Views.{Does, HandedView, Moves, PublisherView, SitesView, SubscriberView, sites_view, tables_at, world_of}
+use Rattle.merge_world.specs.Views.{Does, HandedView, Moves, PublisherView, SitesView, Stays, SubscriberView, sites_view, tables_at, world_of}
 use Rattle.merge_world.specs.declared.sending.Sending.{Sending as Told}
 use Rattle.merge_world.specs.declared.sending.Sending.TheVariants as told
 
@@ -61,17 +62,22 @@ module _ (p : Publication) (says : Saying) (e : Event) (answer : Faulty World �
 
 -- The same of all sites, with their resolvers.
 
-pub does-happen : (e : Event) (action : Action) (n : ℕ) (u v : SitesView) (outcome : Outcome) → seconds_of e ≡ 0
-    → ((says : Saying) (w : Faulty World) → happens u.publication (stepping u.publication says) w e ≡ acting u.publication (stepping u.publication says) n action w)
-    → Does action u v outcome → (h : HandedView) → Happened e u v h h (outcome_answer n outcome)
-does-happen e action n u v outcome none is does h = record {
-  comes = acted u.publication h.says e action (outcome_answer n) (is h.says) (world_of u h.tallies) (world_of v h.tallies) outcome u.faults v.faults (does.acts h.says h.tallies);
+pub does-happen-as : (e : Event) (action : Action) (answer : Outcome → Answer) (u v : SitesView) (outcome : Outcome) → seconds_of e ≡ 0
+    → ((says : Saying) (w : Faulty World) → happens u.publication (stepping u.publication says) w e ≡ answered_by u.publication (stepping u.publication says) answer ((stepping u.publication says).act w action))
+    → Does action u v outcome → (h : HandedView) → Happened e u v h h (answer outcome)
+does-happen-as e action answer u v outcome none is does h = record {
+  comes = acted u.publication h.says e action answer (is h.says) (world_of u h.tallies) (world_of v h.tallies) outcome u.faults v.faults (does.acts h.says h.tallies);
   publication = does.stays.publication;
   sites = does.stays.sites;
   publications = does.stays.publications;
   says = refl;
   moment = let same = does.stays.moment in rw none (ap (λ (m : Moment). m.0) same ∙ sym (add-zero u.moment.0));
 }
+
+pub does-happen : (e : Event) (action : Action) (n : ℕ) (u v : SitesView) (outcome : Outcome) → seconds_of e ≡ 0
+    → ((says : Saying) (w : Faulty World) → happens u.publication (stepping u.publication says) w e ≡ acting u.publication (stepping u.publication says) n action w)
+    → Does action u v outcome → (h : HandedView) → Happened e u v h h (outcome_answer n outcome)
+does-happen e action n u v outcome none is does h = does-happen-as e action (outcome_answer n) u v outcome none is does h
 
 pub moves-happen : (e : Event) (action : Action) (n : ℕ) (u v : SitesView) (g h : HandedView) (outcome : Outcome) → seconds_of e ≡ 0
     → ((w : Faulty World) → happens u.publication (stepping u.publication g.says) w e ≡ acting u.publication (stepping u.publication g.says) n action w)
@@ -85,33 +91,35 @@ moves-happen e action n u v g h outcome none is moves = record {
   moment = let same = moves.keeps.stays.moment in rw none (ap (λ (m : Moment). m.0) same ∙ sym (add-zero u.moment.0));
 }
 
--- an event that looks at a world with these sites, and says what it says of any
-pub looks-happen : (e : Event) (v : SitesView) (said : Answer) → seconds_of e ≡ 0 → (answer : (says : Saying) → Faulty World → Answer)
-    → ((says : Saying) (tallies : List ℕ) (l : Slips) → answer says (faulty (world_of v tallies) l) ≡ said)
-    → ((says : Saying) (tallies : List ℕ) (l : Slips) → happens v.publication (stepping v.publication says) (faulty (world_of v tallies) l) e ≡ looking v.publication (stepping v.publication says) (answer says) (faulty (world_of v tallies) l))
-    → (h : HandedView) → Happened e v v h h said
-looks-happen e v said none answer same is h = record {
-  comes = looks v.publication h.says e (answer h.says) (world_of v h.tallies) said (same h.says h.tallies) (is h.says h.tallies) v.faults v.faults (same-count v.faults);
-  publication = refl;
-  sites = refl;
-  publications = refl;
-  says = refl;
-  moment = rw none (sym (add-zero v.moment.0));
-}
+-- an event that looks at sites, and says of them what it says of any such world
+module _ (e : Event) (u : SitesView) (said : Answer) (none : seconds_of e ≡ 0) (answer : Saying → Faulty World → Answer)
+    (same : (says : Saying) (tallies : List ℕ) (l : Slips) → answer says (faulty (world_of u tallies) l) ≡ said)
+    (is : (says : Saying) (tallies : List ℕ) (l : Slips) → happens u.publication (stepping u.publication says) (faulty (world_of u tallies) l) e ≡ looking u.publication (stepping u.publication says) (answer says) (faulty (world_of u tallies) l)) where
+  -- their tables stay as they are
+  module _ (v : SitesView) (unchanged : (tallies : List ℕ) → world_of v tallies ≡ world_of u tallies) (le : u.faults ≤ v.faults) (stays : Stays u v) (h : HandedView) where
+    comes-so : (told : Answer) → Comes u.publication h.says (world_of u h.tallies) e (world_of u h.tallies) told u.faults v.faults → Happened e u v h h told
+    comes-so told comes = record {
+      comes = subst (λ (w : World). Comes u.publication h.says (world_of u h.tallies) e w told u.faults v.faults) (sym (unchanged h.tallies)) comes;
+      publication = stays.publication;
+      sites = stays.sites;
+      publications = stays.publications;
+      says = refl;
+      moment = let at = stays.moment in rw none (ap (λ (m : Moment). m.0) at ∙ sym (add-zero u.moment.0));
+    }
 
--- memory is wanting for its answer
-pub looks-want : (e : Event) (v : SitesView) (said : Answer) → seconds_of e ≡ 0 → (answer : (says : Saying) → Faulty World → Answer)
-    → ((says : Saying) (tallies : List ℕ) (l : Slips) → answer says (faulty (world_of v tallies) l) ≡ said)
-    → ((says : Saying) (tallies : List ℕ) (l : Slips) → happens v.publication (stepping v.publication says) (faulty (world_of v tallies) l) e ≡ looking v.publication (stepping v.publication says) (answer says) (faulty (world_of v tallies) l))
-    → (h : HandedView) → Happened e v v h h (Refused NoMemory)
-looks-want e v said none answer same is h = record {
-  comes = looking-wants v.publication h.says e (answer h.says) (world_of v h.tallies) said (same h.says h.tallies) (is h.says h.tallies) v.faults v.faults (same-count v.faults);
-  publication = refl;
-  sites = refl;
-  publications = refl;
-  says = refl;
-  moment = rw none (sym (add-zero v.moment.0));
-}
+    pub looks-on : Happened e u v h h said
+    looks-on = comes-so said (looks u.publication h.says e (answer h.says) (world_of u h.tallies) said (same h.says h.tallies) (is h.says h.tallies) u.faults v.faults le)
+
+    -- memory is wanting for its answer
+    pub wants-on : Happened e u v h h (Refused NoMemory)
+    wants-on = comes-so (Refused NoMemory) (looking-wants u.publication h.says e (answer h.says) (world_of u h.tallies) said (same h.says h.tallies) (is h.says h.tallies) u.faults v.faults le)
+
+  -- nothing at all changes
+  pub looks-happen : (h : HandedView) → Happened e u u h h said
+  looks-happen h = looks-on u (λ tallies. refl) (same-count u.faults) (stays-same u) h
+
+  pub looks-want : (h : HandedView) → Happened e u u h h (Refused NoMemory)
+  looks-want h = wants-on u (λ tallies. refl) (same-count u.faults) (stays-same u) h
 
 -- a site that there is not
 pub unknown-site : (e : Event) (v : SitesView) (site : SiteId) → seconds_of e ≡ 0
@@ -147,7 +155,7 @@ module _ (site : SiteId) (u v : SitesView) (g h : HandedView) (x y : ℕ) (is : 
   }
 
 -- Events of a site that there must be.
-abbrev where-if : (p : Publication) (says : Saying) (site : SiteId) (w : Faulty World) → (Faulty World → Faulty World × Answer) → Bool → Faulty World × Answer
+abbrev pub where-if : (p : Publication) (says : Saying) (site : SiteId) (w : Faulty World) → (Faulty World → Faulty World × Answer) → Bool → Faulty World × Answer
 where-if p says site w next there = if there then next w else looking p (stepping p says) (λ (v : Faulty World). Refused (UnknownSite site)) w
 
 module _ (e : Event) (site : SiteId) (action : Action) (u : SitesView) (none : seconds_of e ≡ 0) where

@@ -1,3 +1,4 @@
+pub mod Namings
 pub mod Doing
 pub mod Finding
 pub mod Locals
@@ -8,3 +9,4 @@ pub mod Turns
 pub mod Loops
 pub mod Rounds
 pub mod Happenings
+pub mod Changings

@@ -1,15 +1,21 @@
 -- Events that happen to all sites.
-use Rattle.std.specs.Prelude.{List, if◌then◌else◌, ℕ, ◌+◌, ◌≡◌}
+use Rattle.std.specs.Prelude.{Err, List, Ok, Result, if◌then◌else◌, ℕ, ◌+◌, ◌≡◌}
+use Rattle.merge_types.specs.declared.changes.Change.{Change}
 use Rattle.merge_types.specs.declared.identifiers.SiteId.{SiteId}
 use Rattle.merge_schema.specs.declared.publication.Publication.{Publication}
+use Rattle.merge_batch.specs.declared.refusal.Refusal.{Refusal}
+use Rattle.merge_model.specs.Events.{change_answer}
 use Rattle.merge_model.specs.Reach.{Happens}
+use Rattle.merge_model.specs.Steps.{Make}
 use Rattle.merge_model.specs.World.{Saying, World}
 use Rattle.merge_model.specs.declared.answer.Answer.{Answer}
 use Rattle.merge_model.specs.declared.event.Event.{Event}
 use Rattle.merge_model.specs.declared.event.Event.TheVariants as event
+use Rattle.merge_model.specs.declared.outcome.Outcome.{Outcome}
 use Rattle.merge_world.specs.declared.sending.Sending.{Sending as Told}
 use Rattle.merge_world.specs.declared.sending.Sending.TheVariants as told
-use Rattle.merge_world.specs.Views.{HandedView, SitesView, world_of}
+use Rattle.merge_world.specs.Resuming.{EndsRun}
+use Rattle.merge_world.specs.Views.{Does, HandedView, SitesView, world_of}
 
 -- by how much an event moves the moment
 abbrev pub seconds_of : Event → ℕ
@@ -27,6 +33,17 @@ pub record Happened (e : Event) (old new : SitesView) (before after : HandedView
   pub publications : new.publications ≡ old.publications
   pub says : after.says ≡ before.says
   pub moment : new.moment.0 ≡ old.moment.0 + seconds_of e
+
+-- a local change of a site was made or failed, and what is answered
+pub record Changed (site : SiteId) (change : Change) (old new : SitesView) (answer : Answer) : Type 0 where
+  pub outcome : Outcome
+  pub does : Does (Make site change) old new outcome
+  pub answered : answer ≡ change_answer change outcome
+
+-- an event happens, or ends the run
+abbrev pub Proceeds : Event → SitesView → SitesView → HandedView → HandedView → Result Answer Refusal → Type 0
+Proceeds e old new before after (Ok answer) = Happened e old new before after answer
+Proceeds e old new before after (Err why) = EndsRun e old new why
 
 -- the event that tells a subscriber to make a message
 abbrev pub send_event : Told → SiteId → Event

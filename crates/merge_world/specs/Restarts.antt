@@ -1,13 +1,13 @@
 -- What a restart of a site does.
-use Rattle.std.specs.Prelude.{Err, Ok, Result, ℕ, ◌+◌, ◌≡◌, ◌≤◌}
+use Rattle.std.specs.Prelude.{Err, List, Ok, Result, ℕ, ◌+◌, ◌≡◌, ◌≤◌, ◌⊎◌}
 use Rattle.merge_batch.specs.declared.refusal.Refusal.{Refusal}
-use Rattle.merge_batch.specs.declared.refusal.Refusal.TheVariants as refusal
+use Rattle.merge_batch.specs.declared.refusal.Refusal.TheVariants.{Damaged, NoMemory, StoreFault}
 
--- Its tables are as they were, and so they are where memory is wanting. Where the store cannot be read, which is
--- counted, or where records are damaged, the site is not seen again.
+-- the site is not seen again: its store cannot be read, which is counted, or its records are damaged
+abbrev pub IsLost : Refusal → ℕ → ℕ → Type 0
+IsLost why before after = ((why ≡ StoreFault) × (before + 1 ≤ after)) ⊎ (((table : ℕ) × (key : List ℕ) × (why ≡ Damaged table key)) × (before ≤ after))
+
+-- its tables are as they were, and so they are where memory is wanting
 abbrev pub Restarted : {T : Type 0} → T → T → ℕ → ℕ → Result Unit Refusal → Type 0
 Restarted old new before after (Ok done) = (new ≡ old) × (before ≤ after)
-Restarted old new before after (Err refusal.NoMemory) = (new ≡ old) × (before ≤ after)
-Restarted old new before after (Err refusal.StoreFault) = before + 1 ≤ after
-Restarted old new before after (Err (refusal.Damaged table key)) = before ≤ after
-Restarted old new before after (Err why) = ⊥
+Restarted old new before after (Err why) = ((why ≡ NoMemory) × (new ≡ old) × (before ≤ after)) ⊎ IsLost why before after

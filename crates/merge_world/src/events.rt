@@ -41,7 +41,7 @@ pub(crate) fn answer_of(number: u64, outcome: Outcome) -> Answer
 
 impl<P: PublisherSite, S: SubscriberSite> Sites<P, S> {
     // Refuses a site that does not subscribe.
-    fn check_subscriber(&self, site: SiteId) -> Result<(), Refusal>
+    pub(crate) fn check_subscriber(&self, site: SiteId) -> Result<(), Refusal>
         ensures ok { OnOk result (is_subscription (⟦<Sites<P, S> as Seen>⟧.seen self.now).publication site.0 ≡ true) }
         ensures err { IfErr result (λ why. (why ≡ refusal.UnknownSite site) × (is_subscription (⟦<Sites<P, S> as Seen>⟧.seen self.now).publication site.0 ≡ false)) }
     {
@@ -53,7 +53,7 @@ impl<P: PublisherSite, S: SubscriberSite> Sites<P, S> {
     }
 
     // Refuses a site that is neither the publisher nor subscribes.
-    fn check_site(&self, site: SiteId) -> Result<(), Refusal>
+    pub(crate) fn check_site(&self, site: SiteId) -> Result<(), Refusal>
         ensures ok { OnOk result (is_site (⟦<Sites<P, S> as Seen>⟧.seen self.now).publication site ≡ true) }
         ensures err { IfErr result (λ why. (why ≡ refusal.UnknownSite site) × (is_site (⟦<Sites<P, S> as Seen>⟧.seen self.now).publication site ≡ false)) }
     {

@@ -1,10 +1,12 @@
 //! The world that a script is played on: sites, the messages between them, and what each event does.
 #![tactic(auto)]
 
+mod changing;
 mod deliver;
 mod events;
 mod exchange;
 mod local;
+mod naming;
 mod places;
 mod pool;
 mod sending;

@@ -1,6 +1,7 @@
 //! Local changes, closings, purges, and subscribers that begin anew.
 ghost use Rattle.std.specs.Prelude.{◌≡◌};
 ghost use Rattle.merge_model.specs.Steps.{CloseAt, Forget, Make, MakeAnew};
+ghost use Rattle.merge_world.specs.Naming.{IsPlaced};
 ghost use Rattle.merge_world.specs.Views.{Does, IsOrdered};
 
 use crate::sites::{PublisherSite, SubscriberSite};
@@ -12,7 +13,8 @@ use merge_types::{Change, SiteId};
 impl<P: PublisherSite, S: SubscriberSite> Sites<P, S> {
     /// A local change at a site, of which 0 is the publisher.
     pub fn make(&mut self, site: SiteId, change: &Change) -> Outcome
-        requires { IsOrdered (⟦<Sites<P, S> as Seen>⟧.seen self.old) }
+        requires ordered { IsOrdered (⟦<Sites<P, S> as Seen>⟧.seen self.old) }
+        requires placed { IsPlaced (⟦<Sites<P, S> as Seen>⟧.seen self.old).publication change.now }
         ensures { Does (Make site change.now) (⟦<Sites<P, S> as Seen>⟧.seen self.old) (⟦<Sites<P, S> as Seen>⟧.seen self.new) result }
     {
         if site.0 == 0 {
@@ -23,6 +25,7 @@ impl<P: PublisherSite, S: SubscriberSite> Sites<P, S> {
     }
 
     fn make_at_publisher(&mut self, change: &Change) -> Outcome
+        requires { IsPlaced (⟦<Sites<P, S> as Seen>⟧.seen self.old).publication change.now }
         ensures { Does (Make (record { 0 = 0 }) change.now) (⟦<Sites<P, S> as Seen>⟧.seen self.old) (⟦<Sites<P, S> as Seen>⟧.seen self.new) result }
     {
         match self.publisher.local(self.moment, change) {
@@ -33,6 +36,7 @@ impl<P: PublisherSite, S: SubscriberSite> Sites<P, S> {
 
     fn make_at_subscriber(&mut self, site: SiteId, change: &Change) -> Outcome
         requires ordered { IsOrdered (⟦<Sites<P, S> as Seen>⟧.seen self.old) }
+        requires placed { IsPlaced (⟦<Sites<P, S> as Seen>⟧.seen self.old).publication change.now }
         requires subscriber { ¬ (site.0 ≡ 0) }
         ensures { Does (Make site change.now) (⟦<Sites<P, S> as Seen>⟧.seen self.old) (⟦<Sites<P, S> as Seen>⟧.seen self.new) result }
     {

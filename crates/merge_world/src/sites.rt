@@ -12,8 +12,11 @@ use merge_units::{PublisherRow, SubscriberRow};
 
 /// The publisher's site.
 pub trait PublisherSite: Drop {
-    ghost use Rattle.std.specs.Prelude.{◌≡◌, ℕ, IfOk, Ok, length, map};
+    ghost use Rattle.std.specs.Prelude.{◌≡◌, ℕ, IfOk, Ok, length, map, true};
+    ghost use Rattle.merge_batch.specs.Articles.{has_article};
+    ghost use Rattle.merge_batch.specs.LocalChanges.{article_of, settings_of};
     ghost use Rattle.merge_resolve.specs.Asked.{says_at};
+    ghost use Rattle.merge_units.specs.Changes.{ColumnsAscend};
     ghost use Rattle.merge_model.specs.ByNumbers.{by_numbers};
     ghost use Rattle.merge_model.specs.Calls.{Counted, always_commits, closing_commits, handled, questions_on, request_commits};
     ghost use Rattle.merge_model.specs.Keys.{at_number};
@@ -28,6 +31,8 @@ pub trait PublisherSite: Drop {
 
     /// A local change. It gives the row that was changed.
     fn local(&mut self, now: Moment, change: &Change) -> Result<RowId, Refusal>
+        requires place { has_article (view self.old).publication (article_of change.now) ≡ true }
+        requires ascend { ColumnsAscend (settings_of change.now) }
         ensures called { PublisherCall (local (view self.old).publication (by_numbers (view self.old).tables) now change.now (view self.old).tables) always_commits (view self.old) (view self.new) result }
         ensures publication { (view self.new).publication ≡ (view self.old).publication };
 
@@ -91,7 +96,9 @@ pub trait PublisherSite: Drop {
 
 /// A subscriber's site.
 pub trait SubscriberSite: Drop {
-    ghost use Rattle.std.specs.Prelude.{◌≡◌, IfOk};
+    ghost use Rattle.std.specs.Prelude.{◌≡◌, IfOk, true};
+    ghost use Rattle.merge_batch.specs.Articles.{has_article};
+    ghost use Rattle.merge_batch.specs.LocalChanges.{article_of, settings_of};
     ghost use Rattle.merge_model.specs.ByNumbers.{by_rows};
     ghost use Rattle.merge_model.specs.Calls.{always_commits, closing_commits, message_commits, message_or_none, reply_commits};
     ghost use Rattle.merge_model.specs.Reinit.{reinitialise};
@@ -99,6 +106,7 @@ pub trait SubscriberSite: Drop {
     ghost use Rattle.merge_model.specs.Sending.{make_ask, make_join, make_ranges, make_upload};
     ghost use Rattle.merge_model.specs.Subscriber.{close_sub_generation, sub_local};
     ghost use Rattle.merge_model.specs.Taking.{take_reply};
+    ghost use Rattle.merge_units.specs.Changes.{ColumnsAscend};
     ghost use Rattle.merge_world.specs.Restarts.{Restarted};
     ghost use Rattle.merge_world.specs.Views.{SubscriberCall, SubscriberView};
 
@@ -106,6 +114,8 @@ pub trait SubscriberSite: Drop {
 
     /// A local change. It gives the row that was changed.
     fn local(&mut self, now: Moment, change: &Change) -> Result<RowId, Refusal>
+        requires place { has_article (view self.old).publication (article_of change.now) ≡ true }
+        requires ascend { ColumnsAscend (settings_of change.now) }
         ensures called { SubscriberCall (sub_local (view self.old).publication now change.now (view self.old).tables) always_commits (view self.old) (view self.new) result }
         ensures publication { (view self.new).publication ≡ (view self.old).publication }
         ensures site { (view self.new).tables.site ≡ (view self.old).tables.site };
