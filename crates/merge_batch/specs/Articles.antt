@@ -2,9 +2,8 @@
 use Rattle.std.specs.Prelude.{ℕ, ◌==◌, ◌&&◌, Bool, true, false, nat_le, List, [], ◌∷◌, length, slice_get, Option, Some, None, is_some}
 use Rattle.std.specs.List.{list_all, flat_map}
 use Rattle.std.specs.Option.{option_map_or}
-use Rattle.merge_types.specs.Fitting.{has_type, is_short}
+use Rattle.merge_types.specs.Fitting.{fits_column}
 use Rattle.merge_types.specs.Limits.{row_limit}
-use Rattle.merge_types.specs.declared.ColType.{ColType}
 use Rattle.merge_types.specs.declared.Column.{Column}
 use Rattle.merge_types.specs.declared.Tracking.{Tracking}
 use Rattle.merge_types.specs.declared.Tracking.TheVariants as tracking
@@ -19,14 +18,10 @@ use Rattle.merge_schema.specs.declared.publication.Article.{Article}
 use Rattle.merge_schema.specs.declared.publication.Identity.{Identity}
 use Rattle.merge_schema.specs.Places.{article_at}
 
--- a Null, or a value of the column's type, and short where it is a text or bytes
-abbrev pub value_fits : ColType → Value → Bool
-value_fits ty value = has_type ty value && is_short value
-
--- there is one value for each column, which is Null or of its type, and short
+-- there is one value for each column, which fits it
 abbrev pub values_fit : List Column → List Value → Bool
 values_fit [] [] = true
-values_fit (column ∷ columns) (value ∷ values) = value_fits column.ty value && values_fit columns values
+values_fit (column ∷ columns) (value ∷ values) = fits_column column.ty value && values_fit columns values
 values_fit _ _ = false
 
 -- with row tracking one cell has all values, else each cell has one value

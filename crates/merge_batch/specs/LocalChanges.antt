@@ -2,7 +2,7 @@
 use Rattle.std.specs.List.{enumerate_from, fold, list_any}
 use Rattle.std.specs.Option.{option_and_then, option_map_or}
 use Rattle.std.specs.Prelude.{Bool, Err, List, None, Ok, Option, Result, Some, [], false, find, if◌then◌else◌, length, map, max, nat_le, nat_lt, not, option_map, pos, slice_get, true, unwrap_or, ℕ, ◌&&◌, ◌+◌, ◌==◌, ◌∷◌}
-use Rattle.merge_types.specs.Fitting.{content_length, has_type}
+use Rattle.merge_types.specs.Fitting.{content_length, has_type, is_proper}
 use Rattle.merge_types.specs.Limits.{counter_limit, row_limit, rows_limit, value_limit}
 use Rattle.merge_types.specs.Rows.{row_number}
 use Rattle.merge_types.specs.declared.changes.Change.{Change}
@@ -122,9 +122,12 @@ abbrev pub sets_identity : List Setting → Option ℕ → Option Refusal
 sets_identity settings None = None
 sets_identity settings (Some column) = refused_if (list_any (λ (setting : Setting). setting.column == column) settings) (IdentityColumn column)
 
--- whether a value is Null or of its column's type
+-- whether a value is Null or of its column's type; a day that the calendar does not have is of none
+abbrev pub is_of_type : Value → ColType → Bool
+is_of_type value ty = has_type ty value && is_proper value
+
 abbrev pub fits_type : List ColType → Setting → Bool
-fits_type types setting = option_map_or (λ (ty : ColType). has_type ty setting.value) (slice_get types setting.column) false
+fits_type types setting = option_map_or (is_of_type setting.value) (slice_get types setting.column) false
 
 -- the first value that is neither Null nor of its column's type
 abbrev pub wrong_type : List ColType → List Setting → Option Refusal

@@ -1,11 +1,11 @@
 //! Whether rows fit their article.
 ghost use Rattle.std.specs.Prelude.{◌≡◌, length, slice_get};
 ghost use Rattle.std.specs.Option.{option_copied};
-ghost use Rattle.merge_batch.specs.Articles.{value_fits, values_fit, cells_fit_tracking, row_values, is_set, identity_is_set, cells_fit, body_fits, has_article, fits_article};
+ghost use Rattle.merge_batch.specs.Articles.{values_fit, cells_fit_tracking, row_values, is_set, identity_is_set, cells_fit, body_fits, has_article, fits_article};
 
 use merge_schema::{Article, Identity, Publication};
 use merge_types::limits::ROW_LIMIT;
-use merge_types::{ColType, Column, Tracking, Value};
+use merge_types::{Column, Tracking, Value};
 use merge_units::{Body, Cell, fits_tracking, stored_length};
 
 /// Whether the article exists.
@@ -86,17 +86,11 @@ fn each_fits(columns: &[Column], values: &[Value]) -> bool
         return false;
     }
     for at in 0..columns.len() {
-        if !value_fits(columns[at].ty, &values[at]) {
+        if !values[at].fits(columns[at].ty) {
             return false;
         }
     }
     true
-}
-
-fn value_fits(ty: ColType, value: &Value) -> bool
-    ensures { result ≡ value_fits ty value.now }
-{
-    value.has_type(ty) && value.is_short()
 }
 
 // Whether the value of the identity column is there, where there is such a column.

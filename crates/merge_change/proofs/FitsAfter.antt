@@ -17,9 +17,9 @@ use Rattle.merge_types.specs.declared.values.Value.{Value}
 use Rattle.merge_types.specs.declared.values.Value.TheVariants.{Null, Int, Bit, Text, Day, Guid, Bytes}
 use Rattle.merge_units.specs.Changes.{cell_after, new_cell, set_value, value_after}
 use Rattle.merge_units.specs.declared.version.Cell.{Cell}
-use Rattle.merge_batch.specs.Articles.{has_one_value, is_set, row_values, value_fits, values_fit}
-use Rattle.merge_types.specs.Fitting.{content_length, has_type, is_short}
-use Rattle.merge_batch.specs.LocalChanges.{fits_type, long_value, new_value, wrong_type}
+use Rattle.merge_batch.specs.Articles.{has_one_value, is_set, row_values, values_fit}
+use Rattle.merge_types.specs.Fitting.{content_length, fits_column, has_type, is_proper, is_short}
+use Rattle.merge_batch.specs.LocalChanges.{fits_type, is_of_type, long_value, new_value, wrong_type}
 use Rattle.merge_change.proofs.Lengths.{is_long, mapped-none, not-found}
 
 -- A value that is set fits its column.
@@ -36,38 +36,42 @@ short-is (Bytes bytes) le = grind (arith, nat_tests, le)
 abbrev is_wrong : List ColType → Setting → Bool
 is_wrong types setting = not (fits_type types setting)
 
-typed : (types : List ColType) (setting : Setting) → is_wrong types setting ≡ false → (column : ℕ) → (setting.column == column) ≡ true → (ty : ColType) → slice_get types column ≡ Some ty → has_type ty setting.value ≡ true
+typed : (types : List ColType) (setting : Setting) → is_wrong types setting ≡ false → (column : ℕ) → (setting.column == column) ≡ true → (ty : ColType) → slice_get types column ≡ Some ty → is_of_type setting.value ty ≡ true
 typed types setting right column here ty is =
     let same : setting.column ≡ column = grind (arith, nat_tests, here) in
     let at : slice_get types setting.column ≡ Some ty = rw same is in
-    let by : not (option_map_or (λ (t : ColType). has_type t setting.value) (Some ty) false) ≡ false = rw at at right in
+    let by : not (option_map_or (is_of_type setting.value) (Some ty) false) ≡ false = rw at at right in
     let out : (b : Bool) → not b ≡ false → b ≡ true = λ b. elim b as (λ v. not v ≡ false → v ≡ true) [ true ↦ λ h. refl | false ↦ λ h. absurd (cc h) ] in
-    out (has_type ty setting.value) by
+    out (is_of_type setting.value ty) by
+
+-- of its type, and short
+fits-so : (ty : ColType) (value : Value) → is_of_type value ty ≡ true → is_short value ≡ true → fits_column ty value ≡ true
+fits-so ty value typed short = let parts = and_parts (has_type ty value) (is_proper value) typed in and_from _ _ parts.0 (and_from _ _ short parts.1)
 
 found-fits : (types : List ColType) (settings : List Setting) → find (is_wrong types) settings ≡ None → find is_long settings ≡ None → (column : ℕ) (value : Value) → set_value settings column ≡ Some value
-    → (ty : ColType) → slice_get types column ≡ Some ty → value_fits ty value ≡ true
+    → (ty : ColType) → slice_get types column ≡ Some ty → fits_column ty value ≡ true
 found-fits types [] right short column value set ty is = absurd (cc set)
 found-fits types (setting ∷ settings) right short column value set ty is =
     let rights = not-found (is_wrong types) setting settings right in
     let shorts = not-found is_long setting settings short in
     let low : content_length setting.value ≤ value_limit = grind (arith, nat_tests, shorts.0) in
-    let by : (b : Bool) → (setting.column == column) ≡ b → value_fits ty value ≡ true = λ b. elim b as (λ v. (setting.column == column) ≡ v → value_fits ty value ≡ true) [
+    let by : (b : Bool) → (setting.column == column) ≡ b → fits_column ty value ≡ true = λ b. elim b as (λ v. (setting.column == column) ≡ v → fits_column ty value ≡ true) [
       | true ↦ λ yes. let same : setting.value ≡ value = cc (rw yes at set) in
-          subst (λ (v : Value). value_fits ty v ≡ true) same (and_from _ _ (typed types setting rights.0 column yes ty is) (short-is setting.value low))
+          subst (λ (v : Value). fits_column ty v ≡ true) same (fits-so ty setting.value (typed types setting rights.0 column yes ty is) (short-is setting.value low))
       | false ↦ λ no. found-fits types settings rights.1 shorts.1 column value (rw no at set) ty is
     ] in by (setting.column == column) refl
 
 pub set-fits : (types : List ColType) (settings : List Setting) → wrong_type types settings ≡ None → long_value settings ≡ None
-    → (column : ℕ) (value : Value) → set_value settings column ≡ Some value → (ty : ColType) → slice_get types column ≡ Some ty → value_fits ty value ≡ true
+    → (column : ℕ) (value : Value) → set_value settings column ≡ Some value → (ty : ColType) → slice_get types column ≡ Some ty → fits_column ty value ≡ true
 set-fits types settings right short = found-fits types settings (mapped-none _ (find (is_wrong types) settings) right) (mapped-none _ (find is_long settings) short)
 
 -- what is set, or what is there
 either-fits : (types : List ColType) (settings : List Setting) → wrong_type types settings ≡ None → long_value settings ≡ None → (column : ℕ) (ty : ColType) → slice_get types column ≡ Some ty
-    → (value : Value) → value_fits ty value ≡ true → (set : Option Value) → set_value settings column ≡ set → value_fits ty (unwrap_or set value) ≡ true
+    → (value : Value) → fits_column ty value ≡ true → (set : Option Value) → set_value settings column ≡ set → fits_column ty (unwrap_or set value) ≡ true
 either-fits types settings right short column ty is value fits None set = fits
 either-fits types settings right short column ty is value fits (Some other) set = set-fits types settings right short column other set ty is
 
-null-fits : (ty : ColType) → value_fits ty Null ≡ true
+null-fits : (ty : ColType) → fits_column ty Null ≡ true
 unfolding has_type
 null-fits ty = refl
 
@@ -90,7 +94,7 @@ updated-from types settings right short n [] aligned [] fits = refl
 updated-from types settings right short n [] aligned (value ∷ values) fits = absurd (cc fits)
 updated-from types settings right short n (column ∷ columns) aligned [] fits = absurd (cc fits)
 updated-from types settings right short n (column ∷ columns) aligned (value ∷ values) fits =
-    let parts = and_parts (value_fits column.ty value) (values_fit columns values) fits in
+    let parts = and_parts (fits_column column.ty value) (values_fit columns values) fits in
     and_from _ _
     (either-fits types settings right short n column.ty (aligned-head types n column columns aligned) value parts.0 (set_value settings n) refl)
     (updated-from types settings right short (n + 1) columns (aligned-tail types n column columns aligned) values parts.1)
@@ -98,13 +102,13 @@ updated-from types settings right short n (column ∷ columns) aligned (value �
 -- the identity value of a new row fits its column
 abbrev pub IdentityFits : List ColType → Option ℕ → Value → Type 0
 IdentityFits types None identity = Unit {0}
-IdentityFits types (Some place) identity = (ty : ColType) → slice_get types place ≡ Some ty → value_fits ty identity ≡ true
+IdentityFits types (Some place) identity = (ty : ColType) → slice_get types place ≡ Some ty → fits_column ty identity ≡ true
 
 new-fits : (types : List ColType) (settings : List Setting) → wrong_type types settings ≡ None → long_value settings ≡ None → (place : Option ℕ) (identity : Value) → IdentityFits types place identity
-    → (column : ℕ) (ty : ColType) → slice_get types column ≡ Some ty → value_fits ty (new_value place identity settings column) ≡ true
+    → (column : ℕ) (ty : ColType) → slice_get types column ≡ Some ty → fits_column ty (new_value place identity settings column) ≡ true
 new-fits types settings right short None identity fits column ty is = either-fits types settings right short column ty is Null (null-fits ty) (set_value settings column) refl
 new-fits types settings right short (Some place) identity fits column ty is =
-    let by : (b : Bool) → (column == place) ≡ b → value_fits ty (if b then identity else unwrap_or (set_value settings column) Null) ≡ true = λ b. elim b as (λ v. (column == place) ≡ v → value_fits ty (if v then identity else unwrap_or (set_value settings column) Null) ≡ true) [
+    let by : (b : Bool) → (column == place) ≡ b → fits_column ty (if b then identity else unwrap_or (set_value settings column) Null) ≡ true = λ b. elim b as (λ v. (column == place) ≡ v → fits_column ty (if v then identity else unwrap_or (set_value settings column) Null) ≡ true) [
       | true ↦ λ yes. let same : column ≡ place = grind (arith, nat_tests, yes) in fits ty (rw (← same) is)
       | false ↦ λ no. either-fits types settings right short column ty is Null (null-fits ty) (set_value settings column) refl
     ] in by (column == place) refl

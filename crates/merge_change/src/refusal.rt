@@ -99,12 +99,13 @@ fn wrong_setting<'a>(
         .find(|setting| !fits_type(publication, place, setting))
 }
 
-// Whether the column is there, and the value is Null or of its type.
+// Whether the column is there, and the value is Null or of its type. A day that the calendar does not
+// have is of none.
 fn fits_type(publication: &Publication, place: u8, setting: &Setting) -> bool
     ensures { result ≡ fits_type (types_at publication.now place) setting.now }
 {
     match article::column_type(publication, place, setting.column) {
-        Some(ty) => setting.value.has_type(ty),
+        Some(ty) => setting.value.has_type(ty) && setting.value.is_proper(),
         None => false,
     }
 }
