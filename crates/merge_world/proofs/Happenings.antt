@@ -23,7 +23,7 @@ use Rattle.merge_model.proofs.Reached.{same-start, stays, under}
 use Rattle.merge_model.proofs.ReachedEvents.{synced, waiting}
 use Rattle.merge_world.proofs.Doing.{same-count}
 use Rattle.merge_world.proofs.Locals.{stays-same}
-use Rattle.merge_world.specs.Happenings.{Comes, Happened, seconds_of, send_event}
+use Rattle.merge_world.specs.Happenings.{Comes, Happened, Proceeds, seconds_of, send_event}
 use Rattle.merge_world.specs.Messages.{sending_of}
 use Rattle.merge_world.specs.Sessions.{Synced, Syncs, watermark_at}
 use Rattle.merge_world.specs.Views.{Does, HandedView, Moves, PublisherView, SitesView, Stays, SubscriberView, sites_view, tables_at, world_of}
@@ -181,6 +181,13 @@ module _ (e : Event) (site : SiteId) (action : Action) (u : SitesView) (none : s
 
 pub so-answered : (e : Event) (u v : SitesView) (g h : HandedView) (answer answer' : Answer) → answer ≡ answer' → Happened e u v g h answer' → Happened e u v g h answer
 so-answered e u v g h answer answer' same happened = subst (λ (a : Answer). Happened e u v g h a) (sym same) happened
+
+-- the event in other words
+pub event-so : (e e' : Event) (u v : SitesView) (g h : HandedView) (answer : Answer) → e ≡ e' → Happened e' u v g h answer → Happened e u v g h answer
+event-so e e' u v g h answer same happened = subst (λ (x : Event). Happened x u v g h answer) (sym same) happened
+
+pub proceeds-so : (e e' : Event) (u v : SitesView) (g h : HandedView) (result : Result Answer Refusal) → e ≡ e' → Proceeds e' u v g h result → Proceeds e u v g h result
+proceeds-so e e' u v g h result same proceeds = subst (λ (x : Event). Proceeds x u v g h result) (sym same) proceeds
 
 pub so-refused : (e : Event) (u : SitesView) (h : HandedView) (site : SiteId) (why : Refusal) → why ≡ UnknownSite site → Happened e u u h h (Refused (UnknownSite site)) → Happened e u u h h (Refused why)
 so-refused e u h site why same happened = subst (λ (r : Refusal). Happened e u u h h (Refused r)) (sym same) happened

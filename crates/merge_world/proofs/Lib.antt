@@ -10,3 +10,7 @@ pub mod Loops
 pub mod Rounds
 pub mod Happenings
 pub mod Changings
+pub mod Resumings
+pub mod Rowwise
+pub mod Telling
+pub mod Playings

@@ -6,3 +6,4 @@ pub mod Reports
 pub mod Messages
 pub mod Sessions
 pub mod Happenings
+pub mod Playing

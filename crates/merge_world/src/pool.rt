@@ -1,5 +1,5 @@
 //! The messages of a world, by their numbers.
-ghost use Rattle.std.specs.Prelude.{◌≡◌, ◌++◌, ◌∷◌, ◌<◌, [], vec_len, vec_capacity};
+ghost use Rattle.std.specs.Prelude.{◌≡◌, ◌++◌, ◌∷◌, ◌<◌, ◌≤◌, [], vec_len, vec_capacity};
 ghost use Rattle.std.specs.Option.{option_copied};
 ghost use Rattle.merge_model.specs.Parts.{pooled};
 
@@ -18,10 +18,11 @@ pub(crate) fn letter_at(pool: &[Letter], number: u64) -> Option<&Letter>
     pool.get((number - 1) as usize)
 }
 
-/// A message more, for which there is room.
-pub(crate) fn put(pool: &mut Vec<Letter>, letter: Letter)
-    requires { vec_len pool.old < vec_capacity pool.old }
-    ensures { pool.new.items ≡ pool.old.items ++ letter ∷ [] }
+/// One more, for which there is room.
+pub(crate) fn put<T: Drop>(list: &mut Vec<T>, item: T)
+    requires { vec_len list.old < vec_capacity list.old }
+    ensures items { list.new.items ≡ list.old.items ++ item ∷ [] }
+    ensures capacity { vec_capacity list.old ≤ vec_capacity list.new }
 {
-    if let Err(_) = pool.push(letter) {}
+    if let Err(_) = list.push(item) {}
 }

@@ -1,0 +1,115 @@
+-- Restarts, as events.
+use Rattle.std.proofs.Common.{◌≡◌, ◌≤◌, ◌+◌, ◌⊎◌, ℕ, Bool, true, false, List, [], Option, Some, None, Result, Ok, Err, get_or, length, map, set, sum_by, ◌<◌, refl, ap, sym, subst, ◌∙◌, arith, inl, inr}
+use Rattle.std.specs.List.{position}
+use Rattle.std.specs.Prelude.{IfErr, IfOk}
+use Rattle.std.proofs.lemmas.List.{map-set}
+use Rattle.std.proofs.Math.Seq.{map-set_same}
+use Rattle.merge_types.specs.declared.identifiers.Moment.{Moment}
+use Rattle.merge_types.specs.declared.identifiers.SiteId.{SiteId}
+use Rattle.merge_batch.specs.declared.refusal.Refusal.{Refusal}
+use Rattle.merge_batch.specs.declared.refusal.Refusal.TheVariants.{Damaged, NoMemory, StoreFault, UnknownSite}
+use Rattle.merge_model.specs.Events.{happens, is_site, looking}
+use Rattle.merge_model.specs.Failing.{Faulty, Slips, faulty}
+use Rattle.merge_model.specs.Reach.{stepping}
+use Rattle.merge_model.specs.Tables.{PublisherTables, SubscriberTables}
+use Rattle.merge_model.specs.World.{Saying, World}
+use Rattle.merge_model.specs.declared.answer.Answer.{Answer}
+use Rattle.merge_model.specs.declared.answer.Answer.TheVariants.{Fine, Refused}
+use Rattle.merge_model.specs.declared.event.Event.TheVariants as event
+use Rattle.merge_model.specs.declared.letter.Letter.{Letter}
+use Rattle.merge_world.proofs.Doing.{both-rise, faults-at, same-count, stays-at}
+use Rattle.merge_world.proofs.Finding.{at-place, is_of, placed, within}
+use Rattle.merge_world.proofs.Happenings.{looks-on, so-refused, unknown-site, wants-on, where-if}
+use Rattle.merge_world.proofs.Locals.{stays-same}
+use Rattle.merge_world.specs.Happenings.{Happened, Proceeds}
+use Rattle.merge_world.specs.Restarts.{IsLost, Restarted}
+use Rattle.merge_world.specs.Resuming.{EndsRun, Resumes}
+use Rattle.merge_world.specs.Views.{HandedView, PublisherView, SitesView, SubscriberView, entry_of, faults_of, sites_view, world_of}
+
+-- one site among all: what was the same is the same, and its faults are among those of all
+lost-among : (why : Refusal) (a b c d : ℕ) → b + c ≤ a + d → IsLost why a b → IsLost why c d
+lost-among why a b c d le (inl (is, more)) = inl (is, omega (arith, le, more))
+lost-among why a b c d le (inr (is, more)) = inr (is, omega (arith, le, more))
+
+restarted-among : {T U : Type 0} (old new : T) (old' new' : U) → (new ≡ old → new' ≡ old') → (a b c d : ℕ) → b + c ≤ a + d → (r : Result Unit Refusal) → Restarted old new a b r → Restarted old' new' c d r
+restarted-among old new old' new' same a b c d le (Ok done) (is, more) = (same is, omega (arith, le, more))
+restarted-among old new old' new' same a b c d le (Err why) (inl (wants, is, more)) = inl (wants, same is, omega (arith, le, more))
+restarted-among old new old' new' same a b c d le (Err why) (inr lost) = inr (lost-among why a b c d le lost)
+
+pub resumes-publisher : (ss : List SubscriberView) (pool : List Letter) (moment : Moment) (p p' : PublisherView) → p'.publication ≡ p.publication → (r : Result Unit Refusal) → Restarted p.tables p'.tables p.faults p'.faults r
+    → Resumes (sites_view p ss pool moment) (sites_view p' ss pool moment) r
+resumes-publisher ss pool moment p p' same r restarted = record {
+  restarted = λ tallies. restarted-among p.tables p'.tables (world_of (sites_view p ss pool moment) tallies) (world_of (sites_view p' ss pool moment) tallies)
+      (ap (λ (t : PublisherTables). record (world_of (sites_view p ss pool moment) tallies) { publisher = t })) p.faults p'.faults (sites_view p ss pool moment).faults (sites_view p' ss pool moment).faults
+      (both-rise p.faults p'.faults (sum_by faults_of ss)) r restarted;
+  stays = record { publication = same; sites = refl; publications = refl; moment = refl };
+}
+
+pub resumes-nowhere : (v : SitesView) → Resumes v v (Ok tt)
+resumes-nowhere v = record { restarted = λ tallies. (refl, same-count v.faults); stays = stays-same v }
+
+module _ (p : PublisherView) (pool : List Letter) (moment : Moment) where
+  abbrev all : List SubscriberView → SitesView
+  all ss = sites_view p ss pool moment
+
+  entry-same : (t t' : SubscriberView) → t'.tables ≡ t.tables → entry_of t' ≡ entry_of t
+  entry-same t t' same = ap (λ (s : SubscriberTables). (s.site.0, s)) same
+
+  among : (ss : List SubscriberView) (i : ℕ) (t t' : SubscriberView) → i < length ss → t ≡ get_or ss i t → t'.tables.site ≡ t.tables.site → t'.publication ≡ t.publication
+      → (r : Result Unit Refusal) → Restarted t.tables t'.tables t.faults t'.faults r → Resumes (all ss) (all (set ss i t')) r
+  among ss i t t' lt here same_site same_publication r restarted = record {
+    restarted = λ tallies. restarted-among t.tables t'.tables (world_of (all ss) tallies) (world_of (all (set ss i t')) tallies)
+        (λ same. ap (λ (l : List (ℕ × SubscriberTables)). record (world_of (all ss) tallies) { subscribers = l }) (map-set_same entry_of ss i t' t (entry-same t t' same ∙ ap entry_of here)))
+        t.faults t'.faults (all ss).faults (all (set ss i t')).faults (faults-at p pool moment ss i t t' lt here) r restarted;
+    stays = stays-at p pool moment ss i t t' pool here same_site same_publication;
+  }
+
+module _ {S : Type 0} (f : S → SubscriberView) (p : PublisherView) (pool : List Letter) (moment : Moment) (items : List S) where
+  pub resumes-subscriber : (i : ℕ) (s s' : S) (site : ℕ) → Some i ≡ position (is_of f site) items → s ≡ get_or items i s → (f s').tables.site ≡ (f s).tables.site → (f s').publication ≡ (f s).publication
+      → (r : Result Unit Refusal) → Restarted (f s).tables (f s').tables (f s).faults (f s').faults r → Resumes (sites_view p (map f items) pool moment) (sites_view p (map f (set items i s')) pool moment) r
+  resumes-subscriber i s s' site found at same_site same_publication r restarted =
+      let place = placed f items i s site found at in
+      subst (λ (l : List SubscriberView). Resumes (sites_view p (map f items) pool moment) (sites_view p l pool moment) r) (sym (map-set f items i s'))
+      (among p pool moment (map f items) i (f s) (f s') (within f items i place.0) (at-place f items i s place.0 at) same_site same_publication r restarted)
+
+-- As events.
+module _ (site : SiteId) (u v : SitesView) where
+  at-known : is_site u.publication site ≡ true → (says : Saying) (tallies : List ℕ) (l : Slips) → happens u.publication (stepping u.publication says) (faulty (world_of u tallies) l) (event.Restart site)
+      ≡ looking u.publication (stepping u.publication says) (λ (w : Faulty World). Fine) (faulty (world_of u tallies) l)
+  at-known known says tallies l = ap (where-if u.publication says site (faulty (world_of u tallies) l) (looking u.publication (stepping u.publication says) (λ (w : Faulty World). Fine))) known
+
+  pub restart-fine : Resumes u v (Ok tt) → is_site u.publication site ≡ true → (h : HandedView) → Happened (event.Restart site) u v h h Fine
+  restart-fine resumes known h = looks-on (event.Restart site) u Fine refl (λ says w. Fine) (λ says tallies l. refl) (at-known known) v (λ tallies. (resumes.restarted tallies).0) (resumes.restarted []).1 resumes.stays h
+
+  wanted : {T : Type 0} (old new : T) (a b : ℕ) (why : Refusal) → why ≡ NoMemory → Restarted old new a b (Err why) → (new ≡ old) × (a ≤ b)
+  wanted old new a b why wants (inl (is, same, le)) = (same, le)
+  wanted old new a b why wants (inr (inl (is, le))) = absurd (cc (is, wants))
+  wanted old new a b why wants (inr (inr ((table, key, is), le))) = absurd (cc (is, wants))
+
+  want-of : (tallies : List ℕ) (why : Refusal) → why ≡ NoMemory → Resumes u v (Err why) → (world_of v tallies ≡ world_of u tallies) × (u.faults ≤ v.faults)
+  want-of tallies why wants resumes = wanted (world_of u tallies) (world_of v tallies) u.faults v.faults why wants (resumes.restarted tallies)
+
+  pub restart-wants : (why : Refusal) → why ≡ NoMemory → Resumes u v (Err why) → is_site u.publication site ≡ true → (h : HandedView) → Happened (event.Restart site) u v h h (Refused NoMemory)
+  restart-wants why wants resumes known h = wants-on (event.Restart site) u Fine refl (λ says w. Fine) (λ says tallies l. refl) (at-known known) v
+      (λ tallies. (want-of tallies why wants resumes).0) (want-of [] why wants resumes).1 resumes.stays h
+
+  lost-of : {T : Type 0} (old new : T) (a b : ℕ) (why : Refusal) → (why ≡ NoMemory → ⊥) → Restarted old new a b (Err why) → IsLost why a b
+  lost-of old new a b why other (inl (is, same, le)) = absurd (other is)
+  lost-of old new a b why other (inr lost) = lost
+
+  restart-ends : (why : Refusal) → (why ≡ NoMemory → ⊥) → Resumes u v (Err why) → is_site u.publication site ≡ true → EndsRun (event.Restart site) u v why
+  restart-ends why other resumes known = record {
+    site = site;
+    restarts = refl;
+    known = known;
+    lost = lost-of (world_of u []) (world_of v []) u.faults v.faults why other (resumes.restarted []);
+  }
+
+  pub restart-fails : (why : Refusal) → Resumes u v (Err why) → is_site u.publication site ≡ true → (r : Result Answer Refusal)
+      → IfOk r (λ answer. (answer ≡ Refused NoMemory) × (why ≡ NoMemory)) → IfErr r (λ other. (other ≡ why) × (why ≡ NoMemory → ⊥)) → (h : HandedView) → Proceeds (event.Restart site) u v h h r
+  restart-fails why resumes known (Ok answer) wanting ended h = subst (λ (a : Answer). Happened (event.Restart site) u v h h a) (sym wanting.0) (restart-wants why wanting.1 resumes known h)
+  restart-fails why resumes known (Err other) wanting ended h = subst (λ (r : Refusal). EndsRun (event.Restart site) u v r) (sym ended.0) (restart-ends why ended.1 resumes known)
+
+pub restart-nowhere : (u : SitesView) (site : SiteId) (why : Refusal) → why ≡ UnknownSite site → is_site u.publication site ≡ false → (h : HandedView) → Happened (event.Restart site) u u h h (Refused why)
+restart-nowhere u site why is off h = so-refused (event.Restart site) u h site why is (unknown-site (event.Restart site) u site refl
+    (λ says tallies l. ap (where-if u.publication says site (faulty (world_of u tallies) l) (looking u.publication (stepping u.publication says) (λ (w : Faulty World). Fine))) off) h)
