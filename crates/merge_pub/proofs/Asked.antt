@@ -1,5 +1,5 @@
 -- A call by its parts: the first refusal, or the step.
-use Rattle.std.specs.Prelude.{◌≡◌, ◌<◌, ◌≤◌, ℕ, Bool, true, false, List, cond, nat_lt, Option, Some, None, Result, Ok, Err, refl, max, option_map, unwrap_or}
+use Rattle.std.specs.Prelude.{◌≡◌, ◌<◌, ◌≤◌, ℕ, Bool, true, false, List, cond, nat_lt, Option, Some, None, Result, Ok, Err, option_map, unwrap_or}
 use Rattle.std.proofs.Common.{arith, sym, ap, ◌∙◌, subst}
 use Rattle.std.proofs.lemmas.Bool.Decides.{nat_tests}
 use Rattle.merge_types.specs.declared.identifiers.Moment.{Moment}

@@ -1,8 +1,8 @@
 -- How many rows a batch has, generation by generation, and what a site does with them.
-use Rattle.std.specs.Prelude.{◌≡◌, ◌<◌, ◌≤◌, ◌+◌, ◌-◌, ◌++◌, ◌&&◌, ℕ, zero, suc, Bool, true, false, List, [], ◌∷◌, Option, Some, None, refl, cond, count_by, filter, filter_map, get_or, is_some, length, map, min, nat_le, nat_lt, option_map, take}
+use Rattle.std.specs.Prelude.{◌≡◌, ◌<◌, ◌≤◌, ◌+◌, ◌-◌, ◌++◌, ◌&&◌, ℕ, suc, Bool, true, false, List, [], ◌∷◌, Option, Some, None, refl, cond, count_by, filter, filter_map, get_or, is_some, length, map, min, nat_le, nat_lt, option_map, take}
 use Rattle.std.specs.List.{cons_option}
 use Rattle.std.specs.Option.{option_to_list}
-use Rattle.std.proofs.Common.{arith, sym, ap, ◌∙◌, add-one, append-nil, length-append, subst}
+use Rattle.std.proofs.Common.{arith, sym, ap, ◌∙◌, add-one, length-append, subst}
 use Rattle.std.proofs.Math.Seq.{take-suc}
 use Rattle.std.proofs.lemmas.Bool.Decides.{nat_tests}
 use Rattle.std.proofs.lemmas.List.{take_all}

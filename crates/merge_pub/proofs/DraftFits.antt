@@ -1,5 +1,5 @@
 -- What a draft needs, over all that a publisher holds.
-use Rattle.std.specs.Prelude.{◌≡◌, ℕ, All, IsSome, List, [], map, refl}
+use Rattle.std.specs.Prelude.{◌≡◌, All, IsSome, List, [], map, refl}
 use Rattle.std.specs.List.Sorted.{IsStrictlySortedBy}
 use Rattle.std.specs.Map.{keys_of}
 use Rattle.std.proofs.Common.{sym, ap, ◌∙◌, subst}

@@ -10,7 +10,6 @@ use Rattle.merge_types.specs.declared.identifiers.Moment.{Moment}
 use Rattle.merge_table.specs.Edits.{IsReady, is_ready, rows_after_all}
 use Rattle.merge_table.specs.declared.edit.Edit.{Edit}
 use Rattle.merge_gens.specs.Entries.{entry_cmp}
-use Rattle.merge_gens.specs.Index.{entries_after_all}
 use Rattle.merge_gens.specs.Moves.{row_site_cmp}
 use Rattle.merge_gens.specs.Plan as gens
 use Rattle.merge_gens.specs.declared.moves.Mapping.{Mapping}
@@ -19,8 +18,6 @@ use Rattle.merge_gens.specs.declared.sites.SiteState.{SiteState}
 use Rattle.merge_units.specs.declared.site_row.PublisherRow.{PublisherRow}
 use Rattle.merge_ident.specs.Holders.{Holder}
 use Rattle.merge_ident.specs.Answers.{grants_with_all}
-use Rattle.merge_ident.specs.Books as grants
-use Rattle.merge_conflict.specs.Table as conflicts
 use Rattle.merge_schema.specs.declared.publication.Publication.{Publication}
 use Rattle.merge_part.specs.View.{live_in}
 use Rattle.merge_model.specs.Tables.{PublisherTables}

@@ -1,5 +1,5 @@
 -- The rows that changed or moved between two generations are found through the indexes.
-use Rattle.std.specs.Prelude.{◌≡◌, ◌<◌, ◌≤◌, ◌↔◌, ◌⊎◌, ◌&&◌, ◌||◌, ◌==◌, ◌+◌, ◌++◌, ℕ, Bool, true, false, List, [], ◌∷◌, Option, Some, None, Contains, refl, cond, filter, is_some, map, nat_le, option_map}
+use Rattle.std.specs.Prelude.{◌≡◌, ◌<◌, ◌≤◌, ◌↔◌, ◌⊎◌, ◌||◌, ◌==◌, ◌+◌, ◌++◌, ℕ, Bool, true, false, List, [], ◌∷◌, Option, Some, None, Contains, refl, cond, filter, is_some, map, nat_le, option_map}
 use Rattle.std.specs.BTreeMap.{is_at}
 use Rattle.std.specs.FinSet as set
 use Rattle.std.specs.List.{list_any}
@@ -15,17 +15,16 @@ use Rattle.merge_units.specs.declared.site_row.PublisherRow.{PublisherRow}
 use Rattle.merge_gens.specs.Entries.{entry_cmp, entry_of, row_of}
 use Rattle.merge_gens.specs.Index.{AddsRowsBetween}
 use Rattle.merge_gens.specs.declared.moves.Mapping.{Mapping}
-use Rattle.merge_gens.specs.declared.moves.RowSite.{RowSite}
 use Rattle.merge_gens.proofs.RowLists.{added_rows}
 use Rattle.merge_schema.proofs.ListMembers.{any_at, any_found}
 use Rattle.merge_model.specs.ByNumbers.{changed_in, mapping_at}
-use Rattle.merge_model.specs.Keys.{at_row_site, row_at}
+use Rattle.merge_model.specs.Keys.{row_at}
 use Rattle.merge_model.specs.Tables.{PublisherTables}
 use Rattle.merge_model.proofs.Sorted.{key_total}
 use Rattle.merge_pub.specs.Indexed.{AreIndexed, AreMoved, has_entry, is_changed, is_moved}
 use Rattle.merge_pub.specs.MoveEntries.{move_entry, move_entry_cmp}
 use Rattle.merge_pub.specs.MoveWalks.{is_in_walk, is_within, key_of_move, keys_in_walk}
-use Rattle.merge_pub.specs.Touches.{AreDue, IsDue, moved_in}
+use Rattle.merge_pub.specs.Touches.{AreDue, moved_in}
 use Rattle.merge_pub.specs.declared.move_entry.MoveEntry.{MoveEntry}
 
 key-itself : (key : Key) → is_at (key_cmp key) key ≡ true

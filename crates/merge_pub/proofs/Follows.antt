@@ -1,5 +1,5 @@
 -- The live rows as pairs are the live rows.
-use Rattle.std.specs.Prelude.{◌≡◌, List, [], ◌∷◌, Option, option_map, refl}
+use Rattle.std.specs.Prelude.{◌≡◌, List, [], ◌∷◌, option_map, refl}
 use Rattle.std.specs.List.{cons_option}
 use Rattle.std.proofs.Common.{ap, ◌∙◌}
 use Rattle.merge_types.specs.declared.row_key.RowKey.{RowKey as Key}

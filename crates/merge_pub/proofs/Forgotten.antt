@@ -1,9 +1,9 @@
 -- A join forgets the rows that left the site's partition, which are found through the index.
-use Rattle.std.specs.Prelude.{◌≡◌, ◌↔◌, ◌&&◌, ◌==◌, ℕ, Bool, true, false, not, List, [], ◌∷◌, ◌++◌, Option, Some, None, Contains, refl, filter, map, option_map, unwrap_or}
+use Rattle.std.specs.Prelude.{◌≡◌, ◌↔◌, ◌&&◌, ◌==◌, ℕ, Bool, true, false, not, List, [], ◌∷◌, Option, Some, None, Contains, refl, filter, map, option_map, unwrap_or}
 use Rattle.std.specs.BTreeMap.{is_at}
 use Rattle.std.specs.List.{list_any}
 use Rattle.std.specs.List.Sorted.{IsStrictlySortedBy}
-use Rattle.std.specs.Map.{keys_of, lookup}
+use Rattle.std.specs.Map.{keys_of}
 use Rattle.std.specs.declared.cmp.Ordering.TheVariants.{Less}
 use Rattle.std.specs.List.{AllByRecursion}
 use Rattle.std.proofs.Common.{arith, sym, ap, ◌∙◌, subst}
@@ -12,7 +12,7 @@ use Rattle.std.proofs.lemmas.List.Kept.{IsStrictlySortedBy-filter}
 use Rattle.merge_types.specs.RowKeys.{key_cmp}
 use Rattle.merge_types.specs.declared.identifiers.SiteId.{SiteId}
 use Rattle.merge_types.specs.declared.row_key.RowKey.{RowKey as Key}
-use Rattle.merge_table.specs.Edits.{key_of, rows_after_all}
+use Rattle.merge_table.specs.Edits.{rows_after_all}
 use Rattle.merge_table.specs.declared.edit.Edit.{Edit}
 use Rattle.merge_table.specs.declared.edit.Edit.TheVariants.{Take}
 use Rattle.merge_table.proofs.Puts.{filter-edits}
@@ -21,8 +21,7 @@ use Rattle.merge_gens.specs.declared.moves.Mapping.{Mapping}
 use Rattle.merge_gens.specs.declared.moves.RowSite.{RowSite}
 use Rattle.merge_schema.proofs.ListMembers.{any_at, any_found, contains_filter, contains_from_filter}
 use Rattle.merge_model.specs.Keys.{at_row_site}
-use Rattle.merge_model.specs.PublisherJoin.{is_left_of, without_left}
-use Rattle.merge_model.specs.Tables.{PublisherTables}
+use Rattle.merge_model.specs.PublisherJoin.{is_left_of}
 use Rattle.merge_model.proofs.KeyLookUps.{keys-exact}
 use Rattle.merge_model.proofs.PlaceLookUps.{places-exact}
 use Rattle.merge_model.proofs.Sorted.{row_site_total}

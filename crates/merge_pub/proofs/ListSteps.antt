@@ -1,5 +1,5 @@
 -- Lists that a loop over a slice builds, with what one more element adds.
-use Rattle.std.specs.Prelude.{◌≡◌, ◌<◌, ◌+◌, ◌++◌, ℕ, Bool, true, false, List, [], ◌∷◌, refl, cond, filter, flat_map, get_or, length, take}
+use Rattle.std.specs.Prelude.{◌≡◌, ◌<◌, ◌+◌, ◌++◌, ℕ, Bool, List, [], ◌∷◌, cond, filter, flat_map, get_or, length, take}
 use Rattle.std.proofs.Common.{sym, ap, ◌∙◌, add-one, append-nil}
 use Rattle.std.proofs.Math.Seq.{take-suc}
 use Rattle.std.proofs.lemmas.Grind.{flat_map-append}

@@ -7,7 +7,6 @@ use Rattle.std.specs.Map.{keys_of, lookup}
 use Rattle.std.specs.declared.cmp.Ordering.{Ordering}
 use Rattle.std.proofs.Common.{arith, sym, ap, ◌∙◌}
 use Rattle.std.proofs.lemmas.Bool.Decides.{nat_tests}
-use Rattle.merge_types.specs.declared.row_key.RowKey.{RowKey as Key}
 use Rattle.merge_table.proofs.LookUps.{lookup-insert_entry, lookup-remove_entry}
 use Rattle.merge_table.proofs.Sorted.{sorted_after, sorted_after_all}
 use Rattle.merge_table.specs.Edits.{key_of, rows_after, rows_after_all}
@@ -18,7 +17,7 @@ use Rattle.merge_gens.specs.declared.moves.Mapping.{Mapping}
 use Rattle.merge_gens.specs.declared.moves.RowSite.{RowSite}
 use Rattle.merge_model.specs.Keys.{at_row_site}
 use Rattle.merge_model.proofs.Sorted.{key_total, row_site_total}
-use Rattle.merge_model.proofs.PlaceLookUps.{is_place, places-exact}
+use Rattle.merge_model.proofs.PlaceLookUps.{places-exact}
 use Rattle.merge_pub.specs.Indexed.{AreMoved, has_entry, is_moved}
 use Rattle.merge_pub.specs.MoveEntries.{move_entry, move_entry_cmp}
 use Rattle.merge_pub.specs.Rows.{moved_edit, moved_edits, new_entry, old_entry}

@@ -11,7 +11,7 @@ use Rattle.std.proofs.lemmas.Bool.Decides.{nat_tests}
 use Rattle.std.proofs.lemmas.List.Kept.{IsStrictlySortedBy-filter}
 use Rattle.merge_types.specs.declared.row_key.RowKey.{RowKey as Key}
 use Rattle.merge_pub.specs.MoveEntries.{move_entry_cmp}
-use Rattle.merge_pub.specs.MoveWalks.{is_in_walk, is_within, key_of_move, keys_in_walk}
+use Rattle.merge_pub.specs.MoveWalks.{is_in_walk, is_within, key_of_move}
 use Rattle.merge_pub.specs.declared.move_entry.MoveEntry.{MoveEntry}
 
 abbrev pub Entries : Type 0

@@ -1,5 +1,5 @@
 -- Places that ascend are distinct.
-use Rattle.std.specs.Prelude.{◌≡◌, List, [], ◌∷◌}
+use Rattle.std.specs.Prelude.{List, [], ◌∷◌}
 use Rattle.std.specs.List.Sorted.{IsStrictlySortedBy}
 use Rattle.merge_table.proofs.Room.{no_room_above}
 use Rattle.merge_gens.specs.Moves.{row_site_cmp}

@@ -1,10 +1,9 @@
 -- The tombstones that a purge takes are found by the generations of the rows' last changes.
-use Rattle.std.specs.Prelude.{◌≡◌, ◌<◌, ◌≤◌, ◌↔◌, ◌+◌, ◌-◌, ◌++◌, ◌&&◌, ℕ, Bool, true, false, not, List, [], ◌∷◌, Option, Some, None, Contains, refl, cond, filter, filter_map, if◌then◌else◌, is_some, map, option_map}
+use Rattle.std.specs.Prelude.{◌≡◌, ◌≤◌, ◌↔◌, ◌+◌, ◌&&◌, ℕ, Bool, true, false, not, List, [], ◌∷◌, Option, Some, None, Contains, refl, cond, filter, filter_map, if◌then◌else◌, is_some, map, option_map}
 use Rattle.std.specs.BTreeMap.{is_at}
-use Rattle.std.specs.FinSet as set
 use Rattle.std.specs.List.{cons_option, list_any}
 use Rattle.std.specs.List.Sorted.{IsStrictlySortedBy}
-use Rattle.std.specs.Map.{keys_of, lookup}
+use Rattle.std.specs.Map.{keys_of}
 use Rattle.std.proofs.Common.{arith, sym, ap, ◌∙◌, subst}
 use Rattle.std.proofs.lemmas.Map.Made.{is_some-lookup}
 use Rattle.merge_types.specs.RowKeys.{key_cmp, key_exact}
@@ -15,7 +14,6 @@ use Rattle.merge_table.specs.declared.edit.Edit.{Edit}
 use Rattle.merge_table.specs.declared.edit.Edit.TheVariants.{Take}
 use Rattle.merge_units.specs.Version.{is_live}
 use Rattle.merge_units.specs.declared.site_row.PublisherRow.{PublisherRow}
-use Rattle.merge_gens.specs.Entries.{entry_cmp}
 use Rattle.merge_gens.specs.Index.{AddsRowsBetween}
 use Rattle.merge_gens.specs.declared.closings.Closing.{Closing}
 use Rattle.merge_gens.specs.declared.index.IndexEntry.{IndexEntry}
@@ -25,7 +23,7 @@ use Rattle.merge_model.specs.Tables.{PublisherTables}
 use Rattle.merge_model.proofs.Sorted.{key_total}
 use Rattle.merge_pub.specs.Held.{Held, tables_of}
 use Rattle.merge_pub.specs.Indexed.{AreIndexed}
-use Rattle.merge_pub.specs.OldSpans.{HasChanged, IsSpan, IsWithin}
+use Rattle.merge_pub.specs.OldSpans.{HasChanged, IsSpan}
 use Rattle.merge_pub.specs.Purging.{gone_at, gone_entries, gone_entry, gone_if, is_old_at, is_old_row, take_entry, take_row}
 use Rattle.merge_pub.specs.declared.old_spans.Span.{Span}
 use Rattle.merge_pub.proofs.Due.{changed-found}

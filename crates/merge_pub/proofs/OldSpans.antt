@@ -1,14 +1,14 @@
 -- Generations that closed before a moment lie from the first that is kept, up to the last one that did.
-use Rattle.std.specs.Prelude.{◌≡◌, ◌<◌, ◌≤◌, ◌==◌, ℕ, zero, suc, AllPairs, Bool, true, false, List, [], ◌∷◌, Option, Some, None, refl, cond, find, if◌then◌else◌, length, nat_lt, slice_index_or}
+use Rattle.std.specs.Prelude.{◌≡◌, ◌<◌, ◌≤◌, ◌==◌, ℕ, suc, AllPairs, Bool, true, false, List, [], ◌∷◌, Option, Some, None, refl, cond, find, if◌then◌else◌, length, nat_lt, slice_index_or}
 use Rattle.std.specs.List.{AllByRecursion}
 use Rattle.std.specs.Option.{option_map, option_or}
-use Rattle.std.proofs.Common.{arith, sym, ap, ◌∙◌, subst}
+use Rattle.std.proofs.Common.{arith, sym, ◌∙◌, subst}
 use Rattle.std.proofs.lemmas.Bool.Decides.{nat_tests}
 use Rattle.std.proofs.lemmas.List.Elements.{recursion_from_All}
 use Rattle.merge_types.specs.declared.identifiers.Moment.{Moment}
-use Rattle.merge_gens.specs.Book.{closed_before, last_before, moment_of}
+use Rattle.merge_gens.specs.Book.{closed_before, last_before}
 use Rattle.merge_gens.specs.declared.closings.Closing.{Closing}
-use Rattle.merge_pub.specs.OldSpans.{IsSpan, IsWithin}
+use Rattle.merge_pub.specs.OldSpans.{IsSpan}
 use Rattle.merge_pub.specs.Purging.{is_old_at}
 use Rattle.merge_pub.specs.declared.old_spans.Span.{Span}
 

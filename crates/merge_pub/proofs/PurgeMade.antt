@@ -21,8 +21,8 @@ use Rattle.merge_gens.specs.declared.moves.Mapping.{Mapping}
 use Rattle.merge_gens.specs.declared.moves.RowSite.{RowSite}
 use Rattle.merge_gens.specs.declared.sites.SiteState.{SiteState}
 use Rattle.merge_schema.specs.declared.publication.Publication.{Publication}
-use Rattle.merge_model.specs.Publisher.{at_moment, later}
-use Rattle.merge_model.specs.PublisherPurge.{after_purge, cutoff, forgotten, purge}
+use Rattle.merge_model.specs.Publisher.{later}
+use Rattle.merge_model.specs.PublisherPurge.{cutoff, purge}
 use Rattle.merge_model.specs.Tables.{PublisherTables}
 use Rattle.merge_model.specs.declared.outcome.Forgotten.{Forgotten}
 use Rattle.merge_model.proofs.Sorted.{key_total, row_site_total}

@@ -1,22 +1,18 @@
 -- What follows where rows go that don't live.
-use Rattle.std.specs.Prelude.{◌≡◌, ◌==◌, ◌&&◌, ◌||◌, ◌+◌, ◌++◌, ℕ, List, [], ◌∷◌, Bool, true, false, not, Option, Some, None, refl, cond, count_by, filter, filter_map, length, map, option_map}
-use Rattle.std.specs.BTreeMap.{is_at}
-use Rattle.std.specs.Cmp.{IsTotalOrder}
+use Rattle.std.specs.Prelude.{◌≡◌, ◌==◌, ◌&&◌, ◌||◌, ◌+◌, ℕ, List, [], ◌∷◌, Bool, true, false, not, Option, Some, None, refl, cond, count_by, filter, length, map, option_map}
 use Rattle.std.specs.FinSet as set
 use Rattle.std.specs.List.{AllByRecursion, cons_option, list_any}
 use Rattle.std.specs.List.Sorted.{IsStrictlySortedBy}
-use Rattle.std.specs.Map.{keys_of, lookup}
+use Rattle.std.specs.Map.{keys_of}
 use Rattle.std.specs.Ordering.{eq_by_cmp}
-use Rattle.std.specs.declared.cmp.Ordering.{Ordering}
 use Rattle.std.specs.declared.cmp.Ordering.TheVariants.{Less}
-use Rattle.std.specs.Option.{option_to_list}
-use Rattle.std.proofs.Common.{append_assoc, arith, sym, ap, ◌∙◌}
+use Rattle.std.proofs.Common.{arith, sym, ap, ◌∙◌}
 use Rattle.std.proofs.lemmas.Bool.Decides.{nat_tests}
 use Rattle.std.proofs.lemmas.Map.Keys.{sorted_tail}
 use Rattle.merge_types.specs.RowKeys.{key_cmp, key_exact}
 use Rattle.merge_types.specs.declared.row_key.RowKey.{RowKey as Key}
 use Rattle.merge_types.specs.declared.values.Value.{Value}
-use Rattle.merge_table.specs.Edits.{key_of, rows_after_all, takes_of}
+use Rattle.merge_table.specs.Edits.{takes_of}
 use Rattle.merge_table.specs.declared.edit.Edit.{Edit}
 use Rattle.merge_table.specs.declared.edit.Edit.TheVariants.{Take}
 use Rattle.merge_table.proofs.Puts.{found-filter, kept}
@@ -36,11 +32,11 @@ use Rattle.merge_model.specs.Keys.{row_at, same_key}
 use Rattle.merge_model.specs.Tables.{PublisherTables}
 use Rattle.merge_model.proofs.KeyLookUps.{key-test, none-behind}
 use Rattle.merge_model.proofs.Lists.{all-filter}
-use Rattle.merge_model.proofs.Sorted.{key_total, row_site_total}
+use Rattle.merge_model.proofs.Sorted.{key_total}
 use Rattle.merge_pub.specs.Indexed.{AreIndexed, is_changed}
 use Rattle.merge_pub.specs.Keeps.{KeepsRules, RowFits}
 use Rattle.merge_pub.specs.LiveRows.{live_pair, live_pairs, values_in}
-use Rattle.merge_pub.specs.Purging.{gone_entries, gone_entry, gone_if, take_entry}
+use Rattle.merge_pub.specs.Purging.{gone_entries, gone_entry, take_entry}
 use Rattle.merge_pub.specs.Working.{AreApart, places_of}
 use Rattle.merge_pub.proofs.BatchCounts.{count-cons}
 use Rattle.merge_pub.proofs.MovesApart.{sorted-apart}

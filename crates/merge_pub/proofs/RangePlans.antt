@@ -1,5 +1,5 @@
 -- The ranges that a site is granted are by the rules of its articles, and leave those of the publisher.
-use Rattle.std.specs.Prelude.{◌≡◌, ◌&&◌, ◌==◌, ◌+◌, ◌∷◌, ◌≤◌, ℕ, zero, suc, All, Bool, true, false, IsSome, List, Ok, Err, [], Option, Some, None, count_by, filter_map, find, map, option_map, refl, cond, is_some, slice_get}
+use Rattle.std.specs.Prelude.{◌≡◌, ◌&&◌, ◌==◌, ◌+◌, ◌∷◌, ◌≤◌, ℕ, zero, suc, All, Bool, true, false, IsSome, List, Ok, Err, [], Option, Some, None, filter_map, map, option_map, refl, cond, is_some, slice_get}
 use Rattle.std.specs.List.{AllByRecursion, cons_option, enumerate_from, list_all, list_any}
 use Rattle.std.specs.Option.{option_map_or}
 use Rattle.std.proofs.Common.{arith, sym, ap, ◌∙◌, subst}
@@ -7,14 +7,14 @@ use Rattle.std.proofs.lemmas.Bool.Decides.{nat_tests}
 use Rattle.std.proofs.lemmas.List.Elements.{All-from_recursion, recursion_from_All}
 use Rattle.merge_types.specs.declared.identifiers.SiteId.{SiteId}
 use Rattle.merge_ident.specs.Answers.{Answer, grants_with, grants_with_all, new_grant, plan_of, plans_of, rule_of, with_new}
-use Rattle.merge_ident.specs.Grants.{granted_to, is_of, with_grant}
+use Rattle.merge_ident.specs.Grants.{granted_to, is_of}
 use Rattle.merge_ident.specs.declared.grants.Ask.{Ask}
 use Rattle.merge_ident.specs.declared.grants.Grant.{Grant}
 use Rattle.merge_ident.specs.declared.grants.GrantAnswer.TheVariants.{Granted, Kept, NotDue}
 use Rattle.merge_ident.specs.declared.grants.GrantPlan.{GrantPlan}
 use Rattle.merge_ident.specs.declared.grants.Rule.{Rule}
 use Rattle.merge_ident.proofs.Added.{count_by-with_grant}
-use Rattle.merge_schema.specs.Places.{article_at, is_subscription}
+use Rattle.merge_schema.specs.Places.{is_subscription}
 use Rattle.merge_schema.specs.Valid.{IsValid, IsValidSubscription}
 use Rattle.merge_schema.specs.declared.publication.Article.{Article}
 use Rattle.merge_schema.specs.declared.publication.Identity.{Identity}

@@ -1,5 +1,5 @@
 -- Partitions as lists of keys, and as tests.
-use Rattle.std.specs.Prelude.{◌≡◌, ◌==◌, ◌&&◌, ◌||◌, ℕ, zero, suc, List, [], ◌∷◌, Bool, true, false, refl, map, Contains}
+use Rattle.std.specs.Prelude.{◌≡◌, suc, List, [], ◌∷◌, Bool, true, false, refl, map, Contains}
 use Rattle.std.specs.List.{list_any}
 use Rattle.std.proofs.Common.{arith, sym, ap, ◌∙◌, subst, inl, inr}
 use Rattle.std.proofs.lemmas.Bool.Decides.{nat_tests}

@@ -25,7 +25,7 @@ use Rattle.merge_model.specs.PublisherDownload.{TouchedRow, inside_keys, is_betw
 use Rattle.merge_model.specs.Tables.{PublisherTables}
 use Rattle.merge_model.proofs.Sorted.{key_total}
 use Rattle.merge_pub.proofs.HeldKeys.{all-has, all-sorted}
-use Rattle.merge_pub.specs.Touches.{AreDue, IsDue, kept_if, moved_in, touched_between}
+use Rattle.merge_pub.specs.Touches.{AreDue, IsDue, kept_if, touched_between}
 
 -- A filter of what is given gives what is kept.
 

@@ -1,6 +1,5 @@
 -- The entries by which a site's mappings are found by their generations, and their order.
 use Rattle.std.specs.Prelude.{◌≡◌, ℕ}
-use Rattle.std.specs.Coded.{Coded, code_by, coded×, coded_ℕ}
 use Rattle.std.proofs.Common.{ap}
 use Rattle.std.specs.declared.cmp.Ordering.{Ordering}
 use Rattle.std.specs.declared.cmp.Ordering.TheVariants.{Equal}

@@ -1,4 +1,4 @@
-use Rattle.std.proofs.Common.{refl, length, arith}
+use Rattle.std.proofs.Common.{refl, length}
 use Rattle.std.proofs.lemmas.Option.{slice_get_read}
 use Rattle.merge_pub.proofs.Identities.{holders-step}
 use Rattle.merge_pub.proofs.beginning.new_holders.Goals as goal

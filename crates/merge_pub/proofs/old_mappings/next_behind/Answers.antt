@@ -1,4 +1,4 @@
-use Rattle.merge_pub.proofs.OldMappings.{behind-last, behind-next}
+use Rattle.merge_pub.proofs.OldMappings.{behind-next}
 use Rattle.merge_pub.proofs.old_mappings.next_behind.Goals as goal
 
 pub returns-clause-next : goal.returns-clause-next

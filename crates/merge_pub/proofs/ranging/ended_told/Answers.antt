@@ -1,6 +1,3 @@
-use Rattle.std.specs.Prelude.{◌++◌, List, Option}
-use Rattle.std.specs.Option.{option_to_list}
-use Rattle.std.proofs.Common.{ap, ◌∙◌}
 use Rattle.merge_ident.specs.declared.grants.GrantPlan.{GrantPlan}
 use Rattle.merge_model.specs.PublisherRanges.{ended_by}
 use Rattle.merge_pub.proofs.BatchCounts.{given-step}

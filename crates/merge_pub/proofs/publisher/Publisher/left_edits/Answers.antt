@@ -1,4 +1,3 @@
-use Rattle.std.specs.Prelude.{◌≡◌}
 use Rattle.merge_pub.proofs.JoinForgets.{left-held, left-places}
 use Rattle.merge_pub.proofs.publisher.Publisher.left_edits.Goals as goal
 

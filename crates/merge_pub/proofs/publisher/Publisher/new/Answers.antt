@@ -1,5 +1,5 @@
 use Rattle.std.specs.Prelude.{List, ℕ}
-use Rattle.std.proofs.Common.{◌≡◌, ap, sym, ◌∙◌, refl, rules}
+use Rattle.std.proofs.Common.{ap, sym, ◌∙◌, rules}
 use Rattle.std.specs.FinSet as set
 use Rattle.merge_gens.specs.Entries.{entry_cmp, entry_of}
 use Rattle.merge_ident.specs.Grants.{granted_to}

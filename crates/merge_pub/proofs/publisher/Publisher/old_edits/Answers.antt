@@ -1,6 +1,4 @@
-use Rattle.std.proofs.Common.{ap, ◌∙◌}
 use Rattle.merge_pub.specs.Held.{tables_of}
-use Rattle.merge_pub.specs.Purging.{is_old_row, take_row}
 use Rattle.merge_pub.proofs.OldRows.{entries-made, rows-made}
 use Rattle.merge_pub.proofs.PurgeMade.{leaves-purge}
 use Rattle.merge_pub.proofs.publisher.Publisher.old_edits.Goals as goal
