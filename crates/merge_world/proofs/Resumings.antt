@@ -108,7 +108,7 @@ module _ (site : SiteId) (u v : SitesView) where
   pub restart-fails : (why : Refusal) → Resumes u v (Err why) → is_site u.publication site ≡ true → (r : Result Answer Refusal)
       → IfOk r (λ answer. (answer ≡ Refused NoMemory) × (why ≡ NoMemory)) → IfErr r (λ other. (other ≡ why) × (why ≡ NoMemory → ⊥)) → (h : HandedView) → Proceeds (event.Restart site) u v h h r
   restart-fails why resumes known (Ok answer) wanting ended h = subst (λ (a : Answer). Happened (event.Restart site) u v h h a) (sym wanting.0) (restart-wants why wanting.1 resumes known h)
-  restart-fails why resumes known (Err other) wanting ended h = subst (λ (r : Refusal). EndsRun (event.Restart site) u v r) (sym ended.0) (restart-ends why ended.1 resumes known)
+  restart-fails why resumes known (Err other) wanting ended h = (subst (λ (r : Refusal). EndsRun (event.Restart site) u v r) (sym ended.0) (restart-ends why ended.1 resumes known), refl)
 
 pub restart-nowhere : (u : SitesView) (site : SiteId) (why : Refusal) → why ≡ UnknownSite site → is_site u.publication site ≡ false → (h : HandedView) → Happened (event.Restart site) u u h h (Refused why)
 restart-nowhere u site why is off h = so-refused (event.Restart site) u h site why is (unknown-site (event.Restart site) u site refl

@@ -40,10 +40,10 @@ pub record Changed (site : SiteId) (change : Change) (old new : SitesView) (answ
   pub does : Does (Make site change) old new outcome
   pub answered : answer ≡ change_answer change outcome
 
--- an event happens, or ends the run
+-- an event happens, or ends the run, and then no resolver was asked
 abbrev pub Proceeds : Event → SitesView → SitesView → HandedView → HandedView → Result Answer Refusal → Type 0
 Proceeds e old new before after (Ok answer) = Happened e old new before after answer
-Proceeds e old new before after (Err why) = EndsRun e old new why
+Proceeds e old new before after (Err why) = EndsRun e old new why × (after ≡ before)
 
 -- the event that tells a subscriber to make a message
 abbrev pub send_event : Told → SiteId → Event

@@ -16,6 +16,7 @@ mod rows;
 mod sending;
 mod session;
 mod sites;
+mod step;
 mod world;
 
 pub use laws::played_events_are_runs;
@@ -23,4 +24,5 @@ pub use reports::Report;
 pub use sending::Sending;
 pub use session::Ended;
 pub use sites::{PublisherSite, SubscriberSite};
+pub use step::Played;
 pub use world::{Seen, Sites};
