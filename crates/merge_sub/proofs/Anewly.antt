@@ -11,6 +11,7 @@ use Rattle.std.proofs.lemmas.Bool.Decides.{nat_tests}
 use Rattle.std.proofs.lemmas.Cmp.{tied_itself}
 use Rattle.std.proofs.lemmas.List.{append_assoc, length-append}
 use Rattle.std.proofs.lemmas.List.Elements.{All-append, All-from_recursion, recursion_from_All}
+use Rattle.merge_types.specs.Limits.{counter_limit}
 use Rattle.merge_types.specs.RowKeys.{key_cmp}
 use Rattle.merge_types.specs.declared.identifiers.Moment.{Moment}
 use Rattle.merge_types.specs.declared.row_key.RowKey.{RowKey}
@@ -20,9 +21,10 @@ use Rattle.merge_units.specs.declared.version.Version.{Version}
 use Rattle.merge_schema.specs.declared.publication.Publication.{Publication}
 use Rattle.merge_gens.specs.Entries.{entry_cmp, entry_of}
 use Rattle.merge_gens.specs.Index.{entries_after_all}
-use Rattle.merge_gens.specs.Book.{Book, closed_now, forgotten}
+use Rattle.merge_gens.specs.Book.{Book, closed_now, forgotten, forgotten_if_any}
 use Rattle.merge_gens.specs.Book as gens
 use Rattle.merge_gens.specs.Filling.{closed}
+use Rattle.merge_gens.specs.declared.filling.Filling.{Filling}
 use Rattle.merge_gens.specs.Plan.{IsPrepared, settled}
 use Rattle.merge_gens.specs.Book.{BookWithRoom}
 use Rattle.merge_gens.specs.declared.plan.GenPlan.{GenPlan}
@@ -46,13 +48,14 @@ use Rattle.merge_model.proofs.KeyLookUps.{key-test, keys-same}
 use Rattle.merge_model.proofs.Sorted.{key_total}
 use Rattle.merge_table.proofs.Room.{AreAbove}
 use Rattle.merge_sub.proofs.Indexed.{entries-append, is_among, taken-all}
+use Rattle.merge_sub.proofs.Unsent.{GoesOn, forgotten-filling}
 use Rattle.merge_sub.specs.Anew.{dropped_entries, dropped_rows, is_unsent, lost_from, lost_row, row_entries}
 use Rattle.merge_sub.specs.Drafts.{after}
-use Rattle.merge_sub.specs.Held.{AreFitting, AreIndexed, AreMade, AreNumbered, Held, IsSound, keeps, kept_by, tables_of}
+use Rattle.merge_sub.specs.Held.{AreFitting, AreIndexed, AreMade, AreNumbered, AreUnsent, Held, IsSound, keeps, kept_by, tables_of}
 use Rattle.merge_sub.specs.declared.changes.Changes.{Changes}
 use Rattle.merge_sub.specs.declared.anew.Discarding.{Discarding}
 
-abbrev Rows : Type 0
+abbrev pub Rows : Type 0
 Rows = List (RowKey × SubscriberRow)
 
 -- All rows are dropped.
@@ -106,7 +109,7 @@ dropped-indexed rows entries indexed = λ k g.
 -- What is discarded.
 
 -- each of the rows is found by its key
-abbrev AreFound : Rows → Rows → Type 0
+abbrev pub AreFound : Rows → Rows → Type 0
 AreFound all rows = AllByRecursion (λ (row : RowKey × SubscriberRow). row_at all row.0 ≡ Some row.1) rows
 
 found-behind : (e : RowKey × SubscriberRow) (all rows : Rows) → AreAbove key_cmp e.0 (keys_of rows) → AreFound all rows → AreFound (e ∷ all) rows
@@ -115,7 +118,7 @@ found-behind e all (row ∷ rows) above found =
     let less : is_at (key_cmp row.0) e.0 ≡ false = ap is_eq (key_total.antisymm row.0 e.0 ∙ ap ordering_reverse above.0) in
     (ap (λ (b : Bool). (let found : Option SubscriberRow = cond b (Some e.1) (row_at all row.0) in found)) less ∙ found.0, found-behind e all rows above.1 found.1)
 
-rows-found : (rows : Rows) → IsStrictlySortedBy key_cmp (keys_of rows) → AreFound rows rows
+pub rows-found : (rows : Rows) → IsStrictlySortedBy key_cmp (keys_of rows) → AreFound rows rows
 unfolding IsStrictlySortedBy
 rows-found [] sorted = tt
 rows-found (row ∷ rows) sorted =
@@ -197,14 +200,17 @@ emptied s now lost c closes sound last is state done rows held conflicts =
     emptied-book (settled s.gens c.gens) sound last (is ∙ ap (λ (b : Book). b.filling.last_closed) (sym closes)) ∙ ap (λ (b : Book). (let e : Book = record b { closings = [] } in e)) closes in
     rw (state, done, rows, held, conflicts, book, rows-dropped s.rows, is) refl
 
-pub emptied-sound : (publication : Publication) (s : SubscriberTables) (entries : set.FinSet entry_cmp) → IsSound publication s entries → (made : SubscriberTables) → made.rows ≡ [] → made.held ≡ s.held → AreNumbered made.conflict_count made.conflicts
+pub emptied-sound : (publication : Publication) (s : SubscriberTables) (entries : set.FinSet entry_cmp) → IsSound publication s entries → (made : SubscriberTables) → made.rows ≡ [] → made.held ≡ s.held → made.received ≤ made.gens.filling.last_closed → made.gens.filling.last_closed ≤ counter_limit → AreNumbered made.conflict_count made.conflicts
     → IsSound publication made (entries_after_all entries (dropped_entries s.rows))
-unfolding AreFitting AreMade
-emptied-sound publication s entries sound made none held numbered = record {
+unfolding AreFitting AreMade AreUnsent
+emptied-sound publication s entries sound made none held within limited numbered = record {
   valid = sound.valid;
   indexed = rw none (dropped-indexed s.rows entries sound.indexed);
   fitting = rw none (λ key row there. absurd cc);
   made = rw none (λ key row there. absurd cc);
+  unsent = rw none (λ key row there. absurd cc);
+  within = within;
+  limited = limited;
   ranged = rw held sound.ranged;
   numbered = numbered;
 }
@@ -257,15 +263,18 @@ emptied-draft h now view moment lost d plan last rows kept is closes prepared sa
 
 -- all is sound afterwards
 pub emptied-ready : (old now : Held) → old ≡ now → IsSound old.publication (tables_of old) old.unsent.entries → (h : Held) → tables_of h ≡ tables_of old → (lost : List ConflictRow) → AreNumbered (now.state.conflict_count + length lost) (now.conflicts.rows ++ lost)
-    → (d : Changes) (count : ℕ) → d.state.conflict_count ≡ old.state.conflict_count + count → count ≡ length lost → d.rows ≡ dropped_rows old.rows.rows → d.held ≡ [] → d.conflicts.rows ≡ lost
+    → (d : Changes) (count : ℕ) → d.state.conflict_count ≡ old.state.conflict_count + count → count ≡ length lost → d.rows ≡ dropped_rows old.rows.rows → d.held ≡ [] → d.conflicts.rows ≡ lost → d.state.received ≡ d.gens.filling.last_closed → GoesOn old.gens.book.filling.last_closed d.gens.filling.last_closed
     → (index : List (Edit IndexEntry (Unit {0}))) → index ≡ dropped_entries old.rows.rows → IsSound old.publication (after d (tables_of h)) (entries_after_all old.unsent.entries index)
-emptied-ready old now view sound h same lost numbered d count counted all rows held conflicts index is =
+emptied-ready old now view sound h same lost numbered d count counted all rows held conflicts received closes index is =
     let before : AreNumbered (old.state.conflict_count + length lost) (old.conflicts.rows ++ lost) = subst (λ (x : Held). AreNumbered (x.state.conflict_count + length lost) (x.conflicts.rows ++ lost)) (sym view) numbered in
     let counts : d.state.conflict_count ≡ old.state.conflict_count + length lost = counted ∙ ap (λ (n : ℕ). old.state.conflict_count + n) all in
     let behind : AreNumbered d.state.conflict_count (old.conflicts.rows ++ d.conflicts.rows) =
     subst (λ (n : ℕ). AreNumbered n (old.conflicts.rows ++ d.conflicts.rows)) (sym counts) (subst (λ (more : List ConflictRow). AreNumbered (old.state.conflict_count + length lost) (old.conflicts.rows ++ more)) (sym conflicts) before) in
     let none : rows_after_all key_cmp old.rows.rows d.rows ≡ [] = ap (λ (edits : List (Edit RowKey SubscriberRow)). rows_after_all key_cmp old.rows.rows edits) rows ∙ rows-dropped old.rows.rows in
     let ranges : rows_after_all nat_cmp old.held.rows d.held ≡ old.held.rows = ap (λ (edits : List (Edit ℕ Holder)). rows_after_all nat_cmp old.held.rows edits) held in
-    let there : IsSound old.publication (after d (tables_of old)) (entries_after_all old.unsent.entries (dropped_entries old.rows.rows)) = emptied-sound old.publication (tables_of old) old.unsent.entries sound (after d (tables_of old)) none ranges behind in
+    let last : (forgotten_if_any (settled old.gens.book d.gens) d.done).filling.last_closed ≡ d.gens.filling.last_closed = ap (λ (filling : Filling). filling.last_closed) (forgotten-filling (settled old.gens.book d.gens) d.done) in
+    let within : d.state.received ≤ (forgotten_if_any (settled old.gens.book d.gens) d.done).filling.last_closed = omega (arith, received, last) in
+    let limited : (forgotten_if_any (settled old.gens.book d.gens) d.done).filling.last_closed ≤ counter_limit = omega (arith, last, closes.limited sound.limited) in
+    let there : IsSound old.publication (after d (tables_of old)) (entries_after_all old.unsent.entries (dropped_entries old.rows.rows)) = emptied-sound old.publication (tables_of old) old.unsent.entries sound (after d (tables_of old)) none ranges within limited behind in
     subst (λ (i : List (Edit IndexEntry (Unit {0}))). IsSound old.publication (after d (tables_of h)) (entries_after_all old.unsent.entries i)) (sym is)
     (subst (λ (s : SubscriberTables). IsSound old.publication (after d s) (entries_after_all old.unsent.entries (dropped_entries old.rows.rows))) (sym same) there)

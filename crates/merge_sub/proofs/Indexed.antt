@@ -1,7 +1,7 @@
 -- Rows by the generations that they keep, as one row keeps others.
 use Rattle.std.specs.Prelude.{◌≡◌, ◌==◌, ◌&&◌, ◌||◌, ◌++◌, ℕ, Bool, true, false, not, List, [], ◌∷◌, None, Option, Some, cond, if◌then◌else◌, map, refl}
 use Rattle.std.specs.FinSet as set
-use Rattle.std.specs.List.{list_any}
+use Rattle.std.specs.List.{flat_map, list_any}
 use Rattle.std.specs.Ordering.{eq_by_cmp}
 use Rattle.std.proofs.Common.{ap, arith, sym, ◌∙◌}
 use Rattle.std.proofs.lemmas.Bool.Decides.{nat_tests}
@@ -66,6 +66,22 @@ taken-all key (h ∷ hs) s k g =
     taken-all key hs (set.remove s (entry_of h key)) k g
     ∙ ap (λ (b : Bool). not (same_key k key && is_among g hs) && b) (take-one k key g h s)
     ∙ take-tests (same_key k key) (is_among g hs) (h == g) (set.contains s (entry_of g k))
+
+drop-tests : (here there found : Bool) → (not there && (not here && found)) ≡ (not (here || there) && found)
+drop-tests true true found = refl
+drop-tests true false found = refl
+drop-tests false true found = refl
+drop-tests false false found = refl
+
+-- the same of several, each with its key and the generations that it loses
+pub taken-each : {X : Type 0} (key : X → RowKey) (kept : X → List ℕ) (xs : List X) (s : Entries) (k : RowKey) (g : ℕ)
+    → set.contains (entries_after_all s (flat_map (λ (x : X). map (take_entry (key x)) (kept x)) xs)) (entry_of g k) ≡ (not (list_any (λ (x : X). same_key k (key x) && is_among g (kept x)) xs) && set.contains s (entry_of g k))
+taken-each key kept [] s k g = refl
+taken-each {X} key kept (x ∷ xs) s k g =
+    ap (λ (e : Entries). set.contains e (entry_of g k)) (entries-append s (map (take_entry (key x)) (kept x)) (flat_map (λ (y : X). map (take_entry (key y)) (kept y)) xs))
+    ∙ taken-each key kept xs (entries_after_all s (map (take_entry (key x)) (kept x))) k g
+    ∙ ap (λ (b : Bool). not (list_any (λ (y : X). same_key k (key y) && is_among g (kept y)) xs) && b) (taken-all (key x) (kept x) s k g)
+    ∙ drop-tests (same_key k (key x) && is_among g (kept x)) (list_any (λ (y : X). same_key k (key y) && is_among g (kept y)) xs) (set.contains s (entry_of g k))
 
 put-all : (key : RowKey) (hs : List ℕ) (s : Entries) (k : RowKey) (g : ℕ) → set.contains (entries_after_all s (map (put_entry key) hs)) (entry_of g k) ≡ ((same_key k key && is_among g hs) || set.contains s (entry_of g k))
 put-all key [] s k g = none (same_key k key) (set.contains s (entry_of g k))

@@ -1,9 +1,10 @@
 -- A local change: what it asks of the row that is held, what holds after it, and that it is the step of the machine.
 use Rattle.std.specs.Option.{option_and_then}
 use Rattle.std.specs.Ordering.{nat_cmp}
-use Rattle.std.specs.Prelude.{◌≡◌, ◌+◌, ◌≤◌, ◌<◌, ℕ, ℤ, Bool, true, false, Err, List, [], ◌∷◌, None, Ok, Option, Result, Some, IfErr, cond, is_some, length, option_map, refl}
+use Rattle.std.specs.Prelude.{◌≡◌, ◌+◌, ◌/◌, ◌≤◌, ◌<◌, ℕ, ℤ, Bool, true, false, Err, List, [], ◌∷◌, None, Ok, Option, Result, Some, IfErr, cond, is_some, length, option_map, refl}
 use Rattle.std.proofs.Common.{ap, arith, subst, sym, ◌∙◌}
 use Rattle.std.proofs.lemmas.Bool.Decides.{nat_tests}
+use Rattle.merge_types.specs.Limits.{counter_limit, entry_limit}
 use Rattle.merge_types.specs.declared.changes.Change.{Change}
 use Rattle.merge_types.specs.declared.changes.Change.TheVariants.{Delete, Insert, Update}
 use Rattle.merge_types.specs.declared.changes.Setting.{Setting}
@@ -39,6 +40,7 @@ use Rattle.merge_model.specs.Subscriber.{generations_at, sub_counters, sub_drawn
 use Rattle.merge_model.specs.Tables.{SubscriberTables}
 use Rattle.merge_sub.proofs.Indexed.{replaced-indexed}
 use Rattle.merge_sub.proofs.Rows.{fitting-put, made-more, made-put}
+use Rattle.merge_sub.proofs.Unsent.{GoesOn, entry-goes-on, unsent-changed}
 use Rattle.merge_sub.specs.Held.{AreFitting, AreIndexed, AreMade, AreRanged, Held, IsSound, tables_of}
 use Rattle.merge_sub.specs.Local.{IsChanged, changed_key, reindexing, with_change}
 use Rattle.std.specs.FinSet as set
@@ -115,9 +117,10 @@ never-none publication dot identity (Delete article row) (Some version) lives no
 
 -- All is sound after a change.
 pub local-sound : (publication : Publication) (s : SubscriberTables) (entries : set.FinSet entry_cmp) → IsSound publication s entries → (change : Change) (identity : Value) → HasIdentity publication change identity
-    → (held : List (ℕ × Holder)) → AreRanged publication held → (key : RowKey) (row : SubscriberRow) (index : List (Edit IndexEntry (Unit {0}))) → IsChanged publication s change identity key row index → (latest : Moment)
+    → (held : List (ℕ × Holder)) → AreRanged publication held → (key : RowKey) (row : SubscriberRow) (index : List (Edit IndexEntry (Unit {0}))) → IsChanged publication s change identity key row index → (latest : Moment) → sub_last_closed s < counter_limit → s.gens.filling.filled < entry_limit
     → IsSound publication (with_change key row held latest s) (entries_after_all entries index)
-local-sound publication s entries sound change identity whole held ranged key row index changed latest =
+local-sound publication s entries sound change identity whole held ranged key row index changed latest closed filled =
+    let on : GoesOn (sub_last_closed s) (sub_last_closed s + (s.gens.filling.filled + 1) / entry_limit) = entry-goes-on (sub_last_closed s) s.gens.filling.filled closed filled in
     let dot : Dot = sub_next_dot s in
     let at : RowKey = changed_key s change in
     let last : number_of row.version.lineage s.site.0 ≤ s.changes + 1 =
@@ -127,6 +130,9 @@ local-sound publication s entries sound change identity whole held ranged key ro
       indexed = rw (changed.index, changed.at) (replaced-indexed s.rows entries at row sound.indexed);
       fitting = fitting-put publication s.rows sound.fitting key row (changed.fits whole);
       made = made-put s.site (s.changes + 1) s.rows (made-more s.site s.changes s.rows sound.made) key row last;
+      unsent = unsent-changed s.received (sub_last_closed s) (sub_last_closed s + (s.gens.filling.filled + 1) / entry_limit) sound.within on.rises s.rows sound.unsent key row (rw changed.at changed.generations);
+      within = omega (arith, sound.within, on.rises);
+      limited = on.limited sound.limited;
       ranged = ranged;
       numbered = sound.numbered;
     }
@@ -166,7 +172,7 @@ same-article : (article key : ℕ) (held : List (ℕ × Holder)) (here : Bool) �
 same-article article key held true at holder some = let same : article ≡ key = grind (arith, nat_tests, at) in sym (subst (λ (k : ℕ). is_some (at_number held k) ≡ true) same some)
 same-article article key held false at holder some = refl
 
-put-ranged : (publication : Publication) (held : List (ℕ × Holder)) → AreRanged publication held → (article : ℕ) (holder : Holder) → is_some (at_number held article) ≡ true → AreRanged publication (put_number held article holder)
+pub put-ranged : (publication : Publication) (held : List (ℕ × Holder)) → AreRanged publication held → (article : ℕ) (holder : Holder) → is_some (at_number held article) ≡ true → AreRanged publication (put_number held article holder)
 unfolding AreRanged
 put-ranged publication held ranged article holder some key =
     ap is_some (lookup-insert_entry nat_cmp nat_cmp_total article key holder held)
@@ -238,11 +244,11 @@ version-new h now view sound change =
     is-new now.publication (tables_of now) now.unsent.entries there (changed_key (tables_of now) change)
 
 pub change-sound : (h now : Held) → h ≡ now → IsSound h.publication (tables_of h) h.unsent.entries → (change : Change) (identity : Value) → HasIdentity now.publication change identity
-    → (held : List (ℕ × Holder)) → AreRanged now.publication held → (key : RowKey) (row : SubscriberRow) (index : List (Edit IndexEntry (Unit {0}))) → IsChanged now.publication (tables_of now) change identity key row index → (latest : Moment)
+    → (held : List (ℕ × Holder)) → AreRanged now.publication held → (key : RowKey) (row : SubscriberRow) (index : List (Edit IndexEntry (Unit {0}))) → IsChanged now.publication (tables_of now) change identity key row index → (latest : Moment) → now.gens.book.filling.last_closed < counter_limit → now.gens.book.filling.filled < entry_limit
     → IsSound now.publication (with_change key row held latest (tables_of now)) (entries_after_all now.unsent.entries index)
-change-sound h now view sound change identity whole held ranged key row index changed latest =
+change-sound h now view sound change identity whole held ranged key row index changed latest closed filled =
     let there : IsSound now.publication (tables_of now) now.unsent.entries = subst (λ (x : Held). IsSound x.publication (tables_of x) x.unsent.entries) view sound in
-    local-sound now.publication (tables_of now) now.unsent.entries there change identity whole held ranged key row index changed latest
+    local-sound now.publication (tables_of now) now.unsent.entries there change identity whole held ranged key row index changed latest closed filled
 
 pub check-refused : (h now : Held) → h ≡ now → (change : Change) (result : Result (Unit {0}) Refusal) → now.state.is_joined ≡ true → counter_end (sub_counters (tables_of now)) ≡ None
     → (held : Option Version) → held ≡ sub_version_at (tables_of now) (changed_key (tables_of now) change) → (rows : ℕ) → rows ≡ length now.rows.rows → IfErr result (λ refusal. (dot : Dot) → change_refusal h.publication dot change held rows ≡ Some refusal)

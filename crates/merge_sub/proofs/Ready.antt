@@ -9,6 +9,7 @@ use Rattle.merge_conflict.specs.declared.row.ConflictRow.{ConflictRow}
 use Rattle.std.proofs.lemmas.List.{append-nil}
 use Rattle.merge_conflict.specs.Rising.{AreRising}
 use Rattle.merge_model.specs.Tables.{SubscriberTables}
+use Rattle.merge_sub.proofs.Unsent.{GoesOn, unsent-later}
 use Rattle.merge_sub.specs.Held.{AreNumbered, Held, IsSound, tables_of}
 use Rattle.merge_sub.specs.Drafts.{IsDrafted, after}
 use Rattle.merge_sub.specs.declared.state.State.{State}
@@ -20,9 +21,10 @@ still_changes state gens = record { state = state; gens = gens; done = None; row
 
 -- no list changes, and the site makes no change
 pub still-ready : (h : Held) (before : SubscriberTables) → tables_of h ≡ before → (d : Draft) (state : State) (gens : GenPlan) → d.changes ≡ still_changes state gens → d.index.changes ≡ []
-    → state.changes ≡ h.state.changes → state.conflict_count ≡ h.state.conflict_count → IsPrepared h.gens gens → AreRising h.conflicts.rows → IsSound h.publication before h.unsent.entries → IsDrafted h d
+    → state.changes ≡ h.state.changes → state.conflict_count ≡ h.state.conflict_count → state.received ≡ h.state.received → GoesOn before.gens.filling.last_closed gens.filling.last_closed → IsPrepared h.gens gens → AreRising h.conflicts.rows → IsSound h.publication before h.unsent.entries → IsDrafted h d
 unfolding IsReady
-still-ready h before same d state gens changes index numbers counts prepared rising old =
+still-ready h before same d state gens changes index numbers counts received closes prepared rising old =
+    let on : GoesOn h.gens.book.filling.last_closed gens.filling.last_closed = subst (λ (s : SubscriberTables). GoesOn s.gens.filling.last_closed gens.filling.last_closed) (sym same) closes in
     let sound : IsSound h.publication (tables_of h) h.unsent.entries = rw same old in
     rw (changes, index) (record {
       gens = prepared;
@@ -35,6 +37,9 @@ still-ready h before same d state gens changes index numbers counts prepared ris
         indexed = sound.indexed;
         fitting = sound.fitting;
         made = rw numbers sound.made;
+        unsent = rw received (unsent-later h.state.received h.gens.book.filling.last_closed gens.filling.last_closed on.rises h.rows.rows sound.unsent);
+        within = omega (arith, received, on.rises, sound.within);
+        limited = on.limited sound.limited;
         ranged = sound.ranged;
         numbered = rw counts (subst (λ (rows : List ConflictRow). AreNumbered h.state.conflict_count rows) (sym (append-nil h.conflicts.rows)) sound.numbered);
       };

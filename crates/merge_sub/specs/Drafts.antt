@@ -52,3 +52,12 @@ pub record IsDrafted (h : Held) (d : Draft) : Type 0 where
 abbrev pub IsDraftedIfAny : {A : Type 0} → Held → Option (Draft × A) → Type 0
 IsDraftedIfAny h None = Unit {0}
 IsDraftedIfAny h (Some made) = IsDrafted h made.0
+
+-- where a step may do nothing
+abbrev pub after_if_any : Option Draft → SubscriberTables → SubscriberTables
+after_if_any None s = s
+after_if_any (Some draft) s = after draft.changes s
+
+abbrev pub IsDraftedIfNeeded : Held → Option Draft → Type 0
+IsDraftedIfNeeded h None = Unit {0}
+IsDraftedIfNeeded h (Some draft) = IsDrafted h draft

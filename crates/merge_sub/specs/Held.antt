@@ -1,7 +1,8 @@
 -- What a subscriber holds, and what holds of it.
-use Rattle.std.specs.Prelude.{◌≡◌, ◌==◌, ◌≤◌, ℕ, Bool, false, true, List, [], Option, None, Some, is_some, option_map, unwrap_or}
+use Rattle.std.specs.Prelude.{◌≡◌, ◌==◌, ◌+◌, ◌<◌, ◌≤◌, ℕ, Bool, true, List, [], Option, None, Some, is_some, option_map, unwrap_or}
 use Rattle.std.specs.FinSet as set
 use Rattle.std.specs.List.{AllByRecursion, list_any}
+use Rattle.merge_types.specs.Limits.{counter_limit}
 use Rattle.merge_types.specs.declared.identifiers.SiteId.{SiteId}
 use Rattle.merge_types.specs.declared.row_key.RowKey.{RowKey}
 use Rattle.merge_table.specs.Contents.{Contents}
@@ -19,8 +20,6 @@ use Rattle.merge_batch.specs.Articles.{fits_article}
 use Rattle.merge_batch.specs.LocalChanges.{identity_column}
 use Rattle.merge_model.specs.Keys.{at_number, row_at}
 use Rattle.merge_model.specs.Tables.{SubscriberTables}
-use Rattle.merge_sub.specs.declared.state.Phase.{Phase}
-use Rattle.merge_sub.specs.declared.state.Phase.TheVariants.{Joined, Joining}
 use Rattle.merge_sub.specs.declared.state.State.{State}
 
 -- The parts of a subscriber. The contracts of its calls speak of the publication and of `tables_of`; how the rows are found by
@@ -52,11 +51,6 @@ tables_of h = record {
   held = h.held.rows;
 }
 
--- what the mark of a join says
-abbrev pub phase_of : Bool → Phase
-phase_of true = Joined
-phase_of false = Joining
-
 -- What holds of rows at their keys.
 abbrev pub EachRow : (RowKey → SubscriberRow → Type 0) → List (RowKey × SubscriberRow) → Type 0
 EachRow P rows = (key : RowKey) (row : SubscriberRow) → row_at rows key ≡ Some row → P key row
@@ -80,6 +74,14 @@ AreFitting publication rows = EachRow (λ (key : RowKey) (row : SubscriberRow). 
 unfoldable pub AreMade : SiteId → ℕ → List (RowKey × SubscriberRow) → Type 0
 AreMade site changes rows = EachRow (λ (key : RowKey) (row : SubscriberRow). number_of row.version.lineage site.0 ≤ changes) rows
 
+-- generations that the publisher has not taken, up to the open one
+abbrev pub AreAhead : ℕ → ℕ → List ℕ → Type 0
+AreAhead received closed generations = AllByRecursion (λ (generation : ℕ). (received < generation) × (generation ≤ closed + 1)) generations
+
+-- rows keep no others
+unfoldable pub AreUnsent : ℕ → ℕ → List (RowKey × SubscriberRow) → Type 0
+AreUnsent received closed rows = EachRow (λ (key : RowKey) (row : SubscriberRow). AreAhead received closed row.generations) rows
+
 -- ranges are held of exactly the articles with an identity column
 unfoldable pub AreRanged : Publication → List (ℕ × Holder) → Type 0
 AreRanged publication held = (article : ℕ) → is_some (at_number held article) ≡ is_some (identity_column publication article)
@@ -94,5 +96,8 @@ pub record IsSound (publication : Publication) (s : SubscriberTables) (entries :
   pub indexed : AreIndexed s.rows entries
   pub fitting : AreFitting publication s.rows
   pub made : AreMade s.site s.changes s.rows
+  pub unsent : AreUnsent s.received s.gens.filling.last_closed s.rows
+  pub within : s.received ≤ s.gens.filling.last_closed
+  pub limited : s.gens.filling.last_closed ≤ counter_limit
   pub ranged : AreRanged publication s.held
   pub numbered : AreNumbered s.conflict_count s.conflicts

@@ -3,3 +3,5 @@ pub mod Begin
 pub mod Drafts
 pub mod Held
 pub mod Local
+pub mod Sent
+pub mod Taking

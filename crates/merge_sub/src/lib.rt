@@ -9,13 +9,17 @@ mod closing;
 mod generations;
 mod local;
 mod prepared;
+mod reply;
 mod sending;
 mod state;
 mod still;
 mod subscriber;
+#[cfg(test)]
+mod tests;
 mod told;
+mod upload;
 
 pub use anew::Discarding;
 pub use changes::{Changes, Draft};
-pub use state::{Phase, State};
+pub use state::State;
 pub use subscriber::Subscriber;

@@ -2,7 +2,7 @@
 ghost use Rattle.std.specs.Ordering.{nat_cmp};
 ghost use Rattle.std.specs.Prelude.{◌≡◌, ◌<◌, ◌⊎◌, [], Err, IfErr, IfOk, None, Ok, OnOk, Some, true};
 ghost use Rattle.std.specs.Option.{option_copied};
-ghost use Rattle.merge_types.specs.Limits.{counter_limit};
+ghost use Rattle.merge_types.specs.Limits.{counter_limit, entry_limit};
 ghost use Rattle.merge_types.specs.declared.changes.Change.TheVariants.{Insert as AnInsert};
 ghost use Rattle.merge_table.specs.Edits.{rows_after_all};
 ghost use Rattle.merge_gens.specs.Index.{entries_after_all};
@@ -56,6 +56,7 @@ impl Subscriber {
         ensures allowed { OnOk result (IsAllowed self.now.publication change.now (sub_version_at (tables_of self.now) (changed_key (tables_of self.now) change.now))) }
         ensures changes { OnOk result (self.now.state.changes < counter_limit) }
         ensures closed { OnOk result (self.now.gens.book.filling.last_closed < counter_limit) }
+        ensures unfilled { OnOk result (self.now.gens.book.filling.filled < entry_limit) }
     {
         if !self.state.is_joined {
             return Err(Refusal::Joining);
@@ -63,6 +64,7 @@ impl Subscriber {
         self.check_counters()?;
         let held = self.version_for(change);
         let _ = self.rows.iter();
+        let _ = self.gens.filled();
         check_change(&self.publication, change, held, self.rows.len())
     }
 

@@ -2,19 +2,6 @@
 use merge_batch::Outstanding;
 use merge_types::{Exact, Moment};
 
-/// Whether a subscriber has joined. Only one that has takes changes and asks for rows.
-#[derive(Clone, Copy, Debug, PartialEq, Eq)]
-pub enum Phase {
-    Joining,
-    Joined,
-}
-
-impl Exact for Phase {
-    ghost use Rattle.std.proofs.Common.{rules};
-
-    ghost exact = { Prim.search rules };
-}
-
 /// What a subscriber keeps one of, as its state record has it.
 #[derive(Clone, Copy, Debug, PartialEq, Eq)]
 pub struct State {

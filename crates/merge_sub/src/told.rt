@@ -1,18 +1,16 @@
 //! What a subscriber tells of itself.
-ghost use Rattle.std.specs.Option.{option_copied};
-ghost use Rattle.std.specs.Prelude.{◌≡◌, is_some};
-ghost use Rattle.merge_batch.specs.LocalChanges.{identity_column};
-ghost use Rattle.merge_model.specs.Keys.{at_number};
-ghost use Rattle.merge_model.specs.Reports.{marks_of, outstanding_of};
-ghost use Rattle.merge_sub.specs.Held.{phase_of, tables_of};
+ghost use Rattle.std.specs.Prelude.{◌≡◌, IfOk};
+ghost use Rattle.merge_model.specs.Reports.{marks_of, outstanding_of, unsent_count};
+ghost use Rattle.merge_sub.specs.Held.{tables_of};
 
-use crate::{Phase, Subscriber};
+use crate::Subscriber;
+use crate::upload::changed_between;
 use merge_conflict::ConflictRow;
 use merge_gens::Marks;
 use merge_ident::Ranges;
 use merge_schema::Publication;
 use merge_table::Table;
-use merge_types::{RowKey, SiteId};
+use merge_types::{NoMemory, RowKey, SiteId};
 use merge_units::SubscriberRow;
 
 impl Subscriber {
@@ -22,20 +20,17 @@ impl Subscriber {
         &self.publication
     }
 
-    pub fn own_site(&self) -> SiteId
+    pub fn site(&self) -> SiteId
         ensures { result ≡ (tables_of self.now).site }
     {
         self.site
     }
 
-    pub fn phase(&self) -> Phase
-        ensures { result ≡ phase_of (tables_of self.now).is_joined }
+    /// Whether the site has joined. Only one that has takes changes and asks for rows.
+    pub fn is_joined(&self) -> bool
+        ensures { result ≡ (tables_of self.now).is_joined }
     {
-        if self.state.is_joined {
-            Phase::Joined
-        } else {
-            Phase::Joining
-        }
+        self.state.is_joined
     }
 
     /// How many changes the site made.
@@ -73,13 +68,26 @@ impl Subscriber {
         &self.rows
     }
 
-    /// The identity ranges of an article. None exactly where it does not exist or has no identity
-    /// column.
-    pub fn held(&self, article: u8) -> Option<&Ranges>
-        ensures ranges { option_copied result ≡ at_number (tables_of self.now).held article }
-        ensures some { is_some result ≡ is_some (identity_column self.now.publication article) }
+    /// The identity ranges that are held, by article.
+    pub fn held(&self) -> &Table<u8, Ranges>
+        ensures { result.now.rows ≡ (tables_of self.now).held }
     {
-        self.held.get(&article)
+        &self.held
+    }
+
+    /// How many rows have a change that was not sent. The time grows with these.
+    #[tactic(auto, using(crate::proofs::Uploading::unsent_counted))]
+    pub fn unsent(&self) -> Result<u64, NoMemory>
+        ensures { IfOk result (λ count. count ≡ unsent_count (tables_of self.now)) }
+    {
+        let unsent = changed_between(
+            self.alloc,
+            &self.unsent,
+            &self.rows,
+            self.state.received,
+            self.gens.last_closed() + 1,
+        )?;
+        Ok(unsent.len() as u64)
     }
 
     // The number of the outstanding message, 0 where none is.

@@ -1,7 +1,8 @@
 use Rattle.std.specs.Prelude.{refl}
 use Rattle.std.proofs.Common.{rules}
 use Rattle.merge_sub.proofs.Ready.{still-ready}
+use Rattle.merge_sub.proofs.Unsent.{closing-goes-on}
 use Rattle.merge_sub.proofs.subscriber.Subscriber.draft_close.Goals as goal
 
 pub returns-clause-ready : goal.returns-clause-ready
-returns-clause-ready c = still-ready _ _ (search rules) _ _ _ c.still.ensures.changes c.still.ensures.index refl refl c.in_ok-last.ensures.ready c.rows.ensures.rising c.self.invariant
+returns-clause-ready c = still-ready _ _ (search rules) _ _ _ c.still.ensures.changes c.still.ensures.index refl refl refl (closing-goes-on _ _ c.self.view_is _ c.in_ok-last.gens c.in_ok-check_counters.ensures.closed c.in_ok-last.ensures.plan) c.in_ok-last.ensures.ready c.rows.ensures.rising c.self.invariant

@@ -1,0 +1,38 @@
+-- What a site sends.
+use Rattle.std.specs.BTreeMap.{is_at}
+use Rattle.std.specs.List.{list_any}
+use Rattle.std.specs.List.Sorted.{IsStrictlySortedBy}
+use Rattle.std.specs.Map.{keys_of}
+use Rattle.std.specs.Option.{option_and_then}
+use Rattle.std.specs.Prelude.{◌≡◌, ◌&&◌, ℕ, Bool, List, Option, filter_map, length, nat_le, nat_lt, option_map}
+use Rattle.merge_types.specs.RowKeys.{key_cmp}
+use Rattle.merge_types.specs.declared.row_key.RowKey.{RowKey}
+use Rattle.merge_units.specs.declared.site_row.SubscriberRow.{SubscriberRow}
+use Rattle.merge_batch.specs.declared.request.UploadItem.{UploadItem}
+use Rattle.merge_model.specs.ByNumbers.{changed_row_between, last_between}
+use Rattle.merge_model.specs.Keys.{row_at}
+use Rattle.merge_sub.specs.Held.{kept_by}
+
+-- whether a row keeps a generation behind one, up to another
+abbrev pub has_between : ℕ → ℕ → Option SubscriberRow → Bool
+has_between from to row = list_any (λ (generation : ℕ). nat_lt from generation && nat_le generation to) (kept_by row)
+
+-- the rows that do, by article and row, each once
+pub record AreChanged (rows : List (RowKey × SubscriberRow)) (from to : ℕ) (keys : List RowKey) : Type 0 where
+  pub ordered : IsStrictlySortedBy key_cmp (keys_of rows)
+  pub ascending : IsStrictlySortedBy key_cmp keys
+  pub each : (key : RowKey) → list_any (is_at (key_cmp key)) keys ≡ has_between from to (row_at rows key)
+
+-- how many of them are changed between
+abbrev pub changed_count : List (RowKey × SubscriberRow) → ℕ → ℕ → ℕ
+changed_count rows from to = length (filter_map (changed_row_between from to) rows)
+
+-- what is sent of the row at a key
+abbrev pub row_item : RowKey → SubscriberRow → ℕ → UploadItem
+row_item key row generation = record { article = key.article; row = key.row; generation = generation; version = row.version }
+
+abbrev pub item_of : ℕ → ℕ → RowKey → SubscriberRow → Option UploadItem
+item_of from to key row = option_map (row_item key row) (last_between from to row.generations)
+
+abbrev pub item_at : List (RowKey × SubscriberRow) → ℕ → ℕ → RowKey → Option UploadItem
+item_at rows from to key = option_and_then (item_of from to key) (row_at rows key)
