@@ -1,12 +1,13 @@
 -- The articles with an identity column: their rules, and the ranges that a publisher begins with.
-use Rattle.std.specs.Prelude.{◌≡◌, ◌+◌, ◌<◌, ◌≤◌, ℕ, zero, suc, List, [], ◌∷◌, ◌++◌, Bool, true, false, All, Option, Some, None, refl, cond, filter_map, is_some, length, map, option_map, slice_get, take}
+use Rattle.std.specs.Prelude.{◌≡◌, ◌==◌, ◌+◌, ◌<◌, ◌≤◌, ℕ, zero, suc, List, [], ◌∷◌, ◌++◌, Bool, true, false, All, Option, Some, None, IsSome, refl, cond, filter_map, find, is_some, length, map, option_map, slice_get, take}
 use Rattle.std.specs.BTreeMap.{insert_entry, is_at}
 use Rattle.std.specs.List.{AllByRecursion, cons_option, enumerate_from}
+use Rattle.std.specs.Map.{lookup}
 use Rattle.std.specs.Option.{option_and_then}
 use Rattle.std.specs.Ordering.{match_ordering, nat_cmp}
 use Rattle.std.specs.declared.cmp.Ordering.{Ordering}
 use Rattle.std.specs.declared.cmp.Ordering.TheVariants.{Greater}
-use Rattle.std.proofs.Common.{arith, sym, ap, ◌∙◌}
+use Rattle.std.proofs.Common.{arith, sym, ap, ◌∙◌, subst}
 use Rattle.std.proofs.lemmas.Bool.Decides.{nat_tests}
 use Rattle.std.proofs.lemmas.Int.{ints}
 use Rattle.std.proofs.lemmas.List.{append-nil}
@@ -16,6 +17,7 @@ use Rattle.std.proofs.lemmas.List.Elements.{All-from_recursion, recursion_from_A
 use Rattle.merge_types.specs.declared.values.Column.{Column}
 use Rattle.merge_ident.specs.Books.{IsRule}
 use Rattle.merge_schema.specs.Valid.{HasValidIdentity, IsValid, IsValidArticle, IsValidIdentity}
+use Rattle.merge_ident.specs.Answers.{rule_of as rule_at}
 use Rattle.merge_ident.specs.Holders.{Holder, new_holder}
 use Rattle.merge_ident.specs.declared.grants.Rule.{Rule}
 use Rattle.merge_schema.specs.declared.publication.Article.{Article}
@@ -24,7 +26,7 @@ use Rattle.merge_schema.specs.declared.publication.Publication.{Publication}
 use Rattle.merge_model.proofs.EntryLists.{all-taken}
 use Rattle.merge_model.proofs.Finding.{some_same}
 use Rattle.merge_model.specs.Keys.{at_number}
-use Rattle.merge_model.specs.Publications.{identity_column, identity_of, rule_of}
+use Rattle.merge_model.specs.Publications.{identities, identity_column, identity_of, rule_of, rules_of}
 use Rattle.merge_model.specs.Publisher.{holder_for, new_holders}
 
 abbrev identities_from : ℕ → List Article → List (ℕ × Identity)
@@ -148,6 +150,28 @@ holder-at start (suc n) (a ∷ articles) = head a.identity (ap (λ (m : ℕ). at
         let other : is_at (nat_cmp (start + suc n)) start ≡ false = grind (arith, nat_tests) in
         ap (λ (b : Bool). (let o : Option Holder = cond b (Some (new_holder identity.threshold)) (at_number (map holder_for (identities_from (start + 1) articles)) (start + suc n)) in o)) other ∙ rest
 
+some-rule : (start n : ℕ) (articles : List Article) → is_some (found_at articles n) ≡ true → IsSome (find (λ (rule : Rule). rule.article == (start + n)) (map rule_of (identities_from start articles)))
+some-rule start n [] some = none n some
+  where
+    none : (n : ℕ) → is_some (found_at [] n) ≡ true → IsSome (find (λ (rule : Rule). rule.article == (start + n)) [])
+    none zero some = absurd cc
+    none (suc n) some = absurd cc
+some-rule start zero (a ∷ articles) some = head a.identity some
+  where
+    head : (identity : Option Identity) → is_some identity ≡ true → IsSome (find (λ (rule : Rule). rule.article == (start + 0)) (map rule_of (cons_option (named start identity) (identities_from (start + 1) articles))))
+    head None none = absurd cc
+    head (Some identity) is =
+        let here : (start == (start + 0)) ≡ true = grind (arith, nat_tests) in
+        rw here refl
+some-rule start (suc n) (a ∷ articles) some = head a.identity (subst (λ (m : ℕ). IsSome (find (λ (rule : Rule). rule.article == m) (map rule_of (identities_from (start + 1) articles)))) (place-same start n) (some-rule (start + 1) n articles some))
+  where
+    head : (identity : Option Identity) → IsSome (find (λ (rule : Rule). rule.article == (start + suc n)) (map rule_of (identities_from (start + 1) articles)))
+        → IsSome (find (λ (rule : Rule). rule.article == (start + suc n)) (map rule_of (cons_option (named start identity) (identities_from (start + 1) articles))))
+    head None rest = rest
+    head (Some identity) rest =
+        let other : (start == (start + suc n)) ≡ false = grind (arith, nat_tests) in
+        rw other rest
+
 some-column : (found : Option Identity) → is_some (option_map (λ (i : Identity). i.column) found) ≡ is_some found
 some-column None = refl
 some-column (Some identity) = refl
@@ -169,6 +193,10 @@ nothing-heard (Some identity) holder e = sym (ap (λ (h : Holder). h.have) (some
 
 pub begin-heard : (publication : Publication) (article : ℕ) (holder : Holder) → at_number (new_holders publication) article ≡ Some holder → holder.have ≡ 0
 begin-heard publication article holder found = nothing-heard (found_at publication.articles article) holder (sym (holder-of publication article) ∙ found)
+
+-- an article with an identity column has a rule
+pub has-rule : (publication : Publication) (article : ℕ) → is_some (identity_column publication article) ≡ true → IsSome (rule_at (rules_of publication) article)
+has-rule publication article some = subst (λ (n : ℕ). IsSome (rule_at (rules_of publication) n)) (from-zero article) (some-rule 0 article publication.articles (sym (some-column (found_at publication.articles article)) ∙ some))
 
 -- The rules of a valid publication.
 

@@ -4,9 +4,14 @@ pub mod Indexed
 pub mod Keeps
 pub mod After
 pub mod Held
-pub mod Beginning
-pub mod Working
+pub mod Tie
 pub mod Rows
+pub mod Working
+pub mod Step
+pub mod Making
+pub mod Drawing
+pub mod Local
+pub mod Beginning
 pub mod Refused
 pub mod Touches
 pub mod Walks

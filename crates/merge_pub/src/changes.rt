@@ -23,6 +23,19 @@ pub struct Changes {
     pub held: Listing<Edit<u8, Ranges>>,
 }
 
+/// What a step makes of the tables, but for the rows, the mappings and the generations. The memory
+/// for what is lost and granted is taken.
+#[derive(Drop)]
+pub struct Besides {
+    pub changes: u64,
+    pub conflict_count: u64,
+    pub latest: Moment,
+    pub sites: Listing<Edit<u16, SiteState>>,
+    pub conflicts: ConflictPlan,
+    pub grants: GrantPlans,
+    pub held: Listing<Edit<u8, Ranges>>,
+}
+
 /// What follows in the indexes: the rows by the generations of their last changes, and the mappings
 /// of each site by theirs.
 #[derive(Drop)]

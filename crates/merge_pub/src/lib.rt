@@ -9,9 +9,12 @@ mod beginning;
 mod changes;
 mod closing;
 mod downloading;
+mod drawing;
 mod edits;
+mod entries;
 mod forgetting;
 mod joining;
+mod local;
 mod move_entry;
 mod move_walk;
 mod old_mappings;
@@ -23,10 +26,12 @@ mod ranging;
 mod site;
 mod site_drafts;
 mod staying;
+mod step;
 #[cfg(test)]
 mod tests;
 mod touches;
+mod versions;
 
-pub use changes::{Changes, Draft, IndexChanges};
+pub use changes::{Besides, Changes, Draft, IndexChanges};
 pub use move_entry::MoveEntry;
 pub use publisher::Publisher;

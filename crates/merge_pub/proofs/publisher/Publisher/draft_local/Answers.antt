@@ -1,0 +1,30 @@
+use Rattle.std.proofs.Common.{refl, rules}
+use Rattle.merge_pub.proofs.LocalMade.{asked-here, dot_after, fit-here, keeps-here, made-here, new-here, refused-here}
+use Rattle.merge_pub.proofs.publisher.Publisher.draft_local.Goals as goal
+
+pub change_row-requires-clause-asked : goal.change_row-requires-clause-asked
+change_row-requires-clause-asked g c =
+    asked-here _ _ c.self.view_is c.self.invariant c.publication.result.now (dot_after c.self.inside.changes) c.args.change.now c.publication.ensures.publication c.requires.place c.requires.ascend
+
+pub change_row-requires-clause-new : goal.change_row-requires-clause-new
+change_row-requires-clause-new g c = new-here _ c.self.invariant (dot_after c.self.inside.changes) c.args.change.now refl
+
+pub returns-in_err-versions-clause-refused : goal.returns-in_err-versions-clause-refused
+returns-in_err-versions-clause-refused g c = λ refusal same.
+    refused-here _ _ c.self.view_is c.publication.result.now c.args.now (dot_after c.self.inside.changes) c.args.change.now c.in_err-versions.field-0.0 refusal c.in_err-versions.ensures.refused (search rules)
+    c.publication.ensures.publication refl c.last_closed.result (search rules) c.in_ok-counters_go_on.ensures.ok
+
+pub draft_versions-requires-clause-rows : goal.draft_versions-requires-clause-rows
+draft_versions-requires-clause-rows g c =
+    fit-here _ c.self.invariant c.publication.result.now c.self.inside.membership.publication (dot_after c.self.inside.changes) c.args.change.now c.in_ok-versions.drawn.value c.in_ok-versions.versions.items
+    c.besides_of-besides.result.changes c.in_ok-versions.ensures.fit c.in_ok-versions.ensures.versions c.publication.ensures.publication refl refl (search rules)
+
+pub draft_versions-requires-clause-keeps : goal.draft_versions-requires-clause-keeps
+draft_versions-requires-clause-keeps g c =
+    keeps-here _ c.self.invariant c.args.now c.in_ok-versions.drawn c.in_ok-versions.ensures.keeps _ _ refl (search rules) (search rules) (search rules) (search rules) (search rules) (search rules)
+
+pub returns-clause-made : goal.returns-clause-made
+returns-clause-made g c =
+    made-here _ _ c.self.view_is c.publication.result.now _ c.args.now (dot_after c.self.inside.changes) c.args.change.now c.in_ok-versions.drawn c.in_ok-versions.versions.items _ _ _ _ c.key_of.result.row
+    c.in_ok-versions.ensures.draws c.in_ok-versions.ensures.allowed c.in_ok-versions.ensures.versions c.in_ok-draft.ensures.made
+    c.publication.ensures.publication (search rules) (search rules) (search rules) (search rules) refl c.last_closed.result (search rules) c.in_ok-counters_go_on.ensures.ok (search rules)
