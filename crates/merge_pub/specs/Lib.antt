@@ -21,3 +21,4 @@ pub mod Ranging
 pub mod Given
 pub mod Purging
 pub mod OldSpans
+pub mod PurgeDrafts

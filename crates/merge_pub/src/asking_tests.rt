@@ -76,7 +76,9 @@ fn site_that_joined_is_in_step(rt: HostRuntime) -> Result<(), Fail> {
     assert_eq!(rt; download(&mut publisher, NORTH, 0)?, 0);
     let state = publisher.sites.get(&1).copied();
     assert_eq!(rt; state.is_some_and(|state| state.last_sync == 11), true);
-    assert_eq!(rt; publisher.purge(Moment(12))?.generations, 0);
+    let (draft, forgotten) = publisher.draft_purge(Moment(12))?;
+    publisher.settle_purge(draft);
+    assert_eq!(rt; forgotten.generations, 0);
     assert_eq!(rt; publisher.latest, Moment(12));
     Ok(())
 }

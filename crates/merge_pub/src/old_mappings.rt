@@ -1,7 +1,6 @@
 //! The mappings that are old, found by the generations of their moves.
 ghost use Rattle.std.specs.Prelude.{◌≡◌, ◌↔◌, ◌<◌, ◌≤◌, ◌++◌, ◌^◌, true, Contains, IfOk, IfSome, None, OnOk, Some, filter_map, map, not};
 ghost use Rattle.std.specs.List.Sorted.{IsStrictlySortedBy};
-ghost use Rattle.std.specs.Option.{option_to_list};
 ghost use Rattle.merge_table.specs.Edits.{takes_of};
 ghost use Rattle.merge_gens.specs.Moves.{row_site_cmp};
 ghost use Rattle.merge_gens.specs.declared.moves.RowSite.{RowSite as OnePlace};
@@ -13,6 +12,7 @@ ghost use Rattle.merge_pub.specs.OldSpans.{HasMapped, HasMoved, IsNextBehind, Is
 ghost use Rattle.merge_pub.specs.Purging.{is_old_mapping, taken_at};
 ghost use Rattle.merge_pub.specs.declared.move_entry.MoveEntry.{MoveEntry as OneEntry};
 
+use crate::lists::push_some;
 use crate::move_entry::MoveEntry;
 use crate::move_walk::add_moved;
 use crate::old_spans::{Span, old_span};
@@ -109,19 +109,6 @@ fn sort_places(places: &mut Vec<RowSite>)
     places.dedup();
 }
 
-// Adds what there is behind a list.
-fn push_if_some(
-    edits: &mut Listing<Edit<RowSite, Mapping>>,
-    edit: Option<Edit<RowSite, Mapping>>,
-) -> Result<(), NoMemory>
-    ensures { OnOk result (edits.new ≡ edits.old ++ option_to_list edit) }
-{
-    match edit {
-        Some(edit) => edits.push(edit),
-        None => Ok(()),
-    }
-}
-
 impl Publisher {
     // The places of all mappings whose last move was in these generations, by row and site.
     fn sorted_places(&self, span: Span) -> Result<Vec<RowSite>, NoMemory>
@@ -153,7 +140,7 @@ impl Publisher {
     {
         let mut edits = Listing::empty(self.alloc);
         for place in places {
-            push_if_some(&mut edits, self.taken_at(staying, *place))?;
+            push_some(&mut edits, self.taken_at(staying, *place))?;
         }
         Ok(edits)
     }

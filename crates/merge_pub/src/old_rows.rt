@@ -1,14 +1,14 @@
 //! The tombstones that are old, found by the generations of their last changes.
-ghost use Rattle.std.specs.Prelude.{◌≡◌, ◌++◌, IfOk, OnOk, filter_map, map};
+ghost use Rattle.std.specs.Prelude.{◌≡◌, IfOk, filter_map, map};
 ghost use Rattle.std.specs.List.Sorted.{IsStrictlySortedBy};
 ghost use Rattle.std.specs.Map.{keys_of};
-ghost use Rattle.std.specs.Option.{option_to_list};
 ghost use Rattle.merge_types.specs.RowKeys.{key_cmp};
 ghost use Rattle.merge_table.specs.declared.edit.Edit.TheVariants.{Take};
 ghost use Rattle.merge_pub.specs.Held.{tables_of};
 ghost use Rattle.merge_pub.specs.OldSpans.{HasChanged};
 ghost use Rattle.merge_pub.specs.Purging.{gone_at, gone_if, is_old_row, take_row};
 
+use crate::lists::push_some;
 use crate::old_spans::{Span, old_span};
 use crate::publisher::Publisher;
 use crate::staying::Staying;
@@ -69,20 +69,20 @@ impl Publisher {
         &self,
         staying: &Staying<'_>,
         keys: &[RowKey],
-    ) -> Result<Vec<IndexEntry>, NoMemory>
-        ensures { IfOk result (λ gone. gone.items ≡ filter_map (gone_at staying.now.gens.now.book.closings staying.now.cutoff (tables_of self.now).rows) keys.now) }
+    ) -> Result<Listing<IndexEntry>, NoMemory>
+        ensures { IfOk result (λ gone. gone ≡ filter_map (gone_at staying.now.gens.now.book.closings staying.now.cutoff (tables_of self.now).rows) keys.now) }
     {
-        let mut gone = Vec::new(self.alloc);
+        let mut gone = Listing::empty(self.alloc);
         for key in keys {
-            push_if_some(&mut gone, self.gone_at(staying, *key))?;
+            push_some(&mut gone, self.gone_at(staying, *key))?;
         }
         Ok(gone)
     }
 
     // The entries of all tombstones of rows that died in a generation that closed before the moment.
     // The time grows with the rows that changed last in these generations.
-    pub(crate) fn gone_entries(&self, cutoff: Moment) -> Result<Vec<IndexEntry>, NoMemory>
-        ensures { IfOk result (λ gone. gone.items ≡ filter_map (gone_if (is_old_row (tables_of self.now).gens.closings cutoff)) (tables_of self.now).rows) }
+    pub(crate) fn gone_entries(&self, cutoff: Moment) -> Result<Listing<IndexEntry>, NoMemory>
+        ensures { IfOk result (λ gone. gone ≡ filter_map (gone_if (is_old_row (tables_of self.now).gens.closings cutoff)) (tables_of self.now).rows) }
     {
         self.rows.is_ordered();
         let keys = self.sorted_within(old_span(&self.gens, cutoff))?;
@@ -93,17 +93,6 @@ impl Publisher {
         let gone = self.gone_among(&staying, &keys)?;
         Ok(gone)
     }
-}
-
-// Adds what there is behind a list.
-fn push_if_some(entries: &mut Vec<IndexEntry>, entry: Option<IndexEntry>) -> Result<(), NoMemory>
-    ensures { OnOk result (entries.new.items ≡ entries.old.items ++ option_to_list entry) }
-{
-    let Some(entry) = entry else {
-        return Ok(());
-    };
-    entries.push(entry)?;
-    Ok(())
 }
 
 /// The edits that take the rows of these entries.

@@ -1,6 +1,5 @@
 //! A site asks for identity ranges.
-ghost use Rattle.std.specs.Prelude.{◌≡◌, ◌⊎◌, ◌++◌, Err, IfOk, Ok, OnOk, filter_map, map};
-ghost use Rattle.std.specs.Option.{option_to_list};
+ghost use Rattle.std.specs.Prelude.{◌≡◌, ◌⊎◌, Err, IfOk, Ok, OnOk, filter_map, map};
 ghost use Rattle.merge_batch.specs.declared.refusal.Refusal.{Refusal as OneRefusal};
 ghost use Rattle.merge_batch.specs.declared.refusal.Refusal.TheVariants.{NoMemory as no_memory};
 ghost use Rattle.merge_ident.specs.Books as granting;
@@ -13,6 +12,7 @@ ghost use Rattle.merge_pub.specs.Refused.{RefusesAs, refusal_of};
 
 use crate::changes::Draft;
 use crate::closing::counters_go_on;
+use crate::lists::push_some;
 use crate::publisher::Publisher;
 use crate::site::check_rules;
 use merge_batch::{
@@ -102,16 +102,6 @@ fn ended_by(plan: &GrantPlan) -> Option<Ended>
             greatest,
         }),
         _ => None,
-    }
-}
-
-// Adds what there is behind a list.
-fn push_some<T: Copy + Drop>(items: &mut Listing<T>, item: Option<T>) -> Result<(), NoMemory>
-    ensures { OnOk result (items.new ≡ items.old ++ option_to_list item) }
-{
-    match item {
-        Some(item) => items.push(item),
-        None => Ok(()),
     }
 }
 
