@@ -1,5 +1,5 @@
 -- Local changes by what they name, as events.
-use Rattle.std.proofs.Common.{◌≡◌, ◌⊎◌, ℕ, Bool, true, false, List, Option, Result, Ok, Err, refl, ap, sym, subst, ◌∙◌, inl, inr}
+use Rattle.std.proofs.Common.{◌≡◌, ℕ, true, false, List, Result, Ok, Err, refl, ap, sym, subst, ◌∙◌, inl, inr}
 use Rattle.merge_types.specs.declared.changes.Change.{Change}
 use Rattle.merge_types.specs.declared.identifiers.RowId.{RowId}
 use Rattle.merge_types.specs.declared.identifiers.SiteId.{SiteId}
@@ -7,7 +7,7 @@ use Rattle.merge_schema.specs.declared.publication.Publication.{Publication}
 use Rattle.merge_batch.specs.declared.refusal.Refusal.{Refusal}
 use Rattle.merge_batch.specs.declared.refusal.Refusal.TheVariants as refusal
 use Rattle.merge_model.specs.Events.{change_answer, changing, happens, is_site, where_site}
-use Rattle.merge_model.specs.Failing.{Faulty, Slips, faulty}
+use Rattle.merge_model.specs.Failing.{Faulty, faulty}
 use Rattle.merge_model.specs.Naming.{delete_by, insert_by, update_by}
 use Rattle.merge_model.specs.Reach.{stepping}
 use Rattle.merge_model.specs.Steps.{Make}

@@ -1,5 +1,5 @@
 -- Messages that come to where they go, as actions.
-use Rattle.std.proofs.Common.{◌≡◌, ◌+◌, ◌++◌, ◌∷◌, [], ℕ, zero, suc, Bool, true, List, Option, Some, None, Result, Ok, Err, get_or, length, map, set, refl, ap, sym, subst, ◌∙◌, sum_by}
+use Rattle.std.proofs.Common.{◌≡◌, ◌+◌, ◌++◌, ◌∷◌, [], ℕ, zero, suc, true, List, Option, Some, None, Result, Ok, Err, get_or, length, map, set, refl, ap, sym, subst, ◌∙◌, sum_by}
 use Rattle.std.proofs.Math.Path.{fun_ext}
 use Rattle.std.specs.List.{position}
 use Rattle.merge_types.specs.declared.identifiers.Moment.{Moment}

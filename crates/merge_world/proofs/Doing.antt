@@ -1,5 +1,5 @@
 -- What a call of a site does to all sites.
-use Rattle.std.proofs.Common.{◌≡◌, ◌≤◌, ◌<◌, ◌+◌, ℕ, Bool, true, List, Result, Option, Some, get_or, length, map, set, sum_by, refl, ap, sym, subst, ◌∙◌, arith}
+use Rattle.std.proofs.Common.{◌≡◌, ◌≤◌, ◌<◌, ◌+◌, ℕ, Bool, true, List, Result, Some, get_or, length, map, set, sum_by, refl, ap, sym, subst, ◌∙◌, arith}
 use Rattle.std.proofs.lemmas.List.{get_or-map, length-map, set-get_or}
 use Rattle.std.proofs.lemmas.List.Sums.{sum_by-set}
 use Rattle.std.proofs.Math.Seq.{map-set_same}
@@ -17,7 +17,7 @@ use Rattle.merge_model.specs.declared.letter.Letter.{Letter}
 use Rattle.merge_model.specs.declared.outcome.Outcome.{Outcome}
 use Rattle.merge_model.proofs.Calling.{calls-plainly, outcome_by, takes}
 use Rattle.merge_model.proofs.Places.{found-in-place, put-in-place}
-use Rattle.merge_world.specs.Views.{Does, HandedView, IsOrdered, Moves, PublisherCall, PublisherView, SitesView, Stays, SubscriberCall, SubscriberView, entry_of, faults_of, publication_of, site_of, sites_view, world_of}
+use Rattle.merge_world.specs.Views.{Does, IsOrdered, PublisherCall, PublisherView, SitesView, Stays, SubscriberCall, SubscriberView, entry_of, faults_of, publication_of, site_of, sites_view, world_of}
 
 -- the faults of one site rise by as many as those of all
 rises : {A : Type 0} (x y : Slips → A) (a b c d : ℕ) → b + c ≤ a + d → Reaches x y a b → Reaches x y c d

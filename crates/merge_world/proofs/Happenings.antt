@@ -1,5 +1,5 @@
 -- From actions to events.
-use Rattle.std.proofs.Common.{◌≡◌, ◌≤◌, ◌+◌, ◌==◌, [], ℕ, Bool, true, false, List, Option, Some, None, Result, Ok, Err, if◌then◌else◌, refl, ap, sym, subst, ◌∙◌, arith, add-zero}
+use Rattle.std.proofs.Common.{◌≡◌, ◌≤◌, ◌+◌, [], ℕ, Bool, true, false, List, Option, Some, None, Result, if◌then◌else◌, refl, ap, sym, subst, ◌∙◌, add-zero}
 use Rattle.merge_types.specs.declared.identifiers.Moment.{Moment}
 use Rattle.merge_types.specs.declared.identifiers.SiteId.{SiteId}
 use Rattle.merge_schema.specs.declared.publication.Publication.{Publication}
@@ -19,7 +19,7 @@ use Rattle.merge_model.specs.declared.event.Event.TheVariants as event
 use Rattle.merge_model.specs.declared.outcome.Outcome.{Outcome}
 use Rattle.merge_model.specs.declared.outcome.Outcome.TheVariants.{Passed, Refuses}
 use Rattle.merge_model.proofs.Calling.{made, wants}
-use Rattle.merge_model.proofs.Reached.{same-start, stays, under}
+use Rattle.merge_model.proofs.Reached.{same-start, under}
 use Rattle.merge_model.proofs.ReachedEvents.{synced, waiting}
 use Rattle.merge_world.proofs.Doing.{same-count}
 use Rattle.merge_world.proofs.Locals.{stays-same}

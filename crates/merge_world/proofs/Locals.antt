@@ -1,5 +1,5 @@
 -- Local changes, closings, purges and subscribers that begin anew, as actions.
-use Rattle.std.proofs.Common.{◌≡◌, ◌<◌, ◌==◌, ℕ, Bool, true, false, List, Option, Some, None, Result, Ok, Err, get_or, if◌then◌else◌, length, map, set, refl, ap, sym, subst, ◌∙◌, arith}
+use Rattle.std.proofs.Common.{◌≡◌, ◌==◌, ℕ, Bool, true, false, List, Option, Some, None, Result, Ok, get_or, if◌then◌else◌, map, set, refl, ap, sym, subst, ◌∙◌, arith}
 use Rattle.std.specs.List.{position}
 use Rattle.std.proofs.lemmas.Bool.Decides.{nat_tests}
 use Rattle.std.proofs.lemmas.List.{map-set}
@@ -19,7 +19,7 @@ use Rattle.merge_model.specs.PublisherPurge.{purge}
 use Rattle.merge_model.specs.Reinit.{reinitialise}
 use Rattle.merge_model.specs.Steps.{Action, CloseAt, Forget, Make, MakeAnew, at_subscriber, close_publisher, close_subscriber, make_anew, make_at_publisher, make_at_subscriber, step, unless_refused}
 use Rattle.merge_model.specs.Subscriber.{close_sub_generation, sub_local}
-use Rattle.merge_model.specs.Tables.{PublisherTables, SubscriberTables}
+use Rattle.merge_model.specs.Tables.{SubscriberTables}
 use Rattle.merge_model.specs.World.{Saying, World, by_tables, subscriber_at, with_subscriber}
 use Rattle.merge_model.specs.declared.letter.Letter.{Letter}
 use Rattle.merge_model.specs.declared.outcome.Forgotten.{Forgotten}

@@ -1,5 +1,5 @@
 -- The loops of a session: how they begin, go on and end.
-use Rattle.std.proofs.Common.{◌≡◌, ◌≤◌, ◌<◌, ◌+◌, ◌-◌, ℕ, suc, Bool, true, false, Option, None, length, refl, ap, sym, subst, ◌∙◌, arith, add-zero}
+use Rattle.std.proofs.Common.{◌≡◌, ◌≤◌, ◌<◌, ◌+◌, ◌-◌, ℕ, Bool, true, false, Option, None, length, subst, arith}
 use Rattle.merge_types.specs.declared.identifiers.SiteId.{SiteId}
 use Rattle.merge_schema.specs.declared.publication.Publication.{Publication}
 use Rattle.merge_batch.specs.declared.refusal.Refusal.{Refusal}
@@ -9,7 +9,7 @@ use Rattle.merge_model.specs.Session.{Session}
 use Rattle.merge_model.specs.Steps.{SendDownload, SendRanges, SendUpload}
 use Rattle.merge_model.specs.World.{Saying, World, subscriber_at}
 use Rattle.merge_model.proofs.Reached.{stays}
-use Rattle.merge_world.specs.Sessions.{AllRanges, AllUploads, Downloads, Exchanges, Goes, Leaves, Part, Ranges, Stage, Uploads, download_in, grants, is_past, last_in, one_if, part_of, unsent_at}
+use Rattle.merge_world.specs.Sessions.{AllRanges, AllUploads, Downloads, Exchanges, Goes, Leaves, Ranges, Uploads, download_in, grants, is_past, last_in, one_if, part_of, unsent_at}
 use Rattle.merge_world.specs.declared.exchange.Exchanged.TheVariants.{Answered, Taken, Unanswered}
 use Rattle.merge_world.proofs.Turns.{ask-answered, ask-granted, ask-last, ask-unanswered, download-answered, download-last, download-more, download-unanswered, turns-done, turns-end, turns-more, upload-answered, upload-taken, upload-unanswered}
 

@@ -25,8 +25,8 @@ use Rattle.merge_model.specs.declared.letter.Message.TheVariants.{Asks}
 use Rattle.merge_model.specs.declared.outcome.Outcome.{Outcome}
 use Rattle.merge_model.specs.declared.outcome.Outcome.TheVariants.{NoPost, Posted, Refuses}
 use Rattle.merge_model.proofs.Calling.{sends-message}
-use Rattle.merge_world.specs.Messages.{always, as_any_request, as_request, requested}
-use Rattle.merge_world.specs.Views.{Does, IsOrdered, PublisherView, SitesView, SubscriberCall, SubscriberView, entry_of, faults_of, sites_view, world_of}
+use Rattle.merge_world.specs.Messages.{always, as_request, requested}
+use Rattle.merge_world.specs.Views.{Does, IsOrdered, PublisherView, SitesView, SubscriberCall, SubscriberView, entry_of, sites_view, world_of}
 use Rattle.merge_world.proofs.Doing.{acts-all, faults-at, put-at, put-back, stays-at}
 use Rattle.merge_world.proofs.Finding.{at-place, found-place, is_of, placed, unfound, within}
 use Rattle.merge_world.proofs.Locals.{made-here}

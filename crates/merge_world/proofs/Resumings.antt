@@ -1,5 +1,5 @@
 -- Restarts, as events.
-use Rattle.std.proofs.Common.{◌≡◌, ◌≤◌, ◌+◌, ◌⊎◌, ℕ, Bool, true, false, List, [], Option, Some, None, Result, Ok, Err, get_or, length, map, set, sum_by, ◌<◌, refl, ap, sym, subst, ◌∙◌, arith, inl, inr}
+use Rattle.std.proofs.Common.{◌≡◌, ◌≤◌, ◌+◌, ℕ, true, false, List, [], Some, Result, Ok, Err, get_or, length, map, set, sum_by, ◌<◌, refl, ap, sym, subst, ◌∙◌, arith, inl, inr}
 use Rattle.std.specs.List.{position}
 use Rattle.std.specs.Prelude.{IfErr, IfOk}
 use Rattle.std.proofs.lemmas.List.{map-set}
@@ -7,7 +7,7 @@ use Rattle.std.proofs.Math.Seq.{map-set_same}
 use Rattle.merge_types.specs.declared.identifiers.Moment.{Moment}
 use Rattle.merge_types.specs.declared.identifiers.SiteId.{SiteId}
 use Rattle.merge_batch.specs.declared.refusal.Refusal.{Refusal}
-use Rattle.merge_batch.specs.declared.refusal.Refusal.TheVariants.{Damaged, NoMemory, StoreFault, UnknownSite}
+use Rattle.merge_batch.specs.declared.refusal.Refusal.TheVariants.{NoMemory, UnknownSite}
 use Rattle.merge_model.specs.Events.{happens, is_site, looking}
 use Rattle.merge_model.specs.Failing.{Faulty, Slips, faulty}
 use Rattle.merge_model.specs.Reach.{stepping}

@@ -1,5 +1,5 @@
 -- Reports of rows, row by row.
-use Rattle.std.proofs.Common.{◌≡◌, ◌≤◌, ◌<◌, ◌+◌, ◌++◌, ℕ, Bool, true, false, cond, List, [], ◌∷◌, Option, Some, None, count_by, length, map, sum_by, refl, ap, sym, subst, ◌∙◌, arith}
+use Rattle.std.proofs.Common.{◌≡◌, ◌≤◌, ◌<◌, ◌+◌, ◌++◌, ℕ, Bool, true, false, cond, List, [], ◌∷◌, Option, Some, None, count_by, length, map, sum_by, refl, ap, sym, ◌∙◌, arith}
 use Rattle.std.specs.List.{cons_option, filter, flat_map, range_with_len}
 use Rattle.std.proofs.lemmas.List.{append-nil}
 use Rattle.std.proofs.lemmas.List.FromFn.{map-range_with_len_more}
@@ -13,7 +13,6 @@ use Rattle.merge_schema.specs.declared.publication.Publication.{Publication}
 use Rattle.merge_model.specs.Entries.{live_row}
 use Rattle.merge_model.specs.Reports.{counts_of, is_of_article, shown_rows}
 use Rattle.merge_model.specs.Tables.{PublisherTables, SubscriberTables}
-use Rattle.merge_model.specs.declared.answer.Answer.{Answer}
 use Rattle.merge_model.specs.declared.answer.Answer.TheVariants as answer
 use Rattle.merge_model.specs.declared.answer.ShownRow.{ShownRow}
 use Rattle.merge_world.specs.Reports.{alive, live_in, publisher_told, subscriber_told}
@@ -85,11 +84,14 @@ module _ (article : ℕ) where
         let all = counted-all rows in
         omega (arith, so_far, all, last)
 
-    pub counted-fits : (count more limit : ℕ) (row : RowKey × R) (left next rows : List (RowKey × R)) → count + sum_by one left ≡ sum_by one rows → left ≡ row ∷ next → more ≡ one row → length rows < limit → count + more < limit
-    counted-fits count more limit row left next rows so_far is same fits =
+    pub counted-fits : (count more limit : ℕ) (key : RowKey) (row : R) (v : Version) (left next rows held : List (RowKey × R)) → count + sum_by one left ≡ sum_by one rows → left ≡ (key, row) ∷ next → v ≡ version row
+        → more ≡ count_by (is_of_article article) (alive (live_row key v.body)) → held ≡ rows → length held < limit → count + more < limit
+    counted-fits count more limit key row v left next rows held so_far is same counted at fits =
         let few = counted-few rows in
-        let now : sum_by one left ≡ one row + sum_by one next = ap (λ (l : List (RowKey × R)). sum_by one l) is ∙ sum_by-cons one row next in
-        omega (arith, so_far, few, now, same, fits)
+        let now : sum_by one left ≡ one (key, row) + sum_by one next = ap (λ (l : List (RowKey × R)). sum_by one l) is ∙ sum_by-cons one (key, row) next in
+        let this : more ≡ one (key, row) = counted ∙ ap (λ (x : Version). count_by (is_of_article article) (alive (live_row key x.body))) same in
+        let long = ap (λ (l : List (RowKey × R)). length l) at in
+        omega (arith, so_far, few, now, this, long, fits)
 
 -- one article more
 pub counts-more : (f : ℕ → ℕ) (counts new : List ℕ) (n count : ℕ) → counts ≡ map f (range_with_len 0 n) → count ≡ f n → new ≡ counts ++ count ∷ [] → new ≡ map f (range_with_len 0 (n + 1))

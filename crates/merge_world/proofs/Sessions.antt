@@ -1,10 +1,10 @@
 -- The parts of a session, one after the other.
-use Rattle.std.proofs.Common.{◌≡◌, ◌≤◌, ◌<◌, ◌+◌, ◌-◌, ℕ, zero, suc, Bool, true, false, [], List, Option, Some, None, get_or, if◌then◌else◌, length, option_map, unwrap_or, refl, ap, sym, subst, ◌∙◌, arith}
+use Rattle.std.proofs.Common.{◌≡◌, ◌<◌, ℕ, Bool, [], List, Some, None, get_or, length, refl, sym, subst, ◌∙◌}
 use Rattle.merge_types.specs.declared.identifiers.SiteId.{SiteId}
 use Rattle.merge_schema.specs.declared.publication.Publication.{Publication}
 use Rattle.merge_batch.specs.declared.refusal.Refusal.{Refusal}
 use Rattle.merge_model.specs.Failing.{Slips, faulty}
-use Rattle.merge_model.specs.Reach.{Acts, Asks, Reaches, at, stepping}
+use Rattle.merge_model.specs.Reach.{Acts, Asks, at, stepping}
 use Rattle.merge_model.specs.Session.{answered_as, arrived, exchange}
 use Rattle.merge_model.specs.Steps.{Deliver, Send, Sending}
 use Rattle.merge_model.specs.World.{Saying, World}

@@ -1,12 +1,12 @@
 -- Reports, as events.
-use Rattle.std.proofs.Common.{◌≡◌, ◌⊎◌, ℕ, Bool, true, false, List, Option, Result, Ok, Err, refl, ap, sym, subst, ◌∙◌, inl, inr}
+use Rattle.std.proofs.Common.{◌≡◌, ℕ, true, false, List, Result, Ok, Err, refl, ap, sym, subst, ◌∙◌, inl, inr}
 use Rattle.merge_types.specs.declared.identifiers.SiteId.{SiteId}
 use Rattle.merge_types.specs.declared.row_key.RowKey.{RowKey}
 use Rattle.merge_schema.specs.Places.{is_subscription}
 use Rattle.merge_schema.specs.declared.publication.Publication.{Publication}
 use Rattle.merge_batch.specs.declared.refusal.Refusal.{Refusal}
 use Rattle.merge_batch.specs.declared.refusal.Refusal.TheVariants as refusal
-use Rattle.merge_model.specs.Events.{happens, is_site, looking, reported, reporting, showing}
+use Rattle.merge_model.specs.Events.{happens, is_site, looking, reported, showing}
 use Rattle.merge_model.specs.Failing.{Faulty, Slips, faulty}
 use Rattle.merge_model.specs.Naming.{article_by}
 use Rattle.merge_model.specs.Reach.{stepping}

@@ -1,5 +1,5 @@
 -- Events that happen to all sites.
-use Rattle.std.specs.Prelude.{Err, List, Ok, Result, if◌then◌else◌, ℕ, ◌+◌, ◌≡◌}
+use Rattle.std.specs.Prelude.{Err, Ok, Result, ℕ, ◌+◌, ◌≡◌}
 use Rattle.merge_types.specs.declared.changes.Change.{Change}
 use Rattle.merge_types.specs.declared.identifiers.SiteId.{SiteId}
 use Rattle.merge_schema.specs.declared.publication.Publication.{Publication}

@@ -1,4 +1,3 @@
-use Rattle.std.proofs.Common.{refl}
 use Rattle.merge_world.proofs.Deliveries.{moves-from, wants-room-to-deliver}
 use Rattle.merge_world.proofs.world.Sites.deliver.Goals as goal
 

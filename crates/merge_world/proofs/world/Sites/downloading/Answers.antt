@@ -1,5 +1,4 @@
-use Rattle.std.proofs.Common.{◌≤◌, ◌<◌, ◌+◌, add-zero, arith, sym, ◌∙◌}
-use Rattle.merge_world.specs.Sessions.{Downloads}
+use Rattle.std.proofs.Common.{add-zero, arith, sym, ◌∙◌}
 use Rattle.merge_world.proofs.Rounds.{downloads-answered, downloads-begin, downloads-done, downloads-last, downloads-more, downloads-unanswered, ran-so, stands-so}
 use Rattle.merge_world.proofs.Sessions.{still-ordered}
 use Rattle.merge_world.proofs.world.Sites.downloading.Goals as goal

@@ -1,4 +1,4 @@
-use Rattle.std.proofs.Common.{◌<◌, ◌+◌, ◌-◌, ap, arith}
+use Rattle.std.proofs.Common.{◌+◌, ◌-◌, ap, arith}
 use Rattle.merge_world.specs.Sessions.{one_if}
 use Rattle.merge_world.proofs.Rounds.{downloads-want, ran-so}
 use Rattle.merge_world.proofs.world.Sites.more_downloads.Goals as goal

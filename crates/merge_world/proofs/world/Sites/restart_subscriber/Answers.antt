@@ -1,4 +1,3 @@
-use Rattle.std.proofs.Common.{Err, Ok}
 use Rattle.merge_world.proofs.Resumings.{resumes-nowhere, resumes-subscriber}
 use Rattle.merge_world.proofs.world.Sites.restart_subscriber.Goals as goal
 

@@ -1,4 +1,4 @@
-use Rattle.std.proofs.Common.{◌≤◌, ◌<◌, ◌+◌, arith}
+use Rattle.std.proofs.Common.{arith}
 use Rattle.merge_world.proofs.Rounds.{uploads-answered, uploads-begin, uploads-done, uploads-more, uploads-unanswered}
 use Rattle.merge_world.proofs.Sessions.{still-ordered}
 use Rattle.merge_world.proofs.world.Sites.uploading.Goals as goal
