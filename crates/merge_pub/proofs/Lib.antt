@@ -39,3 +39,14 @@ pub mod SortedPlaces
 pub mod OldMappings
 pub mod Purged
 pub mod PurgeMade
+pub mod UploadPass
+pub mod ColumnsFit
+pub mod DecidedRows
+pub mod UploadRules
+pub mod UploadMade
+pub mod UploadActed
+pub mod UploadHolds
+pub mod Meetings
+pub mod Passing
+pub mod SiteEdits
+pub mod UploadKept

@@ -22,3 +22,6 @@ pub mod Given
 pub mod Purging
 pub mod OldSpans
 pub mod PurgeDrafts
+pub mod Fits
+pub mod Uploading
+pub mod Uploaded

@@ -2,6 +2,7 @@
 //! then put in place.
 #![tactic(auto)]
 
+mod acting;
 #[cfg(test)]
 mod asking_tests;
 mod batch_walk;
@@ -13,9 +14,11 @@ mod drawing;
 mod edits;
 mod entries;
 mod forgetting;
+mod holding;
 mod joining;
 mod lists;
 mod local;
+mod meeting;
 mod move_entry;
 mod move_walk;
 mod old_mappings;
@@ -24,6 +27,7 @@ mod old_spans;
 mod publisher;
 mod purging;
 mod ranging;
+mod seeing;
 mod site;
 mod site_drafts;
 mod staying;
@@ -31,6 +35,9 @@ mod step;
 #[cfg(test)]
 mod tests;
 mod touches;
+mod uploading;
+#[cfg(test)]
+mod uploading_tests;
 mod versions;
 
 pub use changes::{Besides, Changes, Draft, IndexChanges};
