@@ -5,7 +5,7 @@ use Rattle.std.specs.Option.{option_map_or}
 use Rattle.std.proofs.Common.{arith, sym, ap, ◌∙◌, subst, inl, inr}
 use Rattle.std.proofs.lemmas.Bool.{and_from, and_parts}
 use Rattle.std.proofs.lemmas.Bool.Decides.{nat_tests}
-use Rattle.merge_types.specs.Fitting.{fits_column, has_type, is_proper, is_short}
+use Rattle.merge_types.specs.Fitting.{fits_column}
 use Rattle.merge_types.specs.declared.identifiers.Dot.{Dot}
 use Rattle.merge_types.specs.declared.values.ColType.{ColType}
 use Rattle.merge_types.specs.declared.values.Column.{Column}
@@ -17,7 +17,7 @@ use Rattle.merge_units.specs.declared.case.Side.TheVariants as side
 use Rattle.merge_units.specs.declared.result.Decision.{Decision}
 use Rattle.merge_units.specs.declared.result.Decision.TheVariants.{Custom, KeepPublisher, TakeSubscriber}
 use Rattle.merge_units.specs.declared.version.Cell.{Cell}
-use Rattle.merge_batch.specs.Articles.{has_one_value, is_set, row_values, value_fits, values_fit}
+use Rattle.merge_batch.specs.Articles.{has_one_value, is_set, row_values, values_fit}
 use Rattle.merge_resolve.specs.Columns.{cell_value}
 use Rattle.merge_resolve.specs.Counted.{fit_all, fits_place, fits_some, own_placed}
 use Rattle.merge_resolve.specs.Questions.{both_place}
@@ -32,7 +32,7 @@ abbrev pub are_good : Option ℕ → ℕ → List Column → List Value → Bool
 are_good identity n [] [] = true
 are_good identity n [] (value ∷ values) = false
 are_good identity n (column ∷ columns) [] = false
-are_good identity n (column ∷ columns) (value ∷ values) = (value_fits column.ty value && set_at identity n value) && are_good identity (n + 1) columns values
+are_good identity n (column ∷ columns) (value ∷ values) = (fits_column column.ty value && set_at identity n value) && are_good identity (n + 1) columns values
 
 pub good-from : (identity : Option ℕ) (n : ℕ) (columns : List Column) (values : List Value) → values_fit columns values ≡ true
     → ((k : ℕ) (value : Value) → slice_get values k ≡ Some value → set_at identity (n + k) value ≡ true) → are_good identity n columns values ≡ true
@@ -40,7 +40,7 @@ good-from identity n [] [] fit set = refl
 good-from identity n [] (value ∷ values) fit set = absurd (cc fit)
 good-from identity n (column ∷ columns) [] fit set = absurd (cc fit)
 good-from identity n (column ∷ columns) (value ∷ values) fit set =
-    let parts = and_parts (value_fits column.ty value) (values_fit columns values) fit in
+    let parts = and_parts (fits_column column.ty value) (values_fit columns values) fit in
     let here : n + 0 ≡ n = omega arith in
     and_from _ _
     (and_from _ _ parts.0 (subst (λ (k : ℕ). set_at identity k value ≡ true) here (set 0 value refl)))
@@ -51,8 +51,8 @@ good-fit identity n [] [] good = refl
 good-fit identity n [] (value ∷ values) good = absurd (cc good)
 good-fit identity n (column ∷ columns) [] good = absurd (cc good)
 good-fit identity n (column ∷ columns) (value ∷ values) good =
-    let parts = and_parts (value_fits column.ty value && set_at identity n value) (are_good identity (n + 1) columns values) good in
-    let here = and_parts (value_fits column.ty value) (set_at identity n value) parts.0 in
+    let parts = and_parts (fits_column column.ty value && set_at identity n value) (are_good identity (n + 1) columns values) good in
+    let here = and_parts (fits_column column.ty value) (set_at identity n value) parts.0 in
     and_from _ _ here.0 (good-fit identity (n + 1) columns values parts.1)
 
 pub good-length : (identity : Option ℕ) (n : ℕ) (columns : List Column) (values : List Value) → are_good identity n columns values ≡ true → length values ≡ length columns
@@ -60,7 +60,7 @@ good-length identity n [] [] good = refl
 good-length identity n [] (value ∷ values) good = absurd (cc good)
 good-length identity n (column ∷ columns) [] good = absurd (cc good)
 good-length identity n (column ∷ columns) (value ∷ values) good =
-    let parts = and_parts (value_fits column.ty value && set_at identity n value) (are_good identity (n + 1) columns values) good in
+    let parts = and_parts (fits_column column.ty value && set_at identity n value) (are_good identity (n + 1) columns values) good in
     omega (arith, good-length identity (n + 1) columns values parts.1)
 
 set-here : (place n : ℕ) (value : Value) → n ≡ place → set_at (Some place) n value ≡ true → is_set (Some value) ≡ true
@@ -74,11 +74,11 @@ good-set place n [] [] good k at within = absurd (omega arith)
 good-set place n [] (value ∷ values) good k at within = absurd (cc good)
 good-set place n (column ∷ columns) [] good k at within = absurd (cc good)
 good-set place n (column ∷ columns) (value ∷ values) good zero at within =
-    let parts = and_parts (value_fits column.ty value && set_at (Some place) n value) (are_good (Some place) (n + 1) columns values) good in
-    let here = and_parts (value_fits column.ty value) (set_at (Some place) n value) parts.0 in
+    let parts = and_parts (fits_column column.ty value && set_at (Some place) n value) (are_good (Some place) (n + 1) columns values) good in
+    let here = and_parts (fits_column column.ty value) (set_at (Some place) n value) parts.0 in
     set-here place n value (omega arith) here.1
 good-set place n (column ∷ columns) (value ∷ values) good (suc k) at within =
-    let parts = and_parts (value_fits column.ty value && set_at (Some place) n value) (are_good (Some place) (n + 1) columns values) good in
+    let parts = and_parts (fits_column column.ty value && set_at (Some place) n value) (are_good (Some place) (n + 1) columns values) good in
     good-set place (n + 1) columns values parts.1 k (omega arith) (omega arith)
 
 -- Cells with one value each.
@@ -87,7 +87,7 @@ one-split : (identity : Option ℕ) (n : ℕ) (column : Column) (columns : List 
     → (are_good identity n (column ∷ []) values ≡ true) × (are_good identity (n + 1) columns rest ≡ true)
 one-split identity n column columns [] rest one good = absurd (grind (arith, nat_tests, one))
 one-split identity n column columns (value ∷ []) rest one good =
-    let parts = and_parts (value_fits column.ty value && set_at identity n value) (are_good identity (n + 1) columns rest) good in
+    let parts = and_parts (fits_column column.ty value && set_at identity n value) (are_good identity (n + 1) columns rest) good in
     (and_from _ _ parts.0 refl, parts.1)
 one-split identity n column columns (value ∷ other ∷ values) rest one good = absurd (grind (arith, nat_tests, one))
 
@@ -95,10 +95,10 @@ one-join : (identity : Option ℕ) (n : ℕ) (column : Column) (columns : List C
     → are_good identity n (column ∷ columns) (values ++ rest) ≡ true
 one-join identity n column columns [] rest here behind = absurd (cc here)
 one-join identity n column columns (value ∷ []) rest here behind =
-    let parts = and_parts (value_fits column.ty value && set_at identity n value) true here in
+    let parts = and_parts (fits_column column.ty value && set_at identity n value) true here in
     and_from _ _ parts.0 behind
 one-join identity n column columns (value ∷ other ∷ values) rest here behind =
-    let parts = and_parts (value_fits column.ty value && set_at identity n value) false here in
+    let parts = and_parts (fits_column column.ty value && set_at identity n value) false here in
     absurd (cc parts.1)
 
 one-none : (identity : Option ℕ) (n : ℕ) (values rest : List Value) → (length values == 1) ≡ true → are_good identity n [] (values ++ rest) ≡ true → ⊥
@@ -142,7 +142,7 @@ module _ (identity : Option ℕ) (dot : Dot) where
 -- Values that are decided.
 
 abbrev pub fits_at : List ColType → ℕ → Value → Bool
-fits_at types place value = option_map_or (λ (ty : ColType). value_fits ty value) (slice_get types place) false
+fits_at types place value = option_map_or (λ (ty : ColType). fits_column ty value) (slice_get types place) false
 
 -- a decided value fits the column at its place
 abbrev pub is_good_at : List ColType → Option ℕ → ℕ → Value → Bool
@@ -171,7 +171,7 @@ types-aligned columns = aligned-from (map (λ (column : Column). column.ty) colu
 decided-here : (types : List ColType) (identity : Option ℕ) (n : ℕ) (column : Column) (value : Value) → slice_get types n ≡ Some column.ty → is_good_at types identity n value ≡ true → are_good identity n (column ∷ []) (value ∷ []) ≡ true
 decided-here types identity n column value at good =
     let parts = and_parts (fits_at types n value) (set_at identity n value) good in
-    let fit : value_fits column.ty value ≡ true = rw at at parts.0 in
+    let fit : fits_column column.ty value ≡ true = rw at at parts.0 in
     and_from _ _ (and_from _ _ fit parts.1) refl
 
 module _ (types : List ColType) (identity : Option ℕ) (dot : Dot) (vs : List Value) where
@@ -219,18 +219,12 @@ module _ (types : List ColType) (identity : Option ℕ) (dot : Dot) (vs : List V
       subst (λ (k : ℕ). are_good identity n (column ∷ columns) (take k (value ∷ values) ++ row_values (result_cells dot (Custom vs) (drop k (value ∷ values)) ss ps is)) ≡ true) (sym count)
       (one-join identity n column columns (value ∷ []) (row_values (result_cells dot (Custom vs) values ss ps is)) (decided-here types identity n column value aligned.0 fits.0) rest)
 
--- a value that a column may have fits it
-column-fits : (ty : ColType) (value : Value) → fits_column ty value ≡ true → value_fits ty value ≡ true
-column-fits ty value fit =
-    let parts = and_parts (has_type ty value) (is_short value && is_proper value) fit in
-    and_from _ _ parts.0 (and_parts (is_short value) (is_proper value) parts.1).0
-
 place-fits : (types : List ColType) (place : ℕ) (value : Value) → fits_place types place value ≡ true → fits_at types place value ≡ true
 place-fits types place value fit = by (slice_get types place) fit
   where
-    by : (found : Option ColType) → fits_some found value ≡ true → option_map_or (λ (ty : ColType). value_fits ty value) found false ≡ true
+    by : (found : Option ColType) → fits_some found value ≡ true → option_map_or (λ (ty : ColType). fits_column ty value) found false ≡ true
     by None fit = absurd (cc fit)
-    by (Some ty) fit = column-fits ty value fit
+    by (Some ty) fit = fit
 
 -- decided values by places, where no identity column asks for its own
 pub placed-plain : (types : List ColType) (places : List ℕ) (values : List Value) → fit_all (fits_place types) places values ≡ true → fit_all (is_good_at types None) places values ≡ true
@@ -266,7 +260,7 @@ row-plain n [] (value ∷ values) fit = absurd (cc fit)
 row-plain n (column ∷ columns) [] fit = absurd (cc fit)
 row-plain n (column ∷ columns) (value ∷ values) fit =
     let parts = and_parts (fits_column column.ty value) (fit_all fits_column (map (λ (c : Column). c.ty) columns) values) fit in
-    and_from _ _ (and_from _ _ (column-fits column.ty value parts.0) refl) (row-plain (n + 1) columns values parts.1)
+    and_from _ _ (and_from _ _ parts.0 refl) (row-plain (n + 1) columns values parts.1)
 
 set-apart : (place n : ℕ) (value : Value) → n ≢ place → set_at (Some place) n value ≡ true
 set-apart place n value apart =
@@ -284,7 +278,7 @@ row-behind place n [] (value ∷ values) above fit = absurd (cc fit)
 row-behind place n (column ∷ columns) [] above fit = absurd (cc fit)
 row-behind place n (column ∷ columns) (value ∷ values) above fit =
     let parts = and_parts (fits_column column.ty value) (fit_all fits_column (map (λ (c : Column). c.ty) columns) values) fit in
-    and_from _ _ (and_from _ _ (column-fits column.ty value parts.0) (set-apart place n value (omega arith))) (row-behind place (n + 1) columns values (omega arith) parts.1)
+    and_from _ _ (and_from _ _ parts.0 (set-apart place n value (omega arith))) (row-behind place (n + 1) columns values (omega arith) parts.1)
 
 -- but for the identity column's, which is that of a row that fits
 pub row-own : (place n : ℕ) (columns : List Column) (values ours : List Value) (k : ℕ) (own : Value) → n + k ≡ place → fit_all fits_column (map (λ (column : Column). column.ty) columns) values ≡ true
@@ -295,13 +289,13 @@ row-own place n (column ∷ columns) [] ours k own at fit good is = absurd (cc f
 row-own place n (column ∷ columns) (value ∷ values) [] k own at fit good is = absurd (cc good)
 row-own place n (column ∷ columns) (value ∷ values) (our ∷ ours) zero own at fit good is =
     let parts = and_parts (fits_column column.ty value) (fit_all fits_column (map (λ (c : Column). c.ty) columns) values) fit in
-    let goods = and_parts (value_fits column.ty our && set_at (Some place) n our) (are_good (Some place) (n + 1) columns ours) good in
+    let goods = and_parts (fits_column column.ty our && set_at (Some place) n our) (are_good (Some place) (n + 1) columns ours) good in
     let same : our ≡ own = cc is in
-    and_from _ _ (subst (λ (v : Value). (value_fits column.ty v && set_at (Some place) n v) ≡ true) same goods.0) (row-behind place (n + 1) columns values (omega arith) parts.1)
+    and_from _ _ (subst (λ (v : Value). (fits_column column.ty v && set_at (Some place) n v) ≡ true) same goods.0) (row-behind place (n + 1) columns values (omega arith) parts.1)
 row-own place n (column ∷ columns) (value ∷ values) (our ∷ ours) (suc k) own at fit good is =
     let parts = and_parts (fits_column column.ty value) (fit_all fits_column (map (λ (c : Column). c.ty) columns) values) fit in
-    let goods = and_parts (value_fits column.ty our && set_at (Some place) n our) (are_good (Some place) (n + 1) columns ours) good in
-    and_from _ _ (and_from _ _ (column-fits column.ty value parts.0) (set-apart place n value (omega arith))) (row-own place (n + 1) columns values ours k own (omega arith) parts.1 goods.1 is)
+    let goods = and_parts (fits_column column.ty our && set_at (Some place) n our) (are_good (Some place) (n + 1) columns ours) good in
+    and_from _ _ (and_from _ _ parts.0 (set-apart place n value (omega arith))) (row-own place (n + 1) columns values ours k own (omega arith) parts.1 goods.1 is)
 
 -- what is at a place of a row that fits, fits there
 pub good-at : (identity : Option ℕ) (types : List ColType) (n : ℕ) (columns : List Column) (values : List Value) → Aligned types n columns → are_good identity n columns values ≡ true
@@ -310,13 +304,13 @@ good-at identity types n [] [] aligned good k value is = absurd (cc is)
 good-at identity types n [] (other ∷ values) aligned good k value is = absurd (cc good)
 good-at identity types n (column ∷ columns) [] aligned good k value is = absurd (cc good)
 good-at identity types n (column ∷ columns) (other ∷ values) aligned good zero value is =
-    let goods = and_parts (value_fits column.ty other && set_at identity n other) (are_good identity (n + 1) columns values) good in
-    let fit = and_parts (value_fits column.ty other) (set_at identity n other) goods.0 in
+    let goods = and_parts (fits_column column.ty other && set_at identity n other) (are_good identity (n + 1) columns values) good in
+    let fit = and_parts (fits_column column.ty other) (set_at identity n other) goods.0 in
     let same : other ≡ value = cc is in
     let place : n + 0 ≡ n = omega arith in
-    rw (place, aligned.0) (subst (λ (v : Value). value_fits column.ty v ≡ true) same fit.0)
+    rw (place, aligned.0) (subst (λ (v : Value). fits_column column.ty v ≡ true) same fit.0)
 good-at identity types n (column ∷ columns) (other ∷ values) aligned good (suc k) value is =
-    let goods = and_parts (value_fits column.ty other && set_at identity n other) (are_good identity (n + 1) columns values) good in
+    let goods = and_parts (fits_column column.ty other && set_at identity n other) (are_good identity (n + 1) columns values) good in
     let place : n + suc k ≡ n + 1 + k = omega arith in
     rw place (good-at identity types (n + 1) columns values aligned.1 goods.1 k value is)
 
