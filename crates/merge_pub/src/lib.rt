@@ -3,8 +3,6 @@
 #![tactic(auto)]
 
 mod acting;
-#[cfg(test)]
-mod asking_tests;
 mod batch_walk;
 mod beginning;
 mod changes;
@@ -36,8 +34,6 @@ mod step;
 mod tests;
 mod touches;
 mod uploading;
-#[cfg(test)]
-mod uploading_tests;
 mod versions;
 
 pub use changes::{Besides, Changes, Draft, IndexChanges};
