@@ -215,7 +215,7 @@ impl Publisher {
     }
 
     // What the items do that act.
-    fn act(
+    fn act_on_upload(
         &self,
         resolvers: &mut Vec<Handed>,
         arrival: Arrival,
@@ -352,7 +352,7 @@ impl Publisher {
         ensures publication { publication_of self.new ≡ publication_of self.old }
     {
         let arrival = self.check_upload(now, upload)?;
-        let acting = self.act(resolvers, arrival, upload)?;
+        let acting = self.act_on_upload(resolvers, arrival, upload)?;
         let draft = self.draft_taken(arrival, upload, acting, steps)?;
         Ok((
             draft,

@@ -1,6 +1,6 @@
 use Rattle.merge_pub.specs.Held.{publication_of, tables_of}
 use Rattle.merge_pub.proofs.UploadHolds.{acted-holds, asked-at, changes-at, conflicts-at, items-at, keeps-fits-at, passed-at, rises-at, rows-at, valid-at}
-use Rattle.merge_pub.proofs.publisher.Publisher.act.Goals as goal
+use Rattle.merge_pub.proofs.publisher.Publisher.act_on_upload.Goals as goal
 
 pub act_on_all-requires : goal.act_on_all-requires
 act_on_all-requires g c =
