@@ -23,7 +23,7 @@ returns-in_err-draft-clause-some g c =
 
 pub returns-in_err-acting-clause-some : goal.returns-in_err-acting-clause-some
 returns-in_err-acting-clause-some g c =
-    upload-some (publication_of c.args.self.now) c.args.now c.args.upload.now (tables_of c.args.self.now) (λ k n q. None) _ _ c.in_ok-arrival.arrival c.in_ok-arrival.ensures.arrival c.act.ensures.asked
+    upload-some (publication_of c.args.self.now) c.args.now c.args.upload.now (tables_of c.args.self.now) (λ k n q. None) _ _ c.in_ok-arrival.arrival c.in_ok-arrival.ensures.arrival c.act_on_upload.ensures.asked
 
 pub returns-in_err-arrival-clause-some : goal.returns-in_err-arrival-clause-some
 returns-in_err-arrival-clause-some g c = (0, refl)
