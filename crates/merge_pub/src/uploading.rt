@@ -329,7 +329,11 @@ impl Publisher {
     }
 
     /// Works out an upload, and tells up to which generation the site's changes are taken. Each
-    /// resolver is asked about its conflicts, once each.
+    /// resolver is asked about its conflicts, once each. It is refused where the site does not
+    /// subscribe, has not joined, is expired or made the message before it joined, where the upload
+    /// leaves a gap or breaks a rule, where new rows are too many, and where a counter has come to
+    /// its end. Then no resolver is asked. Where memory is wanting, the first few questions may have
+    /// been asked.
     pub fn draft_upload<L: Ledger>(
         &mut self,
         resolvers: &mut Vec<Handed>,
