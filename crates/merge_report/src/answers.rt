@@ -2,7 +2,7 @@
 ghost use Rattle.std.specs.Prelude.{◌≡◌, ◌++◌, All, IfOk, OnOk, option_copied, string_bytes};
 ghost use Rattle.merge_model.specs.Play.{names_of};
 ghost use Rattle.merge_model.specs.Text.{line, refusal_words, text_of, texts_of};
-ghost use Rattle.merge_report.specs.Proper.{IsProperAnswer};
+ghost use Rattle.merge_model.specs.Proper.{IsProperAnswer};
 ghost use Rattle.merge_report.specs.Words.{called};
 
 use crate::conflicts::add_conflicts;

@@ -14,3 +14,5 @@ pub mod Resumings
 pub mod Rowwise
 pub mod Telling
 pub mod Playings
+pub mod Printing
+pub mod Shows

@@ -7,3 +7,4 @@ pub mod Messages
 pub mod Sessions
 pub mod Happenings
 pub mod Playing
+pub mod Printable

@@ -3,6 +3,7 @@ ghost use Rattle.std.specs.Prelude.{◌≡◌, IfOk, map, true};
 ghost use Rattle.merge_model.specs.Events.{is_site};
 ghost use Rattle.merge_model.specs.Reports.{sites_report};
 ghost use Rattle.merge_model.specs.declared.event.Event.TheVariants as event;
+ghost use Rattle.merge_model.specs.Proper.{IsProperAnswer};
 ghost use Rattle.merge_world.specs.Happenings.{Happened};
 ghost use Rattle.merge_world.specs.Reports.{IsReport, held_of, publisher_told, subscriber_told, told_at};
 ghost use Rattle.merge_world.specs.Views.{IsOrdered};
@@ -36,7 +37,8 @@ fn publisher_report<P: PublisherSite>(
     publisher: &P,
     report: Report,
 ) -> Result<Answer, NoMemory>
-    ensures { IfOk result (λ answer. answer ≡ publisher_told (P.view publisher.now).publication report (P.view publisher.now).tables) }
+    ensures told { IfOk result (λ answer. answer ≡ publisher_told (P.view publisher.now).publication report (P.view publisher.now).tables) }
+    ensures printable { IfOk result IsProperAnswer }
 {
     match report {
         Report::Rows(article) => Ok(Answer::Rows(shown(alloc, publisher.rows(), article)?)),
@@ -80,7 +82,8 @@ fn subscriber_report<S: SubscriberSite>(
     subscriber: &S,
     report: Report,
 ) -> Result<Answer, NoMemory>
-    ensures { IfOk result (λ answer. answer ≡ subscriber_told publication.now report (S.view subscriber.now).tables) }
+    ensures told { IfOk result (λ answer. answer ≡ subscriber_told publication.now report (S.view subscriber.now).tables) }
+    ensures printable { IfOk result IsProperAnswer }
 {
     match report {
         Report::Rows(article) => Ok(Answer::Rows(shown(alloc, subscriber.rows(), article)?)),
@@ -123,7 +126,8 @@ impl<P: PublisherSite, S: SubscriberSite> Sites<P, S> {
     // What a site tells.
     fn told(&self, alloc: Global, site: SiteId, report: Report) -> Result<Answer, NoMemory>
         requires { IsOrdered (⟦<Sites<P, S> as Seen>⟧.seen self.now) }
-        ensures { IfOk result (λ answer. answer ≡ told_at (⟦<Sites<P, S> as Seen>⟧.seen self.now) site report) }
+        ensures told { IfOk result (λ answer. answer ≡ told_at (⟦<Sites<P, S> as Seen>⟧.seen self.now) site report) }
+        ensures printable { IfOk result IsProperAnswer }
     {
         if site.0 == 0 {
             return publisher_report(alloc, &self.publisher, report);
@@ -140,7 +144,8 @@ impl<P: PublisherSite, S: SubscriberSite> Sites<P, S> {
     fn report(&self, alloc: Global, site: SiteId, report: Report) -> Answer
         requires ordered { IsOrdered (⟦<Sites<P, S> as Seen>⟧.seen self.now) }
         requires known { is_site (⟦<Sites<P, S> as Seen>⟧.seen self.now).publication site ≡ true }
-        ensures { (e : _) (h : _) → IsReport (⟦<Sites<P, S> as Seen>⟧.seen self.now).publication report site e → Happened e (⟦<Sites<P, S> as Seen>⟧.seen self.now) (⟦<Sites<P, S> as Seen>⟧.seen self.now) h h result }
+        ensures happened { (e : _) (h : _) → IsReport (⟦<Sites<P, S> as Seen>⟧.seen self.now).publication report site e → Happened e (⟦<Sites<P, S> as Seen>⟧.seen self.now) (⟦<Sites<P, S> as Seen>⟧.seen self.now) h h result }
+        ensures printable { IsProperAnswer result }
     {
         match self.told(alloc, site, report) {
             Ok(answer) => answer,
@@ -151,7 +156,8 @@ impl<P: PublisherSite, S: SubscriberSite> Sites<P, S> {
     /// The live rows of an article at a site.
     pub fn show_event(&self, alloc: Global, site: SiteId, article: &Words) -> Answer
         requires { IsOrdered (⟦<Sites<P, S> as Seen>⟧.seen self.now) }
-        ensures { (h : _) → Happened (event.Show site article.now) (⟦<Sites<P, S> as Seen>⟧.seen self.now) (⟦<Sites<P, S> as Seen>⟧.seen self.now) h h result }
+        ensures happened { (h : _) → Happened (event.Show site article.now) (⟦<Sites<P, S> as Seen>⟧.seen self.now) (⟦<Sites<P, S> as Seen>⟧.seen self.now) h h result }
+        ensures printable { IsProperAnswer result }
     {
         match self.check_site(site) {
             Ok(()) => match article_by(self.publisher.publication(), article) {
@@ -179,7 +185,8 @@ impl<P: PublisherSite, S: SubscriberSite> Sites<P, S> {
     /// The conflicts that a site keeps.
     pub fn conflicts_event(&self, alloc: Global, site: SiteId) -> Answer
         requires { IsOrdered (⟦<Sites<P, S> as Seen>⟧.seen self.now) }
-        ensures { (h : _) → Happened (event.Conflicts site) (⟦<Sites<P, S> as Seen>⟧.seen self.now) (⟦<Sites<P, S> as Seen>⟧.seen self.now) h h result }
+        ensures happened { (h : _) → Happened (event.Conflicts site) (⟦<Sites<P, S> as Seen>⟧.seen self.now) (⟦<Sites<P, S> as Seen>⟧.seen self.now) h h result }
+        ensures printable { IsProperAnswer result }
     {
         match self.check_site(site) {
             Ok(()) => self.report(alloc, site, Report::Conflicts),

@@ -5,6 +5,9 @@ ghost use Rattle.merge_model.specs.Entries.{live_row};
 ghost use Rattle.merge_model.specs.Reports.{counts_of, is_of_article, shown_rows};
 ghost use Rattle.merge_types.specs.declared.values.Value.{Value as OneValue};
 ghost use Rattle.merge_units.specs.declared.version.Cell.{Cell as OneCell};
+ghost use Rattle.merge_model.specs.declared.answer.Answer.TheVariants.{Rows};
+ghost use Rattle.merge_model.specs.Proper.{IsProperAnswer};
+ghost use Rattle.merge_world.specs.Printable.{ArePrintable};
 ghost use Rattle.merge_world.specs.Reports.{alive, live_in};
 
 use merge_model::ShownRow;
@@ -47,7 +50,8 @@ pub(crate) fn shown<R: Versioned>(
     rows: &Table<RowKey, R>,
     article: u8,
 ) -> Result<Listing<ShownRow>, NoMemory>
-    ensures { IfOk result (λ shown. shown ≡ shown_rows article (live_in (λ row. R.version_of row) rows.now.rows)) }
+    ensures shown { IfOk result (λ shown. shown ≡ shown_rows article (live_in (λ row. R.version_of row) rows.now.rows)) }
+    ensures printable { ArePrintable (λ row. R.version_of row) rows.now.rows → IfOk result (λ shown. IsProperAnswer (Rows shown)) }
 {
     let mut shown = Listing::empty(alloc);
     for (key, row) in rows.iter() {

@@ -23,6 +23,7 @@ pub trait PublisherSite: Drop {
     ghost use Rattle.merge_model.specs.Publisher.{close_generation};
     ghost use Rattle.merge_model.specs.PublisherLocal.{local};
     ghost use Rattle.merge_model.specs.PublisherPurge.{purge};
+    ghost use Rattle.merge_world.specs.Printable.{AreLostPrintable, ArePrintable};
     ghost use Rattle.merge_world.specs.Restarts.{Restarted};
     ghost use Rattle.merge_world.specs.Reports.{partition_rows};
     ghost use Rattle.merge_world.specs.Views.{PublisherCall, PublisherView};
@@ -69,14 +70,16 @@ pub trait PublisherSite: Drop {
         ensures { result.now ≡ (view self.now).publication };
 
     fn rows(&self) -> &Table<RowKey, PublisherRow>
-        ensures { result.now.rows ≡ (view self.now).tables.rows };
+        ensures rows { result.now.rows ≡ (view self.now).tables.rows }
+        ensures printable { ArePrintable (λ row. row.version) result.now.rows };
 
     /// The rows of a site's partition.
     fn partition(&self, site: SiteId) -> Result<Listing<RowKey>, NoMemory>
         ensures { IfOk result (λ rows. rows ≡ partition_rows (view self.now).publication site (view self.now).tables) };
 
     fn conflicts(&self) -> &[ConflictRow]
-        ensures { result.now ≡ (view self.now).tables.conflicts };
+        ensures conflicts { result.now ≡ (view self.now).tables.conflicts }
+        ensures printable { AreLostPrintable result.now };
 
     fn grants(&self) -> &[Grant]
         ensures { result.now ≡ (view self.now).tables.grants };
@@ -107,6 +110,7 @@ pub trait SubscriberSite: Drop {
     ghost use Rattle.merge_model.specs.Subscriber.{close_sub_generation, sub_local};
     ghost use Rattle.merge_model.specs.Taking.{take_reply};
     ghost use Rattle.merge_units.specs.Changes.{ColumnsAscend};
+    ghost use Rattle.merge_world.specs.Printable.{AreLostPrintable, ArePrintable};
     ghost use Rattle.merge_world.specs.Restarts.{Restarted};
     ghost use Rattle.merge_world.specs.Views.{SubscriberCall, SubscriberView};
 
@@ -176,10 +180,12 @@ pub trait SubscriberSite: Drop {
         ensures { result ≡ (view self.now).tables.is_joined };
 
     fn rows(&self) -> &Table<RowKey, SubscriberRow>
-        ensures { result.now.rows ≡ (view self.now).tables.rows };
+        ensures rows { result.now.rows ≡ (view self.now).tables.rows }
+        ensures printable { ArePrintable (λ row. row.version) result.now.rows };
 
     fn conflicts(&self) -> &[ConflictRow]
-        ensures { result.now ≡ (view self.now).tables.conflicts };
+        ensures conflicts { result.now ≡ (view self.now).tables.conflicts }
+        ensures printable { AreLostPrintable result.now };
 
     /// The identity ranges that are held, by article.
     fn held(&self) -> &Table<u8, Ranges>

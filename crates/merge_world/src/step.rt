@@ -1,5 +1,6 @@
 //! One event of a script, and many.
 ghost use Rattle.std.specs.Prelude.{◌≡◌, ◌≤◌, ◌+◌, ◌*◌, ◌^◌, IfOk, length, vec_capacity, vec_len};
+ghost use Rattle.merge_model.specs.Proper.{IsProperAnswer};
 ghost use Rattle.merge_world.specs.Happenings.{Proceeds, seconds_of};
 ghost use Rattle.merge_world.specs.Playing.{Plays};
 ghost use Rattle.merge_world.specs.Views.{IsOrdered, handed_view};
@@ -34,8 +35,9 @@ impl<P: PublisherSite, S: SubscriberSite> Sites<P, S> {
     ) -> Result<Answer, Refusal>
         requires ordered { IsOrdered (⟦<Sites<P, S> as Seen>⟧.seen self.old) }
         requires clock { self.old.moment.0 + 2 ^ 32 ≤ 2 ^ 64 }
-        ensures { Proceeds event.now (⟦<Sites<P, S> as Seen>⟧.seen self.old) (⟦<Sites<P, S> as Seen>⟧.seen self.new)
+        ensures happened { Proceeds event.now (⟦<Sites<P, S> as Seen>⟧.seen self.old) (⟦<Sites<P, S> as Seen>⟧.seen self.new)
             (handed_view (λ r. says r) (λ r. tally_of r) resolvers.old.items) (handed_view (λ r. says r) (λ r. tally_of r) resolvers.new.items) result }
+        ensures printable { IfOk result IsProperAnswer }
     {
         match event {
             Event::Wait(seconds) => Ok(self.wait_event(*seconds)),
@@ -104,8 +106,8 @@ impl<P: PublisherSite, S: SubscriberSite> Sites<P, S> {
     }
 }
 
-// By how many seconds an event moves the moment.
-fn seconds_of(event: &Event) -> u32
+/// By how many seconds an event moves the moment.
+pub fn seconds_of(event: &Event) -> u32
     ensures { result ≡ seconds_of event.now }
 {
     match event {

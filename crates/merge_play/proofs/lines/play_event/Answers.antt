@@ -1,0 +1,12 @@
+use Rattle.std.proofs.lemmas.Result.{on_err_weaker, on_ok_weaker}
+use Rattle.merge_play.proofs.SoFar.{line-answered, line-in-part, rises-by}
+use Rattle.merge_play.proofs.lines.play_event.Goals as goal
+
+pub returns-in-Ok-clause-ok : goal.returns-in-Ok-clause-ok
+returns-in-Ok-clause-ok g c = on_ok_weaker c.write_answer.result (λ more. line-answered _ _ _ _ _ _ _ _ _ c.in-Ok.ensures.happened c.publication.ensures more) c.write_answer.ensures.ok
+
+pub returns-in-Ok-clause-part : goal.returns-in-Ok-clause-part
+returns-in-Ok-clause-part g c = on_err_weaker c.write_answer.result (λ more. line-in-part _ _ _ _ _ _ _ _ _ c.in-Ok.ensures.happened c.publication.ensures more) c.write_answer.ensures.part
+
+pub returns-in-Ok-clause-later : goal.returns-in-Ok-clause-later
+returns-in-Ok-clause-later g c = let happened = c.in-Ok.ensures.happened in rises-by _ _ _ _ _ _ _ _ happened.comes

@@ -1,0 +1,45 @@
+-- What is answered to the lines of a script.
+use Rattle.std.specs.Prelude.{◌≡◌, ◌≤◌, ◌⊎◌, ◌++◌, ℕ, List, Option, take}
+use Rattle.std.specs.Io.KnownBytes.{Appends}
+use Rattle.merge_ports.specs.Parts.{AppendsFront}
+use Rattle.merge_model.specs.Play.{names_of}
+use Rattle.merge_model.specs.Reading.{events_of}
+use Rattle.merge_model.specs.Text.{text_of, texts_of}
+use Rattle.merge_model.specs.declared.answer.Answer.{Answer}
+use Rattle.merge_model.specs.declared.event.Event.{Event}
+use Rattle.merge_model.specs.declared.event.Line.{Line}
+use Rattle.merge_model.specs.declared.event.Line.TheVariants.{Quiet, Event as Does, NoEvent}
+use Rattle.merge_world.specs.Happenings.{Happened}
+use Rattle.merge_world.specs.Playing.{AllHappened}
+use Rattle.merge_world.specs.Views.{HandedView, SitesView}
+
+-- The events of the lines before the first that is no event, or of all, were answered, and the answers were written.
+pub record Played (lines : List (List ℕ)) (old new : SitesView) (before after : HandedView) (was now : Option (List ℕ)) : Type 0 where
+  pub answers : List Answer
+  pub happened : AllHappened (events_of lines) old new before after answers
+  pub bytes : Appends was now (texts_of (names_of old.publication) answers)
+
+-- Some of the first of these events were answered, and a front of the answers was written.
+pub record PlayedInPart (lines : List (List ℕ)) (old : SitesView) (before : HandedView) (faults : ℕ) (was now : Option (List ℕ)) : Type 0 where
+  pub events : List Event
+  pub more : List Event
+  pub split : events_of lines ≡ events ++ more
+  pub answers : List Answer
+  -- the sites and the resolvers behind these events
+  pub last : SitesView
+  pub behind : HandedView
+  pub happened : AllHappened events old last before behind answers
+  pub few : last.faults ≤ faults
+  pub count : ℕ
+  pub bytes : Appends was now (take count (texts_of (names_of old.publication) answers))
+
+-- what a line says was answered whole
+abbrev pub LineAnswered : Line → (old new : SitesView) → (before after : HandedView) → (was now : Option (List ℕ)) → Type 0
+LineAnswered Quiet old new before after was now = (new ≡ old) × (after ≡ before) × (now ≡ was)
+LineAnswered (Does event) old new before after was now = (answer : Answer) × Happened event old new before after answer × Appends was now (text_of (names_of old.publication) answer)
+LineAnswered (NoEvent word) old new before after was now = ⊥
+
+-- what a line says was answered in part, or not
+abbrev pub LineInPart : Line → (old new : SitesView) → (before after : HandedView) → (was now : Option (List ℕ)) → Type 0
+LineInPart (Does event) old new before after was now = (now ≡ was) ⊎ ((answer : Answer) × Happened event old new before after answer × AppendsFront was now (text_of (names_of old.publication) answer))
+LineInPart other old new before after was now = (new ≡ old) × (after ≡ before) × (now ≡ was)

@@ -1,0 +1,142 @@
+//! The lines of a script, one after the other.
+ghost use Rattle.std.specs.Io.KnownBytes.{Appends};
+ghost use Rattle.std.specs.Prelude.{◌≡◌, ◌≤◌, ◌<◌, ◌+◌, ◌^◌, ◌⊎◌, Err, None, OnErr, OnOk, Some, ℕ, length};
+ghost use Rattle.merge_batch.specs.declared.refusal.Refusal.{Refusal as Refused};
+ghost use Rattle.merge_ports.specs.Faults.{Rose};
+ghost use Rattle.merge_ports.specs.Parts.{AppendsFront};
+ghost use Rattle.merge_script.specs.Lines.{lines_of};
+ghost use Rattle.merge_model.specs.Play.{names_of};
+ghost use Rattle.merge_model.specs.Reading.{fault_of, line_of};
+ghost use Rattle.merge_model.specs.Text.{text_of};
+ghost use Rattle.merge_model.specs.declared.event.Line.TheVariants.{Event as Does, NoEvent};
+ghost use Rattle.merge_play.specs.Played.{LineAnswered, LineInPart, Played, PlayedInPart};
+ghost use Rattle.merge_play.specs.declared.stop.Stop.TheVariants as stop;
+ghost use Rattle.merge_model.specs.Proper.{IsProperAnswer};
+ghost use Rattle.merge_world.specs.Restarts.{IsLost};
+ghost use Rattle.merge_world.specs.Views.{IsOrdered, handed_view};
+
+use crate::stop::Stop;
+use merge_model::{Answer, Event, Line};
+use merge_ports::{Sink, write_whole};
+use merge_reading::read_line;
+use merge_report::text_of;
+use merge_resolve::Handed;
+use merge_schema::Publication;
+use merge_script::cut_line;
+use merge_world::{PublisherSite, Seen, Sites, SubscriberSite, seconds_of};
+use std::alloc::Global;
+
+// Writes the text of an answer.
+fn write_answer<O: Sink>(
+    alloc: Global,
+    publication: &Publication,
+    answer: &Answer,
+    output: &mut O,
+) -> Result<(), Stop>
+    requires { IsProperAnswer answer.now }
+    ensures ok { OnOk result (Appends (O.written output.old) (O.written output.new) (text_of (names_of publication.now) answer.now)) }
+    ensures part { OnErr result ((O.written output.new ≡ O.written output.old) ⊎ AppendsFront (O.written output.old) (O.written output.new) (text_of (names_of publication.now) answer.now)) }
+    ensures no_event { (line word : ℕ) → result ≡ Err (stop.NoEvent line word) → ⊥ }
+    ensures write { result ≡ Err stop.WriteFault → Rose (O.count output.old) (O.count output.new) }
+    ensures ended { (why : Refused) → result ≡ Err (stop.Ended why) → ⊥ }
+    ensures writes { O.count output.old ≤ O.count output.new }
+{
+    let text = text_of(alloc, publication, answer)?;
+    write_whole(output, text.as_str().as_bytes())?;
+    Ok(())
+}
+
+// Makes the step of an event, and writes its answer.
+fn play_event<P: PublisherSite, S: SubscriberSite, O: Sink>(
+    alloc: Global,
+    sites: &mut Sites<P, S>,
+    resolvers: &mut Vec<Handed>,
+    event: &Event,
+    output: &mut O,
+) -> Result<(), Stop>
+    requires ordered { IsOrdered (⟦<Sites<P, S> as Seen>⟧.seen sites.old) }
+    requires early { sites.old.moment.0 + 2 ^ 32 ≤ 2 ^ 64 }
+    ensures ok { OnOk result (LineAnswered (Does event.now) (⟦<Sites<P, S> as Seen>⟧.seen sites.old) (⟦<Sites<P, S> as Seen>⟧.seen sites.new)
+        (handed_view (λ r. says r) (λ r. tally_of r) resolvers.old.items) (handed_view (λ r. says r) (λ r. tally_of r) resolvers.new.items) (O.written output.old) (O.written output.new)) }
+    ensures part { OnErr result (LineInPart (Does event.now) (⟦<Sites<P, S> as Seen>⟧.seen sites.old) (⟦<Sites<P, S> as Seen>⟧.seen sites.new)
+        (handed_view (λ r. says r) (λ r. tally_of r) resolvers.old.items) (handed_view (λ r. says r) (λ r. tally_of r) resolvers.new.items) (O.written output.old) (O.written output.new)) }
+    ensures soon { OnOk result (sites.new.moment.0 < sites.old.moment.0 + 2 ^ 32) }
+    ensures no_event { (line word : ℕ) → result ≡ Err (stop.NoEvent line word) → ⊥ }
+    ensures write { result ≡ Err stop.WriteFault → Rose (O.count output.old) (O.count output.new) }
+    ensures ended { (why : Refused) → result ≡ Err (stop.Ended why) → IsLost why (⟦<Sites<P, S> as Seen>⟧.seen sites.old).faults (⟦<Sites<P, S> as Seen>⟧.seen sites.new).faults }
+    ensures later { (⟦<Sites<P, S> as Seen>⟧.seen sites.old).faults ≤ (⟦<Sites<P, S> as Seen>⟧.seen sites.new).faults }
+    ensures writes { O.count output.old ≤ O.count output.new }
+{
+    let _ = seconds_of(event);
+    match sites.step(alloc, resolvers, event) {
+        Ok(answer) => write_answer(alloc, sites.publisher.publication(), &answer, output),
+        Err(refusal) => Err(Stop::Ended(refusal)),
+    }
+}
+
+// Reads the line with a number, and plays the event that it says.
+fn play_line<P: PublisherSite, S: SubscriberSite, O: Sink>(
+    alloc: Global,
+    sites: &mut Sites<P, S>,
+    resolvers: &mut Vec<Handed>,
+    number: u64,
+    line: &[u8],
+    output: &mut O,
+) -> Result<(), Stop>
+    requires ordered { IsOrdered (⟦<Sites<P, S> as Seen>⟧.seen sites.old) }
+    requires early { sites.old.moment.0 + 2 ^ 32 ≤ 2 ^ 64 }
+    ensures ok { OnOk result (LineAnswered (line_of line.now) (⟦<Sites<P, S> as Seen>⟧.seen sites.old) (⟦<Sites<P, S> as Seen>⟧.seen sites.new)
+        (handed_view (λ r. says r) (λ r. tally_of r) resolvers.old.items) (handed_view (λ r. says r) (λ r. tally_of r) resolvers.new.items) (O.written output.old) (O.written output.new)) }
+    ensures part { OnErr result (LineInPart (line_of line.now) (⟦<Sites<P, S> as Seen>⟧.seen sites.old) (⟦<Sites<P, S> as Seen>⟧.seen sites.new)
+        (handed_view (λ r. says r) (λ r. tally_of r) resolvers.old.items) (handed_view (λ r. says r) (λ r. tally_of r) resolvers.new.items) (O.written output.old) (O.written output.new)) }
+    ensures soon { OnOk result (sites.new.moment.0 < sites.old.moment.0 + 2 ^ 32) }
+    ensures no_event { (at word : ℕ) → result ≡ Err (stop.NoEvent at word) → (at ≡ number) × (line_of line.now ≡ NoEvent word) }
+    ensures write { result ≡ Err stop.WriteFault → Rose (O.count output.old) (O.count output.new) }
+    ensures ended { (why : Refused) → result ≡ Err (stop.Ended why) → IsLost why (⟦<Sites<P, S> as Seen>⟧.seen sites.old).faults (⟦<Sites<P, S> as Seen>⟧.seen sites.new).faults }
+    ensures later { (⟦<Sites<P, S> as Seen>⟧.seen sites.old).faults ≤ (⟦<Sites<P, S> as Seen>⟧.seen sites.new).faults }
+    ensures writes { O.count output.old ≤ O.count output.new }
+{
+    match read_line(alloc, line)? {
+        Line::Quiet => Ok(()),
+        Line::Event(event) => play_event(alloc, sites, resolvers, &event, output),
+        Line::NoEvent(word) => Err(Stop::NoEvent { line: number, word }),
+    }
+}
+
+/// Plays the lines of a script on sites, and writes each answer before it looks at the next line.
+///
+/// The first line that is no event ends it, and so do a restart whose store cannot be read or is
+/// damaged, an answer that cannot be written, and want of memory for an answer's text.
+pub fn play_lines<P: PublisherSite, S: SubscriberSite, O: Sink>(
+    alloc: Global,
+    sites: &mut Sites<P, S>,
+    resolvers: &mut Vec<Handed>,
+    script: &[u8],
+    output: &mut O,
+) -> Result<(), Stop>
+    requires ordered { IsOrdered (⟦<Sites<P, S> as Seen>⟧.seen sites.old) }
+    requires early { sites.old.moment.0 ≤ 2 ^ 62 }
+    requires short { length script.now ≤ 67108864 }
+    ensures whole { OnOk result (fault_of (lines_of script.now) ≡ None) }
+    ensures done { OnOk result (Played (lines_of script.now) (⟦<Sites<P, S> as Seen>⟧.seen sites.old) (⟦<Sites<P, S> as Seen>⟧.seen sites.new)
+        (handed_view (λ r. says r) (λ r. tally_of r) resolvers.old.items) (handed_view (λ r. says r) (λ r. tally_of r) resolvers.new.items) (O.written output.old) (O.written output.new)) }
+    ensures no_event { (line word : ℕ) → result ≡ Err (stop.NoEvent line word) → fault_of (lines_of script.now) ≡ Some (line, word) }
+    ensures before { (line word : ℕ) → result ≡ Err (stop.NoEvent line word) → Played (lines_of script.now) (⟦<Sites<P, S> as Seen>⟧.seen sites.old) (⟦<Sites<P, S> as Seen>⟧.seen sites.new)
+        (handed_view (λ r. says r) (λ r. tally_of r) resolvers.old.items) (handed_view (λ r. says r) (λ r. tally_of r) resolvers.new.items) (O.written output.old) (O.written output.new) }
+    ensures part { PlayedInPart (lines_of script.now) (⟦<Sites<P, S> as Seen>⟧.seen sites.old) (handed_view (λ r. says r) (λ r. tally_of r) resolvers.old.items)
+        (⟦<Sites<P, S> as Seen>⟧.seen sites.new).faults (O.written output.old) (O.written output.new) }
+    ensures write { result ≡ Err stop.WriteFault → Rose (O.count output.old) (O.count output.new) }
+    ensures ended { (why : Refused) → result ≡ Err (stop.Ended why) → IsLost why (⟦<Sites<P, S> as Seen>⟧.seen sites.old).faults (⟦<Sites<P, S> as Seen>⟧.seen sites.new).faults }
+    ensures later { (⟦<Sites<P, S> as Seen>⟧.seen sites.old).faults ≤ (⟦<Sites<P, S> as Seen>⟧.seen sites.new).faults }
+    ensures writes { O.count output.old ≤ O.count output.new }
+{
+    let mut rest = script;
+    let mut number = 1u64;
+    while !rest.is_empty() {
+        let (line, more) = cut_line(rest);
+        play_line(alloc, sites, resolvers, number, line, output)?;
+        rest = more;
+        number += 1;
+    }
+    Ok(())
+}
