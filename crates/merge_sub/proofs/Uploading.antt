@@ -1,6 +1,7 @@
 -- An upload that is made.
-use Rattle.std.specs.Prelude.{◌≡◌, ◌+◌, ◌++◌, ℕ, Err, List, [], ◌∷◌, None, Ok, Option, Result, Some, filter_map, length, refl, unwrap_or}
+use Rattle.std.specs.Prelude.{◌≡◌, ◌==◌, ◌+◌, ◌++◌, ℕ, Bool, true, Err, List, [], ◌∷◌, None, Ok, Option, Result, Some, filter_map, length, refl, unwrap_or}
 use Rattle.std.proofs.Common.{ap, arith, subst, sym, ◌∙◌}
+use Rattle.std.proofs.lemmas.Bool.Decides.{nat_tests}
 use Rattle.std.proofs.lemmas.List.{append-nil}
 use Rattle.merge_types.specs.declared.identifiers.Moment.{Moment}
 use Rattle.merge_types.specs.declared.row_key.RowKey.{RowKey}
@@ -78,6 +79,11 @@ some_sent h now view moment passes keys changed some made is =
     let sent : upload_made (by_rows (tables_of now)) moment (tables_of now) ≡ Some (upload_sent (by_rows (tables_of now)) (sub_closed (sub_at_moment moment (tables_of now)))) =
     made-of (tables_of now) moment (unsent_rows (by_rows (tables_of now)) (tables_of now)) refl (λ none. some (nothing keys (unsent_rows (by_rows (tables_of now)) (tables_of now)) (sym same) none)) in
     rw (passes, sent, is) refl
+
+-- a list of no length has no member
+pub none-left : (keys : List RowKey) → length keys ≡ 0 → keys ≡ []
+none-left [] none = refl
+none-left (key ∷ keys) none = absurd (omega (arith, none))
 
 -- how many rows are unsent
 pub unsent_counted : (h now : Held) → h ≡ now → (keys : List RowKey) → AreChanged h.rows.rows h.state.received (h.gens.book.filling.last_closed + 1) keys → (count : ℕ) → count ≡ length keys → count ≡ unsent_count (tables_of now)

@@ -14,8 +14,6 @@ mod sending;
 mod state;
 mod still;
 mod subscriber;
-#[cfg(test)]
-mod tests;
 mod told;
 mod upload;
 
