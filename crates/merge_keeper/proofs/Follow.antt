@@ -207,7 +207,8 @@ with_grant_step : (new grant : Grant) (grants : List Grant) → HasGrantKey new 
 with_grant_step new grant grants n h ih true e = rw e (h.0, ih)
 with_grant_step new grant grants n h ih false e = rw e (n, h)
 
-with_grant_keys : (new : Grant) (grants : List Grant) → HasGrantKey new → AllByRecursion HasGrantKey grants → AllByRecursion HasGrantKey (with_grant grants new)
+-- the keys of grants fit with one more
+pub with_grant_keys : (new : Grant) (grants : List Grant) → HasGrantKey new → AllByRecursion HasGrantKey grants → AllByRecursion HasGrantKey (with_grant grants new)
 with_grant_keys new [] n h = (n, tt)
 with_grant_keys new (grant ∷ grants) n h = with_grant_step new grant grants n h (with_grant_keys new grants n h.1) (nat_le grant.article new.article) refl
 

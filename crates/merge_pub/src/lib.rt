@@ -14,6 +14,7 @@ mod entries;
 mod forgetting;
 mod holding;
 mod joining;
+mod keeping;
 mod lists;
 mod local;
 mod meeting;

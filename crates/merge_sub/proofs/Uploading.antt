@@ -1,7 +1,6 @@
 -- An upload that is made.
-use Rattle.std.specs.Prelude.{◌≡◌, ◌==◌, ◌+◌, ◌++◌, ℕ, Bool, true, Err, List, [], ◌∷◌, None, Ok, Option, Result, Some, filter_map, length, refl, unwrap_or}
+use Rattle.std.specs.Prelude.{◌≡◌, ◌+◌, ◌++◌, ℕ, Err, List, [], ◌∷◌, None, Ok, Option, Result, Some, filter_map, length, refl, unwrap_or}
 use Rattle.std.proofs.Common.{ap, arith, subst, sym, ◌∙◌}
-use Rattle.std.proofs.lemmas.Bool.Decides.{nat_tests}
 use Rattle.std.proofs.lemmas.List.{append-nil}
 use Rattle.merge_types.specs.declared.identifiers.Moment.{Moment}
 use Rattle.merge_types.specs.declared.row_key.RowKey.{RowKey}

@@ -11,6 +11,7 @@ mod local;
 mod prepared;
 mod reply;
 mod sending;
+mod starting;
 mod state;
 mod still;
 mod subscriber;

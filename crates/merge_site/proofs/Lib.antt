@@ -1,0 +1,10 @@
+pub mod Bare
+pub mod Called
+pub mod Committed
+pub mod Edited
+pub mod Granted
+pub mod Keyed
+pub mod ListsAfter
+pub mod PublisherCalls
+pub mod PublisherEdited
+pub mod SubscriberCalls

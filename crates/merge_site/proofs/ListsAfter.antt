@@ -1,0 +1,139 @@
+-- Lists after the changes of a step.
+use Rattle.std.proofs.Common.{◌≡◌, ◌∙◌, ℕ, zero, suc, ◌<◌, Bool, true, false, List, [], ◌∷◌, ◌++◌, length, map, filter, nat_lt, refl, sym, ap, subst, append_assoc, arith}
+use Rattle.std.specs.declared.option.Option.{Option}
+use Rattle.std.specs.declared.option.Option.TheVariants.{None, Some}
+use Rattle.std.specs.declared.cmp.Ordering.TheVariants.{Less}
+use Rattle.std.specs.Cmp.{nat_cmp_is}
+use Rattle.std.specs.List.{AllByRecursion, AllPairs}
+use Rattle.std.specs.List.Sorted.{IsStrictlySortedBy}
+use Rattle.std.specs.Map.{keys_of}
+use Rattle.std.specs.Ordering.{nat_cmp}
+use Rattle.std.specs.Prelude.{slice_index_or}
+use Rattle.std.proofs.lemmas.Cmp.{nat_cmp_total}
+use Rattle.std.proofs.lemmas.List.{append-nil, map-append}
+use Rattle.merge_types.specs.declared.identifiers.Moment.{Moment}
+use Rattle.merge_table.specs.Edits.{rows_after, rows_after_all, takes_of}
+use Rattle.merge_table.specs.declared.edit.Edit.{Edit}
+use Rattle.merge_table.specs.declared.edit.Edit.TheVariants.{Take}
+use Rattle.merge_table.proofs.Takes.{filter_is_takes, insert_last}
+use Rattle.merge_gens.specs.Book.{Book, IsSound, forgotten_if_any}
+use Rattle.merge_gens.specs.Plan.{settled}
+use Rattle.merge_gens.specs.declared.closings.Closing.{Closing}
+use Rattle.merge_gens.specs.declared.plan.GenPlan.{GenPlan}
+use Rattle.merge_conflict.specs.Rising.{AreRising, RiseAbove}
+use Rattle.merge_conflict.specs.declared.row.ConflictRow.{ConflictRow}
+use Rattle.merge_keeper.specs.Entries.{closing_of, closing_pair, conflict_of, conflict_pair}
+use Rattle.merge_keeper.specs.Stored.{closings_after, conflicts_after}
+use Rattle.merge_site.specs.Lists.{closing_changes, closing_put, closing_takes_to, conflict_put, is_above, pair_put}
+
+map_twice : {A B C : Type 0} (f : A → B) (g : B → C) (xs : List A) → map (λ x. g (f x)) xs ≡ map g (map f xs)
+map_twice f g [] = refl
+map_twice f g (x ∷ xs) = ap (λ l. g (f x) ∷ l) (map_twice f g xs)
+
+-- changes, and then others
+pub after_both : {V : Type 0} (a b : List (Edit ℕ V)) (es : List (ℕ × V)) → rows_after_all nat_cmp es (a ++ b) ≡ rows_after_all nat_cmp (rows_after_all nat_cmp es a) b
+after_both [] b es = refl
+after_both (e ∷ a) b es = after_both a b (rows_after nat_cmp es e)
+
+-- entries whose numbers are above all that are there come behind them
+puts_behind : {V : Type 0} (es news : List (ℕ × V)) → IsStrictlySortedBy nat_cmp (keys_of (es ++ news)) → rows_after_all nat_cmp es (map pair_put news) ≡ es ++ news
+puts_behind es [] s = sym (append-nil es)
+puts_behind {V = V} es (n ∷ news) s =
+    ap (λ (l : List (ℕ × V)). rows_after_all nat_cmp l (map pair_put news)) (insert_last nat_cmp nat_cmp_total es n.0 n.1 news s)
+    ∙ puts_behind (es ++ n ∷ []) news (subst (λ (l : List (ℕ × V)). IsStrictlySortedBy nat_cmp (keys_of l)) (sym (append_assoc es (n ∷ []) news)) s)
+    ∙ append_assoc es (n ∷ []) news
+
+-- so do members of a list that hold their numbers
+members_behind : {X V : Type 0} (pair : X → ℕ × V) (xs news : List X) → IsStrictlySortedBy nat_cmp (keys_of (map pair (xs ++ news))) → rows_after_all nat_cmp (map pair xs) (map (λ x. pair_put (pair x)) news) ≡ map pair (xs ++ news)
+members_behind {X = X} {V = V} pair xs news s =
+    ap (rows_after_all nat_cmp (map pair xs)) (map_twice pair pair_put news)
+    ∙ puts_behind (map pair xs) (map pair news) (subst (λ (l : List (ℕ × V)). IsStrictlySortedBy nat_cmp (keys_of l)) (map-append pair xs news) s)
+    ∙ sym (map-append pair xs news)
+
+-- ---- closed generations
+
+generations_above : (g : ℕ) (cs : List Closing) → ((j : ℕ) (d : Closing) → j < length cs → let c = slice_index_or cs j d in g < c.generation) → AllByRecursion (λ k. nat_cmp g k ≡ Less) (keys_of (map closing_pair cs))
+generations_above g [] h = tt
+generations_above g (c ∷ cs) h = (sym (nat_cmp_is g c.generation Less (h zero c (omega arith))), generations_above g cs (λ j d lt. h (suc j) d (omega arith)))
+
+sorted_closings : (cs : List Closing) → AllPairs (λ (a b : Closing). a.generation < b.generation) cs → IsStrictlySortedBy nat_cmp (keys_of (map closing_pair cs))
+unfolding IsStrictlySortedBy
+sorted_closings [] h = tt
+sorted_closings (c ∷ cs) h =
+    (generations_above c.generation cs (λ j d lt. h zero (suc j) d (omega arith) (omega arith)), sorted_closings cs (λ i j d lt len. h (suc i) (suc j) d (omega arith) (omega arith)))
+
+takes_step : {V : Type 0} (keep : ℕ × V → Bool) (x : ℕ × V) (xs ys : List (ℕ × V)) → takes_of keep (xs ++ ys) ≡ takes_of keep xs ++ takes_of keep ys → (b : Bool) → keep x ≡ b
+    → takes_of keep (x ∷ (xs ++ ys)) ≡ takes_of keep (x ∷ xs) ++ takes_of keep ys
+takes_step keep x xs ys ih true e = rw e ih
+takes_step {V = V} keep x xs ys ih false e = rw e (ap (λ (l : List (Edit ℕ V)). Take x.0 ∷ l) ih)
+
+takes_join : {V : Type 0} (keep : ℕ × V → Bool) (xs ys : List (ℕ × V)) → takes_of keep (xs ++ ys) ≡ takes_of keep xs ++ takes_of keep ys
+takes_join keep [] ys = refl
+takes_join keep (x ∷ xs) ys = takes_step keep x xs ys (takes_join keep xs ys) (keep x) refl
+
+above_step : (n : ℕ) (c : Closing) (cs : List Closing) → map closing_of (filter (is_above n) (map closing_pair cs)) ≡ filter (λ (c : Closing). nat_lt n c.generation) cs → (b : Bool) → nat_lt n c.generation ≡ b
+    → map closing_of (filter (is_above n) (map closing_pair (c ∷ cs))) ≡ filter (λ (c : Closing). nat_lt n c.generation) (c ∷ cs)
+above_step n c cs ih true e = rw e (ap (λ l. c ∷ l) ih)
+above_step n c cs ih false e = rw e ih
+
+closings_above : (n : ℕ) (cs : List Closing) → map closing_of (filter (is_above n) (map closing_pair cs)) ≡ filter (λ (c : Closing). nat_lt n c.generation) cs
+closings_above n [] = refl
+closings_above n (c ∷ cs) = above_step n c cs (closings_above n cs) (nat_lt n c.generation) refl
+
+closings_back : (cs : List Closing) → map closing_of (map closing_pair cs) ≡ cs
+closings_back [] = refl
+closings_back (c ∷ cs) = ap (λ l. c ∷ l) (closings_back cs)
+
+abbrev left_after : List (ℕ × Moment) → List (Edit ℕ Moment) → List Closing
+left_after es edits = map closing_of (rows_after_all nat_cmp es edits)
+
+in_turn : (kept : List Closing) (a b c : List (Edit ℕ Moment)) → closings_after kept (a ++ b ++ c) ≡ left_after (rows_after_all nat_cmp (map closing_pair kept) a) (b ++ c)
+in_turn kept a b c =
+    ap (map closing_of)
+    (after_both (a ++ b) c (map closing_pair kept) ∙ ap (λ (l : List (ℕ × Moment)). rows_after_all nat_cmp l c) (after_both a b (map closing_pair kept)) ∙ sym (after_both b c (rows_after_all nat_cmp (map closing_pair kept) a)))
+
+forgotten_to : (n : ℕ) (kept closed : List Closing) → IsStrictlySortedBy nat_cmp (keys_of (map closing_pair (kept ++ closed)))
+    → left_after (map closing_pair (kept ++ closed)) (closing_takes_to n kept ++ closing_takes_to n closed) ≡ filter (λ (c : Closing). nat_lt n c.generation) (kept ++ closed)
+forgotten_to n kept closed s =
+    ap (left_after (map closing_pair (kept ++ closed))) (sym (takes_join (is_above n) (map closing_pair kept) (map closing_pair closed)) ∙ ap (takes_of (is_above n)) (sym (map-append closing_pair kept closed)))
+    ∙ ap (map closing_of) (filter_is_takes nat_cmp nat_cmp_total (is_above n) (map closing_pair (kept ++ closed)) s)
+    ∙ closings_above n (kept ++ closed)
+
+-- the generations that are kept after a plan, and without those up to one
+pub closings-changed : (book : Book) (plan : GenPlan) (done : Option ℕ) → IsSound (settled book plan) → closings_after book.closings (closing_changes book.closings plan.closings done) ≡ (forgotten_if_any (settled book plan) done).closings
+closings-changed book plan None sound =
+    in_turn book.closings (map closing_put plan.closings) [] []
+    ∙ ap (map closing_of) (members_behind closing_pair book.closings plan.closings (sorted_closings (book.closings ++ plan.closings) sound.ascending))
+    ∙ closings_back (book.closings ++ plan.closings)
+closings-changed book plan (Some n) sound =
+    let sorted = sorted_closings (book.closings ++ plan.closings) sound.ascending in
+    in_turn book.closings (map closing_put plan.closings) (closing_takes_to n book.closings) (closing_takes_to n plan.closings)
+    ∙ ap (λ (l : List (ℕ × Moment)). left_after l (closing_takes_to n book.closings ++ closing_takes_to n plan.closings)) (members_behind closing_pair book.closings plan.closings sorted)
+    ∙ forgotten_to n book.closings plan.closings sorted
+
+pub filling-kept : (book : Book) (done : Option ℕ) → (forgotten_if_any book done).filling ≡ book.filling
+filling-kept book None = refl
+filling-kept book (Some n) = refl
+
+-- ---- rows of the conflict table
+
+rise_from : (m n : ℕ) (rows : List ConflictRow) → m < n → RiseAbove n rows → RiseAbove m rows
+rise_from m n [] lt h = tt
+rise_from m n (row ∷ rows) lt h = (omega (arith, h.0), h.1)
+
+numbers_above : (n : ℕ) (rows : List ConflictRow) → RiseAbove n rows → AllByRecursion (λ k. nat_cmp n k ≡ Less) (keys_of (map conflict_pair rows))
+numbers_above n [] h = tt
+numbers_above n (row ∷ rows) h = (sym (nat_cmp_is n row.number Less h.0), numbers_above n rows (rise_from n row.number rows h.0 h.1))
+
+sorted_conflicts : (n : ℕ) (rows : List ConflictRow) → RiseAbove n rows → IsStrictlySortedBy nat_cmp (keys_of (map conflict_pair rows))
+unfolding IsStrictlySortedBy
+sorted_conflicts n [] h = tt
+sorted_conflicts n (row ∷ rows) h = (numbers_above row.number rows h.1, sorted_conflicts row.number rows h.1)
+
+conflicts_back : (rows : List ConflictRow) → map conflict_of (map conflict_pair rows) ≡ rows
+conflicts_back [] = refl
+conflicts_back (row ∷ rows) = ap (λ l. row ∷ l) (conflicts_back rows)
+
+pub conflicts-changed : (conflicts more : List ConflictRow) → AreRising (conflicts ++ more) → conflicts_after conflicts (map conflict_put more) ≡ conflicts ++ more
+conflicts-changed conflicts more rising =
+    ap (map conflict_of) (members_behind conflict_pair conflicts more (sorted_conflicts 0 (conflicts ++ more) rising)) ∙ conflicts_back (conflicts ++ more)

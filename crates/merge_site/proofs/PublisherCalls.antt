@@ -1,0 +1,44 @@
+-- A call of the publisher, by the step that was worked out for it and by what became of that.
+use Rattle.std.proofs.Common.{◌≡◌, ◌∙◌, ◌||◌, ℕ, Bool, true, false, nat_lt, sym, ap, subst}
+use Rattle.std.specs.Prelude.{Err, IfOk, Ok, Option, Result}
+use Rattle.merge_types.specs.declared.identifiers.Moment.{Moment}
+use Rattle.merge_schema.specs.declared.publication.Publication.{Publication}
+use Rattle.merge_batch.specs.declared.refusal.Refusal.{Refusal}
+use Rattle.merge_model.specs.Calls.{Called, is_later}
+use Rattle.merge_model.specs.Publisher.{close_generation}
+use Rattle.merge_model.proofs.Quiet.{closings-quiet}
+use Rattle.merge_model.specs.Tables.{PublisherTables}
+use Rattle.merge_ports.specs.Entries.{Map}
+use Rattle.merge_pub.specs.After.{after}
+use Rattle.merge_pub.specs.Held.{Held, publication_of, tables_of}
+use Rattle.merge_pub.specs.declared.changes.Draft.{Draft}
+use Rattle.merge_world.specs.Views.{PublisherCall, PublisherView}
+use Rattle.merge_site.specs.Calls.{IsRefused, WorkedOut}
+use Rattle.merge_site.specs.Publishers.{IsKeptPublisher, drafted}
+
+abbrev pub view_of : Held → ℕ → PublisherView
+view_of h faults = record { publication = publication_of h; tables = tables_of h; faults = faults }
+
+-- what was kept still is, once a draft was made
+pub still-kept : (h now : Held) (told : Option Map) → tables_of now ≡ tables_of h → IsKeptPublisher (tables_of h) told → IsKeptPublisher (tables_of now) told
+still-kept h now told same kept = rw same kept
+
+module _ {A : Type 0} (old : PublisherView) (h now new : Held) (before after' : ℕ) (seen : view_of h before ≡ old) (same : tables_of now ≡ tables_of h) where
+  pub pub-called : (by : Publication → PublisherTables → Result (PublisherTables × A) Refusal) (of : PublisherTables → A → Bool) (commits : Bool) (worked : Result (Draft × A) Refusal) (result : Result A Refusal)
+      → IfOk worked (λ made. by (publication_of h) (tables_of h) ≡ Ok (drafted (tables_of h) made))
+      → ((why : Refusal) → worked ≡ Err why → IsRefused (by (publication_of h) (tables_of h)) why)
+      → ((b : Result (PublisherTables × A) Refusal) (o : A → Bool) → WorkedOut (drafted (tables_of now)) b worked → IfOk worked (λ made. commits ≡ true → o made.1 ≡ true) → Called b o (tables_of now) (tables_of new) before after' result)
+      → IfOk worked (λ made. commits ≡ true → of (tables_of h) made.1 ≡ true)
+      → PublisherCall (by old.publication old.tables) (of old.tables) old (view_of new after') result
+  pub-called by of commits worked result made refused called makes =
+      let b = by (publication_of h) (tables_of h) in
+      let out : WorkedOut (drafted (tables_of now)) b worked = record { done = subst (λ (t : PublisherTables). IfOk worked (λ d. b ≡ Ok (drafted t d))) (sym same) made; refused = refused } in
+      subst (λ (v : PublisherView). PublisherCall (by v.publication v.tables) (of v.tables) v (view_of new after') result) seen
+      (subst (λ (t : PublisherTables). Called b (of (tables_of h)) t (tables_of new) before after' result) same (called b (of (tables_of h)) out makes))
+
+-- a closing that commits nothing changes nothing
+pub closing-still : (h now : Held) (moment : Moment) (worked : Result (Draft × ℕ) Refusal) (commits : Bool) → tables_of now ≡ tables_of h → commits ≡ (is_later moment (tables_of h).latest || nat_lt 0 (tables_of h).gens.filling.filled)
+    → IfOk worked (λ made. close_generation moment (tables_of h) ≡ Ok (drafted (tables_of h) made)) → IfOk worked (λ made. commits ≡ false → after made.0.changes (tables_of now) ≡ tables_of now)
+closing-still h now moment (Err why) commits same is made = tt
+closing-still h now moment (Ok worked) commits same is made = λ quiet.
+    subst (λ (t : PublisherTables). after worked.0.changes t ≡ t) (sym same) (closings-quiet moment (tables_of h) (drafted (tables_of h) worked) made (sym is ∙ quiet))

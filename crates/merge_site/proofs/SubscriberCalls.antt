@@ -1,0 +1,60 @@
+-- A call of a subscriber, by the step that was worked out for it and by what became of that.
+use Rattle.std.proofs.Common.{◌≡◌, ◌∙◌, ◌||◌, ℕ, Bool, true, false, nat_lt, sym, ap, subst}
+use Rattle.std.specs.Prelude.{Err, IfOk, Ok, Option, Result}
+use Rattle.merge_types.specs.declared.identifiers.Moment.{Moment}
+use Rattle.merge_schema.specs.declared.publication.Publication.{Publication}
+use Rattle.merge_batch.specs.declared.refusal.Refusal.{Refusal}
+use Rattle.merge_model.specs.Calls.{Called, is_later, message_commits, message_or_none}
+use Rattle.merge_model.specs.Subscriber.{close_sub_generation}
+use Rattle.merge_model.specs.Tables.{SubscriberTables}
+use Rattle.merge_model.proofs.Quiet.{sub-closings-quiet}
+use Rattle.merge_ports.specs.Entries.{Map}
+use Rattle.merge_sub.specs.Drafts.{after, drafted, drafted_if_any}
+use Rattle.merge_sub.specs.Held.{Held, tables_of}
+use Rattle.merge_sub.specs.declared.changes.Draft.{Draft}
+use Rattle.merge_world.specs.Views.{SubscriberCall, SubscriberView}
+use Rattle.merge_site.specs.Calls.{IsRefused, WorkedOut}
+use Rattle.merge_site.specs.Subscribers.{IsKeptSubscriber}
+use Rattle.merge_site.proofs.Called.{ok-all}
+
+abbrev pub view_of : Held → ℕ → SubscriberView
+view_of h faults = record { publication = h.publication; tables = tables_of h; faults = faults }
+
+-- what was kept still is, once a draft was made
+pub still-kept : (h now : Held) (told : Option Map) → tables_of now ≡ tables_of h → IsKeptSubscriber (tables_of h) told → IsKeptSubscriber (tables_of now) told
+still-kept h now told same kept = rw same kept
+
+module _ {A : Type 0} (old : SubscriberView) (h now new : Held) (before after' : ℕ) (seen : view_of h before ≡ old) (same : tables_of now ≡ tables_of h) where
+  pub sub-called : (by : Publication → SubscriberTables → Result (SubscriberTables × A) Refusal) (of : SubscriberTables → A → Bool) (commits : Bool) (worked : Result (Draft × A) Refusal) (result : Result A Refusal)
+      → IfOk worked (λ made. by h.publication (tables_of h) ≡ Ok (drafted (tables_of h) made))
+      → ((why : Refusal) → worked ≡ Err why → IsRefused (by h.publication (tables_of h)) why)
+      → ((b : Result (SubscriberTables × A) Refusal) (o : A → Bool) → WorkedOut (drafted (tables_of now)) b worked → IfOk worked (λ made. commits ≡ true → o made.1 ≡ true) → Called b o (tables_of now) (tables_of new) before after' result)
+      → IfOk worked (λ made. commits ≡ true → of (tables_of h) made.1 ≡ true)
+      → SubscriberCall (by old.publication old.tables) (of old.tables) old (view_of new after') result
+  sub-called by of commits worked result made refused called makes =
+      let b = by h.publication (tables_of h) in
+      let out : WorkedOut (drafted (tables_of now)) b worked = record { done = subst (λ (t : SubscriberTables). IfOk worked (λ d. b ≡ Ok (drafted t d))) (sym same) made; refused = refused } in
+      subst (λ (v : SubscriberView). SubscriberCall (by v.publication v.tables) (of v.tables) v (view_of new after') result) seen
+      (subst (λ (t : SubscriberTables). Called b (of (tables_of h)) t (tables_of new) before after' result) same (called b (of (tables_of h)) out makes))
+
+  pub message-called : (by : Publication → SubscriberTables → Result (Option (SubscriberTables × A)) Refusal) (worked : Result (Option (Draft × A)) Refusal) (result : Result (Option A) Refusal)
+      → IfOk worked (λ made. by h.publication (tables_of h) ≡ Ok (drafted_if_any (tables_of h) made))
+      → ((why : Refusal) → worked ≡ Err why → IsRefused (by h.publication (tables_of h)) why)
+      → ((b : Result (Option (SubscriberTables × A)) Refusal) → WorkedOut (drafted_if_any (tables_of now)) b worked → Called (message_or_none (tables_of now) b) message_commits (tables_of now) (tables_of new) before after' result)
+      → SubscriberCall (message_or_none old.tables (by old.publication old.tables)) message_commits old (view_of new after') result
+  message-called by worked result made refused called =
+      let b = by h.publication (tables_of h) in
+      let out : WorkedOut (drafted_if_any (tables_of now)) b worked = record { done = subst (λ (t : SubscriberTables). IfOk worked (λ d. b ≡ Ok (drafted_if_any t d))) (sym same) made; refused = refused } in
+      subst (λ (v : SubscriberView). SubscriberCall (message_or_none v.tables (by v.publication v.tables)) message_commits v (view_of new after') result) seen
+      (subst (λ (t : SubscriberTables). Called (message_or_none t b) message_commits t (tables_of new) before after' result) same (called b out))
+
+-- a call that always commits
+pub always : {D A : Type 0} (worked : Result (D × A) Refusal) → IfOk worked (λ made. true ≡ true → true ≡ true)
+always worked = ok-all worked (λ made e. e)
+
+-- a closing that commits nothing changes nothing
+pub closing-still : (h now : Held) (moment : Moment) (worked : Result (Draft × ℕ) Refusal) (commits : Bool) → tables_of now ≡ tables_of h → commits ≡ (is_later moment (tables_of h).latest || nat_lt 0 (tables_of h).gens.filling.filled)
+    → IfOk worked (λ made. close_sub_generation moment (tables_of h) ≡ Ok (drafted (tables_of h) made)) → IfOk worked (λ made. commits ≡ false → after made.0.changes (tables_of now) ≡ tables_of now)
+closing-still h now moment (Err why) commits same is made = tt
+closing-still h now moment (Ok worked) commits same is made = λ quiet.
+    subst (λ (t : SubscriberTables). after worked.0.changes t ≡ t) (sym same) (sub-closings-quiet moment (tables_of h) (drafted (tables_of h) worked) made (sym is ∙ quiet))

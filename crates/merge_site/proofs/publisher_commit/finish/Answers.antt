@@ -1,0 +1,12 @@
+use Rattle.std.proofs.lemmas.Result.{err_from_is_err_and}
+use Rattle.merge_pub.specs.After.{after}
+use Rattle.merge_pub.specs.Held.{tables_of}
+use Rattle.merge_pub.specs.declared.changes.Draft.{Draft}
+use Rattle.merge_site.proofs.Called.{stopped}
+use Rattle.merge_site.proofs.publisher_commit.finish.Goals as goal
+
+pub returns-in_err-commit_and_settle-clause-called : goal.returns-in_err-commit_and_settle-clause-called
+returns-in_err-commit_and_settle-clause-called g c by of out makes =
+    let p = err_from_is_err_and c.from_residual-in_err-commit_and_settle.result c.from_residual-in_err-commit_and_settle.ensures.1 in
+    rw (p.1, p.2)
+    (stopped (λ (draft : Draft). after draft.changes (tables_of c.args.publisher.now)) by of c.args.commits c.args.worked c.in_ok-draft.draft c.in_ok-draft.answer (tables_of c.args.publisher.now) (tables_of c.commit_and_settle.new.publisher) (g.K.Keeper.count c.args.keeper.now) (g.K.Keeper.count c.commit_and_settle.new.keeper) _ out.done makes c.in_ok-draft.was c.if-commits.true c.in_err-commit_and_settle.ensures.why c.in_err-commit_and_settle.ensures.err c.in_err-commit_and_settle.ensures.later)

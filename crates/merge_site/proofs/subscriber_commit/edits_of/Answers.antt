@@ -1,0 +1,10 @@
+use Rattle.merge_site.proofs.Edited.{edits-lead, keyed-after}
+use Rattle.merge_site.proofs.subscriber_commit.edits_of.Goals as goal
+
+pub returns-clause-lead : goal.returns-clause-lead
+returns-clause-lead c =
+    edits-lead _ _ _ _ _ _ c.closings.ensures c.site.ensures c.requires.keyed c.requires.gens.sound c.requires.conflicts.rising c.in_ok-stored.ensures c.in_ok-check_stored.ensures.fit c.in_ok-edits.ensures
+
+pub returns-clause-keyed : goal.returns-clause-keyed
+returns-clause-keyed c =
+    keyed-after _ _ _ _ c.closings.ensures c.requires.keyed c.requires.gens.sound c.requires.conflicts.rising c.in_ok-stored.ensures c.in_ok-check_stored.ensures.fit

@@ -1,0 +1,12 @@
+use Rattle.std.proofs.Common.{◌≡◌}
+use Rattle.std.specs.Prelude.{Ok}
+use Rattle.std.proofs.lemmas.Result.{IfOk-at_ok}
+use Rattle.merge_sub.specs.Drafts.{drafted_if_any}
+use Rattle.merge_sub.specs.Held.{tables_of}
+use Rattle.merge_site.proofs.subscriber_commit.finish_message.Goals as goal
+
+pub returns-in-Some-clause-called : goal.returns-in-Some-clause-called
+returns-in-Some-clause-called g c by out =
+    let made = IfOk-at_ok (λ d. by ≡ Ok (drafted_if_any (tables_of c.args.subscriber.now) d)) c.in_ok-worked.was out.done in
+    let is = c.in-Some.is in
+    c.finish_made.ensures.called by (rw is at made)

@@ -1,0 +1,7 @@
+pub mod Beginning
+pub mod Calls
+pub mod Grants
+pub mod Kept
+pub mod Lists
+pub mod Publishers
+pub mod Subscribers

@@ -1,0 +1,74 @@
+-- A publisher with a keeper of its records.
+use Rattle.std.specs.List.{AllByRecursion}
+use Rattle.std.specs.Prelude.{List, None, Option, [], map, true, ◌<◌, ◌^◌, ◌≡◌}
+use Rattle.merge_model.specs.Tables.{PublisherTables}
+use Rattle.merge_ports.specs.Entries.{Map}
+use Rattle.merge_record.specs.Tables.{IsRowKey, IsRowSite}
+use Rattle.merge_keeper.specs.Encoded.{AllEditKeys}
+use Rattle.merge_keeper.specs.Entries.{was_received}
+use Rattle.merge_keeper.specs.Stored.{HasGrantKey, IsPublisherKeyed, publisher_records}
+use Rattle.merge_keeper.specs.declared.stored.PublisherChanges.{PublisherChanges}
+use Rattle.merge_keeper.specs.declared.stored.PublisherStored.{PublisherStored}
+use Rattle.merge_pub.specs.After.{after}
+use Rattle.merge_pub.specs.declared.changes.Changes.{Changes}
+use Rattle.merge_pub.specs.declared.changes.Draft.{Draft}
+use Rattle.merge_site.specs.Grants.{granted_by}
+use Rattle.merge_site.specs.Kept.{IsKept}
+use Rattle.merge_site.specs.Lists.{closing_changes, conflict_put, held_changes}
+
+-- the tables, as they are stored
+abbrev pub publisher_stored : PublisherTables → PublisherStored
+publisher_stored p = record {
+  changes = p.changes;
+  filling = p.gens.filling;
+  closings = p.gens.closings;
+  conflict_count = p.conflict_count;
+  latest = p.latest;
+  rows = p.rows;
+  mappings = p.mappings;
+  conflicts = p.conflicts;
+  grants = p.grants;
+  held = p.held;
+  sites = p.sites;
+}
+
+-- the records of the tables
+unfoldable pub records_of : PublisherTables → Map
+records_of p = publisher_records (publisher_stored p)
+
+-- every number under which a record stands fits its field
+unfoldable pub AreKeyed : PublisherTables → Type 0
+AreKeyed p = IsPublisherKeyed (publisher_stored p)
+
+-- What holds of a publisher's tables and what its keeper tells.
+pub record IsKeptPublisher (p : PublisherTables) (told : Option Map) : Type 0 where
+  pub keyed : AreKeyed p
+  pub kept : IsKept (records_of p) told
+
+-- a step's changes as its commit has them
+pub record AreStoredAs (c : Changes) (stored : PublisherChanges) : Type 0 where
+  pub changes : stored.changes ≡ c.changes
+  pub conflict_count : stored.conflict_count ≡ c.conflict_count
+  pub latest : stored.latest ≡ c.latest
+  pub filling : stored.filling ≡ c.gens.filling
+  pub rows : stored.rows ≡ c.rows
+  pub mappings : stored.mappings ≡ c.mappings
+  pub closings : stored.closings ≡ closing_changes [] c.gens.closings None
+  pub conflicts : stored.conflicts ≡ map conflict_put c.conflicts.rows
+  pub grants : stored.grants ≡ granted_by c.grants
+  pub held : held_changes stored.held ≡ c.held
+  pub sites : stored.sites ≡ c.sites
+
+-- the numbers under which records of changes stand fit their fields, and a range was received of each article whose ranges are put
+pub record FitFields (c : PublisherChanges) : Type 0 where
+  pub rows : AllEditKeys IsRowKey c.rows
+  pub mappings : AllEditKeys IsRowSite c.mappings
+  pub closings : AllEditKeys (λ n. n < 2 ^ 64) c.closings
+  pub conflicts : AllEditKeys (λ n. n < 2 ^ 64) c.conflicts
+  pub grants : AllByRecursion HasGrantKey c.grants
+  pub held : AllByRecursion (λ p. (p.0 < 2 ^ 8) × (was_received p ≡ true)) c.held
+  pub sites : AllEditKeys (λ n. n < 2 ^ 16) c.sites
+
+-- the tables after a draft, and what the call answers
+abbrev pub drafted : {A : Type 0} → PublisherTables → Draft × A → PublisherTables × A
+drafted p made = (after made.0.changes p, made.1)

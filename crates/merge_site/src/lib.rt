@@ -1,0 +1,18 @@
+//! The sites that a program runs: a publisher and subscribers, each with a keeper of its records.
+#![tactic(auto)]
+
+mod beginning;
+mod committing;
+mod copies;
+mod grants;
+mod lists;
+mod places;
+mod publisher;
+mod publisher_commit;
+mod short;
+mod subscriber;
+mod subscriber_commit;
+
+pub use beginning::NotStarted;
+pub use publisher::KeptPublisher;
+pub use subscriber::KeptSubscriber;

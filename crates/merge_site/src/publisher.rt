@@ -1,0 +1,114 @@
+//! A publisher with a keeper of its records.
+ghost use Rattle.std.specs.Prelude.{◌≡◌, ◌||◌, ℕ, IfErr, IfOk, nat_lt};
+ghost use Rattle.merge_batch.specs.declared.refusal.Refusal.TheVariants.{NoMemory as no_memory};
+ghost use Rattle.merge_model.specs.Calls.{closing_commits, is_later};
+ghost use Rattle.merge_model.specs.Publisher.{close_generation, empty_publisher};
+ghost use Rattle.merge_schema.specs.Valid.{IsValid};
+ghost use Rattle.merge_pub.specs.Held.{tables_of};
+ghost use Rattle.merge_world.specs.Views.{PublisherCall};
+ghost use Rattle.merge_site.specs.Beginning.{IsEmptyStore, StartsNot};
+
+use crate::beginning::{NotStarted, check_empty};
+use crate::publisher_commit::finish;
+use merge_batch::Refusal;
+use merge_ports::Keeper;
+use merge_pub::Publisher;
+use merge_schema::Publication;
+use merge_types::{Moment, NoMemory};
+use std::alloc::Global;
+use std::marker::Model;
+
+/// A publisher whose tables outlive it: what it changes is first committed at its keeper, and then
+/// changed here.
+#[derive(Drop)]
+pub struct KeptPublisher<K: Keeper> {
+    alloc: Global,
+    keeper: K,
+    publisher: Publisher,
+}
+
+impl<K: Keeper> Model for KeptPublisher<K> {
+    ghost use Rattle.std.specs.Coded.{codes};
+    ghost use Rattle.merge_filter.specs.Code.{syntax_code};
+    ghost use Rattle.merge_pub.specs.Held.{publication_of, tables_of};
+    ghost use Rattle.merge_world.specs.Views.{PublisherView};
+    ghost use Rattle.merge_site.specs.Publishers.{IsKeptPublisher};
+
+    ghost Value = { PublisherView };
+
+    ghost coded = { Prim.hlevel (codes, syntax_code) };
+
+    ghost view = { λ p. record { publication = publication_of p.publisher; tables = tables_of p.publisher; faults = K.count p.keeper } };
+
+    ghost invariant = { λ p. IsKeptPublisher (tables_of p.publisher) (K.told p.keeper) };
+}
+
+// Whether a closing changes a record: the moment moves, or the open generation has an entry.
+fn closing_commits(publisher: &Publisher, now: Moment) -> bool
+    ensures { result ≡ (is_later now (tables_of publisher.now).latest || nat_lt 0 (tables_of publisher.now).gens.filling.filled) }
+{
+    now.0 > publisher.latest().0 || publisher.filled() > 0
+}
+
+impl<K: Keeper> KeptPublisher<K> {
+    /// A publisher of no rows, at a store that has no entry.
+    pub fn new(
+        alloc: Global,
+        keeper: K,
+        publication: &Publication,
+    ) -> Result<KeptPublisher<K>, NotStarted<K>>
+        requires { (resolvers : ℕ) × IsValid resolvers publication.now }
+        ensures tables { IfOk result (λ p. p.tables ≡ empty_publisher publication.now) }
+        ensures publication { IfOk result (λ p. p.publication ≡ publication.now) }
+        ensures faults { IfOk result (λ p. p.faults ≡ K.count keeper) }
+        ensures err { IfErr result (λ n. StartsNot n.why (K.told keeper) (K.count keeper) (K.count n.keeper)) }
+    {
+        let mut keeper = keeper;
+        match check_empty(&mut keeper) {
+            Ok(()) => Self::begin(alloc, keeper, publication),
+            Err(why) => Err(NotStarted { keeper, why }),
+        }
+    }
+
+    // The same, at a store that was seen to be empty.
+    fn begin(
+        alloc: Global,
+        keeper: K,
+        publication: &Publication,
+    ) -> Result<KeptPublisher<K>, NotStarted<K>>
+        requires valid { (resolvers : ℕ) × IsValid resolvers publication.now }
+        requires empty { IsEmptyStore (K.told keeper) }
+        ensures tables { IfOk result (λ p. p.tables ≡ empty_publisher publication.now) }
+        ensures publication { IfOk result (λ p. p.publication ≡ publication.now) }
+        ensures faults { IfOk result (λ p. p.faults ≡ K.count keeper) }
+        ensures err { IfErr result (λ n. (n.why ≡ no_memory) × (K.count n.keeper ≡ K.count keeper)) }
+    {
+        match Publisher::new(alloc, publication) {
+            Ok(publisher) => Ok(KeptPublisher {
+                alloc,
+                keeper,
+                publisher,
+            }),
+            Err(NoMemory) => Err(NotStarted {
+                keeper,
+                why: Refusal::NoMemory,
+            }),
+        }
+    }
+
+    /// Closes the open generation, and gives the last closed one.
+    pub fn close_generation(&mut self, now: Moment) -> Result<u64, Refusal>
+        ensures called { PublisherCall (close_generation now self.old.tables) (closing_commits now self.old.tables.latest self.old.tables.gens) self.old self.new result }
+        ensures publication { self.new.publication ≡ self.old.publication }
+    {
+        let commits = closing_commits(&self.publisher, now);
+        let worked = self.publisher.draft_close(now);
+        finish(
+            self.alloc,
+            &mut self.keeper,
+            &mut self.publisher,
+            worked,
+            commits,
+        )
+    }
+}

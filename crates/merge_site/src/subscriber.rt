@@ -1,0 +1,193 @@
+//! A subscriber with a keeper of its records.
+ghost use Rattle.std.specs.Prelude.{◌≡◌, ◌||◌, ℕ, IfErr, IfOk, nat_lt, true};
+ghost use Rattle.merge_units.specs.Changes.{ColumnsAscend};
+ghost use Rattle.merge_batch.specs.Articles.{has_article};
+ghost use Rattle.merge_batch.specs.LocalChanges.{article_of, settings_of};
+ghost use Rattle.merge_model.specs.ByNumbers.{by_rows};
+ghost use Rattle.merge_batch.specs.declared.refusal.Refusal.TheVariants.{NoMemory as no_memory};
+ghost use Rattle.merge_model.specs.Calls.{always_commits, closing_commits, is_later, message_commits, message_or_none};
+ghost use Rattle.merge_model.specs.Reinit.{reinitialise};
+ghost use Rattle.merge_model.specs.Sending.{make_ask, make_join, make_ranges};
+ghost use Rattle.merge_model.specs.Subscriber.{close_sub_generation, empty_subscriber, sub_local};
+ghost use Rattle.merge_schema.specs.Valid.{IsValid};
+ghost use Rattle.merge_sub.specs.Held.{tables_of};
+ghost use Rattle.merge_world.specs.Views.{SubscriberCall};
+ghost use Rattle.merge_site.specs.Beginning.{IsEmptyStore, StartsNot};
+
+use crate::beginning::{NotStarted, check_empty};
+use crate::subscriber_commit::{finish, finish_message};
+use merge_batch::{Download, Join, RangeAsk, Refusal};
+use merge_ports::Keeper;
+use merge_schema::Publication;
+use merge_sub::Subscriber;
+use merge_types::{Change, Moment, NoMemory, RowId, SiteId};
+use std::alloc::Global;
+use std::marker::Model;
+
+/// A subscriber whose tables outlive it: what it changes is first committed at its keeper, and then
+/// changed here.
+#[derive(Drop)]
+pub struct KeptSubscriber<K: Keeper> {
+    alloc: Global,
+    keeper: K,
+    subscriber: Subscriber,
+}
+
+impl<K: Keeper> Model for KeptSubscriber<K> {
+    ghost use Rattle.std.specs.Coded.{codes};
+    ghost use Rattle.merge_filter.specs.Code.{syntax_code};
+    ghost use Rattle.merge_sub.specs.Held.{tables_of};
+    ghost use Rattle.merge_world.specs.Views.{SubscriberView};
+    ghost use Rattle.merge_site.specs.Subscribers.{IsKeptSubscriber};
+
+    ghost Value = { SubscriberView };
+
+    ghost coded = { Prim.hlevel (codes, syntax_code) };
+
+    ghost view = { λ s. record { publication = s.subscriber.publication; tables = tables_of s.subscriber; faults = K.count s.keeper } };
+
+    ghost invariant = { λ s. IsKeptSubscriber (tables_of s.subscriber) (K.told s.keeper) };
+}
+
+// Whether a closing changes a record: the moment moves, or the open generation has an entry.
+fn closing_commits(subscriber: &Subscriber, now: Moment) -> bool
+    ensures { result ≡ (is_later now (tables_of subscriber.now).latest || nat_lt 0 (tables_of subscriber.now).gens.filling.filled) }
+{
+    now.0 > subscriber.latest().0 || subscriber.marks().filled > 0
+}
+
+impl<K: Keeper> KeptSubscriber<K> {
+    /// A site that has not joined, at a store that has no entry.
+    pub fn new(
+        alloc: Global,
+        keeper: K,
+        publication: Publication,
+        site: SiteId,
+    ) -> Result<KeptSubscriber<K>, NotStarted<K>>
+        requires { (resolvers : ℕ) × IsValid resolvers publication }
+        ensures tables { IfOk result (λ s. s.tables ≡ empty_subscriber publication site) }
+        ensures publication { IfOk result (λ s. s.publication ≡ publication) }
+        ensures faults { IfOk result (λ s. s.faults ≡ K.count keeper) }
+        ensures err { IfErr result (λ n. StartsNot n.why (K.told keeper) (K.count keeper) (K.count n.keeper)) }
+    {
+        let mut keeper = keeper;
+        match check_empty(&mut keeper) {
+            Ok(()) => Self::begin(alloc, keeper, publication, site),
+            Err(why) => Err(NotStarted { keeper, why }),
+        }
+    }
+
+    // The same, at a store that was seen to be empty.
+    fn begin(
+        alloc: Global,
+        keeper: K,
+        publication: Publication,
+        site: SiteId,
+    ) -> Result<KeptSubscriber<K>, NotStarted<K>>
+        requires valid { (resolvers : ℕ) × IsValid resolvers publication }
+        requires empty { IsEmptyStore (K.told keeper) }
+        ensures tables { IfOk result (λ s. s.tables ≡ empty_subscriber publication site) }
+        ensures publication { IfOk result (λ s. s.publication ≡ publication) }
+        ensures faults { IfOk result (λ s. s.faults ≡ K.count keeper) }
+        ensures err { IfErr result (λ n. (n.why ≡ no_memory) × (K.count n.keeper ≡ K.count keeper)) }
+    {
+        match Subscriber::new(alloc, publication, site) {
+            Ok(subscriber) => Ok(KeptSubscriber {
+                alloc,
+                keeper,
+                subscriber,
+            }),
+            Err(NoMemory) => Err(NotStarted {
+                keeper,
+                why: Refusal::NoMemory,
+            }),
+        }
+    }
+
+    /// A local change. It gives the row that was changed.
+    pub fn local(&mut self, now: Moment, change: &Change) -> Result<RowId, Refusal>
+        requires place { has_article self.old.publication (article_of change.now) ≡ true }
+        requires ascend { ColumnsAscend (settings_of change.now) }
+        ensures called { SubscriberCall (sub_local self.old.publication now change.now self.old.tables) always_commits self.old self.new result }
+        ensures publication { self.new.publication ≡ self.old.publication }
+        ensures site { self.new.tables.site ≡ self.old.tables.site }
+    {
+        let worked = self.subscriber.draft_local(change, now);
+        finish(
+            self.alloc,
+            &mut self.keeper,
+            &mut self.subscriber,
+            worked,
+            true,
+        )
+    }
+
+    /// Closes the open generation, and gives the last closed one.
+    pub fn close_generation(&mut self, now: Moment) -> Result<u64, Refusal>
+        ensures called { SubscriberCall (close_sub_generation now self.old.tables) (closing_commits now self.old.tables.latest self.old.tables.gens) self.old self.new result }
+        ensures publication { self.new.publication ≡ self.old.publication }
+        ensures site { self.new.tables.site ≡ self.old.tables.site }
+    {
+        let commits = closing_commits(&self.subscriber, now);
+        let worked = self.subscriber.draft_close(now);
+        finish(
+            self.alloc,
+            &mut self.keeper,
+            &mut self.subscriber,
+            worked,
+            commits,
+        )
+    }
+
+    /// A join, where the site has not joined.
+    pub fn make_join(&mut self) -> Result<Option<Join>, Refusal>
+        ensures called { SubscriberCall (message_or_none self.old.tables (make_join self.old.tables)) message_commits self.old self.new result }
+        ensures publication { self.new.publication ≡ self.old.publication }
+        ensures site { self.new.tables.site ≡ self.old.tables.site }
+    {
+        let worked = self.subscriber.draft_join();
+        finish_message(self.alloc, &mut self.keeper, &mut self.subscriber, worked)
+    }
+
+    /// What asks for identity ranges, where an article has them.
+    pub fn make_ranges(&mut self) -> Result<Option<RangeAsk>, Refusal>
+        ensures called { SubscriberCall (message_or_none self.old.tables (make_ranges self.old.tables)) message_commits self.old self.new result }
+        ensures publication { self.new.publication ≡ self.old.publication }
+        ensures site { self.new.tables.site ≡ self.old.tables.site }
+    {
+        let worked = self.subscriber.draft_ranges();
+        finish_message(self.alloc, &mut self.keeper, &mut self.subscriber, worked)
+    }
+
+    /// What asks for the rows that changed.
+    pub fn make_ask(&mut self) -> Result<Download, Refusal>
+        ensures called { SubscriberCall (make_ask self.old.tables) always_commits self.old self.new result }
+        ensures publication { self.new.publication ≡ self.old.publication }
+        ensures site { self.new.tables.site ≡ self.old.tables.site }
+    {
+        let worked = self.subscriber.draft_ask();
+        finish(
+            self.alloc,
+            &mut self.keeper,
+            &mut self.subscriber,
+            worked,
+            true,
+        )
+    }
+
+    /// Begins anew, and gives how many rows were discarded.
+    pub fn reinitialise(&mut self, now: Moment) -> Result<u64, Refusal>
+        ensures called { SubscriberCall (reinitialise (by_rows self.old.tables) now self.old.tables) always_commits self.old self.new result }
+        ensures publication { self.new.publication ≡ self.old.publication }
+        ensures site { self.new.tables.site ≡ self.old.tables.site }
+    {
+        let worked = self.subscriber.draft_anew(now);
+        finish(
+            self.alloc,
+            &mut self.keeper,
+            &mut self.subscriber,
+            worked,
+            true,
+        )
+    }
+}
