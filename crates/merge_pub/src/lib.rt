@@ -31,8 +31,6 @@ mod site;
 mod site_drafts;
 mod staying;
 mod step;
-#[cfg(test)]
-mod tests;
 mod touches;
 mod uploading;
 mod versions;
