@@ -8,7 +8,7 @@ use Rattle.merge_ports.specs.Entries.{Map}
 abbrev pub IsEmptyStore : Option Map → Type 0
 IsEmptyStore told = IfSome told (λ (map : Map). map ≡ [])
 
--- the first of its entries is named
+-- the store is told to be damaged, and has an entry
 abbrev pub NamesEntry : Refusal → Option Map → Type 0
 NamesEntry why told = ((table : ℕ) × (key : List ℕ) × (why ≡ refusal.Damaged table key)) × IfSome told (λ (map : Map). map ≢ [])
 
