@@ -1,14 +1,17 @@
 //! What a publisher tells of itself.
-ghost use Rattle.std.specs.Prelude.{◌≡◌, length};
+ghost use Rattle.std.specs.Prelude.{◌≡◌, IfOk, filter, length};
+ghost use Rattle.std.specs.Map.{keys_of};
 ghost use Rattle.merge_gens.specs.Book as gens;
-ghost use Rattle.merge_model.specs.Keys.{at_number};
-ghost use Rattle.merge_pub.specs.Held.{tables_of};
+ghost use Rattle.merge_model.specs.Keys.{at_number, has_key};
+ghost use Rattle.merge_model.specs.PublisherDownload.{inside_keys};
+ghost use Rattle.merge_model.specs.Reports.{partition_rows};
+ghost use Rattle.merge_pub.specs.Held.{publication_of, tables_of};
 
 use crate::publisher::Publisher;
 use merge_conflict::ConflictRow;
 use merge_gens::{Closing, Filling, SiteState};
 use merge_table::Table;
-use merge_types::{RowKey, SiteId};
+use merge_types::{Listing, NoMemory, RowKey, SiteId};
 use merge_units::PublisherRow;
 
 impl Publisher {
@@ -17,6 +20,28 @@ impl Publisher {
         ensures { result.now.rows ≡ (tables_of self.now).rows }
     {
         &self.rows
+    }
+
+    /// The rows of a site's partition, by article and row. The time grows with all rows.
+    pub fn partition(&self, site: SiteId) -> Result<Listing<RowKey>, NoMemory>
+        ensures { IfOk result (λ rows. rows ≡ partition_rows (publication_of self.now) site (tables_of self.now)) }
+    {
+        self.rows.is_ordered();
+        let inside = self.rows_inside(site)?;
+        Ok(inside)
+    }
+
+    // Those of all rows that are in the site's partition.
+    fn rows_inside(&self, site: SiteId) -> Result<Listing<RowKey>, NoMemory>
+        ensures { IfOk result (λ rows. rows ≡ filter (has_key (inside_keys (publication_of self.now) site (tables_of self.now))) (keys_of (tables_of self.now).rows)) }
+    {
+        let mut inside = Listing::empty(self.alloc);
+        for (key, _) in self.rows.iter() {
+            if self.has_row(site, *key) {
+                inside.push(*key)?;
+            }
+        }
+        Ok(inside)
     }
 
     /// The versions that lost, by number.
