@@ -1,8 +1,13 @@
 //! A publisher with a keeper of its records.
-ghost use Rattle.std.specs.Prelude.{◌≡◌, ◌||◌, ℕ, IfErr, IfOk, nat_lt};
+ghost use Rattle.std.specs.Prelude.{◌≡◌, ◌≤◌, ◌||◌, ℕ, IfErr, IfOk, nat_lt, true};
+ghost use Rattle.merge_units.specs.Changes.{ColumnsAscend};
+ghost use Rattle.merge_batch.specs.Articles.{has_article};
+ghost use Rattle.merge_batch.specs.LocalChanges.{article_of, settings_of};
 ghost use Rattle.merge_batch.specs.declared.refusal.Refusal.TheVariants.{NoMemory as no_memory};
-ghost use Rattle.merge_model.specs.Calls.{closing_commits, is_later};
+ghost use Rattle.merge_model.specs.ByNumbers.{by_numbers};
+ghost use Rattle.merge_model.specs.Calls.{always_commits, closing_commits, is_later};
 ghost use Rattle.merge_model.specs.Publisher.{close_generation, empty_publisher};
+ghost use Rattle.merge_model.specs.PublisherLocal.{local};
 ghost use Rattle.merge_schema.specs.Valid.{IsValid};
 ghost use Rattle.merge_pub.specs.Held.{tables_of};
 ghost use Rattle.merge_world.specs.Views.{PublisherCall};
@@ -14,9 +19,10 @@ use merge_batch::Refusal;
 use merge_ports::Keeper;
 use merge_pub::Publisher;
 use merge_schema::Publication;
-use merge_types::{Moment, NoMemory};
+use merge_types::{Change, Moment, NoMemory, RowId, Steps};
 use std::alloc::Global;
-use std::marker::Model;
+use std::marker::{Brand, Model};
+use std::sync::ledger::{Blank, Ledger};
 
 /// A publisher whose tables outlive it: what it changes is first committed at its keeper, and then
 /// changed here.
@@ -94,6 +100,42 @@ impl<K: Keeper> KeptPublisher<K> {
                 why: Refusal::NoMemory,
             }),
         }
+    }
+
+    /// A local change. It gives the row that was changed.
+    pub fn local(&mut self, now: Moment, change: &Change) -> Result<RowId, Refusal>
+        requires place { has_article self.old.publication (article_of change.now) ≡ true }
+        requires ascend { ColumnsAscend (settings_of change.now) }
+        ensures called { PublisherCall (local self.old.publication (by_numbers self.old.tables) now change.now self.old.tables) always_commits self.old self.new result }
+        ensures publication { self.new.publication ≡ self.old.publication }
+    {
+        self.local_counted::<Brand>(now, change, Blank::new(1))
+    }
+
+    // The same, with the steps counted in the ledger that the blank opens.
+    fn local_counted<L: Ledger>(
+        &mut self,
+        now: Moment,
+        change: &Change,
+        blank: Blank,
+    ) -> Result<RowId, Refusal>
+        requires place { has_article self.old.publication (article_of change.now) ≡ true }
+        requires ascend { ColumnsAscend (settings_of change.now) }
+        requires name { blank.name ≡ L.name }
+        requires parts { blank.parts ≡ L.parts }
+        requires some { 1 ≤ blank.parts }
+        ensures called { PublisherCall (local self.old.publication (by_numbers self.old.tables) now change.now self.old.tables) always_commits self.old self.new result }
+        ensures publication { self.new.publication ≡ self.old.publication }
+    {
+        let mut steps = Steps::<L>::new(blank);
+        let worked = self.publisher.draft_local(now, change, &mut steps);
+        finish(
+            self.alloc,
+            &mut self.keeper,
+            &mut self.publisher,
+            worked,
+            true,
+        )
     }
 
     /// Closes the open generation, and gives the last closed one.
