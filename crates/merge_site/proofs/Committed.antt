@@ -50,10 +50,10 @@ pub subscriber-same : (s new : SubscriberTables) (told now : Option Map) → IsK
 subscriber-same s new told now kept is same = rw (is, same) kept
 
 -- and of a publisher
-pub publisher-settled : (p made new : PublisherTables) (told now : Option Map) (items edits : List EntryEdit) → IsKeptPublisher p told → LeadTo items (publisher.records_of p) (publisher.records_of made) → publisher.AreKeyed made → edits ≡ items
-    → now ≡ told_after edits told → new ≡ made → IsKeptPublisher new now
-publisher-settled p made new told now items edits kept lead keyed same after is =
-    rw is (record { keyed = keyed; kept = kept-after (publisher.records_of p) (publisher.records_of made) told now items edits kept.kept lead same after })
+pub publisher-settled : (p made : PublisherTables) (told now : Option Map) (items edits : List EntryEdit) → IsKeptPublisher p told → LeadTo items (publisher.records_of p) (publisher.records_of made) → publisher.AreKeyed made → edits ≡ items
+    → now ≡ told_after edits told → IsKeptPublisher made now
+publisher-settled p made told now items edits kept lead keyed same after =
+    record { keyed = keyed; kept = kept-after (publisher.records_of p) (publisher.records_of made) told now items edits kept.kept lead same after }
 
 pub publisher-same : (p new : PublisherTables) (told now : Option Map) → IsKeptPublisher p told → new ≡ p → now ≡ told → IsKeptPublisher new now
 publisher-same p new told now kept is same = rw (is, same) kept

@@ -9,7 +9,7 @@ use Rattle.merge_keeper.specs.declared.stored.SubscriberStored.{SubscriberStored
 use Rattle.merge_sub.specs.declared.changes.Changes.{Changes}
 use Rattle.merge_sub.specs.declared.state.State.{State}
 use Rattle.merge_site.specs.Kept.{IsKept}
-use Rattle.merge_site.specs.Lists.{closing_changes, conflict_put, held_changes}
+use Rattle.merge_site.specs.Lists.{closing_changes, conflict_put, held_changes, up_to}
 
 -- the tables, as they are stored
 abbrev pub subscriber_stored : SubscriberTables → SubscriberStored
@@ -61,6 +61,6 @@ pub record AreStoredAs (kept : List Closing) (c : Changes) (stored : SubscriberC
   pub state : state_of stored ≡ c.state
   pub filling : stored.filling ≡ c.gens.filling
   pub rows : stored.rows ≡ c.rows
-  pub closings : stored.closings ≡ closing_changes kept c.gens.closings c.done
+  pub closings : stored.closings ≡ closing_changes kept c.gens.closings (up_to c.done)
   pub conflicts : stored.conflicts ≡ map conflict_put c.conflicts.rows
   pub held : held_changes stored.held ≡ c.held

@@ -1,5 +1,5 @@
 //! A publisher with a keeper of its records.
-ghost use Rattle.std.specs.Prelude.{◌≡◌, ◌≤◌, ◌||◌, ℕ, IfErr, IfOk, nat_lt, true};
+ghost use Rattle.std.specs.Prelude.{◌≡◌, ◌≤◌, ◌||◌, ℕ, IfErr, IfOk, Ok, nat_lt, true};
 ghost use Rattle.merge_units.specs.Changes.{ColumnsAscend};
 ghost use Rattle.merge_batch.specs.Articles.{has_article};
 ghost use Rattle.merge_batch.specs.LocalChanges.{article_of, settings_of};
@@ -8,14 +8,16 @@ ghost use Rattle.merge_model.specs.ByNumbers.{by_numbers};
 ghost use Rattle.merge_model.specs.Calls.{always_commits, closing_commits, is_later};
 ghost use Rattle.merge_model.specs.Publisher.{close_generation, empty_publisher};
 ghost use Rattle.merge_model.specs.PublisherLocal.{local};
+ghost use Rattle.merge_model.specs.PublisherPurge.{purge};
 ghost use Rattle.merge_schema.specs.Valid.{IsValid};
 ghost use Rattle.merge_pub.specs.Held.{tables_of};
 ghost use Rattle.merge_world.specs.Views.{PublisherCall};
 ghost use Rattle.merge_site.specs.Beginning.{IsEmptyStore, StartsNot};
 
 use crate::beginning::{NotStarted, check_empty};
-use crate::publisher_commit::finish;
+use crate::publisher_commit::{commit_and_purge, finish};
 use merge_batch::Refusal;
+use merge_model::Forgotten;
 use merge_ports::Keeper;
 use merge_pub::Publisher;
 use merge_schema::Publication;
@@ -152,5 +154,16 @@ impl<K: Keeper> KeptPublisher<K> {
             worked,
             commits,
         )
+    }
+
+    /// Forgets what is old: the tombstones of rows, the mappings of rows that left a partition, and
+    /// the closed generations. It is committed also where nothing is old, since the moment is kept.
+    pub fn purge(&mut self, now: Moment) -> Result<Forgotten, Refusal>
+        ensures called { PublisherCall (Ok (purge self.old.publication now self.old.tables)) always_commits self.old self.new result }
+        ensures publication { self.new.publication ≡ self.old.publication }
+    {
+        let (purge, forgotten) = self.publisher.draft_purge(now)?;
+        commit_and_purge(self.alloc, &mut self.keeper, &mut self.publisher, purge)?;
+        Ok(forgotten)
     }
 }

@@ -15,7 +15,7 @@ ghost use Rattle.merge_site.specs.Subscribers.{AreKeyed, AreStoredAs, IsKeptSubs
 
 use crate::committing::commit;
 use crate::copies::copies_of;
-use crate::lists::{closing_changes, conflict_changes, held_puts, were_received};
+use crate::lists::{closing_changes, conflict_changes, held_puts, up_to, were_received};
 use crate::places::fit_places;
 use crate::short::are_short;
 use merge_batch::Refusal;
@@ -35,6 +35,7 @@ fn stored_changes(
     ensures { IfOk result (λ stored. AreStoredAs kept.now changes.now stored) }
 {
     let state = changes.state;
+    let forgets = up_to(changes.done);
     Ok(SubscriberChanges {
         changes: state.changes,
         filling: changes.gens.filling,
@@ -46,7 +47,7 @@ fn stored_changes(
         watermark: state.watermark,
         is_joined: state.is_joined,
         rows: copies_of(alloc, changes.rows.as_slice())?,
-        closings: closing_changes(alloc, kept, changes.gens.closings.as_slice(), changes.done)?,
+        closings: closing_changes(alloc, kept, changes.gens.closings.as_slice(), forgets)?,
         conflicts: conflict_changes(alloc, changes.conflicts.rows.as_slice())?,
         held: held_puts(alloc, changes.held.as_slice())?,
     })
