@@ -1,6 +1,7 @@
 -- A publisher with a keeper of its records.
 use Rattle.std.specs.List.{AllByRecursion}
 use Rattle.std.specs.Prelude.{List, None, Option, [], map, true, ◌<◌, ◌^◌, ◌≡◌}
+use Rattle.merge_units.specs.declared.site_row.PublisherRow.{PublisherRow}
 use Rattle.merge_model.specs.Tables.{PublisherTables}
 use Rattle.merge_ports.specs.Entries.{Map}
 use Rattle.merge_record.specs.Tables.{IsRowKey, IsRowSite}
@@ -12,6 +13,7 @@ use Rattle.merge_keeper.specs.declared.stored.PublisherStored.{PublisherStored}
 use Rattle.merge_pub.specs.After.{after}
 use Rattle.merge_pub.specs.declared.changes.Changes.{Changes}
 use Rattle.merge_pub.specs.declared.changes.Draft.{Draft}
+use Rattle.merge_world.specs.Printable.{AreLostPrintable, ArePrintable}
 use Rattle.merge_site.specs.Grants.{granted_by}
 use Rattle.merge_site.specs.Kept.{IsKept}
 use Rattle.merge_site.specs.Lists.{closing_changes, conflict_put, held_changes}
@@ -40,10 +42,13 @@ records_of p = publisher_records (publisher_stored p)
 unfoldable pub AreKeyed : PublisherTables → Type 0
 AreKeyed p = IsPublisherKeyed (publisher_stored p)
 
--- What holds of a publisher's tables and what its keeper tells.
+-- What holds of a publisher's tables and what its keeper tells: each value of the tables can be printed, and the keeper has
+-- their records.
 pub record IsKeptPublisher (p : PublisherTables) (told : Option Map) : Type 0 where
   pub keyed : AreKeyed p
   pub kept : IsKept (records_of p) told
+  pub printable : ArePrintable (λ (row : PublisherRow). row.version) p.rows
+  pub lost : AreLostPrintable p.conflicts
 
 -- a step's changes as its commit has them
 pub record AreStoredAs (c : Changes) (stored : PublisherChanges) : Type 0 where
