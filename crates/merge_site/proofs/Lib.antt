@@ -8,4 +8,5 @@ pub mod ListsAfter
 pub mod Printed
 pub mod PublisherCalls
 pub mod PublisherEdited
+pub mod Ranged
 pub mod SubscriberCalls
