@@ -1,6 +1,7 @@
 -- A publisher with a keeper of its records.
 use Rattle.std.specs.List.{AllByRecursion}
 use Rattle.std.specs.Prelude.{List, Option, map, true, ◌<◌, ◌^◌, ◌≡◌}
+use Rattle.merge_units.specs.declared.site_row.PublisherRow.{PublisherRow}
 use Rattle.merge_gens.specs.declared.closings.Closing.{Closing}
 use Rattle.merge_model.specs.Tables.{PublisherTables}
 use Rattle.merge_ports.specs.Entries.{Map}
@@ -13,6 +14,7 @@ use Rattle.merge_keeper.specs.declared.stored.PublisherStored.{PublisherStored}
 use Rattle.merge_pub.specs.After.{after}
 use Rattle.merge_pub.specs.declared.changes.Changes.{Changes}
 use Rattle.merge_pub.specs.declared.changes.Draft.{Draft}
+use Rattle.merge_world.specs.Printable.{AreLostPrintable, ArePrintable}
 use Rattle.merge_site.specs.Grants.{granted_by}
 use Rattle.merge_site.specs.Kept.{IsKept}
 use Rattle.merge_site.specs.Lists.{book_left, closing_changes, conflict_put, held_changes}
@@ -42,10 +44,13 @@ records_of p = publisher_records (publisher_stored p)
 unfoldable pub AreKeyed : PublisherTables → Type 0
 AreKeyed p = IsPublisherKeyed (publisher_stored p)
 
--- What holds of a publisher's tables and what its keeper tells.
+-- What holds of a publisher's tables and what its keeper tells: each value of the tables can be printed, and the keeper has
+-- their records.
 pub record IsKeptPublisher (p : PublisherTables) (told : Option Map) : Type 0 where
   pub keyed : AreKeyed p
   pub kept : IsKept (records_of p) told
+  pub printable : ArePrintable (λ (row : PublisherRow). row.version) p.rows
+  pub lost : AreLostPrintable p.conflicts
 
 -- the tables after a step's changes, and without the closed generations that it forgets
 abbrev pub after_forgetting : Option Forgets → Changes → PublisherTables → PublisherTables

@@ -10,6 +10,7 @@ ghost use Rattle.merge_model.specs.Tables.{PublisherTables};
 ghost use Rattle.merge_pub.specs.After.{after};
 ghost use Rattle.merge_pub.specs.Held.{IsDrafted, publication_of, tables_of};
 ghost use Rattle.merge_pub.specs.PurgeDrafts.{after_purge};
+ghost use Rattle.merge_world.specs.Printable.{AreLostPrintable, ArePrintable};
 ghost use Rattle.merge_site.specs.Calls.{StopsAs, WorkedOut};
 ghost use Rattle.merge_site.specs.Kept.{LeadTo};
 ghost use Rattle.merge_site.specs.Publishers.{AreKeyed, AreStoredAs, FitFields, IsKeptPublisher, after_forgetting, drafted, records_of};
@@ -83,8 +84,12 @@ fn edits_of(
     requires conflicts { conflicts.IsReady publisher.now.conflicts changes.now.conflicts }
     requires grants { grants.IsReady publisher.now.grants changes.now.grants }
     requires keyed { AreKeyed (tables_of publisher.now) }
+    requires printable { ArePrintable (λ row. row.version) (tables_of publisher.now).rows }
+    requires lost { AreLostPrintable (tables_of publisher.now).conflicts }
     ensures lead { IfOk result (λ edits. LeadTo edits.items (records_of (tables_of publisher.now)) (records_of (after_forgetting forgets changes.now (tables_of publisher.now)))) }
     ensures keyed { OnOk result (AreKeyed (after_forgetting forgets changes.now (tables_of publisher.now))) }
+    ensures printable { OnOk result (ArePrintable (λ row. row.version) (after_forgetting forgets changes.now (tables_of publisher.now)).rows) }
+    ensures lost { OnOk result (AreLostPrintable (after_forgetting forgets changes.now (tables_of publisher.now)).conflicts) }
 {
     let _ = publisher.grants();
     let stored = stored_changes(alloc, publisher.closings(), changes, forgets)?;

@@ -9,6 +9,7 @@ ghost use Rattle.merge_model.specs.Calls.{Called, message_commits, message_or_no
 ghost use Rattle.merge_model.specs.Tables.{SubscriberTables};
 ghost use Rattle.merge_sub.specs.Drafts.{IsDrafted, IsDraftedIfAny, after, drafted, drafted_if_any};
 ghost use Rattle.merge_sub.specs.Held.{tables_of};
+ghost use Rattle.merge_world.specs.Printable.{AreLostPrintable, ArePrintable};
 ghost use Rattle.merge_site.specs.Calls.{StopsAs, WorkedOut};
 ghost use Rattle.merge_site.specs.Kept.{LeadTo};
 ghost use Rattle.merge_site.specs.Subscribers.{AreKeyed, AreStoredAs, IsKeptSubscriber, records_of};
@@ -80,8 +81,12 @@ fn edits_of(
     requires gens { IsPrepared subscriber.now.gens changes.now.gens }
     requires conflicts { conflicts.IsReady subscriber.now.conflicts changes.now.conflicts }
     requires keyed { AreKeyed (tables_of subscriber.now) }
+    requires printable { ArePrintable (λ row. row.version) (tables_of subscriber.now).rows }
+    requires lost { AreLostPrintable (tables_of subscriber.now).conflicts }
     ensures lead { IfOk result (λ edits. LeadTo edits.items (records_of (tables_of subscriber.now)) (records_of (after changes.now (tables_of subscriber.now)))) }
     ensures keyed { OnOk result (AreKeyed (after changes.now (tables_of subscriber.now))) }
+    ensures printable { OnOk result (ArePrintable (λ row. row.version) (after changes.now (tables_of subscriber.now)).rows) }
+    ensures lost { OnOk result (AreLostPrintable (after changes.now (tables_of subscriber.now)).conflicts) }
 {
     let stored = stored_changes(alloc, subscriber.closings(), changes)?;
     check_stored(&stored)?;
