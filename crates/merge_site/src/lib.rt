@@ -10,6 +10,7 @@ mod loading;
 mod places;
 mod publisher;
 mod publisher_commit;
+mod publisher_telling;
 mod restarting;
 mod short;
 mod subscriber;
