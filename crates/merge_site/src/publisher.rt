@@ -22,9 +22,9 @@ use std::marker::Model;
 /// changed here.
 #[derive(Drop)]
 pub struct KeptPublisher<K: Keeper> {
-    alloc: Global,
-    keeper: K,
-    publisher: Publisher,
+    pub(crate) alloc: Global,
+    pub(crate) keeper: K,
+    pub(crate) publisher: Publisher,
 }
 
 impl<K: Keeper> Model for KeptPublisher<K> {
