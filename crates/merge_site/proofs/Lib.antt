@@ -7,4 +7,5 @@ pub mod Keyed
 pub mod ListsAfter
 pub mod PublisherCalls
 pub mod PublisherEdited
+pub mod PublisherRequests
 pub mod SubscriberCalls

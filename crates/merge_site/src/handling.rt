@@ -90,24 +90,9 @@ impl<K: Keeper> KeptPublisher<K> {
         )
     }
 
-    // A site uploads rows.
-    fn handle_upload(
-        &mut self,
-        resolvers: &mut Vec<Handed>,
-        now: Moment,
-        m: &Upload,
-    ) -> Result<Uploaded, Refusal>
-        ensures called { PublisherCall (upload_by self.old.publication (says_at (λ r. says r) resolvers.old.items) (map (λ r. tally_of r) resolvers.old.items) now m.now self.old.tables) (request_commits self.old.publication now (an_upload m.now) self.old.tables) self.old self.new result }
-        ensures counted { Counted (upload_by self.old.publication (says_at (λ r. says r) resolvers.old.items) (map (λ r. tally_of r) resolvers.old.items) now m.now self.old.tables)
-            (asked_on self.old.publication now m.now self.old.tables) (map (λ r. tally_of r) resolvers.old.items) (map (λ r. tally_of r) resolvers.new.items) result }
-        ensures publication { self.new.publication ≡ self.old.publication }
-        ensures steady { (k n : ℕ) (asked : _) → says_at (λ r. says r) resolvers.new.items k n asked ≡ says_at (λ r. says r) resolvers.old.items k n asked }
-    {
-        self.upload_counted::<Brand>(resolvers, now, m, Blank::new(1))
-    }
-
-    // The same, with the steps of the search for rows counted in the ledger that the blank opens.
-    fn upload_counted<L: Ledger>(
+    // A site uploads rows. The steps of the search for rows are counted in the ledger that the blank
+    // opens.
+    fn handle_upload<L: Ledger>(
         &mut self,
         resolvers: &mut Vec<Handed>,
         now: Moment,
@@ -152,7 +137,10 @@ impl<K: Keeper> KeptPublisher<K> {
     {
         match request {
             Request::Join(m) => Ok(Reply::Joined(self.handle_join(now, m)?)),
-            Request::Upload(m) => Ok(Reply::Uploaded(self.handle_upload(resolvers, now, m)?)),
+            Request::Upload(m) => {
+                let told = self.handle_upload::<Brand>(resolvers, now, m, Blank::new(1))?;
+                Ok(Reply::Uploaded(told))
+            }
             Request::Ranges(m) => Ok(Reply::Ranged(self.handle_ranges(now, m)?)),
             Request::Download(m) => Ok(Reply::Downloaded(self.handle_download(now, m)?)),
         }
