@@ -5,6 +5,7 @@ mod beginning;
 mod committing;
 mod copies;
 mod grants;
+mod handling;
 mod lists;
 mod loading;
 mod places;
