@@ -14,6 +14,7 @@ mod publisher_commit;
 mod publisher_telling;
 mod restarting;
 mod short;
+mod sites;
 mod subscriber;
 mod subscriber_commit;
 
