@@ -12,6 +12,7 @@ mod publisher;
 mod publisher_commit;
 mod restarting;
 mod short;
+mod sites;
 mod subscriber;
 mod subscriber_commit;
 
