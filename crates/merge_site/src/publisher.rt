@@ -11,11 +11,13 @@ ghost use Rattle.merge_model.specs.PublisherLocal.{local};
 ghost use Rattle.merge_model.specs.PublisherPurge.{purge};
 ghost use Rattle.merge_schema.specs.Valid.{IsValid};
 ghost use Rattle.merge_pub.specs.Held.{tables_of};
+ghost use Rattle.merge_world.specs.Restarts.{Restarted};
 ghost use Rattle.merge_world.specs.Views.{PublisherCall};
 ghost use Rattle.merge_site.specs.Beginning.{IsEmptyStore, StartsNot};
 
 use crate::beginning::{NotStarted, check_empty};
 use crate::publisher_commit::{commit_and_purge, finish};
+use crate::restarting::check_publisher;
 use merge_batch::Refusal;
 use merge_model::Forgotten;
 use merge_ports::Keeper;
@@ -30,9 +32,9 @@ use std::sync::ledger::{Blank, Ledger};
 /// changed here.
 #[derive(Drop)]
 pub struct KeptPublisher<K: Keeper> {
-    alloc: Global,
-    keeper: K,
-    publisher: Publisher,
+    pub(crate) alloc: Global,
+    pub(crate) keeper: K,
+    pub(crate) publisher: Publisher,
 }
 
 impl<K: Keeper> Model for KeptPublisher<K> {
@@ -165,5 +167,15 @@ impl<K: Keeper> KeptPublisher<K> {
         let (purge, forgotten) = self.publisher.draft_purge(now)?;
         commit_and_purge(self.alloc, &mut self.keeper, &mut self.publisher, purge)?;
         Ok(forgotten)
+    }
+
+    /// Reads the records that are kept, and tests that they load. The site goes on with the tables
+    /// that it has, which are those that were committed: it is lost where a record is damaged, or the
+    /// store cannot be read.
+    pub fn restart(&mut self) -> Result<(), Refusal>
+        ensures restarted { Restarted self.old.tables self.new.tables self.old.faults self.new.faults result }
+        ensures publication { self.new.publication ≡ self.old.publication }
+    {
+        check_publisher(self.alloc, &mut self.keeper, self.publisher.publication())
     }
 }
