@@ -65,6 +65,7 @@ fn play_event<P: PublisherSite, S: SubscriberSite, O: Sink>(
     ensures write { result ≡ Err stop.WriteFault → Rose (O.count output.old) (O.count output.new) }
     ensures ended { (why : Refused) → result ≡ Err (stop.Ended why) → IsLost why (⟦<Sites<P, S> as Seen>⟧.seen sites.old).faults (⟦<Sites<P, S> as Seen>⟧.seen sites.new).faults }
     ensures later { (⟦<Sites<P, S> as Seen>⟧.seen sites.old).faults ≤ (⟦<Sites<P, S> as Seen>⟧.seen sites.new).faults }
+    ensures stays { (⟦<Sites<P, S> as Seen>⟧.seen sites.new).sites ≡ (⟦<Sites<P, S> as Seen>⟧.seen sites.old).sites }
     ensures writes { O.count output.old ≤ O.count output.new }
 {
     let _ = seconds_of(event);
@@ -94,6 +95,7 @@ fn play_line<P: PublisherSite, S: SubscriberSite, O: Sink>(
     ensures write { result ≡ Err stop.WriteFault → Rose (O.count output.old) (O.count output.new) }
     ensures ended { (why : Refused) → result ≡ Err (stop.Ended why) → IsLost why (⟦<Sites<P, S> as Seen>⟧.seen sites.old).faults (⟦<Sites<P, S> as Seen>⟧.seen sites.new).faults }
     ensures later { (⟦<Sites<P, S> as Seen>⟧.seen sites.old).faults ≤ (⟦<Sites<P, S> as Seen>⟧.seen sites.new).faults }
+    ensures stays { (⟦<Sites<P, S> as Seen>⟧.seen sites.new).sites ≡ (⟦<Sites<P, S> as Seen>⟧.seen sites.old).sites }
     ensures writes { O.count output.old ≤ O.count output.new }
 {
     match read_line(alloc, line)? {
@@ -128,6 +130,7 @@ pub fn play_lines<P: PublisherSite, S: SubscriberSite, O: Sink>(
     ensures write { result ≡ Err stop.WriteFault → Rose (O.count output.old) (O.count output.new) }
     ensures ended { (why : Refused) → result ≡ Err (stop.Ended why) → IsLost why (⟦<Sites<P, S> as Seen>⟧.seen sites.old).faults (⟦<Sites<P, S> as Seen>⟧.seen sites.new).faults }
     ensures later { (⟦<Sites<P, S> as Seen>⟧.seen sites.old).faults ≤ (⟦<Sites<P, S> as Seen>⟧.seen sites.new).faults }
+    ensures stays { (⟦<Sites<P, S> as Seen>⟧.seen sites.new).sites ≡ (⟦<Sites<P, S> as Seen>⟧.seen sites.old).sites }
     ensures writes { O.count output.old ≤ O.count output.new }
 {
     let mut rest = script;

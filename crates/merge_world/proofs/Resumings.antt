@@ -103,6 +103,7 @@ module _ (site : SiteId) (u v : SitesView) where
     restarts = refl;
     known = known;
     lost = lost-of (world_of u []) (world_of v []) u.faults v.faults why other (resumes.restarted []);
+    stays = resumes.stays;
   }
 
   pub restart-fails : (why : Refusal) → Resumes u v (Err why) → is_site u.publication site ≡ true → (r : Result Answer Refusal)

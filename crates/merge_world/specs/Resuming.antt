@@ -18,3 +18,4 @@ pub record EndsRun (e : Event) (old new : SitesView) (why : Refusal) : Type 0 wh
   pub restarts : e ≡ event.Restart site
   pub known : is_site old.publication site ≡ true
   pub lost : IsLost why old.faults new.faults
+  pub stays : Stays old new

@@ -1,4 +1,4 @@
-use Rattle.std.proofs.Common.{◌≡◌, arith, refl}
+use Rattle.std.proofs.Common.{◌≡◌, ◌∙◌, arith, refl}
 use Rattle.std.proofs.lemmas.Grind.{common_steps}
 use Rattle.merge_play.proofs.SoFar.{so-far-at-start, so-far-cut, so-far-done, so-far-more, so-far-ordered, so-far-stops, so-far-wrong}
 use Rattle.merge_play.proofs.lines.play_lines.Goals as goal
@@ -31,3 +31,9 @@ returns-in_err-play_line-clause-before g c = λ line word is.
 
 pub returns-clause-done : goal.returns-clause-done
 returns-clause-done g c = so-far-done _ c.loop-rest.rest.now (grind (arith, common_steps, c.is_empty.ensures, c.loop-rest-test.false)) _ _ _ _ _ _ _ c.loop-rest.invariant.so_far
+
+pub returns-in_err-play_line-clause-stays : goal.returns-in_err-play_line-clause-stays
+returns-in_err-play_line-clause-stays g c = c.in_err-play_line.ensures.stays ∙ c.loop-rest.invariant.so_far.happened.sites
+
+pub returns-clause-stays : goal.returns-clause-stays
+returns-clause-stays g c = c.loop-rest.invariant.so_far.happened.sites
