@@ -4,6 +4,7 @@
 mod beginning;
 mod committing;
 mod copies;
+mod ending;
 mod grants;
 mod handling;
 mod lists;
