@@ -42,3 +42,4 @@ pub mod StepMoves
 pub mod Downloads
 pub mod Refusals
 pub mod Quiet
+pub mod SitesInOrder

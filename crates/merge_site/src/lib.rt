@@ -4,6 +4,7 @@
 mod beginning;
 mod committing;
 mod copies;
+mod ending;
 mod grants;
 mod lists;
 mod places;
@@ -12,6 +13,7 @@ mod publisher_commit;
 mod short;
 mod subscriber;
 mod subscriber_commit;
+mod stub;
 
 pub use beginning::NotStarted;
 pub use publisher::KeptPublisher;

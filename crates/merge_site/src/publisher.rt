@@ -23,7 +23,7 @@ use std::marker::Model;
 #[derive(Drop)]
 pub struct KeptPublisher<K: Keeper> {
     alloc: Global,
-    keeper: K,
+    pub(crate) keeper: K,
     publisher: Publisher,
 }
 

@@ -29,7 +29,7 @@ use std::marker::Model;
 #[derive(Drop)]
 pub struct KeptSubscriber<K: Keeper> {
     alloc: Global,
-    keeper: K,
+    pub(crate) keeper: K,
     subscriber: Subscriber,
 }
 

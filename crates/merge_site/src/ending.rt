@@ -1,0 +1,28 @@
+//! Sites that stop.
+ghost use Rattle.std.specs.Prelude.{◌≡◌};
+ghost use Rattle.merge_site.specs.Publishers.{IsKeptPublisher};
+ghost use Rattle.merge_site.specs.Subscribers.{IsKeptSubscriber};
+
+use crate::publisher::KeptPublisher;
+use crate::subscriber::KeptSubscriber;
+use merge_ports::Keeper;
+
+impl<K: Keeper> KeptPublisher<K> {
+    /// Stops the site, and gives its keeper back with the records of its tables.
+    pub fn into_keeper(self) -> K
+        ensures kept { IsKeptPublisher self.tables (K.told result) }
+        ensures faults { K.count result ≡ self.faults }
+    {
+        self.keeper
+    }
+}
+
+impl<K: Keeper> KeptSubscriber<K> {
+    /// Stops the site, and gives its keeper back with the records of its tables.
+    pub fn into_keeper(self) -> K
+        ensures kept { IsKeptSubscriber self.tables (K.told result) }
+        ensures faults { K.count result ≡ self.faults }
+    {
+        self.keeper
+    }
+}
