@@ -13,7 +13,6 @@ mod publisher_commit;
 mod short;
 mod subscriber;
 mod subscriber_commit;
-mod stub;
 
 pub use beginning::NotStarted;
 pub use publisher::KeptPublisher;

@@ -39,7 +39,7 @@ fn words(rt: &HostRuntime) -> Result<Vec<Words>, NoMemory> {
 }
 
 // Stores in memory that start empty, one for each site that a publication may have.
-fn stores(alloc: Global) -> Result<MemoryOutside<MemoryKeeper>, NoMemory> {
+fn memory_stores(alloc: Global) -> Result<MemoryOutside<MemoryKeeper>, NoMemory> {
     let mut stores = Table::new(alloc);
     for site in 0..64u16 {
         let none = Listing::empty(alloc);
@@ -49,7 +49,7 @@ fn stores(alloc: Global) -> Result<MemoryOutside<MemoryKeeper>, NoMemory> {
     Ok(MemoryOutside::new(stores, Listing::empty(alloc)))
 }
 
-fn play(rt: &HostRuntime) -> Result<Status, NoMemory> {
+fn program(rt: &HostRuntime) -> Result<Status, NoMemory> {
     let alloc = rt.alloc();
     let words = words(rt)?;
     // In the order in which a publication counts them.
@@ -63,13 +63,13 @@ fn play(rt: &HostRuntime) -> Result<Status, NoMemory> {
         input: Reading::new(rt.stdin()),
         output: Writing::new(rt.stdout()),
         notes: Writing::new(rt.stderr()),
-        outside: stores(alloc)?,
+        outside: memory_stores(alloc)?,
     };
     Ok(run(alloc, words.as_slice(), &mut host, &mut resolvers))
 }
 
 fn main(rt: HostRuntime) -> ExitCode {
-    let Ok(Status(status)) = play(&rt) else {
+    let Ok(Status(status)) = program(&rt) else {
         return ExitCode::from(11);
     };
     ExitCode::from(status)

@@ -20,13 +20,20 @@ fn usage_note(alloc: Global) -> Result<String, NoMemory>
     Ok(note)
 }
 
-// Why the publication was refused, by its number and its words.
+// A refusal of the publication, by its number and its words.
+fn refusal_note(alloc: Global, number: u8, words: &str) -> Result<String, NoMemory>
+    ensures { IfOk result (λ note. string_bytes note ≡ codes "publication refused: " ++ decimal number ++ 32 ∷ words.now ++ 10 ∷ []) }
+{
+    Ok(format!(in alloc; "publication refused: {number} {words}\n")?)
+}
+
+// Why the publication was refused.
 fn refused_note(alloc: Global, fault: &SchemaFault) -> Result<String, NoMemory>
     ensures { IfOk result (λ note. (words : List ℕ) × (string_bytes note ≡ codes "publication refused: " ++ decimal (unwrap_or (number_of fault.now) 0) ++ 32 ∷ words ++ 10 ∷ [])) }
 {
     let words = fault.to_string(alloc)?;
     let number = fault.number().unwrap_or(0);
-    Ok(format!(in alloc; "publication refused: {number} {words}\n")?)
+    refusal_note(alloc, number, words.as_str())
 }
 
 // A key in hexadecimal.
