@@ -36,9 +36,12 @@ sub_live_rows s = filter_map (λ (row : Key × SubscriberRow). live_row row.0 ro
 abbrev pub counts_of : Publication → List LiveRow → List ℕ
 counts_of publication rows = map (λ (article : ℕ). count_by (is_of_article article) rows) (range_with_len 0 (length publication.articles))
 
--- the partition that the publisher holds for a site
+-- the rows of a site's partition, as the publisher holds it
+abbrev pub partition_rows : Publication → SiteId → PublisherTables → List Key
+partition_rows publication site p = map key_of_live (partition_at publication site (live_rows p.rows))
+
 abbrev pub partition_report : Publication → SiteId → PublisherTables → Answer
-partition_report publication site p = Partition (map key_of_live (partition_at publication site (live_rows p.rows)))
+partition_report publication site p = Partition (partition_rows publication site p)
 
 abbrev pub sites_report : Publication → PublisherTables → List SiteStanding
 sites_report publication p = map (λ (s : Subscription). record { site = s.site; state = at_number p.sites s.site.0 }) publication.subscriptions

@@ -27,6 +27,7 @@ pub mod BatchCounts
 pub mod Asked
 pub mod Replies
 pub mod Looking
+pub mod PartitionRows
 pub mod Forgotten
 pub mod RangePlans
 pub mod RangeChecks

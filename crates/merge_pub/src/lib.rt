@@ -31,6 +31,7 @@ mod site;
 mod site_drafts;
 mod staying;
 mod step;
+mod telling;
 mod touches;
 mod uploading;
 mod versions;

@@ -44,7 +44,7 @@ fn touch_outside(mapping: Option<Mapping>) -> Option<u64>
 
 impl Publisher {
     // Whether the row is in the site's partition.
-    fn has_row(&self, site: SiteId, key: RowKey) -> bool
+    pub(crate) fn has_row(&self, site: SiteId, key: RowKey) -> bool
         ensures { result ≡ has_key (inside_keys (publication_of self.now) site (tables_of self.now)) key }
     {
         self.membership.is_in(key.article, key.row, site)

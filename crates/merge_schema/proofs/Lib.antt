@@ -4,6 +4,7 @@ pub mod Each
 pub mod JoinedValues
 pub mod ListMembers
 pub mod Partitions
+pub mod PartitionOrder
 pub mod WorkedPartitions
 pub mod Placed
 pub mod Found

@@ -4,6 +4,8 @@ use Rattle.std.specs.declared.option.Option.{Option}
 use Rattle.std.specs.declared.option.Option.TheVariants.{None, Some}
 use Rattle.merge_types.specs.declared.identifiers.SiteId.{SiteId}
 use Rattle.merge_table.specs.Edits.{rows_after_all}
+use Rattle.merge_units.specs.declared.site_row.PublisherRow.{PublisherRow}
+use Rattle.merge_units.specs.declared.site_row.SubscriberRow.{SubscriberRow}
 use Rattle.merge_ident.specs.Holders.{Holder}
 use Rattle.merge_schema.specs.Valid.{IsValid}
 use Rattle.merge_schema.specs.declared.publication.Article.{Article}
@@ -25,6 +27,7 @@ use Rattle.merge_site.specs.Publishers as publisher
 use Rattle.merge_site.specs.Publishers.{IsKeptPublisher, publisher_stored}
 use Rattle.merge_site.specs.Subscribers as subscriber
 use Rattle.merge_site.specs.Subscribers.{IsKeptSubscriber, subscriber_stored}
+use Rattle.merge_site.proofs.Printed.{none-lost, none-printable}
 
 -- of no article a range was received
 none_received : (xs : List (ℕ × Identity)) → filter was_received (map holder_for xs) ≡ []
@@ -67,7 +70,7 @@ subscriber_alone publication site =
 pub subscriber_begun : (publication : Publication) (site : SiteId) → ((resolvers : ℕ) × IsValid resolvers publication) → (s : SubscriberTables) → s ≡ empty_subscriber publication site → (told : Option Map) → IsEmptyStore told → IsKeptSubscriber s told
 subscriber_begun publication site valid s is told empty =
     let v = valid.1 in
-    rw is (record { keyed = subscriber_keyed publication site v.some_articles.1; kept = bare_kept _ _ (subscriber_alone publication site) told empty })
+    rw is (record { keyed = subscriber_keyed publication site v.some_articles.1; kept = bare_kept _ _ (subscriber_alone publication site) told empty; printable = none-printable (λ (row : SubscriberRow). row.version); lost = none-lost })
 
 publisher_keyed : (publication : Publication) → length publication.articles ≤ 32 → publisher.AreKeyed (empty_publisher publication)
 unfolding publisher.AreKeyed
@@ -90,4 +93,4 @@ publisher_alone publication =
 pub publisher_begun : (publication : Publication) → ((resolvers : ℕ) × IsValid resolvers publication) → (p : PublisherTables) → p ≡ empty_publisher publication → (told : Option Map) → IsEmptyStore told → IsKeptPublisher p told
 publisher_begun publication valid p is told empty =
     let v = valid.1 in
-    rw is (record { keyed = publisher_keyed publication v.some_articles.1; kept = bare_kept _ _ (publisher_alone publication) told empty })
+    rw is (record { keyed = publisher_keyed publication v.some_articles.1; kept = bare_kept _ _ (publisher_alone publication) told empty; printable = none-printable (λ (row : PublisherRow). row.version); lost = none-lost })

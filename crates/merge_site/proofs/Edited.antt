@@ -33,9 +33,10 @@ use Rattle.merge_sub.specs.Drafts.{after}
 use Rattle.merge_sub.specs.declared.changes.Changes.{Changes}
 use Rattle.merge_sub.specs.declared.state.State.{State}
 use Rattle.merge_site.specs.Kept.{LeadTo}
+use Rattle.merge_site.specs.Lists.{up_to}
 use Rattle.merge_site.specs.Subscribers.{AreKeyed, AreStoredAs, records_of, state_of, subscriber_stored}
 use Rattle.merge_site.proofs.Keyed.{held-keys, paired-keys}
-use Rattle.merge_site.proofs.ListsAfter.{closings-changed, conflicts-changed, filling-kept}
+use Rattle.merge_site.proofs.ListsAfter.{closings-changed, conflicts-changed, filling-left, left-up_to}
 
 abbrev stored_with : SiteId → State → Filling → List Closing → List (RowKey × SubscriberRow) → List ConflictRow → List (ℕ × Holder) → SubscriberStored
 stored_with site state filling closings rows conflicts held = record {
@@ -59,9 +60,9 @@ stored_with site state filling closings rows conflicts held = record {
 pub stored-after : (s : SubscriberTables) (c : Changes) (stored : SubscriberChanges) → AreStoredAs s.gens.closings c stored → IsSound (settled s.gens c.gens) → AreRising (s.conflicts ++ c.conflicts.rows)
     → subscriber_after stored (subscriber_stored s) ≡ subscriber_stored (after c s)
 stored-after s c stored h sound rising =
-    let closings : closings_after s.gens.closings stored.closings ≡ (forgotten_if_any (settled s.gens c.gens) c.done).closings = ap (closings_after s.gens.closings) h.closings ∙ closings-changed s.gens c.gens c.done sound in
+    let closings : closings_after s.gens.closings stored.closings ≡ (forgotten_if_any (settled s.gens c.gens) c.done).closings = ap (closings_after s.gens.closings) h.closings ∙ closings-changed s.gens c.gens (up_to c.done) sound ∙ ap (λ (book : Book). book.closings) (left-up_to (settled s.gens c.gens) c.done) in
     let conflicts : conflicts_after s.conflicts stored.conflicts ≡ s.conflicts ++ c.conflicts.rows = ap (conflicts_after s.conflicts) h.conflicts ∙ conflicts-changed s.conflicts c.conflicts.rows rising in
-    let filling : stored.filling ≡ (forgotten_if_any (settled s.gens c.gens) c.done).filling = h.filling ∙ sym (filling-kept (settled s.gens c.gens) c.done) in
+    let filling : stored.filling ≡ (forgotten_if_any (settled s.gens c.gens) c.done).filling = h.filling ∙ sym (filling-left (settled s.gens c.gens) (up_to c.done)) ∙ ap (λ (book : Book). book.filling) (left-up_to (settled s.gens c.gens) c.done) in
     let rows : rows_after_all key_cmp s.rows stored.rows ≡ rows_after_all key_cmp s.rows c.rows = ap (rows_after_all key_cmp s.rows) h.rows in
     let held : rows_after_all nat_cmp s.held (map held_put stored.held) ≡ rows_after_all nat_cmp s.held c.held = ap (rows_after_all nat_cmp s.held) h.held in
     ap (λ (n : State). stored_with s.site n stored.filling (closings_after s.gens.closings stored.closings) (rows_after_all key_cmp s.rows stored.rows) (conflicts_after s.conflicts stored.conflicts) (rows_after_all nat_cmp s.held (map held_put stored.held))) h.state

@@ -5,6 +5,8 @@ pub mod Edited
 pub mod Granted
 pub mod Keyed
 pub mod ListsAfter
+pub mod Printed
 pub mod PublisherCalls
 pub mod PublisherEdited
+pub mod Ranged
 pub mod SubscriberCalls

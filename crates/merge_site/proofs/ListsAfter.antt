@@ -24,7 +24,9 @@ use Rattle.merge_conflict.specs.Rising.{AreRising, RiseAbove}
 use Rattle.merge_conflict.specs.declared.row.ConflictRow.{ConflictRow}
 use Rattle.merge_keeper.specs.Entries.{closing_of, closing_pair, conflict_of, conflict_pair}
 use Rattle.merge_keeper.specs.Stored.{closings_after, conflicts_after}
-use Rattle.merge_site.specs.Lists.{closing_changes, closing_put, closing_takes_to, conflict_put, is_above, pair_put}
+use Rattle.merge_site.specs.Lists.{book_left, closing_changes, closing_put, closing_takes_by, conflict_put, pair_put, stays, up_to}
+use Rattle.merge_site.specs.declared.lists.Forgets.{Forgets}
+use Rattle.merge_site.specs.declared.lists.Forgets.TheVariants.{Before, UpTo}
 
 map_twice : {A B C : Type 0} (f : A → B) (g : B → C) (xs : List A) → map (λ x. g (f x)) xs ≡ map g (map f xs)
 map_twice f g [] = refl
@@ -71,14 +73,14 @@ takes_join : {V : Type 0} (keep : ℕ × V → Bool) (xs ys : List (ℕ × V)) �
 takes_join keep [] ys = refl
 takes_join keep (x ∷ xs) ys = takes_step keep x xs ys (takes_join keep xs ys) (keep x) refl
 
-above_step : (n : ℕ) (c : Closing) (cs : List Closing) → map closing_of (filter (is_above n) (map closing_pair cs)) ≡ filter (λ (c : Closing). nat_lt n c.generation) cs → (b : Bool) → nat_lt n c.generation ≡ b
-    → map closing_of (filter (is_above n) (map closing_pair (c ∷ cs))) ≡ filter (λ (c : Closing). nat_lt n c.generation) (c ∷ cs)
-above_step n c cs ih true e = rw e (ap (λ l. c ∷ l) ih)
-above_step n c cs ih false e = rw e ih
+left_step : (p : ℕ × Moment → Bool) (c : Closing) (cs : List Closing) → map closing_of (filter p (map closing_pair cs)) ≡ filter (λ (c : Closing). p (closing_pair c)) cs → (b : Bool) → p (closing_pair c) ≡ b
+    → map closing_of (filter p (map closing_pair (c ∷ cs))) ≡ filter (λ (c : Closing). p (closing_pair c)) (c ∷ cs)
+left_step p c cs ih true e = rw e (ap (λ l. c ∷ l) ih)
+left_step p c cs ih false e = rw e ih
 
-closings_above : (n : ℕ) (cs : List Closing) → map closing_of (filter (is_above n) (map closing_pair cs)) ≡ filter (λ (c : Closing). nat_lt n c.generation) cs
-closings_above n [] = refl
-closings_above n (c ∷ cs) = above_step n c cs (closings_above n cs) (nat_lt n c.generation) refl
+closings_left : (p : ℕ × Moment → Bool) (cs : List Closing) → map closing_of (filter p (map closing_pair cs)) ≡ filter (λ (c : Closing). p (closing_pair c)) cs
+closings_left p [] = refl
+closings_left p (c ∷ cs) = left_step p c cs (closings_left p cs) (p (closing_pair c)) refl
 
 closings_back : (cs : List Closing) → map closing_of (map closing_pair cs) ≡ cs
 closings_back [] = refl
@@ -92,28 +94,39 @@ in_turn kept a b c =
     ap (map closing_of)
     (after_both (a ++ b) c (map closing_pair kept) ∙ ap (λ (l : List (ℕ × Moment)). rows_after_all nat_cmp l c) (after_both a b (map closing_pair kept)) ∙ sym (after_both b c (rows_after_all nat_cmp (map closing_pair kept) a)))
 
-forgotten_to : (n : ℕ) (kept closed : List Closing) → IsStrictlySortedBy nat_cmp (keys_of (map closing_pair (kept ++ closed)))
-    → left_after (map closing_pair (kept ++ closed)) (closing_takes_to n kept ++ closing_takes_to n closed) ≡ filter (λ (c : Closing). nat_lt n c.generation) (kept ++ closed)
-forgotten_to n kept closed s =
-    ap (left_after (map closing_pair (kept ++ closed))) (sym (takes_join (is_above n) (map closing_pair kept) (map closing_pair closed)) ∙ ap (takes_of (is_above n)) (sym (map-append closing_pair kept closed)))
-    ∙ ap (map closing_of) (filter_is_takes nat_cmp nat_cmp_total (is_above n) (map closing_pair (kept ++ closed)) s)
-    ∙ closings_above n (kept ++ closed)
+forgotten_by : (forgets : Forgets) (kept closed : List Closing) → IsStrictlySortedBy nat_cmp (keys_of (map closing_pair (kept ++ closed)))
+    → left_after (map closing_pair (kept ++ closed)) (closing_takes_by forgets kept ++ closing_takes_by forgets closed) ≡ filter (λ (c : Closing). stays forgets (closing_pair c)) (kept ++ closed)
+forgotten_by forgets kept closed s =
+    ap (left_after (map closing_pair (kept ++ closed))) (sym (takes_join (stays forgets) (map closing_pair kept) (map closing_pair closed)) ∙ ap (takes_of (stays forgets)) (sym (map-append closing_pair kept closed)))
+    ∙ ap (map closing_of) (filter_is_takes nat_cmp nat_cmp_total (stays forgets) (map closing_pair (kept ++ closed)) s)
+    ∙ closings_left (stays forgets) (kept ++ closed)
 
--- the generations that are kept after a plan, and without those up to one
-pub closings-changed : (book : Book) (plan : GenPlan) (done : Option ℕ) → IsSound (settled book plan) → closings_after book.closings (closing_changes book.closings plan.closings done) ≡ (forgotten_if_any (settled book plan) done).closings
+book_stays : (book : Book) (forgets : Forgets) → filter (λ (c : Closing). stays forgets (closing_pair c)) book.closings ≡ (book_left book (Some forgets)).closings
+book_stays book (UpTo generation) = refl
+book_stays book (Before cutoff) = refl
+
+-- the generations that are kept after a plan, and without those that are forgotten
+pub closings-changed : (book : Book) (plan : GenPlan) (forgets : Option Forgets) → IsSound (settled book plan) → closings_after book.closings (closing_changes book.closings plan.closings forgets) ≡ (book_left (settled book plan) forgets).closings
 closings-changed book plan None sound =
     in_turn book.closings (map closing_put plan.closings) [] []
     ∙ ap (map closing_of) (members_behind closing_pair book.closings plan.closings (sorted_closings (book.closings ++ plan.closings) sound.ascending))
     ∙ closings_back (book.closings ++ plan.closings)
-closings-changed book plan (Some n) sound =
+closings-changed book plan (Some forgets) sound =
     let sorted = sorted_closings (book.closings ++ plan.closings) sound.ascending in
-    in_turn book.closings (map closing_put plan.closings) (closing_takes_to n book.closings) (closing_takes_to n plan.closings)
-    ∙ ap (λ (l : List (ℕ × Moment)). left_after l (closing_takes_to n book.closings ++ closing_takes_to n plan.closings)) (members_behind closing_pair book.closings plan.closings sorted)
-    ∙ forgotten_to n book.closings plan.closings sorted
+    in_turn book.closings (map closing_put plan.closings) (closing_takes_by forgets book.closings) (closing_takes_by forgets plan.closings)
+    ∙ ap (λ (l : List (ℕ × Moment)). left_after l (closing_takes_by forgets book.closings ++ closing_takes_by forgets plan.closings)) (members_behind closing_pair book.closings plan.closings sorted)
+    ∙ forgotten_by forgets book.closings plan.closings sorted
+    ∙ book_stays (settled book plan) forgets
 
-pub filling-kept : (book : Book) (done : Option ℕ) → (forgotten_if_any book done).filling ≡ book.filling
-filling-kept book None = refl
-filling-kept book (Some n) = refl
+pub filling-left : (book : Book) (forgets : Option Forgets) → (book_left book forgets).filling ≡ book.filling
+filling-left book None = refl
+filling-left book (Some (UpTo generation)) = refl
+filling-left book (Some (Before cutoff)) = refl
+
+-- what a subscriber forgets
+pub left-up_to : (book : Book) (done : Option ℕ) → book_left book (up_to done) ≡ forgotten_if_any book done
+left-up_to book None = refl
+left-up_to book (Some generation) = refl
 
 -- ---- rows of the conflict table
 

@@ -1,17 +1,21 @@
 -- A call of the publisher, by the step that was worked out for it and by what became of that.
-use Rattle.std.proofs.Common.{◌≡◌, ◌∙◌, ◌||◌, ℕ, Bool, true, false, nat_lt, sym, ap, subst}
+use Rattle.std.proofs.Common.{◌≡◌, ◌∙◌, ◌||◌, ◌≤◌, ℕ, Bool, true, false, nat_lt, sym, ap, subst}
 use Rattle.std.specs.Prelude.{Err, IfOk, Ok, Option, Result}
 use Rattle.merge_types.specs.declared.identifiers.Moment.{Moment}
 use Rattle.merge_schema.specs.declared.publication.Publication.{Publication}
 use Rattle.merge_batch.specs.declared.refusal.Refusal.{Refusal}
-use Rattle.merge_model.specs.Calls.{Called, is_later}
+use Rattle.merge_model.specs.Calls.{Called, always_commits, is_later}
 use Rattle.merge_model.specs.Publisher.{close_generation}
 use Rattle.merge_model.proofs.Quiet.{closings-quiet}
+use Rattle.merge_model.specs.PublisherPurge.{purge}
 use Rattle.merge_model.specs.Tables.{PublisherTables}
+use Rattle.merge_model.specs.declared.outcome.Forgotten.{Forgotten}
 use Rattle.merge_ports.specs.Entries.{Map}
 use Rattle.merge_pub.specs.After.{after}
 use Rattle.merge_pub.specs.Held.{Held, publication_of, tables_of}
+use Rattle.merge_pub.specs.PurgeDrafts.{after_purge}
 use Rattle.merge_pub.specs.declared.changes.Draft.{Draft}
+use Rattle.merge_pub.specs.declared.purging.PurgeDraft.{PurgeDraft}
 use Rattle.merge_world.specs.Views.{PublisherCall, PublisherView}
 use Rattle.merge_site.specs.Calls.{IsRefused, WorkedOut}
 use Rattle.merge_site.specs.Publishers.{IsKeptPublisher, drafted}
@@ -42,3 +46,11 @@ pub closing-still : (h now : Held) (moment : Moment) (worked : Result (Draft × 
 closing-still h now moment (Err why) commits same is made = tt
 closing-still h now moment (Ok worked) commits same is made = λ quiet.
     subst (λ (t : PublisherTables). after worked.0.changes t ≡ t) (sym same) (closings-quiet moment (tables_of h) (drafted (tables_of h) worked) made (sym is ∙ quiet))
+
+-- a purge that was worked out and made
+pub purge-made : (old : PublisherView) (h now new : Held) (before after' : ℕ) (moment : Moment) → view_of h before ≡ old → tables_of now ≡ tables_of h → before ≤ after' → (d : PurgeDraft) (forgotten : Forgotten) → purge (publication_of h) moment (tables_of h) ≡ (after_purge d (tables_of h), forgotten) → tables_of new ≡ after_purge d (tables_of now)
+    → PublisherCall (Ok (purge old.publication moment old.tables)) always_commits old (view_of new after') (Ok forgotten)
+purge-made old h now new before after' moment seen same later d forgotten made settled =
+    let is : tables_of new ≡ after_purge d (tables_of h) = settled ∙ ap (λ (t : PublisherTables). after_purge d t) same in
+    subst (λ (v : PublisherView). PublisherCall (Ok (purge v.publication moment v.tables)) always_commits v (view_of new after') (Ok forgotten)) seen
+    (ap (λ (done : PublisherTables × Forgotten). (let r : Result (PublisherTables × Forgotten) Refusal = Ok done in r)) (made ∙ ap (λ (t : PublisherTables). (let done : PublisherTables × Forgotten = (t, forgotten) in done)) (sym is)), later)

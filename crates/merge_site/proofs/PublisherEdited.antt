@@ -1,6 +1,6 @@
 -- The edits of a publisher's commit lead to the records of its tables after the step.
 use Rattle.std.proofs.Common.{◌≡◌, ◌∙◌, ℕ, ◌^◌, ◌<◌, true, List, [], ◌∷◌, ◌++◌, map, refl, sym, ap, subst}
-use Rattle.std.specs.declared.option.Option.TheVariants.{None}
+use Rattle.std.specs.declared.option.Option.{Option}
 use Rattle.std.specs.List.{AllByRecursion}
 use Rattle.std.specs.Ordering.{nat_cmp}
 use Rattle.std.proofs.lemmas.Cmp.{nat_cmp_total}
@@ -10,7 +10,7 @@ use Rattle.merge_types.specs.declared.row_key.RowKey.{RowKey}
 use Rattle.merge_table.specs.Edits.{rows_after_all}
 use Rattle.merge_table.proofs.Sorted.{sorted_after_all}
 use Rattle.merge_units.specs.declared.site_row.PublisherRow.{PublisherRow}
-use Rattle.merge_gens.specs.Book.{IsSound}
+use Rattle.merge_gens.specs.Book.{Book, IsSound}
 use Rattle.merge_gens.specs.Moves.{row_site_cmp}
 use Rattle.merge_gens.specs.Plan.{settled}
 use Rattle.merge_gens.specs.declared.closings.Closing.{Closing}
@@ -36,14 +36,15 @@ use Rattle.merge_keeper.specs.declared.stored.PublisherChanges.{PublisherChanges
 use Rattle.merge_keeper.specs.declared.stored.PublisherStored.{PublisherStored}
 use Rattle.merge_keeper.proofs.Encoding.{keys-after_all}
 use Rattle.merge_keeper.proofs.FollowAll.{publisher_follows}
-use Rattle.merge_pub.specs.After.{after}
 use Rattle.merge_pub.specs.declared.changes.Changes.{Changes}
 use Rattle.merge_site.specs.Grants.{granted_by}
 use Rattle.merge_site.specs.Kept.{LeadTo}
-use Rattle.merge_site.specs.Publishers.{AreKeyed, AreStoredAs, FitFields, records_of, publisher_stored}
+use Rattle.merge_site.specs.Lists.{book_left, closing_changes}
+use Rattle.merge_site.specs.Publishers.{AreKeyed, AreStoredAs, FitFields, after_forgetting, records_of, publisher_stored}
+use Rattle.merge_site.specs.declared.lists.Forgets.{Forgets}
 use Rattle.merge_site.proofs.Granted.{granted-all, granted-keys, granted-new}
 use Rattle.merge_site.proofs.Keyed.{held-keys, paired-keys}
-use Rattle.merge_site.proofs.ListsAfter.{closings-changed, conflicts-changed}
+use Rattle.merge_site.proofs.ListsAfter.{closings-changed, conflicts-changed, filling-left}
 
 abbrev Lists : Type 0
 Lists = List Closing × (List (RowKey × PublisherRow) × (List (RowSite × Mapping) × (List ConflictRow × (List Grant × (List (ℕ × Holder) × List (ℕ × SiteState))))))
@@ -66,20 +67,27 @@ stored_with changes count latest filling lists = record {
 both : {A B : Type 0} (a a' : A) (b b' : B) → a ≡ a' → b ≡ b' → (let p : A × B = (a, b) in p) ≡ (a', b')
 both {A = A} {B = B} a a' b b' e f = ap (λ (x : A). (let p : A × B = (x, b) in p)) e ∙ ap (λ (y : B). (let p : A × B = (a', y) in p)) f
 
+abbrev lists_of : PublisherTables → Lists
+lists_of p = (p.gens.closings, (p.rows, (p.mappings, (p.conflicts, (p.grants, (p.held, p.sites))))))
+
 -- what is stored after a step is the step's tables as they are stored
-pub stored-after : (p : PublisherTables) (c : Changes) (stored : PublisherChanges) → AreStoredAs c stored → IsSound (settled p.gens c.gens) → AreRising (p.conflicts ++ c.conflicts.rows)
-    → publisher_after stored (publisher_stored p) ≡ publisher_stored (after c p)
-stored-after p c stored h sound rising =
-    let closings : closings_after p.gens.closings stored.closings ≡ p.gens.closings ++ c.gens.closings = ap (closings_after p.gens.closings) h.closings ∙ closings-changed p.gens c.gens None sound in
+pub stored-after : (p : PublisherTables) (c : Changes) (kept : List Closing) (forgets : Option Forgets) (stored : PublisherChanges) → kept ≡ p.gens.closings → AreStoredAs kept forgets c stored → IsSound (settled p.gens c.gens) → AreRising (p.conflicts ++ c.conflicts.rows)
+    → publisher_after stored (publisher_stored p) ≡ publisher_stored (after_forgetting forgets c p)
+stored-after p c kept forgets stored is h sound rising =
+    let left : Book = book_left (settled p.gens c.gens) forgets in
+    let closings : closings_after p.gens.closings stored.closings ≡ left.closings =
+    ap (closings_after p.gens.closings) (h.closings ∙ ap (λ (l : List Closing). closing_changes l c.gens.closings forgets) is) ∙ closings-changed p.gens c.gens forgets sound in
     let rows : rows_after_all key_cmp p.rows stored.rows ≡ rows_after_all key_cmp p.rows c.rows = ap (rows_after_all key_cmp p.rows) h.rows in
     let mappings : rows_after_all row_site_cmp p.mappings stored.mappings ≡ rows_after_all row_site_cmp p.mappings c.mappings = ap (rows_after_all row_site_cmp p.mappings) h.mappings in
     let conflicts : conflicts_after p.conflicts stored.conflicts ≡ p.conflicts ++ c.conflicts.rows = ap (conflicts_after p.conflicts) h.conflicts ∙ conflicts-changed p.conflicts c.conflicts.rows rising in
     let grants : with_grants p.grants stored.grants ≡ grants_with_all p.grants c.grants = ap (with_grants p.grants) h.grants ∙ sym (granted-all c.grants p.grants) in
     let held : rows_after_all nat_cmp p.held (map held_put stored.held) ≡ rows_after_all nat_cmp p.held c.held = ap (rows_after_all nat_cmp p.held) h.held in
     let sites : rows_after_all nat_cmp p.sites stored.sites ≡ rows_after_all nat_cmp p.sites c.sites = ap (rows_after_all nat_cmp p.sites) h.sites in
+    let filling : stored.filling ≡ left.filling = h.filling ∙ sym (filling-left (settled p.gens c.gens) forgets) in
     let lists = both _ _ _ _ closings (both _ _ _ _ rows (both _ _ _ _ mappings (both _ _ _ _ conflicts (both _ _ _ _ grants (both _ _ _ _ held sites))))) in
     ap (stored_with stored.changes stored.conflict_count stored.latest stored.filling) lists
-    ∙ rw (h.changes, h.conflict_count, h.latest, h.filling) refl
+    ∙ ap (λ (f : Filling). stored_with stored.changes stored.conflict_count stored.latest f (lists_of (after_forgetting forgets c p))) filling
+    ∙ rw (h.changes, h.conflict_count, h.latest) refl
 
 -- ---- numbers still fit their fields
 
@@ -95,12 +103,13 @@ keyed_stored c t k f = record {
   sites = keys-after_all (λ n. n < 2 ^ 16) nat_cmp c.sites f.sites t.sites k.sites;
 }
 
-pub keyed-after : (p : PublisherTables) (c : Changes) (stored : PublisherChanges) → AreKeyed p → IsSound (settled p.gens c.gens) → AreRising (p.conflicts ++ c.conflicts.rows) → AreStoredAs c stored → FitFields stored → AreKeyed (after c p)
+pub keyed-after : (p : PublisherTables) (c : Changes) (kept : List Closing) (forgets : Option Forgets) (stored : PublisherChanges) → kept ≡ p.gens.closings → AreKeyed p → IsSound (settled p.gens c.gens) → AreRising (p.conflicts ++ c.conflicts.rows)
+    → AreStoredAs kept forgets c stored → FitFields stored → AreKeyed (after_forgetting forgets c p)
 unfolding AreKeyed
-keyed-after p c stored keyed sound rising h fit = subst IsPublisherKeyed (stored-after p c stored h sound rising) (keyed_stored stored (publisher_stored p) keyed fit)
+keyed-after p c kept forgets stored is keyed sound rising h fit = subst IsPublisherKeyed (stored-after p c kept forgets stored is h sound rising) (keyed_stored stored (publisher_stored p) keyed fit)
 
-fit : (p : PublisherTables) (c : Changes) (stored : PublisherChanges) → FitFields stored → AreStoredAs c stored → AreGrants p.grants → AllFollow p.grants c.grants → FitPublisher (publisher_stored p) stored
-fit p c stored f h grants follow = record {
+fit : (p : PublisherTables) (c : Changes) (kept : List Closing) (forgets : Option Forgets) (stored : PublisherChanges) → FitFields stored → AreStoredAs kept forgets c stored → AreGrants p.grants → AllFollow p.grants c.grants → FitPublisher (publisher_stored p) stored
+fit p c kept forgets stored f h grants follow = record {
   rows = f.rows;
   mappings = f.mappings;
   closings = f.closings;
@@ -111,15 +120,16 @@ fit p c stored f h grants follow = record {
   sites = f.sites;
 }
 
-pub edits-lead : (p : PublisherTables) (c : Changes) (stored : PublisherChanges) (edits : List EntryEdit) → AreKeyed p → IsSound (settled p.gens c.gens) → AreRising (p.conflicts ++ c.conflicts.rows)
-    → AreStoredAs c stored → FitFields stored → AreGrants p.grants → AllFollow p.grants c.grants → ((t : PublisherStored) → map change_of edits ≡ publisher_edits stored t) → LeadTo edits (records_of p) (records_of (after c p))
+pub edits-lead : (p : PublisherTables) (c : Changes) (kept : List Closing) (forgets : Option Forgets) (stored : PublisherChanges) (edits : List EntryEdit) → kept ≡ p.gens.closings → AreKeyed p → IsSound (settled p.gens c.gens)
+    → AreRising (p.conflicts ++ c.conflicts.rows) → AreStoredAs kept forgets c stored → FitFields stored → AreGrants p.grants → AllFollow p.grants c.grants → ((t : PublisherStored) → map change_of edits ≡ publisher_edits stored t)
+    → LeadTo edits (records_of p) (records_of (after_forgetting forgets c p))
 unfolding AreKeyed records_of
-edits-lead p c stored edits keyed sound rising h fields grants follow written =
+edits-lead p c kept forgets stored edits is keyed sound rising h fields grants follow written =
     let are = written (publisher_stored p) in
     record {
       follow =
           ap (rows_after_all entry_cmp (publisher_records (publisher_stored p))) are
-          ∙ publisher_follows stored (publisher_stored p) keyed (fit p c stored fields h grants follow)
-          ∙ ap publisher_records (stored-after p c stored h sound rising);
+          ∙ publisher_follows stored (publisher_stored p) keyed (fit p c kept forgets stored fields h grants follow)
+          ∙ ap publisher_records (stored-after p c kept forgets stored is h sound rising);
       state = record { value = _; rest = _; is = are };
     }

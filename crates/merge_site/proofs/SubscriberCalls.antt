@@ -4,10 +4,14 @@ use Rattle.std.specs.Prelude.{Err, IfOk, Ok, Option, Result}
 use Rattle.merge_types.specs.declared.identifiers.Moment.{Moment}
 use Rattle.merge_schema.specs.declared.publication.Publication.{Publication}
 use Rattle.merge_batch.specs.declared.refusal.Refusal.{Refusal}
-use Rattle.merge_model.specs.Calls.{Called, is_later, message_commits, message_or_none}
+use Rattle.merge_batch.specs.declared.reply.Reply.{Reply}
+use Rattle.merge_model.specs.ByNumbers.{by_rows}
+use Rattle.merge_model.specs.Calls.{Called, is_later, message_commits, message_or_none, reply_commits}
 use Rattle.merge_model.specs.Subscriber.{close_sub_generation}
 use Rattle.merge_model.specs.Tables.{SubscriberTables}
-use Rattle.merge_model.proofs.Quiet.{sub-closings-quiet}
+use Rattle.merge_model.specs.Taking.{take_reply}
+use Rattle.merge_model.specs.declared.outcome.Taken.{Taken}
+use Rattle.merge_model.proofs.Quiet.{replies-quiet, sub-closings-quiet}
 use Rattle.merge_ports.specs.Entries.{Map}
 use Rattle.merge_sub.specs.Drafts.{after, drafted, drafted_if_any}
 use Rattle.merge_sub.specs.Held.{Held, tables_of}
@@ -58,3 +62,9 @@ pub closing-still : (h now : Held) (moment : Moment) (worked : Result (Draft × 
 closing-still h now moment (Err why) commits same is made = tt
 closing-still h now moment (Ok worked) commits same is made = λ quiet.
     subst (λ (t : SubscriberTables). after worked.0.changes t ≡ t) (sym same) (sub-closings-quiet moment (tables_of h) (drafted (tables_of h) worked) made (sym is ∙ quiet))
+
+-- a reply that commits nothing changes nothing
+pub reply-still : (h now : Held) (moment : Moment) (m : Reply) (draft : Draft) (taken : Taken) (commits : Bool) → tables_of now ≡ tables_of h → commits ≡ reply_commits m taken
+    → take_reply h.publication (by_rows (tables_of h)) moment m (tables_of h) ≡ Ok (after draft.changes (tables_of h), taken) → commits ≡ false → after draft.changes (tables_of now) ≡ tables_of now
+reply-still h now moment m draft taken commits same is made quiet =
+    subst (λ (t : SubscriberTables). after draft.changes t ≡ t) (sym same) (replies-quiet h.publication (by_rows (tables_of h)) moment m (tables_of h) (after draft.changes (tables_of h), taken) made (sym is ∙ quiet))

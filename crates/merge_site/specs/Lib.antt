@@ -3,5 +3,6 @@ pub mod Calls
 pub mod Grants
 pub mod Kept
 pub mod Lists
+pub mod Loading
 pub mod Publishers
 pub mod Subscribers

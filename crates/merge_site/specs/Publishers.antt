@@ -1,6 +1,8 @@
 -- A publisher with a keeper of its records.
 use Rattle.std.specs.List.{AllByRecursion}
-use Rattle.std.specs.Prelude.{List, None, Option, [], map, true, ◌<◌, ◌^◌, ◌≡◌}
+use Rattle.std.specs.Prelude.{List, Option, map, true, ◌<◌, ◌^◌, ◌≡◌}
+use Rattle.merge_units.specs.declared.site_row.PublisherRow.{PublisherRow}
+use Rattle.merge_gens.specs.declared.closings.Closing.{Closing}
 use Rattle.merge_model.specs.Tables.{PublisherTables}
 use Rattle.merge_ports.specs.Entries.{Map}
 use Rattle.merge_record.specs.Tables.{IsRowKey, IsRowSite}
@@ -12,9 +14,11 @@ use Rattle.merge_keeper.specs.declared.stored.PublisherStored.{PublisherStored}
 use Rattle.merge_pub.specs.After.{after}
 use Rattle.merge_pub.specs.declared.changes.Changes.{Changes}
 use Rattle.merge_pub.specs.declared.changes.Draft.{Draft}
+use Rattle.merge_world.specs.Printable.{AreLostPrintable, ArePrintable}
 use Rattle.merge_site.specs.Grants.{granted_by}
 use Rattle.merge_site.specs.Kept.{IsKept}
-use Rattle.merge_site.specs.Lists.{closing_changes, conflict_put, held_changes}
+use Rattle.merge_site.specs.Lists.{book_left, closing_changes, conflict_put, held_changes}
+use Rattle.merge_site.specs.declared.lists.Forgets.{Forgets}
 
 -- the tables, as they are stored
 abbrev pub publisher_stored : PublisherTables → PublisherStored
@@ -40,20 +44,27 @@ records_of p = publisher_records (publisher_stored p)
 unfoldable pub AreKeyed : PublisherTables → Type 0
 AreKeyed p = IsPublisherKeyed (publisher_stored p)
 
--- What holds of a publisher's tables and what its keeper tells.
+-- What holds of a publisher's tables and what its keeper tells: each value of the tables can be printed, and the keeper has
+-- their records.
 pub record IsKeptPublisher (p : PublisherTables) (told : Option Map) : Type 0 where
   pub keyed : AreKeyed p
   pub kept : IsKept (records_of p) told
+  pub printable : ArePrintable (λ (row : PublisherRow). row.version) p.rows
+  pub lost : AreLostPrintable p.conflicts
 
--- a step's changes as its commit has them
-pub record AreStoredAs (c : Changes) (stored : PublisherChanges) : Type 0 where
+-- the tables after a step's changes, and without the closed generations that it forgets
+abbrev pub after_forgetting : Option Forgets → Changes → PublisherTables → PublisherTables
+after_forgetting forgets c p = let changed = after c p in record changed { gens = book_left changed.gens forgets }
+
+-- a step's changes as its commit has them, where these closed generations are kept
+pub record AreStoredAs (kept : List Closing) (forgets : Option Forgets) (c : Changes) (stored : PublisherChanges) : Type 0 where
   pub changes : stored.changes ≡ c.changes
   pub conflict_count : stored.conflict_count ≡ c.conflict_count
   pub latest : stored.latest ≡ c.latest
   pub filling : stored.filling ≡ c.gens.filling
   pub rows : stored.rows ≡ c.rows
   pub mappings : stored.mappings ≡ c.mappings
-  pub closings : stored.closings ≡ closing_changes [] c.gens.closings None
+  pub closings : stored.closings ≡ closing_changes kept c.gens.closings forgets
   pub conflicts : stored.conflicts ≡ map conflict_put c.conflicts.rows
   pub grants : stored.grants ≡ granted_by c.grants
   pub held : held_changes stored.held ≡ c.held

@@ -1,5 +1,6 @@
 -- A subscriber with a keeper of its records.
 use Rattle.std.specs.Prelude.{List, Option, map, ◌≡◌}
+use Rattle.merge_units.specs.declared.site_row.SubscriberRow.{SubscriberRow}
 use Rattle.merge_gens.specs.declared.closings.Closing.{Closing}
 use Rattle.merge_model.specs.Tables.{SubscriberTables}
 use Rattle.merge_ports.specs.Entries.{Map}
@@ -8,8 +9,9 @@ use Rattle.merge_keeper.specs.declared.stored.SubscriberChanges.{SubscriberChang
 use Rattle.merge_keeper.specs.declared.stored.SubscriberStored.{SubscriberStored}
 use Rattle.merge_sub.specs.declared.changes.Changes.{Changes}
 use Rattle.merge_sub.specs.declared.state.State.{State}
+use Rattle.merge_world.specs.Printable.{AreLostPrintable, ArePrintable}
 use Rattle.merge_site.specs.Kept.{IsKept}
-use Rattle.merge_site.specs.Lists.{closing_changes, conflict_put, held_changes}
+use Rattle.merge_site.specs.Lists.{closing_changes, conflict_put, held_changes, up_to}
 
 -- the tables, as they are stored
 abbrev pub subscriber_stored : SubscriberTables → SubscriberStored
@@ -38,10 +40,13 @@ records_of s = subscriber_records (subscriber_stored s)
 unfoldable pub AreKeyed : SubscriberTables → Type 0
 AreKeyed s = IsSubscriberKeyed (subscriber_stored s)
 
--- What holds of a subscriber's tables and what its keeper tells.
+-- What holds of a subscriber's tables and what its keeper tells: each value of the tables can be printed, and the keeper has
+-- their records.
 pub record IsKeptSubscriber (s : SubscriberTables) (told : Option Map) : Type 0 where
   pub keyed : AreKeyed s
   pub kept : IsKept (records_of s) told
+  pub printable : ArePrintable (λ (row : SubscriberRow). row.version) s.rows
+  pub lost : AreLostPrintable s.conflicts
 
 -- the numbers of a step's changes
 abbrev pub state_of : SubscriberChanges → State
@@ -61,6 +66,6 @@ pub record AreStoredAs (kept : List Closing) (c : Changes) (stored : SubscriberC
   pub state : state_of stored ≡ c.state
   pub filling : stored.filling ≡ c.gens.filling
   pub rows : stored.rows ≡ c.rows
-  pub closings : stored.closings ≡ closing_changes kept c.gens.closings c.done
+  pub closings : stored.closings ≡ closing_changes kept c.gens.closings (up_to c.done)
   pub conflicts : stored.conflicts ≡ map conflict_put c.conflicts.rows
   pub held : held_changes stored.held ≡ c.held

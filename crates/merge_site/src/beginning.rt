@@ -2,8 +2,9 @@
 ghost use Rattle.std.specs.Prelude.{◌≡◌, ◌≢◌, ◌≤◌, [], IfErr, IfOk, MatchOption, OnOk};
 ghost use Rattle.merge_site.specs.Beginning.{IsEmptyStore, StartsNot};
 
+use crate::loading::load;
 use merge_batch::Refusal;
-use merge_ports::{Entries, EntryKey, KeepFault, Keeper};
+use merge_ports::{Entries, EntryKey, Keeper};
 use merge_types::NoMemory;
 
 /// Why a site does not start, and the keeper that it was given.
@@ -24,22 +25,14 @@ fn first_key(entries: &Entries) -> Result<Option<EntryKey>, NoMemory>
     }
 }
 
-/// Refuses a store that has an entry. Once the keeper's count of faults is the greatest that there
-/// is no further fault could be told, so nothing is asked of it any more.
+/// Refuses a store that has an entry.
 pub(crate) fn check_empty<K: Keeper>(keeper: &mut K) -> Result<(), Refusal>
     ensures ok { OnOk result (IsEmptyStore (K.told keeper.new)) }
     ensures count { OnOk result (K.count keeper.new ≡ K.count keeper.old) }
     ensures later { K.count keeper.old ≤ K.count keeper.new }
     ensures why { IfErr result (λ why. StartsNot why (K.told keeper.old) (K.count keeper.old) (K.count keeper.new)) }
 {
-    if keeper.faults() == u64::MAX {
-        return Err(Refusal::NoMemory);
-    }
-    let entries = match keeper.load() {
-        Ok(entries) => entries,
-        Err(KeepFault::Failed) => return Err(Refusal::StoreFault),
-        Err(KeepFault::NoMemory) => return Err(Refusal::NoMemory),
-    };
+    let entries = load(keeper)?;
     match first_key(&entries)? {
         None => Ok(()),
         Some(EntryKey { table, key }) => Err(Refusal::Damaged { table, key }),

@@ -1,8 +1,8 @@
 //! What a step adds to lists and forgets of them, as changes at numbers.
 ghost use Rattle.std.specs.List.{AllByRecursion};
 ghost use Rattle.std.specs.Prelude.{◌≡◌, ◌++◌, ◌<◌, ◌^◌, map, true, IfOk, OnOk};
-ghost use Rattle.merge_keeper.specs.Entries.{was_received};
-ghost use Rattle.merge_site.specs.Lists.{closing_changes, closing_put, closing_takes, closing_takes_to, conflict_put, held_changes};
+ghost use Rattle.merge_keeper.specs.Entries.{closing_pair, was_received};
+ghost use Rattle.merge_site.specs.Lists.{closing_changes, closing_put, closing_takes, closing_takes_by, conflict_put, held_changes, stays, up_to};
 
 use merge_conflict::ConflictRow;
 use merge_gens::Closing;
@@ -10,6 +10,15 @@ use merge_ident::Ranges;
 use merge_table::Edit;
 use merge_types::{Listing, Moment, NoMemory};
 use std::alloc::Global;
+
+/// Which closed generations a step forgets.
+#[derive(Clone, Copy)]
+pub(crate) enum Forgets {
+    /// Those up to one, which the publisher has taken.
+    UpTo(u64),
+    /// Those that closed before a moment, which are old.
+    Before(Moment),
+}
 
 /// Changes of the closed generations that are kept.
 pub(crate) type ClosingEdits = Listing<Edit<u64, Moment>>;
@@ -24,45 +33,67 @@ fn put_closings(edits: &mut ClosingEdits, closed: &[Closing]) -> Result<(), NoMe
     Ok(())
 }
 
-// Takes the generations up to one.
-fn take_closings(edits: &mut ClosingEdits, closings: &[Closing], up_to: u64) -> Result<(), NoMemory>
-    ensures { OnOk result (edits.new ≡ edits.old ++ closing_takes_to up_to closings.now) }
+/// The generations up to one, where there is one.
+pub(crate) fn up_to(done: Option<u64>) -> Option<Forgets>
+    ensures { result ≡ up_to done }
+{
+    done.map(Forgets::UpTo)
+}
+
+// Whether a generation stays.
+fn stays(forgets: Forgets, closing: &Closing) -> bool
+    ensures { result ≡ stays forgets (closing_pair closing.now) }
+{
+    match forgets {
+        Forgets::UpTo(generation) => closing.generation > generation,
+        Forgets::Before(cutoff) => closing.moment.0 >= cutoff.0,
+    }
+}
+
+// Takes the generations that do not stay.
+fn take_closings(
+    edits: &mut ClosingEdits,
+    closings: &[Closing],
+    forgets: Forgets,
+) -> Result<(), NoMemory>
+    ensures { OnOk result (edits.new ≡ edits.old ++ closing_takes_by forgets closings.now) }
 {
     for closing in closings {
-        if closing.generation <= up_to {
+        if !stays(forgets, closing) {
             edits.push(Edit::Take(closing.generation))?;
         }
     }
     Ok(())
 }
 
-// The same, where there is one.
+// The same, where any are forgotten.
 fn take_closings_if_any(
     edits: &mut ClosingEdits,
     closings: &[Closing],
-    up_to: Option<u64>,
+    forgets: Option<Forgets>,
 ) -> Result<(), NoMemory>
-    ensures { OnOk result (edits.new ≡ edits.old ++ closing_takes up_to closings.now) }
+    ensures { OnOk result (edits.new ≡ edits.old ++ closing_takes forgets closings.now) }
 {
-    match up_to {
+    match forgets {
         None => Ok(()),
-        Some(up_to) => take_closings(edits, closings, up_to),
+        Some(forgets) => take_closings(edits, closings, forgets),
     }
 }
 
-/// The changes by which generations close, and those up to one are forgotten, where there is one.
+/// The changes by which generations close behind those that are kept, and some of both are
+/// forgotten, where the step forgets any.
 pub(crate) fn closing_changes(
     alloc: Global,
     kept: &[Closing],
     closed: &[Closing],
-    done: Option<u64>,
+    forgets: Option<Forgets>,
 ) -> Result<ClosingEdits, NoMemory>
-    ensures { IfOk result (λ edits. edits ≡ closing_changes kept.now closed.now done) }
+    ensures { IfOk result (λ edits. edits ≡ closing_changes kept.now closed.now forgets) }
 {
     let mut edits = Listing::empty(alloc);
     put_closings(&mut edits, closed)?;
-    take_closings_if_any(&mut edits, kept, done)?;
-    take_closings_if_any(&mut edits, closed, done)?;
+    take_closings_if_any(&mut edits, kept, forgets)?;
+    take_closings_if_any(&mut edits, closed, forgets)?;
     Ok(edits)
 }
 

@@ -1,30 +1,40 @@
 //! A publisher with a keeper of its records.
-ghost use Rattle.std.specs.Prelude.{◌≡◌, ◌||◌, ℕ, IfErr, IfOk, nat_lt};
+ghost use Rattle.std.specs.Prelude.{◌≡◌, ◌≤◌, ◌||◌, ℕ, IfErr, IfOk, Ok, nat_lt, true};
+ghost use Rattle.merge_units.specs.Changes.{ColumnsAscend};
+ghost use Rattle.merge_batch.specs.Articles.{has_article};
+ghost use Rattle.merge_batch.specs.LocalChanges.{article_of, settings_of};
 ghost use Rattle.merge_batch.specs.declared.refusal.Refusal.TheVariants.{NoMemory as no_memory};
-ghost use Rattle.merge_model.specs.Calls.{closing_commits, is_later};
+ghost use Rattle.merge_model.specs.ByNumbers.{by_numbers};
+ghost use Rattle.merge_model.specs.Calls.{always_commits, closing_commits, is_later};
 ghost use Rattle.merge_model.specs.Publisher.{close_generation, empty_publisher};
+ghost use Rattle.merge_model.specs.PublisherLocal.{local};
+ghost use Rattle.merge_model.specs.PublisherPurge.{purge};
 ghost use Rattle.merge_schema.specs.Valid.{IsValid};
 ghost use Rattle.merge_pub.specs.Held.{tables_of};
+ghost use Rattle.merge_world.specs.Restarts.{Restarted};
 ghost use Rattle.merge_world.specs.Views.{PublisherCall};
 ghost use Rattle.merge_site.specs.Beginning.{IsEmptyStore, StartsNot};
 
 use crate::beginning::{NotStarted, check_empty};
-use crate::publisher_commit::finish;
+use crate::publisher_commit::{commit_and_purge, finish};
+use crate::restarting::check_publisher;
 use merge_batch::Refusal;
+use merge_model::Forgotten;
 use merge_ports::Keeper;
 use merge_pub::Publisher;
 use merge_schema::Publication;
-use merge_types::{Moment, NoMemory};
+use merge_types::{Change, Moment, NoMemory, RowId, Steps};
 use std::alloc::Global;
-use std::marker::Model;
+use std::marker::{Brand, Model};
+use std::sync::ledger::{Blank, Ledger};
 
 /// A publisher whose tables outlive it: what it changes is first committed at its keeper, and then
 /// changed here.
 #[derive(Drop)]
 pub struct KeptPublisher<K: Keeper> {
-    alloc: Global,
+    pub(crate) alloc: Global,
     pub(crate) keeper: K,
-    publisher: Publisher,
+    pub(crate) publisher: Publisher,
 }
 
 impl<K: Keeper> Model for KeptPublisher<K> {
@@ -96,6 +106,42 @@ impl<K: Keeper> KeptPublisher<K> {
         }
     }
 
+    /// A local change. It gives the row that was changed.
+    pub fn local(&mut self, now: Moment, change: &Change) -> Result<RowId, Refusal>
+        requires place { has_article self.old.publication (article_of change.now) ≡ true }
+        requires ascend { ColumnsAscend (settings_of change.now) }
+        ensures called { PublisherCall (local self.old.publication (by_numbers self.old.tables) now change.now self.old.tables) always_commits self.old self.new result }
+        ensures publication { self.new.publication ≡ self.old.publication }
+    {
+        self.local_counted::<Brand>(now, change, Blank::new(1))
+    }
+
+    // The same, with the steps counted in the ledger that the blank opens.
+    fn local_counted<L: Ledger>(
+        &mut self,
+        now: Moment,
+        change: &Change,
+        blank: Blank,
+    ) -> Result<RowId, Refusal>
+        requires place { has_article self.old.publication (article_of change.now) ≡ true }
+        requires ascend { ColumnsAscend (settings_of change.now) }
+        requires name { blank.name ≡ L.name }
+        requires parts { blank.parts ≡ L.parts }
+        requires some { 1 ≤ blank.parts }
+        ensures called { PublisherCall (local self.old.publication (by_numbers self.old.tables) now change.now self.old.tables) always_commits self.old self.new result }
+        ensures publication { self.new.publication ≡ self.old.publication }
+    {
+        let mut steps = Steps::<L>::new(blank);
+        let worked = self.publisher.draft_local(now, change, &mut steps);
+        finish(
+            self.alloc,
+            &mut self.keeper,
+            &mut self.publisher,
+            worked,
+            true,
+        )
+    }
+
     /// Closes the open generation, and gives the last closed one.
     pub fn close_generation(&mut self, now: Moment) -> Result<u64, Refusal>
         ensures called { PublisherCall (close_generation now self.old.tables) (closing_commits now self.old.tables.latest self.old.tables.gens) self.old self.new result }
@@ -110,5 +156,26 @@ impl<K: Keeper> KeptPublisher<K> {
             worked,
             commits,
         )
+    }
+
+    /// Forgets what is old: the tombstones of rows, the mappings of rows that left a partition, and
+    /// the closed generations. It is committed also where nothing is old, since the moment is kept.
+    pub fn purge(&mut self, now: Moment) -> Result<Forgotten, Refusal>
+        ensures called { PublisherCall (Ok (purge self.old.publication now self.old.tables)) always_commits self.old self.new result }
+        ensures publication { self.new.publication ≡ self.old.publication }
+    {
+        let (purge, forgotten) = self.publisher.draft_purge(now)?;
+        commit_and_purge(self.alloc, &mut self.keeper, &mut self.publisher, purge)?;
+        Ok(forgotten)
+    }
+
+    /// Reads the records that are kept, and tests that they load. The site goes on with the tables
+    /// that it has, which are those that were committed: it is lost where a record is damaged, or the
+    /// store cannot be read.
+    pub fn restart(&mut self) -> Result<(), Refusal>
+        ensures restarted { Restarted self.old.tables self.new.tables self.old.faults self.new.faults result }
+        ensures publication { self.new.publication ≡ self.old.publication }
+    {
+        check_publisher(self.alloc, &mut self.keeper, self.publisher.publication())
     }
 }

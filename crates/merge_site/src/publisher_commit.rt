@@ -9,26 +9,34 @@ ghost use Rattle.merge_model.specs.Calls.{Called};
 ghost use Rattle.merge_model.specs.Tables.{PublisherTables};
 ghost use Rattle.merge_pub.specs.After.{after};
 ghost use Rattle.merge_pub.specs.Held.{IsDrafted, publication_of, tables_of};
+ghost use Rattle.merge_pub.specs.PurgeDrafts.{after_purge};
+ghost use Rattle.merge_world.specs.Printable.{AreLostPrintable, ArePrintable};
 ghost use Rattle.merge_site.specs.Calls.{StopsAs, WorkedOut};
 ghost use Rattle.merge_site.specs.Kept.{LeadTo};
-ghost use Rattle.merge_site.specs.Publishers.{AreKeyed, AreStoredAs, FitFields, IsKeptPublisher, drafted, records_of};
+ghost use Rattle.merge_site.specs.Publishers.{AreKeyed, AreStoredAs, FitFields, IsKeptPublisher, after_forgetting, drafted, records_of};
 
 use crate::committing::commit;
 use crate::copies::copies_of;
 use crate::grants::{fit_grants, granted_by};
-use crate::lists::{closing_changes, conflict_changes, held_puts, were_received};
+use crate::lists::{Forgets, closing_changes, conflict_changes, held_puts, were_received};
 use crate::places::fit_places;
 use crate::short::are_short;
 use merge_batch::Refusal;
+use merge_gens::Closing;
 use merge_keeper::PublisherChanges;
 use merge_ports::{EntryEdit, Keeper};
-use merge_pub::{Changes, Draft, Publisher};
+use merge_pub::{Changes, Draft, Publisher, PurgeDraft};
 use merge_types::NoMemory;
 use std::alloc::Global;
 
 // A step's changes as its commit has them.
-fn stored_changes(alloc: Global, changes: &Changes) -> Result<PublisherChanges, NoMemory>
-    ensures { IfOk result (λ stored. AreStoredAs changes.now stored) }
+fn stored_changes(
+    alloc: Global,
+    kept: &[Closing],
+    changes: &Changes,
+    forgets: Option<Forgets>,
+) -> Result<PublisherChanges, NoMemory>
+    ensures { IfOk result (λ stored. AreStoredAs kept.now forgets changes.now stored) }
 {
     Ok(PublisherChanges {
         changes: changes.changes,
@@ -37,7 +45,7 @@ fn stored_changes(alloc: Global, changes: &Changes) -> Result<PublisherChanges, 
         latest: changes.latest,
         rows: copies_of(alloc, changes.rows.as_slice())?,
         mappings: copies_of(alloc, changes.mappings.as_slice())?,
-        closings: closing_changes(alloc, &[], changes.gens.closings.as_slice(), None)?,
+        closings: closing_changes(alloc, kept, changes.gens.closings.as_slice(), forgets)?,
         conflicts: conflict_changes(alloc, changes.conflicts.rows.as_slice())?,
         grants: granted_by(alloc, changes.grants.as_slice())?,
         held: held_puts(alloc, changes.held.as_slice())?,
@@ -70,19 +78,46 @@ fn edits_of(
     alloc: Global,
     publisher: &Publisher,
     changes: &Changes,
+    forgets: Option<Forgets>,
 ) -> Result<Vec<EntryEdit>, NoMemory>
     requires gens { IsPrepared publisher.now.gens changes.now.gens }
     requires conflicts { conflicts.IsReady publisher.now.conflicts changes.now.conflicts }
     requires grants { grants.IsReady publisher.now.grants changes.now.grants }
     requires keyed { AreKeyed (tables_of publisher.now) }
-    ensures lead { IfOk result (λ edits. LeadTo edits.items (records_of (tables_of publisher.now)) (records_of (after changes.now (tables_of publisher.now)))) }
-    ensures keyed { OnOk result (AreKeyed (after changes.now (tables_of publisher.now))) }
+    requires printable { ArePrintable (λ row. row.version) (tables_of publisher.now).rows }
+    requires lost { AreLostPrintable (tables_of publisher.now).conflicts }
+    ensures lead { IfOk result (λ edits. LeadTo edits.items (records_of (tables_of publisher.now)) (records_of (after_forgetting forgets changes.now (tables_of publisher.now)))) }
+    ensures keyed { OnOk result (AreKeyed (after_forgetting forgets changes.now (tables_of publisher.now))) }
+    ensures printable { OnOk result (ArePrintable (λ row. row.version) (after_forgetting forgets changes.now (tables_of publisher.now)).rows) }
+    ensures lost { OnOk result (AreLostPrintable (after_forgetting forgets changes.now (tables_of publisher.now)).conflicts) }
 {
     let _ = publisher.grants();
-    let stored = stored_changes(alloc, changes)?;
+    let stored = stored_changes(alloc, publisher.closings(), changes, forgets)?;
     check_stored(&stored)?;
     let edits = stored.edits(alloc)?;
     Ok(edits)
+}
+
+// Commits the changes of a step. They are still to be put in place.
+fn commit_changes<K: Keeper>(
+    alloc: Global,
+    keeper: &mut K,
+    publisher: &Publisher,
+    changes: &Changes,
+    forgets: Option<Forgets>,
+) -> Result<(), Refusal>
+    requires gens { IsPrepared publisher.now.gens changes.now.gens }
+    requires conflicts { conflicts.IsReady publisher.now.conflicts changes.now.conflicts }
+    requires grants { grants.IsReady publisher.now.grants changes.now.grants }
+    requires kept { IsKeptPublisher (tables_of publisher.now) (K.told keeper.old) }
+    ensures ok { OnOk result (IsKeptPublisher (after_forgetting forgets changes.now (tables_of publisher.now)) (K.told keeper.new)) }
+    ensures err { OnErr result (IsKeptPublisher (tables_of publisher.now) (K.told keeper.new)) }
+    ensures later { K.count keeper.old ≤ K.count keeper.new }
+    ensures why { IfErr result (λ why. StopsAs why (K.count keeper.old) (K.count keeper.new)) }
+{
+    let edits = edits_of(alloc, publisher, changes, forgets)?;
+    commit(keeper, &edits)?;
+    Ok(())
 }
 
 /// Commits the changes of a draft, and puts them in place. After the commit nothing can fail, and
@@ -102,9 +137,30 @@ pub(crate) fn commit_and_settle<K: Keeper>(
     ensures later { K.count keeper.old ≤ K.count keeper.new }
     ensures why { IfErr result (λ why. StopsAs why (K.count keeper.old) (K.count keeper.new)) }
 {
-    let edits = edits_of(alloc, publisher, &draft.changes)?;
-    commit(keeper, &edits)?;
+    commit_changes(alloc, keeper, publisher, &draft.changes, None)?;
     publisher.settle(draft);
+    Ok(())
+}
+
+/// The same of a purge, which also forgets closed generations.
+pub(crate) fn commit_and_purge<K: Keeper>(
+    alloc: Global,
+    keeper: &mut K,
+    publisher: &mut Publisher,
+    purge: PurgeDraft,
+) -> Result<(), Refusal>
+    requires drafted { IsDrafted publisher.old purge.draft }
+    requires kept { IsKeptPublisher (tables_of publisher.old) (K.told keeper.old) }
+    ensures ok { OnOk result (tables_of publisher.new ≡ after_purge purge (tables_of publisher.old)) }
+    ensures err { OnErr result (tables_of publisher.new ≡ tables_of publisher.old) }
+    ensures kept { IsKeptPublisher (tables_of publisher.new) (K.told keeper.new) }
+    ensures publication { publication_of publisher.new ≡ publication_of publisher.old }
+    ensures later { K.count keeper.old ≤ K.count keeper.new }
+    ensures why { IfErr result (λ why. StopsAs why (K.count keeper.old) (K.count keeper.new)) }
+{
+    let forgets = Some(Forgets::Before(purge.cutoff));
+    commit_changes(alloc, keeper, publisher, &purge.draft.changes, forgets)?;
+    publisher.settle_purge(purge);
     Ok(())
 }
 

@@ -7,20 +7,29 @@ ghost use Rattle.merge_model.specs.ByNumbers.{by_rows};
 ghost use Rattle.merge_batch.specs.declared.refusal.Refusal.TheVariants.{NoMemory as no_memory};
 ghost use Rattle.merge_model.specs.Calls.{always_commits, closing_commits, is_later, message_commits, message_or_none};
 ghost use Rattle.merge_model.specs.Reinit.{reinitialise};
-ghost use Rattle.merge_model.specs.Sending.{make_ask, make_join, make_ranges};
+ghost use Rattle.merge_model.specs.Reports.{marks_of, unsent_count};
+ghost use Rattle.merge_model.specs.Sending.{make_ask, make_join, make_ranges, make_upload};
 ghost use Rattle.merge_model.specs.Subscriber.{close_sub_generation, empty_subscriber, sub_local};
 ghost use Rattle.merge_schema.specs.Valid.{IsValid};
 ghost use Rattle.merge_sub.specs.Held.{tables_of};
+ghost use Rattle.merge_world.specs.Printable.{AreLostPrintable, ArePrintable};
+ghost use Rattle.merge_world.specs.Restarts.{Restarted};
 ghost use Rattle.merge_world.specs.Views.{SubscriberCall};
 ghost use Rattle.merge_site.specs.Beginning.{IsEmptyStore, StartsNot};
 
 use crate::beginning::{NotStarted, check_empty};
+use crate::restarting::check_subscriber;
 use crate::subscriber_commit::{finish, finish_message};
-use merge_batch::{Download, Join, RangeAsk, Refusal};
+use merge_batch::{Download, Join, RangeAsk, Refusal, Upload};
+use merge_conflict::ConflictRow;
+use merge_gens::Marks;
+use merge_ident::Ranges;
 use merge_ports::Keeper;
 use merge_schema::Publication;
 use merge_sub::Subscriber;
-use merge_types::{Change, Moment, NoMemory, RowId, SiteId};
+use merge_table::Table;
+use merge_types::{Change, Moment, NoMemory, RowId, RowKey, SiteId};
+use merge_units::SubscriberRow;
 use std::alloc::Global;
 use std::marker::Model;
 
@@ -149,6 +158,16 @@ impl<K: Keeper> KeptSubscriber<K> {
         finish_message(self.alloc, &mut self.keeper, &mut self.subscriber, worked)
     }
 
+    /// The changes that were not sent, where there are any.
+    pub fn make_upload(&mut self, now: Moment) -> Result<Option<Upload>, Refusal>
+        ensures called { SubscriberCall (message_or_none self.old.tables (make_upload (by_rows self.old.tables) now self.old.tables)) message_commits self.old self.new result }
+        ensures publication { self.new.publication ≡ self.old.publication }
+        ensures site { self.new.tables.site ≡ self.old.tables.site }
+    {
+        let worked = self.subscriber.draft_upload(now);
+        finish_message(self.alloc, &mut self.keeper, &mut self.subscriber, worked)
+    }
+
     /// What asks for identity ranges, where an article has them.
     pub fn make_ranges(&mut self) -> Result<Option<RangeAsk>, Refusal>
         ensures called { SubscriberCall (message_or_none self.old.tables (make_ranges self.old.tables)) message_commits self.old self.new result }
@@ -189,5 +208,70 @@ impl<K: Keeper> KeptSubscriber<K> {
             worked,
             true,
         )
+    }
+
+    /// Reads the records that are kept, and tests that they load. The site goes on with the tables
+    /// that it has, which are those that were committed: it is lost where a record is damaged, or the
+    /// store cannot be read.
+    pub fn restart(&mut self) -> Result<(), Refusal>
+        ensures restarted { Restarted self.old.tables self.new.tables self.old.faults self.new.faults result }
+        ensures publication { self.new.publication ≡ self.old.publication }
+        ensures site { self.new.tables.site ≡ self.old.tables.site }
+    {
+        check_subscriber(
+            self.alloc,
+            &mut self.keeper,
+            self.subscriber.publication(),
+            self.subscriber.site(),
+        )
+    }
+
+    pub fn site(&self) -> SiteId
+        ensures { result ≡ self.now.tables.site }
+    {
+        self.subscriber.site()
+    }
+
+    /// Whether the site has joined.
+    pub fn is_joined(&self) -> bool
+        ensures { result ≡ self.now.tables.is_joined }
+    {
+        self.subscriber.is_joined()
+    }
+
+    pub fn rows(&self) -> &Table<RowKey, SubscriberRow>
+        ensures rows { result.now.rows ≡ self.now.tables.rows }
+        ensures printable { ArePrintable (λ row. row.version) result.now.rows }
+    {
+        self.subscriber.rows()
+    }
+
+    /// The own versions that were discarded, by number.
+    pub fn conflicts(&self) -> &[ConflictRow]
+        ensures conflicts { result.now ≡ self.now.tables.conflicts }
+        ensures printable { AreLostPrintable result.now }
+    {
+        self.subscriber.conflicts()
+    }
+
+    /// The identity ranges that are held, by article.
+    pub fn held(&self) -> &Table<u8, Ranges>
+        ensures { result.now.rows ≡ self.now.tables.held }
+    {
+        self.subscriber.held()
+    }
+
+    /// How far the site is.
+    pub fn marks(&self) -> Marks
+        ensures { result ≡ marks_of self.now.tables }
+    {
+        self.subscriber.marks()
+    }
+
+    /// How many rows have a change that was not sent.
+    pub fn unsent(&self) -> Result<u64, NoMemory>
+        ensures { IfOk result (λ count. count ≡ unsent_count self.now.tables) }
+    {
+        self.subscriber.unsent()
     }
 }

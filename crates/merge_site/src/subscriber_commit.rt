@@ -9,13 +9,14 @@ ghost use Rattle.merge_model.specs.Calls.{Called, message_commits, message_or_no
 ghost use Rattle.merge_model.specs.Tables.{SubscriberTables};
 ghost use Rattle.merge_sub.specs.Drafts.{IsDrafted, IsDraftedIfAny, after, drafted, drafted_if_any};
 ghost use Rattle.merge_sub.specs.Held.{tables_of};
+ghost use Rattle.merge_world.specs.Printable.{AreLostPrintable, ArePrintable};
 ghost use Rattle.merge_site.specs.Calls.{StopsAs, WorkedOut};
 ghost use Rattle.merge_site.specs.Kept.{LeadTo};
 ghost use Rattle.merge_site.specs.Subscribers.{AreKeyed, AreStoredAs, IsKeptSubscriber, records_of};
 
 use crate::committing::commit;
 use crate::copies::copies_of;
-use crate::lists::{closing_changes, conflict_changes, held_puts, were_received};
+use crate::lists::{closing_changes, conflict_changes, held_puts, up_to, were_received};
 use crate::places::fit_places;
 use crate::short::are_short;
 use merge_batch::Refusal;
@@ -35,6 +36,7 @@ fn stored_changes(
     ensures { IfOk result (λ stored. AreStoredAs kept.now changes.now stored) }
 {
     let state = changes.state;
+    let forgets = up_to(changes.done);
     Ok(SubscriberChanges {
         changes: state.changes,
         filling: changes.gens.filling,
@@ -46,7 +48,7 @@ fn stored_changes(
         watermark: state.watermark,
         is_joined: state.is_joined,
         rows: copies_of(alloc, changes.rows.as_slice())?,
-        closings: closing_changes(alloc, kept, changes.gens.closings.as_slice(), changes.done)?,
+        closings: closing_changes(alloc, kept, changes.gens.closings.as_slice(), forgets)?,
         conflicts: conflict_changes(alloc, changes.conflicts.rows.as_slice())?,
         held: held_puts(alloc, changes.held.as_slice())?,
     })
@@ -79,8 +81,12 @@ fn edits_of(
     requires gens { IsPrepared subscriber.now.gens changes.now.gens }
     requires conflicts { conflicts.IsReady subscriber.now.conflicts changes.now.conflicts }
     requires keyed { AreKeyed (tables_of subscriber.now) }
+    requires printable { ArePrintable (λ row. row.version) (tables_of subscriber.now).rows }
+    requires lost { AreLostPrintable (tables_of subscriber.now).conflicts }
     ensures lead { IfOk result (λ edits. LeadTo edits.items (records_of (tables_of subscriber.now)) (records_of (after changes.now (tables_of subscriber.now)))) }
     ensures keyed { OnOk result (AreKeyed (after changes.now (tables_of subscriber.now))) }
+    ensures printable { OnOk result (ArePrintable (λ row. row.version) (after changes.now (tables_of subscriber.now)).rows) }
+    ensures lost { OnOk result (AreLostPrintable (after changes.now (tables_of subscriber.now)).conflicts) }
 {
     let stored = stored_changes(alloc, subscriber.closings(), changes)?;
     check_stored(&stored)?;

@@ -10,7 +10,7 @@ use Rattle.merge_model.specs.Events.{happens, is_site, looking, reported, showin
 use Rattle.merge_model.specs.Failing.{Faulty, Slips, faulty}
 use Rattle.merge_model.specs.Naming.{article_by}
 use Rattle.merge_model.specs.Reach.{stepping}
-use Rattle.merge_model.specs.Reports.{partition_report}
+use Rattle.merge_model.specs.Reports.{partition_report, partition_rows}
 use Rattle.merge_model.specs.Tables.{PublisherTables, SubscriberTables}
 use Rattle.merge_model.specs.World.{Saying, World}
 use Rattle.merge_model.specs.declared.answer.Answer.{Answer}
@@ -20,7 +20,7 @@ use Rattle.merge_model.specs.declared.event.Event.TheVariants as event
 use Rattle.merge_world.proofs.Happenings.{looks-happen, looks-want, so-answered, so-refused, unknown-site, where-if}
 use Rattle.merge_world.specs.Happenings.{Happened, seconds_of}
 use Rattle.merge_world.specs.Naming.{IsUnnamed}
-use Rattle.merge_world.specs.Reports.{IsReport, partition_rows, publisher_told, subscriber_told, told_at}
+use Rattle.merge_world.specs.Reports.{IsReport, publisher_told, subscriber_told, told_at}
 use Rattle.merge_world.specs.Views.{HandedView, SitesView, world_of}
 use Rattle.merge_world.specs.declared.reports.Report.{Report}
 use Rattle.merge_world.specs.declared.reports.Report.TheVariants.{Conflicts, Counts, Generations, Ranges, Rows}

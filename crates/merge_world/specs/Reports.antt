@@ -1,14 +1,14 @@
 -- Reports and their parts.
-use Rattle.std.specs.Prelude.{List, None, Ok, Option, Some, [], filter_map, if◌then◌else◌, map, ℕ, ◌==◌, ◌∷◌, ◌≡◌}
+use Rattle.std.specs.Prelude.{List, None, Ok, Option, Some, [], filter_map, if◌then◌else◌, ℕ, ◌==◌, ◌∷◌, ◌≡◌}
 use Rattle.merge_types.specs.declared.identifiers.SiteId.{SiteId}
 use Rattle.merge_types.specs.declared.row_key.RowKey.{RowKey}
 use Rattle.merge_units.specs.declared.version.Version.{Version}
 use Rattle.merge_ident.specs.Holders.{Holder}
-use Rattle.merge_schema.specs.Partition.{LiveRow, partition_at}
+use Rattle.merge_schema.specs.Partition.{LiveRow}
 use Rattle.merge_schema.specs.declared.publication.Publication.{Publication}
 use Rattle.merge_schema.specs.declared.publication.Subscription.{Subscription}
 use Rattle.merge_batch.specs.declared.refusal.Refusal.TheVariants.{UnknownSite}
-use Rattle.merge_model.specs.Entries.{key_of_live, live_row, live_rows}
+use Rattle.merge_model.specs.Entries.{live_row, live_rows}
 use Rattle.merge_model.specs.Keys.{at_number}
 use Rattle.merge_model.specs.Naming.{article_by}
 use Rattle.merge_model.specs.Reports.{counts_of, held_report, publisher_generations, shown_rows, sub_live_rows, subscriber_generations}
@@ -54,10 +54,6 @@ IsReport publication Conflicts site e = e ≡ event.Conflicts site
 IsReport publication Ranges site e = e ≡ event.Ranges site
 IsReport publication Generations site e = e ≡ event.Generations site
 IsReport publication Counts site e = e ≡ event.Count site
-
--- the rows of a site's partition, as the publisher holds it
-abbrev pub partition_rows : Publication → SiteId → PublisherTables → List RowKey
-partition_rows publication site p = map key_of_live (partition_at publication site (live_rows p.rows))
 
 -- the live rows among rows that have versions
 abbrev pub live_in : {R : Type 0} → (R → Version) → List (RowKey × R) → List LiveRow

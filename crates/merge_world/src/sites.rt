@@ -23,9 +23,9 @@ pub trait PublisherSite: Drop {
     ghost use Rattle.merge_model.specs.Publisher.{close_generation};
     ghost use Rattle.merge_model.specs.PublisherLocal.{local};
     ghost use Rattle.merge_model.specs.PublisherPurge.{purge};
+    ghost use Rattle.merge_model.specs.Reports.{partition_rows};
     ghost use Rattle.merge_world.specs.Printable.{AreLostPrintable, ArePrintable};
     ghost use Rattle.merge_world.specs.Restarts.{Restarted};
-    ghost use Rattle.merge_world.specs.Reports.{partition_rows};
     ghost use Rattle.merge_world.specs.Views.{PublisherCall, PublisherView};
 
     ghost view: { Self → PublisherView };

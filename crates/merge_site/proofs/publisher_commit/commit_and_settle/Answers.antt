@@ -1,6 +1,6 @@
-use Rattle.merge_site.proofs.Committed.{publisher-settled}
+use Rattle.std.proofs.Common.{refl}
+use Rattle.merge_site.proofs.Committed.{publisher-same}
 use Rattle.merge_site.proofs.publisher_commit.commit_and_settle.Goals as goal
 
 pub returns-clause-kept : goal.returns-clause-kept
-returns-clause-kept g c =
-    publisher-settled _ _ _ _ _ _ _ c.requires.kept c.in_ok-edits.ensures.lead c.in_ok-edits.ensures.keyed c.deref.ensures.value c.in_ok-commit.ensures.ok c.settle.ensures.tables
+returns-clause-kept g c = publisher-same _ _ _ _ c.in_ok-commit_changes.ensures.ok c.settle.ensures.tables refl
