@@ -1,5 +1,6 @@
 -- Why a run ends, by what ended a part of it; and the status by which that is told.
-use Rattle.std.proofs.Common.{Err, List, None, Ok, Option, Some, Bool, arith, false, inl, length, refl, subst, sym, true, ℕ, ◌<◌, ◌≡◌, ◌≤◌}
+use Rattle.std.proofs.Common.{Err, List, None, Option, Some, ap, arith, inl, inr, length, refl, subst, sym, true, ℕ, ◌+◌, ◌++◌, ◌<◌, ◌∙◌, ◌≡◌, ◌≤◌}
+use Rattle.std.proofs.lemmas.List.{length-append}
 use Rattle.std.specs.Prelude.{IfSome, IsTrue}
 use Rattle.merge_ports.specs.Faults.{Rose}
 use Rattle.merge_ports.specs.declared.whole.ReadFault.{ReadFault as Unread}
@@ -8,7 +9,8 @@ use Rattle.merge_schema.specs.Answers.{IsAnswer}
 use Rattle.merge_schema.specs.declared.fault.SchemaFault.{SchemaFault}
 use Rattle.merge_schema.specs.declared.fault.SchemaFault.TheVariants as schema
 use Rattle.merge_schema.specs.declared.publication.Publication.{Publication}
-use Rattle.merge_script.specs.Input.{publication_of}
+use Rattle.merge_script.specs.Input.{IsCut, publication_of, script_of}
+use Rattle.merge_script.proofs.Cuts.{IsCut-input}
 use Rattle.merge_world.specs.Views.{HandedView}
 use Rattle.replmerge.specs.declared.ending.Ending.{Ending}
 use Rattle.replmerge.specs.declared.ending.Ending.TheVariants.{Damaged, Done, NoEvent, NoMemory, ReadFault, Refused, StoreFault, TooLong, Usage, WriteFault}
@@ -48,6 +50,21 @@ module _ (handed : HandedView) (input : List ℕ) (sides : Sides) (writes refuse
     refused-ends (schema.TooMany what number) answer = record { fits = fits; read = answer (λ e. absurd (cc e)); known = λ e. absurd (cc e) }
     refused-ends (schema.NotBuilt key) answer = record { fits = fits; read = answer (λ e. absurd (cc e)); known = λ e. absurd (cc e) }
 
+    pub refused-by : (fault : SchemaFault) (ending : Ending) → ending ≡ refused_for fault → (resolvers : ℕ) → resolvers ≡ length handed.tallies → (text : List ℕ) → text ≡ publication_of input
+        → ((fault ≡ schema.NoMemory → ⊥) → IsAnswer resolvers text (Err fault)) → Input ending
+    refused-by fault ending is resolvers counted text same answer =
+        subst Input (sym is) (refused-ends fault (λ known. subst (λ (t : List ℕ). IsAnswer (length handed.tallies) t (Err fault)) same (subst (λ (n : ℕ). IsAnswer n text (Err fault)) counted (answer known))))
+
+-- the script is a part of its input
+pub short-script : (input script : List ℕ) → script ≡ script_of input → (limit : ℕ) → length input ≤ limit → length script ≤ limit
+short-script input script is limit fits = let same = ap (λ (l : List ℕ). length l) is in let le = behind (publication_of input) (script_of input) (IsCut-input input) in omega (arith, same, le, fits)
+  where
+    behind : (front rest : List ℕ) → IsCut input front rest → length rest ≤ length input
+    behind front rest (inl (line, whole, more)) =
+        let all : length input ≡ length front + (length line + length rest) = ap (λ (l : List ℕ). length l) whole ∙ length-append front (line ++ rest) ∙ ap (λ (n : ℕ). length front + n) (length-append line rest) in
+        omega (arith, all)
+    behind front rest (inr (whole, none, more)) = let empty : length rest ≡ 0 = ap (λ (l : List ℕ). length l) none in omega (arith, empty)
+
 -- what holds of the input that was read holds of what was left
 some-of : (P : List ℕ → Type 0) (left : Option (List ℕ)) (input : List ℕ) → IfSome left (λ (l : List ℕ). input ≡ l) → P input → IfSome left P
 some-of P None input same holds = tt
@@ -57,8 +74,8 @@ any-of : (left : Option (List ℕ)) → IfSome left (λ (l : List ℕ). Unit {0}
 any-of None = tt
 any-of (Some l) = tt
 
-pub in-part-of : (left : Option (List ℕ)) (input : List ℕ) (handed : HandedView) (sides : Sides) → IfSome left (λ (l : List ℕ). input ≡ l) → WrittenInPart handed input sides → IfSome left (λ (l : List ℕ). WrittenInPart handed l sides)
-in-part-of left input handed sides same part = some-of (λ (l : List ℕ). WrittenInPart handed l sides) left input same part
+pub in-part-of : {left : Option (List ℕ)} {input : List ℕ} {handed : HandedView} {sides : Sides} → WrittenInPart handed input sides → IfSome left (λ (l : List ℕ). input ≡ l) → IfSome left (λ (l : List ℕ). WrittenInPart handed l sides)
+in-part-of {left = left} {input = input} {handed = handed} {sides = sides} part same = some-of (λ (l : List ℕ). WrittenInPart handed l sides) left input same part
 
 module _ (words : List (List ℕ)) (left : Option (List ℕ)) (handed : HandedView) (sides : Sides) (writes refused reads failed : ℕ) where
   abbrev Ends : Ending → Type 0

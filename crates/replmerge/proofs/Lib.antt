@@ -3,6 +3,5 @@ pub mod Fresh
 pub mod Plays
 pub mod Rises
 pub mod Rooms
-pub mod Starts
 pub mod Statuses
 pub mod Tellings

@@ -77,3 +77,10 @@ module _ (publication : Publication) (handed : HandedView) (n before after : ℕ
         play-ends (Err stop.WriteFault) none played no_event upto write ended = write refl
         play-ends (Err (stop.Ended why)) none played no_event upto write ended = lost-ends why old.faults (subst (λ (m : ℕ). IsLost why old.faults m) (omega (arith, le, ge)) (ended why refl))
         play-ends (Err stop.NoMemory) none played no_event upto write ended = tt
+
+-- of the same publication, from the same count
+pub part-of : (p q : Publication) → q ≡ p → (a b : ℕ) → b ≡ a → (handed : HandedView) (lines : List (List ℕ)) (was written : Option (List ℕ)) (after : ℕ)
+    → AnsweredInPart q handed lines (record { was = was; written = written; before = b; after = after }) → AnsweredInPart p handed lines (record { was = was; written = written; before = a; after = after })
+part-of p q is a b same handed lines was written after part =
+    subst (λ (n : ℕ). AnsweredInPart p handed lines (record { was = was; written = written; before = n; after = after })) same
+    (subst (λ (x : Publication). AnsweredInPart x handed lines (record { was = was; written = written; before = b; after = after })) is part)

@@ -14,16 +14,16 @@ if-some f None p = tt
 if-some f (Some l) p = f l p
 
 pub is-known : (ending : Ending) → IsTrue (is_status (status_of ending))
-is-known Done = tt
-is-known Usage = tt
-is-known (Refused fault) = tt
-is-known (NoEvent line word) = tt
-is-known ReadFault = tt
-is-known WriteFault = tt
-is-known StoreFault = tt
-is-known (Damaged table key) = tt
-is-known NoMemory = tt
-is-known TooLong = tt
+is-known Done = refl
+is-known Usage = refl
+is-known (Refused fault) = refl
+is-known (NoEvent line word) = refl
+is-known ReadFault = refl
+is-known WriteFault = refl
+is-known StoreFault = refl
+is-known (Damaged table key) = refl
+is-known NoMemory = refl
+is-known TooLong = refl
 
 module _ (words : List (List ℕ)) (left : Option (List ℕ)) (handed : HandedView) (sides : Sides) (writes refused reads failed : ℕ) where
   abbrev Ends : Ending → Type 0
@@ -54,11 +54,11 @@ module _ (words : List (List ℕ)) (left : Option (List ℕ)) (handed : HandedVi
   no-read other p is = absurd (omega (arith, is))
 
   pub no-write : (ending : Ending) → Ends ending → status_of ending ≡ 5 → Rose writes refused × IfSome left (IsTakenInput (length handed.tallies))
-  no-write WriteFault p is = p.1
+  no-write WriteFault p is = (p.1, p.2)
   no-write other p is = absurd (omega (arith, is))
 
   pub no-store : (ending : Ending) → Ends ending → status_of ending ≡ 6 → Rose sides.before sides.after × IfSome left (IsTakenInput (length handed.tallies))
-  no-store StoreFault p is = p.1
+  no-store StoreFault p is = (p.1, p.2)
   no-store other p is = absurd (omega (arith, is))
 
   pub too-long : (ending : Ending) → Ends ending → status_of ending ≡ 14 → IfSome left (λ (input : List ℕ). 67108864 < length input)

@@ -18,8 +18,9 @@ pub fn is_play_alone(words: &[Words]) -> bool
 
 // The program and its commands, as its help shows them.
 fn program(alloc: Global) -> Result<Command<'static>, AllocError> {
-    let play = Command::new(alloc, "play")
-        .about("Read a publication, a line --- and a script, and answer each event");
+    let play = Command::new(alloc, "play").about(
+        "Read a publication, a line --- and a script, and answer each event",
+    );
     let program = Command::new(alloc, "replmerge")
         .about("Merge replication between a publisher and its subscribers")
         .after_help("The lines of a script and their answers: docs/script.md")

@@ -18,10 +18,7 @@ use std::alloc::Global;
 pub const PUBLISHER: SiteId = SiteId(0);
 
 // The subscriptions by their sites.
-fn by_site(
-    alloc: Global,
-    publication: &Publication,
-) -> Result<Table<u16, Subscription>, NoMemory>
+fn by_site(alloc: Global, publication: &Publication) -> Result<Table<u16, Subscription>, NoMemory>
     ensures { IfOk result (λ table. table.rows ≡ by_site publication.now) }
 {
     let mut subscriptions = Table::new(alloc);

@@ -8,14 +8,15 @@ use merge_types::{Listing, NoMemory, Octets, Words};
 use std::alloc::Global;
 use std::test::Fail;
 
-const ONE: &[u8] = b"name = \"first\"\n[[article]]\nname = \"item\"\n[[article.column]]\nname = \"qty\"\ntype = \"int\"\n[[subscription]]\nsite = 1\nhost = \"h1\"\n";
+const ONE: &[u8] =
+    b"name = \"first\"\n[[article]]\nname = \"item\"\n[[article.column]]\nname = \"qty\"\ntype = \"int\"\n[[subscription]]\nsite = 1\nhost = \"h1\"\n";
 
-const TWO: &[u8] = b"name = \"first\"\n[[article]]\nname = \"item\"\n[[article.column]]\nname = \"qty\"\ntype = \"int\"\n[[subscription]]\nsite = 1\nhost = \"h1\"\n[[subscription]]\nsite = 2\nhost = \"h2\"\n";
+const TWO: &[u8] =
+    b"name = \"first\"\n[[article]]\nname = \"item\"\n[[article.column]]\nname = \"qty\"\ntype = \"int\"\n[[subscription]]\nsite = 1\nhost = \"h1\"\n[[subscription]]\nsite = 2\nhost = \"h2\"\n";
 
 const ROW: &[u8] = b"row 00000000-0000-8000-8000-000000000001\n";
 
-type MemoryHost =
-    Host<Short<MemorySource>, MemorySink, MemorySink, MemoryOutside<MemoryKeeper>>;
+type MemoryHost = Host<Short<MemorySource>, MemorySink, MemorySink, MemoryOutside<MemoryKeeper>>;
 
 // What is played, and what it must end in.
 #[derive(Drop)]
@@ -180,13 +181,19 @@ fn stores_that_do_not_start(rt: HostRuntime) -> Result<(), Fail> {
     let mut host_of_damaged = host(alloc, input(alloc, ONE, b"count 0\n")?, &[], &[])?;
     host_of_damaged.outside = stores(alloc, damaged)?;
     assert_eq!(rt; play(alloc, &mut host_of_damaged)?, 10);
-    assert_eq!(rt; host_of_damaged.notes.bytes.as_slice(), b"damaged 9 -\n".as_slice());
+    assert_eq!(rt;
+        host_of_damaged.notes.bytes.as_slice(),
+        b"damaged 9 -\n".as_slice()
+    );
     assert_eq!(rt; host_of_damaged.output.bytes.as_slice(), b"".as_slice());
     for failing in 0..2 {
         let mut unopened = host(alloc, input(alloc, ONE, b"count 0\n")?, &[], &[])?;
         unopened.outside.failing = calls(alloc, &[failing])?;
         assert_eq!(rt; play(alloc, &mut unopened)?, 6);
-        assert_eq!(rt; unopened.notes.bytes.as_slice(), b"store fault\n".as_slice());
+        assert_eq!(rt;
+            unopened.notes.bytes.as_slice(),
+            b"store fault\n".as_slice()
+        );
         assert_eq!(rt; unopened.outside.counts.stores, 1);
         assert!(rt; unopened.outside.stores.get(&0).is_some());
     }
