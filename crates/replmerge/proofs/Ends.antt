@@ -60,7 +60,7 @@ pub short-script : (input script : List ℕ) → script ≡ script_of input → 
 short-script input script is limit fits = let same = ap (λ (l : List ℕ). length l) is in let le = behind (publication_of input) (script_of input) (IsCut-input input) in omega (arith, same, le, fits)
   where
     behind : (front rest : List ℕ) → IsCut input front rest → length rest ≤ length input
-    behind front rest (inl (line, whole, more)) =
+    behind front rest (inl (line, whole, bar, lines, none)) =
         let all : length input ≡ length front + (length line + length rest) = ap (λ (l : List ℕ). length l) whole ∙ length-append front (line ++ rest) ∙ ap (λ (n : ℕ). length front + n) (length-append line rest) in
         omega (arith, all)
     behind front rest (inr (whole, none, more)) = let empty : length rest ≡ 0 = ap (λ (l : List ℕ). length l) none in omega (arith, empty)
@@ -74,8 +74,8 @@ any-of : (left : Option (List ℕ)) → IfSome left (λ (l : List ℕ). Unit {0}
 any-of None = tt
 any-of (Some l) = tt
 
-pub in-part-of : {left : Option (List ℕ)} {input : List ℕ} {handed : HandedView} {sides : Sides} → WrittenInPart handed input sides → IfSome left (λ (l : List ℕ). input ≡ l) → IfSome left (λ (l : List ℕ). WrittenInPart handed l sides)
-in-part-of {left = left} {input = input} {handed = handed} {sides = sides} part same = some-of (λ (l : List ℕ). WrittenInPart handed l sides) left input same part
+pub in-part-of : (left : Option (List ℕ)) (input : List ℕ) (handed : HandedView) (sides : Sides) → WrittenInPart handed input sides → IfSome left (λ (l : List ℕ). input ≡ l) → IfSome left (λ (l : List ℕ). WrittenInPart handed l sides)
+in-part-of left input handed sides part same = some-of (λ (l : List ℕ). WrittenInPart handed l sides) left input same part
 
 module _ (words : List (List ℕ)) (left : Option (List ℕ)) (handed : HandedView) (sides : Sides) (writes refused reads failed : ℕ) where
   abbrev Ends : Ending → Type 0

@@ -66,17 +66,25 @@ module _ (publication : Publication) (handed : HandedView) (n before after : ℕ
         whole : Played lines old new handed behind was written → Answered publication handed lines sides
         whole p = answered new behind le (subst (λ (v : SitesView). Played lines v new handed behind was written) fresh p)
 
-        pub play-ends : (r : Result Unit Stop) → OnOk r (fault_of lines ≡ None) → OnOk r (Played lines old new handed behind was written)
+        ends-by : (r : Result Unit Stop) → OnOk r (fault_of lines ≡ None) → OnOk r (Played lines old new handed behind was written)
             → ((line word : ℕ) → r ≡ Err (stop.NoEvent line word) → fault_of lines ≡ Some (line, word))
             → ((line word : ℕ) → r ≡ Err (stop.NoEvent line word) → Played lines old new handed behind was written)
             → (r ≡ Err stop.WriteFault → Rose writes refused)
             → ((why : Refusal) → r ≡ Err (stop.Ended why) → IsLost why old.faults new.faults)
             → Ends (played_by r)
-        play-ends (Ok done) none played no_event upto write ended = (none, whole played)
-        play-ends (Err (stop.NoEvent line word)) none played no_event upto write ended = (no_event line word refl, whole (upto line word refl))
-        play-ends (Err stop.WriteFault) none played no_event upto write ended = write refl
-        play-ends (Err (stop.Ended why)) none played no_event upto write ended = lost-ends why old.faults (subst (λ (m : ℕ). IsLost why old.faults m) (omega (arith, le, ge)) (ended why refl))
-        play-ends (Err stop.NoMemory) none played no_event upto write ended = tt
+        ends-by (Ok done) none played no_event upto write ended = (none, whole played)
+        ends-by (Err (stop.NoEvent line word)) none played no_event upto write ended = (no_event line word refl, whole (upto line word refl))
+        ends-by (Err stop.WriteFault) none played no_event upto write ended = write refl
+        ends-by (Err (stop.Ended why)) none played no_event upto write ended = lost-ends why old.faults (subst (λ (m : ℕ). IsLost why old.faults m) (omega (arith, le, ge)) (ended why refl))
+        ends-by (Err stop.NoMemory) none played no_event upto write ended = tt
+
+        pub play-ends : (ending : Ending) (r : Result Unit Stop) → ending ≡ played_by r → OnOk r (fault_of lines ≡ None) → OnOk r (Played lines old new handed behind was written)
+            → ((line word : ℕ) → r ≡ Err (stop.NoEvent line word) → fault_of lines ≡ Some (line, word))
+            → ((line word : ℕ) → r ≡ Err (stop.NoEvent line word) → Played lines old new handed behind was written)
+            → (r ≡ Err stop.WriteFault → Rose writes refused)
+            → ((why : Refusal) → r ≡ Err (stop.Ended why) → IsLost why old.faults new.faults)
+            → Ends ending
+        play-ends ending r is none played no_event upto write ended = subst Ends (sym is) (ends-by r none played no_event upto write ended)
 
 -- of the same publication, from the same count
 pub part-of : (p q : Publication) → q ≡ p → (a b : ℕ) → b ≡ a → (handed : HandedView) (lines : List (List ℕ)) (was written : Option (List ℕ)) (after : ℕ)

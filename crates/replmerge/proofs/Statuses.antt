@@ -1,5 +1,5 @@
 -- What each status tells of why a run ended.
-use Rattle.std.proofs.Common.{List, None, Option, Some, Bool, arith, false, length, refl, true, ℕ, ◌<◌, ◌≡◌}
+use Rattle.std.proofs.Common.{List, None, Option, Some, Bool, arith, false, length, refl, subst, sym, true, ℕ, ◌<◌, ◌≡◌}
 use Rattle.std.specs.Prelude.{IfSome, IsTrue}
 use Rattle.merge_ports.specs.Faults.{Rose}
 use Rattle.merge_world.specs.Views.{HandedView}
@@ -41,9 +41,9 @@ module _ (words : List (List ℕ)) (left : Option (List ℕ)) (handed : HandedVi
   no-other Usage p off = refl
   no-other other p off = absurd (cc (p.0, off))
 
-  pub no-publication : (ending : Ending) → Ends ending → status_of ending ≡ 2 → IfSome left (IsRefused (length handed.tallies))
-  no-publication (Refused fault) p is = if-some {P = λ (l : List ℕ). IsRefusedFor (length handed.tallies) l fault} {Q = IsRefused (length handed.tallies)} (λ l r. (fault, r)) left p.1
-  no-publication other p is = absurd (omega (arith, is))
+  refused-for : (ending : Ending) → Ends ending → status_of ending ≡ 2 → IfSome left (IsRefused (length handed.tallies))
+  refused-for (Refused fault) p is = if-some {P = λ (l : List ℕ). IsRefusedFor (length handed.tallies) l fault} {Q = IsRefused (length handed.tallies)} (λ l r. (fault, r)) left p.1
+  refused-for other p is = absurd (omega (arith, is))
 
   pub no-event : (ending : Ending) → Ends ending → status_of ending ≡ 3 → IfSome left (λ (input : List ℕ). AnsweredBefore handed input sides)
   no-event (NoEvent line word) p is = if-some {P = λ (l : List ℕ). AnsweredUpTo handed l line word sides} {Q = λ (l : List ℕ). AnsweredBefore handed l sides} (λ l r. (line, word, r)) left p.1
@@ -64,3 +64,11 @@ module _ (words : List (List ℕ)) (left : Option (List ℕ)) (handed : HandedVi
   pub too-long : (ending : Ending) → Ends ending → status_of ending ≡ 14 → IfSome left (λ (input : List ℕ). 67108864 < length input)
   too-long TooLong p is = p.1
   too-long other p is = absurd (omega (arith, is))
+
+  -- where so many resolvers were handed in
+  module _ (resolvers : ℕ) (counted : resolvers ≡ length handed.tallies) where
+    pub no-publication : (ending : Ending) → Ends ending → status_of ending ≡ 2 → IfSome left (IsRefused resolvers)
+    no-publication ending p is = subst (λ (n : ℕ). IfSome left (IsRefused n)) (sym counted) (refused-for ending p is)
+
+    pub taken-by : (ending : Ending) → Ends ending → status_of ending ≡ 5 → IfSome left (IsTakenInput resolvers)
+    taken-by ending p is = subst (λ (n : ℕ). IfSome left (IsTakenInput n)) (sym counted) (no-write ending p is).1

@@ -6,7 +6,7 @@ pub returns-then-not-is_play_alone-clause-part : goal.returns-then-not-is_play_a
 returns-then-not-is_play_alone-clause-part g c = nothing-written _ _ _ refl
 
 pub returns-in-Ok-clause-part : goal.returns-in-Ok-clause-part
-returns-in-Ok-clause-part g c = in-part-of c.play_input.ensures.part c.in-Ok.ensures.whole
+returns-in-Ok-clause-part g c = let whole = in-part-of _ _ _ _ c.play_input.ensures.part c.in-Ok.ensures.whole in whole
 
 pub returns-in-Err-clause-part : goal.returns-in-Err-clause-part
 returns-in-Err-clause-part g c = nothing-written _ _ _ refl

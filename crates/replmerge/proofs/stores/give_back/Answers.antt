@@ -1,20 +1,24 @@
 -- The keepers that are not given back yet, and the faults of the others.
-use Rattle.std.proofs.Common.{[], rules, ◌≡◌}
-use Rattle.std.specs.Vec.Iter.{into_iter_items}
+use Rattle.std.proofs.Common.{arith, length, rules, ◌+◌, ◌∙◌, ◌≡◌}
+use Rattle.std.specs.Prelude.{vec_len}
+use Rattle.std.specs.Vec.Iter.{into_iter_len}
 use Rattle.replmerge.proofs.Rooms.{all-given, begins-giving, gives-back}
 use Rattle.replmerge.proofs.stores.give_back.Goals as goal
 
 pub loop-subscriber-init : goal.loop-subscriber-init
 loop-subscriber-init g c =
-    let same : into_iter_items c.into_iter-subscriber-iterator.result ≡ c.args.subscribers.items = search rules in
-    begins-giving _ _ _ c.keeper_back.ensures.still _ _ _ same _ _ _ c.keeper_back.ensures.counts c.into_keeper.ensures.faults c.requires.rooms
+    let many : vec_len c.args.subscribers ≡ length c.args.subscribers.items = search rules in
+    let count : into_iter_len c.into_iter-subscriber-iterator.result ≡ length c.args.subscribers.items = c.into_iter-subscriber-iterator.ensures.len ∙ many in
+    begins-giving (λ s p. g.E.Outside.HasRoom c.args.outside.now s p) (g.E.Outside.HasRoom c.keeper_back.new.self) _ c.keeper_back.ensures.still _ _ _ c.into_iter-subscriber-iterator.ensures.rest _ count _ _ _ c.keeper_back.ensures.counts c.into_keeper.ensures.faults c.requires.rooms
 
 pub loop-subscriber-preserved : goal.loop-subscriber-preserved
 loop-subscriber-preserved g c =
     let step = rw c.in-Some.is at c.next.ensures.steps in
-    gives-back _ _ _ c.keeper_back-2.ensures.still _ _ _ _ c.in-Some.subscriber step.0 _ _ _ _ c.keeper_back-2.ensures.counts c.into_keeper-2.ensures.faults c.loop-subscriber.invariant
+    let fewer = step.1 in
+    let less : into_iter_len c.loop-subscriber.subscriber-iterator ≡ into_iter_len c.next.new.self + 1 = omega (arith, fewer) in
+    gives-back (g.E.Outside.HasRoom c.loop-subscriber.outside) (g.E.Outside.HasRoom c.keeper_back-2.new.self) _ c.keeper_back-2.ensures.still _ _ _ _ c.in-Some.subscriber step.0 _ _ _ _ c.keeper_back-2.ensures.counts c.into_keeper-2.ensures.faults _ _ less c.loop-subscriber.invariant
 
 pub returns : goal.returns
 returns g c =
-    let none : into_iter_items c.loop-subscriber.subscriber-iterator ≡ [] = search rules in
-    all-given _ _ _ _ _ none _ _ c.loop-subscriber.invariant
+    let none = rw c.in-None.is at c.next.ensures.steps in
+    all-given (g.E.Outside.HasRoom c.loop-subscriber.outside) _ _ _ _ _ none.0 _ _ c.loop-subscriber.invariant
