@@ -2,6 +2,7 @@ pub mod Added
 pub mod SlotLists
 pub mod Lasts
 pub mod Stored
+pub mod SeenLists
 pub mod Order
 pub mod Places
 pub mod Plans

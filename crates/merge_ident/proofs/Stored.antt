@@ -13,19 +13,19 @@ use Rattle.merge_ident.specs.Stored.{can_follow, has_next_number, has_values, is
 use Rattle.merge_ident.proofs.Added.{count_by-cons}
 use Rattle.merge_ident.proofs.Order.{Gives, gives_from_test, numbered-by_test, numbers_le}
 
-count_by-push : (p : Grant → Bool) (xs : List Grant) (g : Grant) → count_by p (xs ++ g ∷ []) ≡ count_by p xs + cond (p g) 1 0
+pub count_by-push : (p : Grant → Bool) (xs : List Grant) (g : Grant) → count_by p (xs ++ g ∷ []) ≡ count_by p xs + cond (p g) 1 0
 count_by-push p [] g = omega (arith, count_by-cons p g [])
 count_by-push p (x ∷ xs) g = omega (arith, count_by-cons p x (xs ++ g ∷ []), count_by-cons p x xs, count_by-push p xs g)
 
-and-first : (a b : Bool) → (a && b) ≡ true → a ≡ true
+pub and-first : (a b : Bool) → (a && b) ≡ true → a ≡ true
 and-first true b both = refl
 and-first false b both = both
 
-and-second : (a b : Bool) → (a && b) ≡ true → b ≡ true
+pub and-second : (a b : Bool) → (a && b) ≡ true → b ≡ true
 and-second true b both = both
 and-second false b both = absurd cc
 
-both_true : (a b : Bool) → a ≡ true → b ≡ true → (a && b) ≡ true
+pub both_true : (a b : Bool) → a ≡ true → b ≡ true → (a && b) ≡ true
 both_true true b here there = there
 both_true false b here there = absurd cc
 
@@ -224,7 +224,7 @@ no_grants = record {
   rising = λ x y here there article site below. absurd (omega (arith, here.1));
 }
 
-one_more : (grants : List Grant) (at : ℕ) (d : Grant) → at < length grants → take (at + 1) grants ≡ take at grants ++ get_or grants at d ∷ []
+pub one_more : (grants : List Grant) (at : ℕ) (d : Grant) → at < length grants → take (at + 1) grants ≡ take at grants ++ get_or grants at d ∷ []
 one_more grants at d within = rw add-one (take-suc grants at d within)
 
 -- the walk goes on over a grant that can follow

@@ -1,6 +1,7 @@
 pub mod Grants
 pub mod Lasts
 pub mod Stored
+pub mod Seen
 pub mod Answers
 pub mod Books
 pub mod Holders

@@ -1,26 +1,30 @@
 //! Whether stored grants are those of a book.
-ghost use Rattle.std.specs.Prelude.{◌≡◌, IfSome, IfNone};
+ghost use Rattle.std.specs.Prelude.{◌≡◌, IfOk, IfSome, IfNone};
 ghost use Rattle.std.specs.List.{list_all};
 ghost use Rattle.merge_ident.specs.Grants.{granted_to, AreGrants};
-ghost use Rattle.merge_ident.specs.Stored.{is_clear, has_values, has_next_number, can_follow, IsFirstBad};
+ghost use Rattle.merge_ident.specs.Stored.{is_clear, has_next_number, can_follow, IsFirstBad};
 
 use crate::Grant;
+use crate::seen_grants::{SeenGrants, has_values};
+use merge_types::NoMemory;
+use std::alloc::Global;
 
 /// The place of the first grant with which those up to it are no grants of a book, and none where
 /// all are. A book's grants have begins from 1 on and are disjoint within an article, and those of
-/// an article to a site are numbered from 1 as their begins rise. It takes no memory; the time
-/// grows with the square of the grants.
-pub fn first_bad_grant(grants: &[Grant]) -> Option<usize>
-    ensures none { IfNone result (AreGrants grants.now) }
-    ensures some { IfSome result (IsFirstBad grants.now) }
+/// an article to a site are numbered from 1 as their begins rise. A grant costs the logarithm of the
+/// number of grants.
+pub fn first_bad_grant(alloc: Global, grants: &[Grant]) -> Result<Option<usize>, NoMemory>
+    ensures none { IfOk result (λ bad. IfNone bad (AreGrants grants.now)) }
+    ensures some { IfOk result (λ bad. IfSome bad (IsFirstBad grants.now)) }
 {
+    let mut seen = SeenGrants::new(alloc);
     for (at, grant) in grants.iter().enumerate() {
-        let (before, _) = grants.split_at(at);
-        if !can_follow(before, *grant) {
-            return Some(at);
+        if !seen.can_follow(*grant) {
+            return Ok(Some(at));
         }
+        seen.add(*grant)?;
     }
-    None
+    Ok(None)
 }
 
 /// Whether the grant can come behind others: it has values from 1 on and the next number of its
@@ -29,12 +33,6 @@ pub fn can_follow(before: &[Grant], grant: Grant) -> bool
     ensures { result ≡ can_follow before.now grant }
 {
     has_values(grant) && has_next_number(before, grant) && all_clear(before, grant)
-}
-
-fn has_values(grant: Grant) -> bool
-    ensures { result ≡ has_values grant }
-{
-    1 <= grant.range.begin && grant.range.begin <= grant.range.end
 }
 
 fn has_next_number(before: &[Grant], grant: Grant) -> bool

@@ -11,6 +11,7 @@ mod grants;
 mod halving;
 pub mod laws;
 mod ranges;
+mod seen_grants;
 mod slots;
 #[cfg(test)]
 mod tests;

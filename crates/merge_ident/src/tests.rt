@@ -248,7 +248,7 @@ fn the_first_bad_grant_is_told(rt: HostRuntime) {
         grant_of(1, 2, 3, 4),
         grant_of(1, 3, 7, 8),
     ];
-    assert_eq!(rt; first_bad_grant(&good), None);
+    assert_eq!(rt; first_bad_grant(rt.alloc(), &good), Ok(None));
     for (bad, place) in [
         ([grant_of(0, 1, 5, 6), grant_of(1, 1, 6, 7)], 1),
         ([grant_of(1, 1, 5, 6), grant_of(1, 2, 1, 2)], 1),
@@ -257,6 +257,6 @@ fn the_first_bad_grant_is_told(rt: HostRuntime) {
         ([grant_of(1, 1, 6, 5), grant_of(1, 2, 7, 8)], 0),
         ([grant_of(1, 1, 0, 5), grant_of(1, 2, 7, 8)], 0),
     ] {
-        assert_eq!(rt; first_bad_grant(&bad), Some(place));
+        assert_eq!(rt; first_bad_grant(rt.alloc(), &bad), Ok(Some(place)));
     }
 }

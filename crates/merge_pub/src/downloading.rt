@@ -5,7 +5,7 @@ ghost use Rattle.merge_batch.specs.declared.refusal.Refusal.TheVariants.{NoMemor
 ghost use Rattle.merge_model.specs.ByNumbers.{by_numbers};
 ghost use Rattle.merge_model.specs.Keys.{at_number};
 ghost use Rattle.merge_model.specs.Publisher.{closed};
-ghost use Rattle.merge_model.specs.PublisherDownload.{download, download_refusal, reply_to, synced};
+ghost use Rattle.merge_model.specs.PublisherDownload.{download, download_refusal, in_step, reply_to, synced};
 ghost use Rattle.merge_pub.specs.After.{after};
 ghost use Rattle.merge_pub.specs.Held.{IsDrafted, publication_of, tables_of};
 ghost use Rattle.merge_pub.specs.Refused.{RefusesAs, refusal_of};
@@ -68,20 +68,26 @@ impl Publisher {
         })
     }
 
+    // Up to when a site that asks is in step at this moment: up to the moment itself, where it holds
+    // all closed generations and the open one is empty, and else up to when the last of those that it
+    // holds closed.
+    pub(crate) fn in_step(&self, m: &Download, latest: Moment) -> u64
+        ensures { result ≡ in_step m.now (record (tables_of self.now) { latest = latest }) }
+    {
+        if m.from == self.gens.last_closed() && self.gens.filled() == 0 {
+            return latest.0;
+        }
+        self.gens.closed_at(m.from).unwrap_or(0)
+    }
+
     // What is remembered of a site that asks: it holds the generations up to the one that it asks
-    // from, and is in step up to now where these are all and the open one is empty, and else up to
-    // the moment at which the last of them closed.
+    // from.
     fn synced(&self, m: &Download, latest: Moment, state: SiteState) -> SiteState
         ensures { result ≡ synced m.now (record (tables_of self.now) { latest = latest }) state }
     {
-        let in_step = if m.from == self.gens.last_closed() && self.gens.filled() == 0 {
-            latest.0
-        } else {
-            self.gens.closed_at(m.from).unwrap_or(0)
-        };
         SiteState {
             watermark: state.watermark.max(m.from),
-            last_sync: state.last_sync.max(in_step),
+            last_sync: state.last_sync.max(self.in_step(m, latest)),
             ..state
         }
     }

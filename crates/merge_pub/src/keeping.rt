@@ -1,6 +1,7 @@
 //! What a keeper's commit asks of a publisher.
 ghost use Rattle.std.specs.Prelude.{◌≡◌};
 ghost use Rattle.merge_ident.specs.Grants.{AreGrants};
+ghost use Rattle.merge_model.specs.Laws.{AreSorted};
 ghost use Rattle.merge_pub.specs.Held.{tables_of};
 
 use crate::publisher::Publisher;
@@ -14,6 +15,16 @@ impl Publisher {
         ensures fit { AreGrants (tables_of self.now).grants }
     {
         self.grants.grants()
+    }
+
+    /// That the lists ascend. It is a fact for proofs, and does nothing.
+    pub fn sorted(&self)
+        ensures { AreSorted (tables_of self.now) }
+    {
+        self.rows.is_ordered();
+        self.mappings.is_ordered();
+        self.sites.is_ordered();
+        let _ = self.gens.closings();
     }
 
     /// The greatest moment that a call was given that was not refused.

@@ -7,6 +7,7 @@ mod batch_walk;
 mod beginning;
 mod changes;
 mod closing;
+mod committing;
 mod downloading;
 mod drawing;
 mod edits;

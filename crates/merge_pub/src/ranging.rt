@@ -172,6 +172,7 @@ impl Publisher {
     /// Works out a request for ranges, and what the site is told.
     pub fn draft_ranges(&mut self, now: Moment, m: &RangeAsk) -> Result<(Draft, Ranged), Refusal>
         ensures made { IfOk result (λ d. ranges (publication_of self.old) (by_numbers (tables_of self.old)) now m.now (tables_of self.old) ≡ Ok (after d.0.changes (tables_of self.old), d.1)) }
+        ensures planned { IfOk result (λ d. d.0.changes.grants ≡ plans (publication_of self.old) m.now (tables_of self.old)) }
         ensures ready { IfOk result (λ d. IsDrafted self.new d.0) }
         ensures refused { (refusal : OneRefusal) → result ≡ Err refusal → (refusal ≡ no_memory) ⊎ (ranges (publication_of self.old) (by_numbers (tables_of self.old)) now m.now (tables_of self.old) ≡ Err refusal) }
         ensures refuses { RefusesAs (ranges (publication_of self.old) (by_numbers (tables_of self.old)) now m.now (tables_of self.old)) result }

@@ -118,6 +118,7 @@ impl Publisher {
         requires ready { granting.IsReady self.old.grants planned }
         requires keeps { KeepsRules (publication_of self.old) (with_grants planned (tables_of self.old)) }
         ensures made { IfOk result (λ d. after d.changes (tables_of self.old) ≡ with_grants planned (record (tables_of self.old) { latest = latest })) }
+        ensures planned { IfOk result (λ d. d.changes.grants ≡ planned) }
         ensures ready { IfOk result (λ d. IsDrafted self.new d) }
         ensures same { tables_of self.new ≡ tables_of self.old }
         ensures publication { publication_of self.new ≡ publication_of self.old }

@@ -8,5 +8,6 @@ pub mod ListsAfter
 pub mod Printed
 pub mod PublisherCalls
 pub mod PublisherEdited
+pub mod PublisherRequests
 pub mod Ranged
 pub mod SubscriberCalls

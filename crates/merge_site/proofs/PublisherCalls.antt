@@ -28,17 +28,26 @@ pub still-kept : (h now : Held) (told : Option Map) → tables_of now ≡ tables
 still-kept h now told same kept = rw same kept
 
 module _ {A : Type 0} (old : PublisherView) (h now new : Held) (before after' : ℕ) (seen : view_of h before ≡ old) (same : tables_of now ≡ tables_of h) where
+  -- by what is seen of it
+  pub seen-called : (by : PublisherView → Result (PublisherTables × A) Refusal) (of : PublisherView → A → Bool) (commits : Bool) (worked : Result (Draft × A) Refusal) (result : Result A Refusal)
+      → IfOk worked (λ made. by (view_of h before) ≡ Ok (drafted (tables_of h) made))
+      → ((why : Refusal) → worked ≡ Err why → IsRefused (by (view_of h before)) why)
+      → ((b : Result (PublisherTables × A) Refusal) (o : A → Bool) → WorkedOut (drafted (tables_of now)) b worked → IfOk worked (λ made. commits ≡ true → o made.1 ≡ true) → Called b o (tables_of now) (tables_of new) before after' result)
+      → IfOk worked (λ made. commits ≡ true → of (view_of h before) made.1 ≡ true)
+      → PublisherCall (by old) (of old) old (view_of new after') result
+  seen-called by of commits worked result made refused called makes =
+      let b = by (view_of h before) in
+      let out : WorkedOut (drafted (tables_of now)) b worked = record { done = subst (λ (t : PublisherTables). IfOk worked (λ d. b ≡ Ok (drafted t d))) (sym same) made; refused = refused } in
+      subst (λ (v : PublisherView). PublisherCall (by v) (of v) v (view_of new after') result) seen
+      (subst (λ (t : PublisherTables). Called b (of (view_of h before)) t (tables_of new) before after' result) same (called b (of (view_of h before)) out makes))
+
   pub pub-called : (by : Publication → PublisherTables → Result (PublisherTables × A) Refusal) (of : PublisherTables → A → Bool) (commits : Bool) (worked : Result (Draft × A) Refusal) (result : Result A Refusal)
       → IfOk worked (λ made. by (publication_of h) (tables_of h) ≡ Ok (drafted (tables_of h) made))
       → ((why : Refusal) → worked ≡ Err why → IsRefused (by (publication_of h) (tables_of h)) why)
       → ((b : Result (PublisherTables × A) Refusal) (o : A → Bool) → WorkedOut (drafted (tables_of now)) b worked → IfOk worked (λ made. commits ≡ true → o made.1 ≡ true) → Called b o (tables_of now) (tables_of new) before after' result)
       → IfOk worked (λ made. commits ≡ true → of (tables_of h) made.1 ≡ true)
       → PublisherCall (by old.publication old.tables) (of old.tables) old (view_of new after') result
-  pub-called by of commits worked result made refused called makes =
-      let b = by (publication_of h) (tables_of h) in
-      let out : WorkedOut (drafted (tables_of now)) b worked = record { done = subst (λ (t : PublisherTables). IfOk worked (λ d. b ≡ Ok (drafted t d))) (sym same) made; refused = refused } in
-      subst (λ (v : PublisherView). PublisherCall (by v.publication v.tables) (of v.tables) v (view_of new after') result) seen
-      (subst (λ (t : PublisherTables). Called b (of (tables_of h)) t (tables_of new) before after' result) same (called b (of (tables_of h)) out makes))
+  pub-called by of = seen-called (λ (v : PublisherView). by v.publication v.tables) (λ (v : PublisherView). of v.tables)
 
 -- a closing that commits nothing changes nothing
 pub closing-still : (h now : Held) (moment : Moment) (worked : Result (Draft × ℕ) Refusal) (commits : Bool) → tables_of now ≡ tables_of h → commits ≡ (is_later moment (tables_of h).latest || nat_lt 0 (tables_of h).gens.filling.filled)

@@ -1,6 +1,6 @@
 -- A call of a subscriber, by the step that was worked out for it and by what became of that.
 use Rattle.std.proofs.Common.{◌≡◌, ◌∙◌, ◌||◌, ℕ, Bool, true, false, nat_lt, sym, ap, subst}
-use Rattle.std.specs.Prelude.{Err, IfOk, Ok, Option, Result}
+use Rattle.std.specs.Prelude.{Err, IfOk, Ok, Option, Result, Some}
 use Rattle.merge_types.specs.declared.identifiers.Moment.{Moment}
 use Rattle.merge_schema.specs.declared.publication.Publication.{Publication}
 use Rattle.merge_batch.specs.declared.refusal.Refusal.{Refusal}
@@ -13,7 +13,7 @@ use Rattle.merge_model.specs.Taking.{take_reply}
 use Rattle.merge_model.specs.declared.outcome.Taken.{Taken}
 use Rattle.merge_model.proofs.Quiet.{replies-quiet, sub-closings-quiet}
 use Rattle.merge_ports.specs.Entries.{Map}
-use Rattle.merge_sub.specs.Drafts.{after, drafted, drafted_if_any}
+use Rattle.merge_sub.specs.Drafts.{after, after_if_any, drafted, drafted_if_any}
 use Rattle.merge_sub.specs.Held.{Held, tables_of}
 use Rattle.merge_sub.specs.declared.changes.Draft.{Draft}
 use Rattle.merge_world.specs.Views.{SubscriberCall, SubscriberView}
@@ -68,3 +68,7 @@ pub reply-still : (h now : Held) (moment : Moment) (m : Reply) (draft : Draft) (
     → take_reply h.publication (by_rows (tables_of h)) moment m (tables_of h) ≡ Ok (after draft.changes (tables_of h), taken) → commits ≡ false → after draft.changes (tables_of now) ≡ tables_of now
 reply-still h now moment m draft taken commits same is made quiet =
     subst (λ (t : SubscriberTables). after draft.changes t ≡ t) (sym same) (replies-quiet h.publication (by_rows (tables_of h)) moment m (tables_of h) (after draft.changes (tables_of h), taken) made (sym is ∙ quiet))
+
+-- a reply that is taken has the draft that there is
+pub reply-made : {A : Type 0} (by : Result (SubscriberTables × A) Refusal) (s : SubscriberTables) (draft : Option Draft) (made : Draft) (answer : A) → draft ≡ Some made → by ≡ Ok (after_if_any draft s, answer) → by ≡ Ok (after made.changes s, answer)
+reply-made by s draft made answer is by_is = subst (λ (d : Option Draft). by ≡ Ok (after_if_any d s, answer)) is by_is

@@ -6,6 +6,7 @@ mod committing;
 mod copies;
 mod ending;
 mod grants;
+mod handling;
 mod lists;
 mod loading;
 mod places;
@@ -14,6 +15,7 @@ mod publisher_commit;
 mod publisher_telling;
 mod restarting;
 mod short;
+mod sites;
 mod subscriber;
 mod subscriber_commit;
 

@@ -1,5 +1,5 @@
 //! A step of the publisher is committed, and only then put in place.
-ghost use Rattle.std.specs.Prelude.{◌≡◌, ◌≤◌, Bool, IfErr, IfOk, OnErr, OnOk, Result as OneResult, false, true};
+ghost use Rattle.std.specs.Prelude.{◌≡◌, ◌≤◌, Bool, IfErr, IfOk, IsOk, OnErr, OnOk, Result as OneResult, false, true};
 ghost use Rattle.merge_batch.specs.declared.refusal.Refusal.{Refusal as OneRefusal};
 ghost use Rattle.merge_conflict.specs.Table as conflicts;
 ghost use Rattle.merge_gens.specs.Plan.{IsPrepared};
@@ -178,6 +178,7 @@ pub(crate) fn finish<K: Keeper, A: Drop>(
     requires kept { IsKeptPublisher (tables_of publisher.old) (K.told keeper.old) }
     ensures called { (by : OneResult (PublisherTables × A) OneRefusal) (of : A → Bool) → WorkedOut (drafted (tables_of publisher.old)) by worked → IfOk worked (λ made. commits ≡ true → of made.1 ≡ true)
         → Called by of (tables_of publisher.old) (tables_of publisher.new) (K.count keeper.old) (K.count keeper.new) result }
+    ensures worked { OnOk result (IsOk worked) }
     ensures kept { IsKeptPublisher (tables_of publisher.new) (K.told keeper.new) }
     ensures publication { publication_of publisher.new ≡ publication_of publisher.old }
 {

@@ -69,6 +69,6 @@ pub(crate) fn check_publisher<K: Keeper>(
     let held = first_ranges(alloc, publication.articles.as_slice())?;
     match start_publisher(alloc, publication, held, &entries) {
         Ok(_) => Ok(()),
-        Err(fault) => Err(refusal_of(fault)),
+        Err(why) => Err(refusal_of(why)),
     }
 }

@@ -5,11 +5,12 @@ ghost use Rattle.merge_batch.specs.Articles.{has_article};
 ghost use Rattle.merge_batch.specs.LocalChanges.{article_of, settings_of};
 ghost use Rattle.merge_model.specs.ByNumbers.{by_rows};
 ghost use Rattle.merge_batch.specs.declared.refusal.Refusal.TheVariants.{NoMemory as no_memory};
-ghost use Rattle.merge_model.specs.Calls.{always_commits, closing_commits, is_later, message_commits, message_or_none};
+ghost use Rattle.merge_model.specs.Calls.{always_commits, closing_commits, is_later, message_commits, message_or_none, reply_commits};
 ghost use Rattle.merge_model.specs.Reinit.{reinitialise};
 ghost use Rattle.merge_model.specs.Reports.{marks_of, unsent_count};
 ghost use Rattle.merge_model.specs.Sending.{make_ask, make_join, make_ranges, make_upload};
 ghost use Rattle.merge_model.specs.Subscriber.{close_sub_generation, empty_subscriber, sub_local};
+ghost use Rattle.merge_model.specs.Taking.{take_reply};
 ghost use Rattle.merge_schema.specs.Valid.{IsValid};
 ghost use Rattle.merge_sub.specs.Held.{tables_of};
 ghost use Rattle.merge_world.specs.Printable.{AreLostPrintable, ArePrintable};
@@ -20,10 +21,11 @@ ghost use Rattle.merge_site.specs.Beginning.{IsEmptyStore, StartsNot};
 use crate::beginning::{NotStarted, check_empty};
 use crate::restarting::check_subscriber;
 use crate::subscriber_commit::{finish, finish_message};
-use merge_batch::{Download, Join, RangeAsk, Refusal, Upload};
+use merge_batch::{Download, Join, RangeAsk, Refusal, Reply, Upload};
 use merge_conflict::ConflictRow;
 use merge_gens::Marks;
 use merge_ident::Ranges;
+use merge_model::Taken;
 use merge_ports::Keeper;
 use merge_schema::Publication;
 use merge_sub::Subscriber;
@@ -63,6 +65,16 @@ fn closing_commits(subscriber: &Subscriber, now: Moment) -> bool
     ensures { result ≡ (is_later now (tables_of subscriber.now).latest || nat_lt 0 (tables_of subscriber.now).gens.filling.filled) }
 {
     now.0 > subscriber.latest().0 || subscriber.marks().filled > 0
+}
+
+// Whether a reply changes a record: it acts, and is no refusal.
+fn reply_commits(reply: &Reply, taken: Taken) -> bool
+    ensures { result ≡ reply_commits reply.now taken }
+{
+    match reply {
+        Reply::Refused { .. } => false,
+        _ => taken == Taken::Acted,
+    }
 }
 
 impl<K: Keeper> KeptSubscriber<K> {
@@ -192,6 +204,26 @@ impl<K: Keeper> KeptSubscriber<K> {
             worked,
             true,
         )
+    }
+
+    /// Takes a reply.
+    pub fn take_reply(&mut self, now: Moment, reply: &Reply) -> Result<Taken, Refusal>
+        ensures called { SubscriberCall (take_reply self.old.publication (by_rows self.old.tables) now reply.now self.old.tables) (reply_commits reply.now) self.old self.new result }
+        ensures publication { self.new.publication ≡ self.old.publication }
+        ensures site { self.new.tables.site ≡ self.old.tables.site }
+    {
+        let (draft, taken) = self.subscriber.draft_reply(reply, now)?;
+        let acts = reply_commits(reply, taken);
+        match draft {
+            None => Ok(taken),
+            Some(draft) => finish(
+                self.alloc,
+                &mut self.keeper,
+                &mut self.subscriber,
+                Ok((draft, taken)),
+                acts,
+            ),
+        }
     }
 
     /// Begins anew, and gives how many rows were discarded.
