@@ -74,15 +74,15 @@ any-of : (left : Option (List ℕ)) → IfSome left (λ (l : List ℕ). Unit {0}
 any-of None = tt
 any-of (Some l) = tt
 
-pub in-part-of : (left : Option (List ℕ)) (input : List ℕ) (handed : HandedView) (sides : Sides) → WrittenInPart handed input sides → IfSome left (λ (l : List ℕ). input ≡ l) → IfSome left (λ (l : List ℕ). WrittenInPart handed l sides)
-in-part-of left input handed sides part same = some-of (λ (l : List ℕ). WrittenInPart handed l sides) left input same part
+pub in-part-of : (left : Option (List ℕ)) (input slice : List ℕ) (handed : HandedView) (sides : Sides) → slice ≡ input → WrittenInPart handed slice sides → IfSome left (λ (l : List ℕ). input ≡ l) → IfSome left (λ (l : List ℕ). WrittenInPart handed l sides)
+in-part-of left input slice handed sides is part same = some-of (λ (l : List ℕ). WrittenInPart handed l sides) left input same (subst (λ (l : List ℕ). WrittenInPart handed l sides) is part)
 
 module _ (words : List (List ℕ)) (left : Option (List ℕ)) (handed : HandedView) (sides : Sides) (writes refused reads failed : ℕ) where
   abbrev Ends : Ending → Type 0
   Ends ending = RunEnds ending words left handed sides writes refused reads failed
 
   module _ (play : is_play words ≡ true) where
-    pub read-ends : (input : List ℕ) → IfSome left (λ (l : List ℕ). input ≡ l) → (ending : Ending) → InputEnds ending handed input sides writes refused → Ends ending
+    read-ends : (input : List ℕ) → IfSome left (λ (l : List ℕ). input ≡ l) → (ending : Ending) → InputEnds ending handed input sides writes refused → Ends ending
     read-ends input same Done p = (play, some-of (λ (l : List ℕ). InputEnds Done handed l sides writes refused) left input same p)
     read-ends input same (Refused fault) p = (play, some-of (λ (l : List ℕ). InputEnds (Refused fault) handed l sides writes refused) left input same p)
     read-ends input same (NoEvent line word) p = (play, some-of (λ (l : List ℕ). InputEnds (NoEvent line word) handed l sides writes refused) left input same p)
@@ -94,10 +94,16 @@ module _ (words : List (List ℕ)) (left : Option (List ℕ)) (handed : HandedVi
     read-ends input same ReadFault p = absurd p
     read-ends input same TooLong p = absurd p
 
-    pub unread-ends : (fault : Unread) → (fault ≡ reading.TooLong → IfSome left (λ (l : List ℕ). 67108864 < length l)) → (fault ≡ reading.Failed → Rose reads failed) → Ends (unread fault)
+    pub ends-by-slice : (input slice : List ℕ) → slice ≡ input → IfSome left (λ (l : List ℕ). input ≡ l) → (ending : Ending) → InputEnds ending handed slice sides writes refused → Ends ending
+    ends-by-slice input slice is same ending p = read-ends input same ending (subst (λ (l : List ℕ). InputEnds ending handed l sides writes refused) is p)
+
+    unread-ends : (fault : Unread) → (fault ≡ reading.TooLong → IfSome left (λ (l : List ℕ). 67108864 < length l)) → (fault ≡ reading.Failed → Rose reads failed) → Ends (unread fault)
     unread-ends reading.Failed long rose = (play, rose refl)
     unread-ends reading.TooLong long rose = (play, long refl)
     unread-ends reading.NoMemory long rose = (play, any-of left)
+
+    pub ends-unread : (fault : Unread) (ending : Ending) → ending ≡ unread fault → (fault ≡ reading.TooLong → IfSome left (λ (l : List ℕ). 67108864 < length l)) → (fault ≡ reading.Failed → Rose reads failed) → Ends ending
+    ends-unread fault ending is long rose = subst Ends (sym is) (unread-ends fault long rose)
 
 -- where nothing is written, that is a front of what could be
 pub nothing-written : (left : Option (List ℕ)) (handed : HandedView) (sides : Sides) → sides.written ≡ sides.was → IfSome left (λ (l : List ℕ). WrittenInPart handed l sides)
