@@ -17,7 +17,7 @@ loop-subscriber-preserved g c =
     let step = rw c.in-Some.is at c.next.ensures.steps in
     let fewer = step.1 in
     let less : into_iter_len c.loop-subscriber.subscriber-iterator ≡ into_iter_len c.next.new.self + 1 = omega (arith, fewer) in
-    gives-back (g.E.Outside.HasRoom c.loop-subscriber.outside) (g.E.Outside.HasRoom c.keeper_back-2.new.self) _ c.keeper_back-2.ensures.still _ _ _ _ c.in-Some.subscriber step.0 _ _ _ _ c.keeper_back-2.ensures.counts c.into_keeper-2.ensures.faults _ _ less c.loop-subscriber.invariant
+    gives-back (g.E.Outside.HasRoom c.loop-subscriber.outside) (g.E.Outside.HasRoom c.keeper_back-in-loop-subscriber.new.self) _ c.keeper_back-in-loop-subscriber.ensures.still _ _ _ _ c.in-Some.subscriber step.0 _ _ _ _ c.keeper_back-in-loop-subscriber.ensures.counts c.into_keeper-in-loop-subscriber.ensures.faults _ _ less c.loop-subscriber.invariant
 
 pub returns : goal.returns
 returns g c =
