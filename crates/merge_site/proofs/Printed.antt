@@ -26,7 +26,6 @@ use Rattle.merge_units.specs.declared.version.Version.{Version}
 use Rattle.merge_conflict.specs.declared.row.ConflictRow.{ConflictRow}
 use Rattle.merge_model.specs.Proper.{AreProper, IsProperBody}
 use Rattle.merge_record.specs.Versions.{IsShortBody, IsShortCell, IsShortValue, IsShortVersion, is_day}
-use Rattle.merge_record.specs.Rows.{IsShortPublisherRow, IsShortSubscriberRow}
 use Rattle.merge_keeper.specs.Edits.{IsShortEdit, IsShortLoser}
 use Rattle.merge_world.specs.Printable.{AreLostPrintable, ArePrintable}
 use Rattle.merge_site.specs.Lists.{conflict_put}

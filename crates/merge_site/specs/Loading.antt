@@ -1,5 +1,5 @@
 -- A store is read whole, and its records are tested.
-use Rattle.std.specs.Prelude.{Err, IfErr, IfSome, List, None, Ok, Option, Result, ℕ, ◌+◌, ◌≡◌, ◌≤◌, ◌⊎◌}
+use Rattle.std.specs.Prelude.{Err, IfSome, Ok, Option, ℕ, ◌≡◌, ◌⊎◌}
 use Rattle.merge_batch.specs.declared.refusal.Refusal.{Refusal}
 use Rattle.merge_batch.specs.declared.refusal.Refusal.TheVariants as refusal
 use Rattle.merge_keeper.specs.Start.{Loaded}

@@ -15,8 +15,8 @@ use merge_schema::{Article, Publication};
 use merge_types::{Listing, NoMemory, SiteId};
 use std::alloc::Global;
 
-/// What is held of articles before a range was received: each with an identity column begins with
-/// none. A place of an article is a number of one byte.
+// What is held of articles before a range was received: each with an identity column begins with
+// none. A place of an article is a number of one byte.
 fn first_ranges(alloc: Global, articles: &[Article]) -> Result<Listing<(u8, Ranges)>, NoMemory>
     ensures { IfOk result (λ held. held ≡ holders_from 0 articles.now) }
 {
