@@ -1,15 +1,11 @@
 -- The entries of a step: what they make of rows and mappings is what their lines say.
-use Rattle.std.specs.Prelude.{◌≡◌, ◌==◌, ◌++◌, ◌+◌, ◌||◌, ◌&&◌, ℕ, List, [], ◌∷◌, true, Option, Some, None, refl, map, filter_map, length, take, drop, option_map}
+use Rattle.std.specs.Prelude.{◌≡◌, ◌==◌, ◌++◌, ◌+◌, ◌||◌, ◌&&◌, ℕ, List, [], ◌∷◌, true, Option, Some, None, map, filter_map, length, take, drop, option_map}
 use Rattle.std.specs.List.{AllByRecursion, cons_option, fold, list_any, zip}
 use Rattle.std.specs.List.Sorted.{IsStrictlySortedBy}
 use Rattle.std.specs.Map.{keys_of}
-use Rattle.std.specs.declared.cmp.Ordering.{Ordering}
-use Rattle.std.specs.declared.cmp.Ordering.TheVariants.{Less, Equal, Greater}
-use Rattle.std.specs.Ordering.{match_ordering, nat_cmp}
 use Rattle.std.proofs.Common.{arith, subst, sym, ap, ◌∙◌}
 use Rattle.std.proofs.lemmas.Bool.Decides.{nat_tests}
 use Rattle.std.proofs.lemmas.List.Sums.{fold-append}
-use Rattle.std.proofs.lemmas.Map.Lookups.{exact_unsigned}
 use Rattle.merge_types.specs.declared.identifiers.SiteId.{SiteId}
 use Rattle.merge_units.specs.declared.version.Version.{Version}
 use Rattle.merge_gens.specs.Filling.{generations_of}
@@ -22,12 +18,13 @@ use Rattle.merge_gens.specs.declared.moves.MoveKind.{MoveKind}
 use Rattle.merge_gens.specs.declared.moves.Mapping.{Mapping}
 use Rattle.merge_model.specs.Tables.{PublisherTables}
 use Rattle.merge_gens.specs.Moves.{row_site_cmp}
-use Rattle.merge_model.specs.Keys.{has_key, put_number, drop_row_site}
+use Rattle.merge_model.specs.Keys.{has_key, drop_row_site}
 use Rattle.merge_model.specs.Judge.{PublisherJudge}
 use Rattle.merge_model.specs.Publications.{by_site}
 use Rattle.merge_model.specs.Entries as entry
 use Rattle.merge_model.specs.Entries.{Entries, Changing, Parts, Touched, changing_entries, with_entries, with_move, with_rows, move_at, move_of, moves_of, parts_of, partition_keys, rows_after, touched_by}
 use Rattle.merge_model.specs.History.{Line}
+use Rattle.merge_model.proofs.SitesInOrder.{AreKeyed, sites-keyed}
 use Rattle.merge_model.specs.Noting.{changed_line, moved_line, gone_line, lines_of_entries, site_of_subscription}
 use Rattle.merge_laws.specs.LastLines.{LastLines, subscribes}
 use Rattle.merge_laws.proofs.LastLineAdded.{added, rows-past_moves, rows-past_gone, moves-past_changes, changes-fit, moves-fit, moves-ascend, moves-sites, drops-fit, drops-sites}
@@ -56,24 +53,6 @@ lines-fit publication versions generations moves gone generation rows mappings l
 
 -- The moves of a step are of sites that subscribe.
 
--- the subscriptions by site stand at their sites
-abbrev AreKeyed : List (ℕ × Subscription) → Type 0
-AreKeyed es = AllByRecursion (λ (e : ℕ × Subscription). e.1.site.0 ≡ e.0) es
-
-keyed-step : (s : Subscription) (e : ℕ × Subscription) (es new : List (ℕ × Subscription)) (r : Ordering) → nat_cmp s.site.0 e.0 ≡ r → AreKeyed (e ∷ es) → AreKeyed new
-    → AreKeyed (match_ordering r ((s.site.0, s) ∷ e ∷ es) ((e.0, s) ∷ es) (e ∷ new))
-keyed-step s e es new Less is keyed more = (refl, keyed)
-keyed-step s e es new Equal is keyed more = (exact_unsigned s.site.0 e.0 is, keyed.1)
-keyed-step s e es new Greater is keyed more = (keyed.0, more)
-
-keyed-put : (s : Subscription) (es : List (ℕ × Subscription)) → AreKeyed es → AreKeyed (put_number es s.site.0 s)
-keyed-put s [] keyed = (refl, tt)
-keyed-put s (e ∷ es) keyed = keyed-step s e es (put_number es s.site.0 s) (nat_cmp s.site.0 e.0) refl keyed (keyed-put s es keyed.1)
-
-keyed-all : (subscriptions : List Subscription) (es : List (ℕ × Subscription)) → AreKeyed es → AreKeyed (fold (λ (others : List (ℕ × Subscription)) (s : Subscription). put_number others s.site.0 s) es subscriptions)
-keyed-all [] es keyed = keyed
-keyed-all (s ∷ subscriptions) es keyed = keyed-all subscriptions (put_number es s.site.0 s) (keyed-put s es keyed)
-
 module _ (publication : Publication) where
   abbrev PartsKnown : List Parts → Type 0
   PartsKnown parts = AllByRecursion (λ (part : Parts). subscribes publication part.site ≡ true) parts
@@ -89,7 +68,7 @@ module _ (publication : Publication) where
       (known e.0 first, parts-of before after es keyed.1 (λ n is. known n (grind (arith, is))))
 
   parts-known : (before after : List (Key × PublisherRow)) → PartsKnown (parts_of publication before after)
-  parts-known before after = parts-of before after (by_site publication) (keyed-all publication.subscriptions [] tt) (λ n is. is)
+  parts-known before after = parts-of before after (by_site publication) (sites-keyed publication) (λ n is. is)
 
   abbrev MovesKnown : List (RowSite × MoveKind) → Type 0
   MovesKnown moves = AllByRecursion (λ (move : RowSite × MoveKind). subscribes publication move.0.site ≡ true) moves
