@@ -1,9 +1,7 @@
 -- Events one after the other.
-use Rattle.std.proofs.Common.{◌≡◌, ◌<◌, ◌≤◌, ◌+◌, ◌++◌, ◌∷◌, [], ℕ, zero, suc, List, Some, count_by, get_or, length, take, refl, ap, sym, subst, ◌∙◌, arith}
-use Rattle.std.specs.List.{slice_get}
-use Rattle.std.proofs.lemmas.List.{append-nil, take_more}
+use Rattle.std.proofs.Common.{◌≡◌, ◌≤◌, ◌+◌, ◌++◌, ◌∷◌, [], ℕ, List, count_by, refl, ap, sym, subst, ◌∙◌}
+use Rattle.std.proofs.lemmas.List.{append-nil}
 use Rattle.merge_schema.specs.declared.publication.Publication.{Publication}
-use Rattle.merge_batch.specs.declared.refusal.Refusal.{Refusal}
 use Rattle.merge_model.specs.Failing.{Faulty, Slips, faulty}
 use Rattle.merge_model.specs.Reach.{is_store_fault, run}
 use Rattle.merge_model.specs.World.{Saying, World, empty_world}
@@ -13,9 +11,8 @@ use Rattle.merge_model.proofs.Reached.{stays}
 use Rattle.merge_model.proofs.ReachedEvents.{run-on}
 use Rattle.merge_world.proofs.Doing.{same-count}
 use Rattle.merge_world.proofs.Sessions.{still-ordered}
-use Rattle.merge_world.specs.Happenings.{Comes, Happened, seconds_of}
-use Rattle.merge_world.specs.Playing.{AllHappened, EndedAt, PlayedRuns, Runs}
-use Rattle.merge_world.specs.Resuming.{EndsRun}
+use Rattle.merge_world.specs.Happenings.{Comes, Happened}
+use Rattle.merge_world.specs.Playing.{AllHappened, PlayedRuns, Runs}
 use Rattle.merge_world.specs.Views.{HandedView, IsOrdered, SitesView, world_of}
 
 -- sites in their order stay so
@@ -24,12 +21,6 @@ ordered-so u v publication sites publications ordered = record { ascending = sti
   where
     still : IsOrdered (record v { moment = u.moment })
     still = still-ordered u (record v { moment = u.moment }) (record { publication = publication; sites = sites; publications = publications; moment = refl }) ordered
-
-pub ordered-after : (e : Event) (u v : SitesView) (g h : HandedView) (answer : Answer) → Happened e u v g h answer → IsOrdered u → IsOrdered v
-ordered-after e u v g h answer happened ordered = ordered-so u v happened.publication happened.sites happened.publications ordered
-
-pub moves-by : (e : Event) (u v : SitesView) (g h : HandedView) (answer : Answer) → Happened e u v g h answer → v.moment.0 ≡ u.moment.0 + seconds_of e
-moves-by e u v g h answer happened = happened.moment
 
 pub ordered-behind : (events : List Event) (u v : SitesView) (g h : HandedView) (said : List Answer) → AllHappened events u v g h said → IsOrdered u → IsOrdered v
 ordered-behind events u v g h said all ordered = ordered-so u v all.publication all.sites all.publications ordered
@@ -65,42 +56,6 @@ and-then events u v w g h k said e answer all one = record {
   publications = one.publications ∙ all.publications;
   says = one.says ∙ all.says;
 }
-
--- the loop: its start, one event more, all of them, and the end of a run
-pub none-played : (u : SitesView) (h : HandedView) (said : List Answer) → said ≡ [] → AllHappened [] u u h h said
-none-played u h said none = subst (λ (l : List Answer). AllHappened [] u u h h l) (sym none) (nothing-yet u h)
-
-module _ (events : List Event) (u v : SitesView) (g h : HandedView) (said told : List Answer) where
-  pub played-more : (i : ℕ) (e : Event) (w : SitesView) (k : HandedView) (answer : Answer) → i < length events → e ≡ get_or events i e → told ≡ said ++ answer ∷ []
-      → AllHappened (take i events) u v g h said → Happened e v w h k answer → AllHappened (take (i + 1) events) u w g k told
-  played-more i e w k answer lt at same so_far one = subst (λ (t : List Answer). AllHappened (take (i + 1) events) u w g k t) (sym same)
-      (subst (λ (l : List Event). AllHappened l u w g k (said ++ answer ∷ [])) (sym (take_more events i e lt ∙ ap (λ (x : Event). take i events ++ x ∷ []) (sym at)))
-      (and-then (take i events) u v w g h k said e answer so_far one))
-
-  pub played-all : (i : ℕ) → length events ≤ i → told ≡ said → AllHappened (take i events) u v g h said → AllHappened events u v g h told
-  played-all i le same so_far = subst (λ (t : List Answer). AllHappened events u v g h t) (sym same) (subst (λ (l : List Event). AllHappened l u v g h said) (all-of events i le) so_far)
-    where
-      all-of : (xs : List Event) (i : ℕ) → length xs ≤ i → take i xs ≡ xs
-      all-of [] zero le = refl
-      all-of [] (suc i) le = refl
-      all-of (x ∷ xs) zero le = absurd (omega (arith, le))
-      all-of (x ∷ xs) (suc i) le = ap (λ (l : List Event). x ∷ l) (all-of xs i (omega (arith, le)))
-
-  pub played-until : (i : ℕ) (e : Event) (w : SitesView) (k : HandedView) (why : Refusal) → i < length events → e ≡ get_or events i e → told ≡ said → AllHappened (take i events) u v g h said
-      → EndsRun e v w why × (k ≡ h) → EndedAt events u w g k told why
-  played-until i e w k why lt at same so_far (ends, still) = record {
-    place = i;
-    event = e;
-    there = found events i e lt at;
-    last = v;
-    happened = subst (λ (x : HandedView). AllHappened (take i events) u v g x told) (sym still) (subst (λ (t : List Answer). AllHappened (take i events) u v g h t) (sym same) so_far);
-    ends = ends;
-  }
-    where
-      found : (xs : List Event) (i : ℕ) (d : Event) → i < length xs → d ≡ get_or xs i d → slice_get xs i ≡ Some d
-      found [] i d lt at = absurd (omega (arith, lt))
-      found (x ∷ xs) zero d lt at = ap (λ (e : Event). Some e) (sym at)
-      found (x ∷ xs) (suc i) d lt at = found xs i d (omega (arith, lt)) at
 
 -- a run from nothing
 run-of : (p : Publication) (says : Saying) (events : List Event) (w v : World) (said : List Answer) (a b : ℕ) → Runs p says events w v said a b

@@ -1,14 +1,12 @@
 -- Events one after the other.
-use Rattle.std.specs.Prelude.{List, None, Option, Some, count_by, slice_get, take, ℕ, ◌+◌, ◌≡◌, ◌≤◌}
+use Rattle.std.specs.Prelude.{List, count_by, ℕ, ◌+◌, ◌≡◌, ◌≤◌}
 use Rattle.merge_schema.specs.declared.publication.Publication.{Publication}
-use Rattle.merge_batch.specs.declared.refusal.Refusal.{Refusal}
 use Rattle.merge_model.specs.Failing.{Slips, faulty}
 use Rattle.merge_model.specs.Reach.{Reaches, is_store_fault, run}
 use Rattle.merge_model.specs.Runs.{machine_says, world_behind}
 use Rattle.merge_model.specs.World.{Saying, World, empty_world}
 use Rattle.merge_model.specs.declared.answer.Answer.{Answer}
 use Rattle.merge_model.specs.declared.event.Event.{Event}
-use Rattle.merge_world.specs.Resuming.{EndsRun}
 use Rattle.merge_world.specs.Views.{HandedView, SitesView, world_of}
 
 -- a run over events, with some slips: what was answered, and the world behind it
@@ -21,21 +19,6 @@ pub record AllHappened (events : List Event) (old new : SitesView) (before after
   pub sites : new.sites ≡ old.sites
   pub publications : new.publications ≡ old.publications
   pub says : after.says ≡ before.says
-
--- the events up to one that ended the run
-pub record EndedAt (events : List Event) (old new : SitesView) (before after : HandedView) (said : List Answer) (why : Refusal) : Type 0 where
-  pub place : ℕ
-  pub event : Event
-  pub there : slice_get events place ≡ Some event
-  -- the sites behind the events before it
-  pub last : SitesView
-  pub happened : AllHappened (take place events) old last before after said
-  pub ends : EndsRun event last new why
-
--- what is played of events: all of them, or those up to one that ended the run
-abbrev pub Plays : List Event → SitesView → SitesView → HandedView → HandedView → List Answer → Option Refusal → Type 0
-Plays events old new before after said None = AllHappened events old new before after said
-Plays events old new before after said (Some why) = EndedAt events old new before after said why
 
 -- events that were played from nothing, and a run with slips that has the same answers and the same world
 abbrev pub PlayedRuns : Type 0

@@ -24,5 +24,5 @@ pub use reports::Report;
 pub use sending::Sending;
 pub use session::Ended;
 pub use sites::{PublisherSite, SubscriberSite};
-pub use step::{Played, seconds_of};
+pub use step::seconds_of;
 pub use world::{Seen, Sites};

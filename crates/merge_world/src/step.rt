@@ -1,11 +1,9 @@
-//! One event of a script, and many.
-ghost use Rattle.std.specs.Prelude.{◌≡◌, ◌≤◌, ◌+◌, ◌*◌, ◌^◌, IfOk, length, vec_capacity, vec_len};
+//! One event of a script.
+ghost use Rattle.std.specs.Prelude.{◌≡◌, ◌≤◌, ◌+◌, ◌^◌, IfOk};
 ghost use Rattle.merge_model.specs.Proper.{IsProperAnswer};
 ghost use Rattle.merge_world.specs.Happenings.{Proceeds, seconds_of};
-ghost use Rattle.merge_world.specs.Playing.{Plays};
 ghost use Rattle.merge_world.specs.Views.{IsOrdered, handed_view};
 
-use crate::pool::put;
 use crate::reports::Report;
 use crate::sending::Sending;
 use crate::sites::{PublisherSite, SubscriberSite};
@@ -13,16 +11,7 @@ use crate::world::{Seen, Sites};
 use merge_batch::Refusal;
 use merge_model::{Answer, Event};
 use merge_resolve::Handed;
-use merge_types::{Listing, NoMemory};
 use std::alloc::Global;
-
-/// What was played: the answers, and what ended the run before its end, where something did. That
-/// is a store that cannot be read, or records that are damaged, at a restart.
-#[derive(Debug, Drop)]
-pub struct Played {
-    pub answers: Listing<Answer>,
-    pub end: Option<Refusal>,
-}
 
 impl<P: PublisherSite, S: SubscriberSite> Sites<P, S> {
     /// What an event does to all sites, and what it is answered. An error ends the run: at a restart
@@ -70,39 +59,6 @@ impl<P: PublisherSite, S: SubscriberSite> Sites<P, S> {
             Event::Generations(site) => Ok(self.generations_event(alloc, *site)),
             Event::Count(site) => Ok(self.count_event(alloc, *site)),
         }
-    }
-
-    /// Events one after the other, up to one that ends the run. Room for all answers is taken first:
-    /// where memory is wanting for that, nothing happened.
-    pub fn play(
-        &mut self,
-        alloc: Global,
-        resolvers: &mut Vec<Handed>,
-        events: &[Event],
-    ) -> Result<Played, NoMemory>
-        requires ordered { IsOrdered (⟦<Sites<P, S> as Seen>⟧.seen self.old) }
-        requires clock { self.old.moment.0 + 2 ^ 32 * length events.now ≤ 2 ^ 64 }
-        ensures { IfOk result (λ played. Plays events.now (⟦<Sites<P, S> as Seen>⟧.seen self.old) (⟦<Sites<P, S> as Seen>⟧.seen self.new)
-            (handed_view (λ r. says r) (λ r. tally_of r) resolvers.old.items) (handed_view (λ r. says r) (λ r. tally_of r) resolvers.new.items) played.answers played.end) }
-    {
-        let mut answers = Vec::new(alloc);
-        answers.reserve(events.len())?;
-        for event in events {
-            let _ = seconds_of(event);
-            match self.step(alloc, resolvers, event) {
-                Ok(answer) => put(&mut answers, answer),
-                Err(refusal) => {
-                    return Ok(Played {
-                        answers: Listing::new(answers),
-                        end: Some(refusal),
-                    });
-                }
-            }
-        }
-        Ok(Played {
-            answers: Listing::new(answers),
-            end: None,
-        })
     }
 }
 
