@@ -1,7 +1,7 @@
 -- Why a run ends, by what ended a part of it; and the status by which that is told.
 use Rattle.std.proofs.Common.{Err, List, None, Option, Some, ap, arith, inl, inr, length, refl, subst, sym, true, ℕ, ◌+◌, ◌++◌, ◌<◌, ◌∙◌, ◌≡◌, ◌≤◌}
 use Rattle.std.proofs.lemmas.List.{length-append}
-use Rattle.std.specs.Prelude.{IfSome, IsTrue}
+use Rattle.std.specs.Prelude.{IfSome}
 use Rattle.merge_ports.specs.Faults.{Rose}
 use Rattle.merge_ports.specs.declared.whole.ReadFault.{ReadFault as Unread}
 use Rattle.merge_ports.specs.declared.whole.ReadFault.TheVariants as reading
@@ -15,8 +15,8 @@ use Rattle.merge_world.specs.Views.{HandedView}
 use Rattle.replmerge.specs.declared.ending.Ending.{Ending}
 use Rattle.replmerge.specs.declared.ending.Ending.TheVariants.{Damaged, Done, NoEvent, NoMemory, ReadFault, Refused, StoreFault, TooLong, Usage, WriteFault}
 use Rattle.replmerge.specs.Commands.{is_play}
-use Rattle.replmerge.specs.Endings.{refused_for, status_of, unread}
-use Rattle.replmerge.specs.Headline.{AnsweredBefore, AnsweredWhole, InputEnds, IsRefused, IsTaken, IsTakenInput, PlayEnds, RunEnds, Sides, WrittenInPart, is_early, is_status, lines_of_input}
+use Rattle.replmerge.specs.Endings.{refused_for, unread}
+use Rattle.replmerge.specs.Headline.{InputEnds, IsTaken, IsTakenInput, PlayEnds, RunEnds, Sides, WrittenInPart, lines_of_input}
 
 module _ (handed : HandedView) (input : List ℕ) (sides : Sides) (writes refused : ℕ) where
   abbrev Input : Ending → Type 0

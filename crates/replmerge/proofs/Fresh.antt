@@ -1,5 +1,5 @@
 -- Sites that have done nothing are those of the model's empty world, in their order.
-use Rattle.std.proofs.Common.{List, [], ap, arith, get_or, length, map, refl, subst, sym, ℕ, ◌<◌, ◌∙◌, ◌∷◌, ◌≡◌, zero, suc}
+use Rattle.std.proofs.Common.{List, [], ap, arith, get_or, length, map, refl, subst, sym, ℕ, ◌<◌, ◌∷◌, ◌≡◌, zero, suc}
 use Rattle.std.specs.Map.{keys_of}
 use Rattle.std.specs.Ordering.{nat_cmp}
 use Rattle.std.specs.List.Sorted.{IsStrictlySortedBy}
@@ -11,9 +11,9 @@ use Rattle.merge_schema.specs.declared.publication.Subscription.{Subscription}
 use Rattle.merge_model.specs.Publications.{by_site}
 use Rattle.merge_model.specs.Subscriber.{empty_subscriber}
 use Rattle.merge_model.specs.Tables.{SubscriberTables}
-use Rattle.merge_model.specs.World.{World, empty_world}
+use Rattle.merge_model.specs.World.{empty_world}
 use Rattle.merge_model.proofs.SitesInOrder.{AreKeyed, sites-ascend, sites-keyed}
-use Rattle.merge_world.specs.Views.{IsOrdered, SubscriberView, entry_of, publication_of, site_of, world_of}
+use Rattle.merge_world.specs.Views.{IsOrdered, entry_of, publication_of, site_of, world_of}
 use Rattle.replmerge.specs.Fresh.{fresh_view}
 use Rattle.replmerge.specs.Stores.{fresh_at, fresh_subscribers}
 

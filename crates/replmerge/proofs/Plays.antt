@@ -1,12 +1,9 @@
 -- How a run ends whose script is played on sites that have done nothing.
-use Rattle.std.proofs.Common.{Err, List, None, Ok, Option, Result, Some, arith, inl, inr, refl, subst, sym, ap, ◌+◌, ◌≡◌, ◌≤◌, ℕ, count_by, length}
+use Rattle.std.proofs.Common.{Err, List, None, Ok, Option, Result, Some, arith, inl, inr, refl, subst, sym, ◌≡◌, ◌≤◌, ℕ, count_by}
 use Rattle.std.specs.Prelude.{OnOk}
 use Rattle.merge_ports.specs.Faults.{Rose}
-use Rattle.merge_schema.specs.declared.fault.SchemaFault.{SchemaFault}
 use Rattle.merge_schema.specs.declared.publication.Publication.{Publication}
 use Rattle.merge_batch.specs.declared.refusal.Refusal.{Refusal}
-use Rattle.merge_script.specs.Lines.{lines_of}
-use Rattle.merge_script.specs.Input.{publication_of, script_of}
 use Rattle.merge_model.specs.Reach.{is_store_fault}
 use Rattle.merge_model.specs.Reading.{events_of, fault_of}
 use Rattle.merge_model.specs.declared.answer.Answer.{Answer}
@@ -19,11 +16,10 @@ use Rattle.merge_play.specs.Played.{Played, PlayedInPart}
 use Rattle.merge_play.specs.declared.stop.Stop.{Stop}
 use Rattle.merge_play.specs.declared.stop.Stop.TheVariants as stop
 use Rattle.replmerge.specs.declared.ending.Ending.{Ending}
-use Rattle.replmerge.specs.declared.ending.Ending.TheVariants.{Damaged, Done, NoEvent, NoMemory, ReadFault, Refused, StoreFault, TooLong, Usage, WriteFault}
 use Rattle.replmerge.specs.Endings.{stopped_by}
 use Rattle.replmerge.specs.Stopping.{played_by}
 use Rattle.replmerge.specs.Fresh.{fresh_view}
-use Rattle.replmerge.specs.Headline.{Answered, AnsweredInPart, InputEnds, IsRun, IsTaken, PlayEnds, Sides, WrittenInPart}
+use Rattle.replmerge.specs.Headline.{Answered, AnsweredInPart, IsRun, PlayEnds, Sides}
 use Rattle.replmerge.specs.Stores.{RoseBy}
 use Rattle.replmerge.proofs.Fresh.{fresh-world}
 use Rattle.replmerge.proofs.Rises.{rose-less, rose-one}

@@ -1,5 +1,5 @@
 -- Counts of faults that rise.
-use Rattle.std.proofs.Common.{arith, ℕ, ◌+◌, ◌≤◌, ◌<◌, ◌-◌, ◌^◌, ◌⊎◌, inl, inr, min, ◌≡◌}
+use Rattle.std.proofs.Common.{arith, ℕ, ◌+◌, ◌≤◌, ◌-◌}
 use Rattle.merge_ports.specs.Faults.{Rose}
 use Rattle.replmerge.specs.Stores.{RoseBy}
 

@@ -1,5 +1,5 @@
 -- What each status tells of why a run ended.
-use Rattle.std.proofs.Common.{List, None, Option, Some, Bool, arith, false, length, refl, subst, sym, true, ℕ, ◌<◌, ◌≡◌}
+use Rattle.std.proofs.Common.{List, None, Option, Some, arith, false, length, refl, subst, sym, ℕ, ◌<◌, ◌≡◌}
 use Rattle.std.specs.Prelude.{IfSome, IsTrue}
 use Rattle.merge_ports.specs.Faults.{Rose}
 use Rattle.merge_world.specs.Views.{HandedView}

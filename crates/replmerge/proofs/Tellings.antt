@@ -1,5 +1,5 @@
 -- What the notes got.
-use Rattle.std.proofs.Common.{Err, List, Ok, Option, Result, [], ap, codes, inl, inr, subst, sym, unwrap_or, ℕ, ◌++◌, ◌∙◌, ◌∷◌, ◌≡◌}
+use Rattle.std.proofs.Common.{Err, List, Ok, Option, Result, [], ap, codes, inr, subst, sym, unwrap_or, ℕ, ◌++◌, ◌∙◌, ◌∷◌, ◌≡◌}
 use Rattle.std.specs.Fmt.{decimal}
 use Rattle.std.specs.Prelude.{IfOk, OnErr}
 use Rattle.merge_schema.specs.Faults.{number_of}

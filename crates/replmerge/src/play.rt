@@ -1,11 +1,11 @@
 //! A publication and a script are played.
-ghost use Rattle.std.specs.Prelude.{◌≡◌, ◌⊎◌, ◌+◌, ◌≤◌, IfOk, OnOk, [], length, map, sum_by, true, ℕ};
+ghost use Rattle.std.specs.Prelude.{◌≡◌, ◌⊎◌, ◌≤◌, length, map, true, ℕ};
 ghost use Rattle.merge_script.specs.Lines.{lines_of};
 ghost use Rattle.merge_schema.specs.Valid.{IsValid};
 ghost use Rattle.merge_world.specs.Views.{handed_view, site_of};
 ghost use Rattle.replmerge.specs.Endings.{status_of};
 ghost use Rattle.replmerge.specs.Headline.{AnsweredInPart, InputEnds, PlayEnds, WrittenInPart, is_early};
-ghost use Rattle.replmerge.specs.Stores.{AreRooms, RoseBy, fresh_publisher, fresh_subscribers};
+ghost use Rattle.replmerge.specs.Stores.{AreRooms, fresh_publisher, fresh_subscribers};
 
 use crate::ending::{Ending, refused};
 use crate::script::play_on;

@@ -1,5 +1,5 @@
 //! The top call.
-ghost use Rattle.std.specs.Prelude.{◌≡◌, ◌<◌, ◌↔◌, IfSome, IsTrue, false, length, map, true};
+ghost use Rattle.std.specs.Prelude.{◌≡◌, ◌<◌, ◌↔◌, IfSome, IsTrue, false, length, true};
 ghost use Rattle.merge_ports.specs.Faults.{Rose};
 ghost use Rattle.merge_world.specs.Views.{handed_view};
 ghost use Rattle.replmerge.specs.Commands.{is_play};

@@ -4,7 +4,7 @@ ghost use Rattle.merge_types.specs.declared.identifiers.SiteId.{SiteId as Site};
 ghost use Rattle.merge_schema.specs.Valid.{IsValid};
 ghost use Rattle.merge_model.specs.Publications.{by_site};
 ghost use Rattle.merge_world.specs.Views.{faults_of, site_of};
-ghost use Rattle.replmerge.specs.Stores.{AreRooms, IsUnstarted, RoseBy, fresh_at, fresh_publisher, fresh_subscriber, fresh_subscribers};
+ghost use Rattle.replmerge.specs.Stores.{AreRooms, IsUnstarted, RoseBy, fresh_publisher, fresh_subscriber, fresh_subscribers};
 
 use crate::ending::{Ending, stopped, unopened};
 use merge_ports::Outside;

@@ -1,5 +1,5 @@
 -- Each clause by why the run ended.
-use Rattle.std.proofs.Common.{ap, subst, sym, ◌∙◌, ◌≡◌, true, ℕ}
+use Rattle.std.proofs.Common.{ap, subst, sym, ◌∙◌, ℕ}
 use Rattle.std.specs.Prelude.{IsTrue}
 use Rattle.std.proofs.lemmas.List.{length-map}
 use Rattle.replmerge.specs.Headline.{is_early, is_status}

@@ -1,5 +1,5 @@
 -- The sites begin as those of the model's empty world.
-use Rattle.std.proofs.Common.{ap, arith, subst, sym, ◌≡◌, ◌≤◌}
+use Rattle.std.proofs.Common.{ap, arith, subst, sym}
 use Rattle.merge_world.specs.Views.{IsOrdered, SitesView}
 use Rattle.replmerge.proofs.Fresh.{fresh-ordered}
 use Rattle.replmerge.proofs.Plays.{in-part, play-ends}
