@@ -1,3 +1,7 @@
-pub mod Decimals
-pub mod Fits
-pub mod SoFar
+pub mod Ends
+pub mod Fresh
+pub mod Plays
+pub mod Rises
+pub mod Rooms
+pub mod Statuses
+pub mod Tellings

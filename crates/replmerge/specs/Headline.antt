@@ -1,90 +1,141 @@
 -- What a run of the program may write, and the cause of each of its statuses.
-use Rattle.std.specs.Prelude.{◌≡◌, ◌⊎◌, ◌≤◌, ◌<◌, ℕ, List, [], ◌∷◌, ◌++◌, take, length, codes, Bool, true, false, nat_lt, ◌||◌, ◌==◌, IfSome}
-use Rattle.std.specs.declared.option.Option.{Option}
+use Rattle.std.specs.Prelude.{Bool, Err, List, None, Ok, Option, Some, count_by, false, true, length, nat_lt, take, IfSome, ℕ, ◌++◌, ◌==◌, ◌||◌, ◌<◌, ◌≡◌, ◌≢◌, ◌≤◌, ◌⊎◌}
 use Rattle.std.specs.Io.KnownBytes.{Appends}
 use Rattle.merge_ports.specs.Faults.{Rose}
-use Rattle.merge_ports.specs.Parts.{AppendsFront}
+use Rattle.merge_schema.specs.Answers.{IsAnswer}
+use Rattle.merge_schema.specs.declared.fault.SchemaFault.{SchemaFault}
+use Rattle.merge_schema.specs.declared.fault.SchemaFault.TheVariants.{NoMemory as Lacking}
+use Rattle.merge_schema.specs.declared.publication.Publication.{Publication}
 use Rattle.merge_script.specs.Input.{publication_of, script_of}
 use Rattle.merge_script.specs.Lines.{lines_of}
-use Rattle.merge_first.specs.declared.event.Event.{Event}
-use Rattle.merge_first.specs.declared.answer.Answer.{Answer}
-use Rattle.merge_first.specs.declared.event.Line.{Line}
-use Rattle.merge_first.specs.declared.event.Line.TheVariants.{Quiet, Event as Does, NoEvent}
-use Rattle.merge_first.specs.World.{World, empty_world, Run, Step}
-use Rattle.merge_first.specs.Script.{same, events_of, has_no_event}
-use Rattle.merge_first.specs.Text.{texts, answer_text}
-
--- the words are `play` alone
-abbrev pub is_play : List (List ℕ) → Bool
-is_play (word ∷ []) = same word (codes "play")
-is_play other = false
-
--- the one publication: an article `item` with one column `qty` of whole numbers, and one subscriber
-unfoldable pub publication : List ℕ
-publication = codes "name = \"first\"\n[[article]]\nname = \"item\"\n[[article.column]]\nname = \"qty\"\ntype = \"int\"\n[[subscription]]\nsite = 1\nhost = \"h1\"\n"
-
-abbrev pub is_publication : List ℕ → Bool
-is_publication text = same text publication
+use Rattle.merge_model.specs.Failing.{Slips}
+use Rattle.merge_model.specs.Play.{names_of}
+use Rattle.merge_model.specs.Reach.{is_store_fault}
+use Rattle.merge_model.specs.Reading.{events_of, fault_of}
+use Rattle.merge_model.specs.Runs.{machine_says}
+use Rattle.merge_model.specs.Text.{texts_of}
+use Rattle.merge_model.specs.declared.answer.Answer.{Answer}
+use Rattle.merge_model.specs.declared.event.Event.{Event}
+use Rattle.merge_world.specs.Views.{HandedView}
+use Rattle.replmerge.specs.declared.ending.Ending.{Ending}
+use Rattle.replmerge.specs.declared.ending.Ending.TheVariants.{Damaged, Done, NoEvent, NoMemory, ReadFault, Refused, StoreFault, TooLong, Usage, WriteFault}
+use Rattle.replmerge.specs.Commands.{is_play}
+use Rattle.replmerge.specs.Endings.{status_of}
+use Rattle.replmerge.specs.Notes.{Told}
+use Rattle.replmerge.specs.Stores.{RoseBy}
 
 -- the lines of an input's script
 abbrev pub lines_of_input : List ℕ → List (List ℕ)
 lines_of_input input = lines_of (script_of input)
 
+-- what the output told of its bytes before and behind a run, and how often the stores of sites had failed by then
+pub record Sides : Type 0 where
+  pub was : Option (List ℕ)
+  pub written : Option (List ℕ)
+  pub before : ℕ
+  pub after : ℕ
+
+-- These answers are given in a run of the sites from nothing, each decision is what the resolvers say that were handed in, at their tallies, and no more steps fail by a store than stores failed.
+pub record IsRun (publication : Publication) (handed : HandedView) (events : List Event) (answers : List Answer) (before after : ℕ) : Type 0 where
+  pub slips : Slips
+  pub said : machine_says publication handed.says handed.tallies slips events ≡ answers
+  pub few : RoseBy (count_by is_store_fault slips) before after
+
 -- What was written is the text of a run over the events of the lines before the first that is no event, or of all.
-pub record Answered (lines : List (List ℕ)) (old new : Option (List ℕ)) : Type 0 where
+pub record Answered (publication : Publication) (handed : HandedView) (lines : List (List ℕ)) (sides : Sides) : Type 0 where
   pub answers : List Answer
-  pub world : World
-  pub run : Run empty_world (events_of lines) answers world
-  pub bytes : Appends old new (texts answers)
+  pub run : IsRun publication handed (events_of lines) answers sides.before sides.after
+  pub bytes : Appends sides.was sides.written (texts_of (names_of publication) answers)
 
 -- What was written is a front of the text of a run over some of the first of these events.
-pub record AnsweredInPart (lines : List (List ℕ)) (old new : Option (List ℕ)) : Type 0 where
+pub record AnsweredInPart (publication : Publication) (handed : HandedView) (lines : List (List ℕ)) (sides : Sides) : Type 0 where
   pub events : List Event
   pub more : List Event
   pub split : events_of lines ≡ events ++ more
   pub answers : List Answer
-  pub world : World
-  pub run : Run empty_world events answers world
+  pub run : IsRun publication handed events answers sides.before sides.after
   pub count : ℕ
-  pub bytes : Appends old new (take count (texts answers))
+  pub bytes : Appends sides.was sides.written (take count (texts_of (names_of publication) answers))
 
--- From old, a line that says this is answered whole, and leads to new; the bytes grow from before to now.
-abbrev pub LineAnswered : World → Line → World → Option (List ℕ) → Option (List ℕ) → Type 0
-LineAnswered old Quiet new before now = (new ≡ old) × (now ≡ before)
-LineAnswered old (Does event) new before now = (answer : Answer) × Step old event answer new × Appends before now (answer_text answer)
-LineAnswered old (NoEvent word) new before now = ⊥
-
--- From old, the answer to a line that says this was written in part.
-abbrev pub WrittenInPart : World → Line → Option (List ℕ) → Option (List ℕ) → Type 0
-WrittenInPart old Quiet before now = now ≡ before
-WrittenInPart old (Does event) before now = (now ≡ before) ⊎ ((answer : Answer) × (new : World) × Step old event answer new × AppendsFront before now (answer_text answer))
-WrittenInPart old (NoEvent word) before now = now ≡ before
-
--- the input is not too long, and has the publication before its script
-pub record IsTaken (input : List ℕ) : Type 0 where
+-- the input is not too long, and has this publication before its script, where so many resolvers are handed in
+pub record IsTaken (resolvers : ℕ) (input : List ℕ) (publication : Publication) : Type 0 where
   pub fits : length input ≤ 67108864
-  pub publication : is_publication (publication_of input) ≡ true
+  pub read : IsAnswer resolvers (publication_of input) (Ok publication)
 
--- the input is not too long, and has another text before its script
-pub record IsRefused (input : List ℕ) : Type 0 where
+-- the input is not too long, and the text before its script is no publication for this
+pub record IsRefusedFor (resolvers : ℕ) (input : List ℕ) (fault : SchemaFault) : Type 0 where
   pub fits : length input ≤ 67108864
-  pub publication : is_publication (publication_of input) ≡ false
+  pub read : IsAnswer resolvers (publication_of input) (Err fault)
+  pub known : fault ≢ Lacking
+
+abbrev pub IsTakenInput : ℕ → List ℕ → Type 0
+IsTakenInput resolvers input = (publication : Publication) × IsTaken resolvers input publication
+
+abbrev pub IsRefused : ℕ → List ℕ → Type 0
+IsRefused resolvers input = (fault : SchemaFault) × IsRefusedFor resolvers input fault
 
 -- each line of the input's script is an event or quiet, and all events were answered
-pub record AnsweredWhole (input : List ℕ) (old new : Option (List ℕ)) : Type 0 where
-  pub taken : IsTaken input
-  pub events : has_no_event (lines_of_input input) ≡ false
-  pub answered : Answered (lines_of_input input) old new
+pub record AnsweredWhole (handed : HandedView) (input : List ℕ) (sides : Sides) : Type 0 where
+  pub publication : Publication
+  pub taken : IsTaken (length handed.tallies) input publication
+  pub events : fault_of (lines_of_input input) ≡ None
+  pub answered : Answered publication handed (lines_of_input input) sides
 
--- some line of the input's script is no event, and the events before the first were answered
-pub record AnsweredBefore (input : List ℕ) (old new : Option (List ℕ)) : Type 0 where
-  pub taken : IsTaken input
-  pub no_event : has_no_event (lines_of_input input) ≡ true
-  pub answered : Answered (lines_of_input input) old new
+-- the first line of the input's script that is no event has this number and this first wrong word, and the events before it were answered
+pub record AnsweredUpTo (handed : HandedView) (input : List ℕ) (line word : ℕ) (sides : Sides) : Type 0 where
+  pub publication : Publication
+  pub taken : IsTaken (length handed.tallies) input publication
+  pub no_event : fault_of (lines_of_input input) ≡ Some (line, word)
+  pub answered : Answered publication handed (lines_of_input input) sides
+
+abbrev pub AnsweredBefore : HandedView → List ℕ → Sides → Type 0
+AnsweredBefore handed input sides = (line : ℕ) × (word : ℕ) × AnsweredUpTo handed input line word sides
+
+-- nothing was written, or a front of the answers to some of the first events of the input's script
+abbrev pub WrittenInPart : HandedView → List ℕ → Sides → Type 0
+WrittenInPart handed input sides = (sides.written ≡ sides.was)
+    ⊎ ((publication : Publication) × IsTaken (length handed.tallies) input publication × AnsweredInPart publication handed (lines_of_input input) sides)
+
+-- why a script's run ended; writes were refused from `writes` to `refused`
+abbrev pub PlayEnds : Ending → Publication → HandedView → List (List ℕ) → Sides → (writes refused : ℕ) → Type 0
+PlayEnds Done publication handed lines sides writes refused = (fault_of lines ≡ None) × Answered publication handed lines sides
+PlayEnds (NoEvent line word) publication handed lines sides writes refused = (fault_of lines ≡ Some (line, word)) × Answered publication handed lines sides
+PlayEnds WriteFault publication handed lines sides writes refused = Rose writes refused
+PlayEnds StoreFault publication handed lines sides writes refused = Rose sides.before sides.after
+PlayEnds (Damaged table key) publication handed lines sides writes refused = Unit {0}
+PlayEnds NoMemory publication handed lines sides writes refused = Unit {0}
+PlayEnds other publication handed lines sides writes refused = ⊥
+
+-- why a run ended whose input was read whole
+abbrev pub InputEnds : Ending → HandedView → List ℕ → Sides → (writes refused : ℕ) → Type 0
+InputEnds (Refused fault) handed input sides writes refused = IsRefusedFor (length handed.tallies) input fault
+InputEnds Done handed input sides writes refused = AnsweredWhole handed input sides
+InputEnds (NoEvent line word) handed input sides writes refused = AnsweredUpTo handed input line word sides
+InputEnds WriteFault handed input sides writes refused = IsTakenInput (length handed.tallies) input × Rose writes refused
+InputEnds StoreFault handed input sides writes refused = IsTakenInput (length handed.tallies) input × Rose sides.before sides.after
+InputEnds (Damaged table key) handed input sides writes refused = IsTakenInput (length handed.tallies) input
+InputEnds NoMemory handed input sides writes refused = Unit {0}
+InputEnds other handed input sides writes refused = ⊥
+
+-- why a run ended; reads failed from `reads` to `failed`
+abbrev pub RunEnds : Ending → List (List ℕ) → Option (List ℕ) → HandedView → Sides → (writes refused reads failed : ℕ) → Type 0
+RunEnds Usage words left handed sides writes refused reads failed = is_play words ≡ false
+RunEnds ReadFault words left handed sides writes refused reads failed = (is_play words ≡ true) × Rose reads failed
+RunEnds TooLong words left handed sides writes refused reads failed = (is_play words ≡ true) × IfSome left (λ (input : List ℕ). 67108864 < length input)
+RunEnds WriteFault words left handed sides writes refused reads failed = (is_play words ≡ true) × Rose writes refused × IfSome left (IsTakenInput (length handed.tallies))
+RunEnds StoreFault words left handed sides writes refused reads failed = (is_play words ≡ true) × Rose sides.before sides.after × IfSome left (IsTakenInput (length handed.tallies))
+RunEnds other words left handed sides writes refused reads failed = (is_play words ≡ true) × IfSome left (λ (input : List ℕ). InputEnds other handed input sides writes refused)
+
+-- What the notes were told, and that it was why the run ended
+pub record IsNoted (status : ℕ) (words : List (List ℕ)) (left : Option (List ℕ)) (handed : HandedView) (sides : Sides) (writes refused reads failed : ℕ) (old new : Option (List ℕ)) (before after : ℕ) : Type 0 where
+  pub ending : Ending
+  pub status_is : status ≡ status_of ending
+  pub ends : RunEnds ending words left handed sides writes refused reads failed
+  pub told : Told ending old new before after
 
 abbrev pub is_status : ℕ → Bool
-is_status n = nat_lt n 6 || (n == 11) || (n == 14)
+is_status n = nat_lt n 7 || ((n == 10) || ((n == 11) || (n == 14)))
 
 -- a status that comes before the script is looked at
 abbrev pub is_early : ℕ → Bool
-is_early n = (n == 1) || (n == 2) || (n == 4) || (n == 14)
+is_early n = (n == 1) || ((n == 2) || ((n == 4) || (n == 14)))

@@ -1,2 +1,7 @@
+pub mod Commands
+pub mod Endings
+pub mod Fresh
 pub mod Headline
-pub mod Session
+pub mod Notes
+pub mod Stopping
+pub mod Stores

@@ -1,18 +1,24 @@
 //! Merge replication between a publisher and its subscribers: the program.
 #![tactic(auto)]
 
+mod command;
+mod ending;
+mod notes;
 mod play;
-mod publication;
-mod reading;
 mod run;
+mod script;
+mod stores;
 #[cfg(test)]
 mod tests;
-mod texts;
-mod world;
 
-use merge_ports::{Reading, Writing};
-use merge_types::{NoMemory, Words};
-use run::{Host, Status, run};
+use ending::Status;
+use merge_keeper::MemoryKeeper;
+use merge_ports::{Entries, MemoryOutside, Reading, Writing};
+use merge_resolve::{Additive, Handed, Maximum, Minimum, Priority, SubscriberWins};
+use merge_table::Table;
+use merge_types::{Listing, NoMemory, Words};
+use run::{Host, run};
+use std::alloc::Global;
 use std::env;
 use std::io::ErrorKind;
 use std::process::ExitCode;
@@ -32,13 +38,39 @@ fn words(rt: &HostRuntime) -> Result<Vec<Words>, NoMemory> {
     Ok(words)
 }
 
-fn main(rt: HostRuntime) -> ExitCode {
-    let Ok(words) = words(&rt) else {
-        return ExitCode::from(Status::NO_MEMORY.0);
-    };
+// Stores in memory that start empty, one for each site that a publication may have.
+fn memory_stores(alloc: Global) -> Result<MemoryOutside<MemoryKeeper>, NoMemory> {
+    let mut stores = Table::new(alloc);
+    for site in 0..64u16 {
+        let none = Listing::empty(alloc);
+        let keeper = MemoryKeeper::new(alloc, Entries::empty(alloc), none, Listing::empty(alloc));
+        stores.insert(site, keeper)?;
+    }
+    Ok(MemoryOutside::new(stores, Listing::empty(alloc)))
+}
+
+fn program(rt: &HostRuntime) -> Result<Status, NoMemory> {
+    let alloc = rt.alloc();
+    let words = words(rt)?;
+    // In the order in which a publication counts them.
+    let mut resolvers: Vec<Handed> = Vec::new(alloc);
+    resolvers.push(Box::new(alloc, Priority::new())?)?;
+    resolvers.push(Box::new(alloc, Maximum::new())?)?;
+    resolvers.push(Box::new(alloc, Minimum::new())?)?;
+    resolvers.push(Box::new(alloc, Additive::new())?)?;
+    resolvers.push(Box::new(alloc, SubscriberWins::new())?)?;
     let mut host = Host {
         input: Reading::new(rt.stdin()),
         output: Writing::new(rt.stdout()),
+        notes: Writing::new(rt.stderr()),
+        outside: memory_stores(alloc)?,
     };
-    ExitCode::from(run(rt.alloc(), words.as_slice(), &mut host).0)
+    Ok(run(alloc, words.as_slice(), &mut host, &mut resolvers))
+}
+
+fn main(rt: HostRuntime) -> ExitCode {
+    let Ok(Status(status)) = program(&rt) else {
+        return ExitCode::from(11);
+    };
+    ExitCode::from(status)
 }

@@ -1,108 +1,104 @@
-//! A script is played line by line.
-ghost use Rattle.std.specs.Prelude.{◌≡◌, ◌≤◌, OnOk, OnErr, IsErrOf, Err, true, false, length};
-ghost use Rattle.merge_ports.specs.Faults.{Rose};
+//! A publication and a script are played.
+ghost use Rattle.std.specs.Prelude.{◌≡◌, ◌⊎◌, ◌≤◌, length, map, true, ℕ};
 ghost use Rattle.merge_script.specs.Lines.{lines_of};
-ghost use Rattle.merge_first.specs.Script.{reading_of, is_no_event, has_no_event};
-ghost use Rattle.replmerge.specs.Headline.{LineAnswered, WrittenInPart, Answered, AnsweredInPart};
-ghost use Rattle.replmerge.specs.Session.{FitsEvent};
+ghost use Rattle.merge_schema.specs.Valid.{IsValid};
+ghost use Rattle.merge_world.specs.Views.{handed_view, site_of};
+ghost use Rattle.replmerge.specs.Endings.{status_of};
+ghost use Rattle.replmerge.specs.Headline.{AnsweredInPart, InputEnds, PlayEnds, WrittenInPart, is_early};
+ghost use Rattle.replmerge.specs.Stores.{AreRooms, fresh_publisher, fresh_subscribers};
 
-use crate::world::World;
-use crate::{reading, texts};
-use merge_first::{Event, Line};
-use merge_ports::{Failed, Sink, write_whole};
-use merge_script::cut_line;
-use merge_types::NoMemory;
+use crate::ending::{Ending, refused};
+use crate::script::play_on;
+use crate::stores::{give_back, start};
+use merge_ports::{Outside, Sink};
+use merge_resolve::Handed;
+use merge_schema::{Publication, read};
+use merge_script::cut_input;
+use merge_site::{KeptPublisher, KeptSubscriber};
+use merge_types::{Moment, Words};
+use merge_world::Sites;
 use std::alloc::Global;
 
-/// Why a script was not played to its end.
-#[derive(Clone, Copy, Debug, PartialEq, Eq)]
-pub enum Stop {
-    /// A line is no event.
-    NoEvent,
-    /// An answer could not be written.
-    WriteFault,
-    NoMemory,
-}
-
-impl From<NoMemory> for Stop {
-    ghost use Rattle.std.specs.Prelude.{◌≡◌};
-    ghost use Rattle.replmerge.specs.declared.play.Stop.TheVariants.{NoMemory as no_memory};
-
-    ghost from_gives = { λ _ stop. stop ≡ no_memory };
-
-    fn from(_: NoMemory) -> Self {
-        Stop::NoMemory
-    }
-}
-
-impl From<Failed> for Stop {
-    ghost use Rattle.std.specs.Prelude.{◌≡◌};
-    ghost use Rattle.replmerge.specs.declared.play.Stop.TheVariants.{WriteFault as write_fault};
-
-    ghost from_gives = { λ _ stop. stop ≡ write_fault };
-
-    fn from(_: Failed) -> Self {
-        Stop::WriteFault
-    }
-}
-
-// Makes the step of an event, and writes its answer.
-fn play_event<O: Sink>(
+// Plays a script on the sites that were started for it, and gives their keepers back.
+fn play_started<O: Sink, E: Outside>(
     alloc: Global,
-    world: &mut World,
-    event: Event,
+    started: (KeptPublisher<E::Keep>, Vec<KeptSubscriber<E::Keep>>),
+    resolvers: &mut Vec<Handed>,
+    script: &[u8],
     output: &mut O,
-) -> Result<(), Stop>
-    requires { FitsEvent event }
-    ensures ok { OnOk result (LineAnswered world.old (Line.Event event) world.new (O.written output.old) (O.written output.new)) }
-    ensures part { OnErr result (WrittenInPart world.old (Line.Event event) (O.written output.old) (O.written output.new)) }
-    ensures no_event { IsErrOf result Stop.NoEvent → ⊥ }
-    ensures fault { IsErrOf result Stop.WriteFault → Rose (O.count output.old) (O.count output.new) }
-    ensures later { O.count output.old ≤ O.count output.new }
+    outside: &mut E,
+    path: &Words,
+) -> Ending
+    requires publisher { started.0 ≡ fresh_publisher started.0.publication }
+    requires subscribers { started.1.items ≡ fresh_subscribers started.0.publication }
+    requires room { E.HasRoom outside.old (record { 0 = 0 }) path.now }
+    requires rooms { AreRooms (E.HasRoom outside.old) path.now (map site_of started.1.items) }
+    requires short { length script.now ≤ 67108864 }
+    ensures ends { PlayEnds result started.0.publication (handed_view (λ r. says r) (λ r. tally_of r) resolvers.old.items) (lines_of script.now)
+        (record { was = O.written output.old; written = O.written output.new; before = (E.counts outside.old).stores; after = (E.counts outside.new).stores }) (O.count output.old) (O.count output.new) }
+    ensures part { AnsweredInPart started.0.publication (handed_view (λ r. says r) (λ r. tally_of r) resolvers.old.items) (lines_of script.now)
+        (record { was = O.written output.old; written = O.written output.new; before = (E.counts outside.old).stores; after = (E.counts outside.new).stores }) }
 {
-    let answer = world.step(event);
-    let text = texts::text_of(alloc, &answer)?;
-    write_whole(output, text.as_slice())?;
-    Ok(())
+    let (publisher, subscribers) = started;
+    let mut sites = Sites {
+        publisher,
+        subscribers,
+        pool: Vec::new(alloc),
+        moment: Moment(0),
+    };
+    let ending = play_on(alloc, &mut sites, resolvers, script, output);
+    let Sites {
+        publisher,
+        subscribers,
+        ..
+    } = sites;
+    give_back(outside, path, publisher, subscribers);
+    ending
 }
 
-// Reads a line, and plays the event that it says.
-fn play_line<O: Sink>(
+// Plays a script on the sites of a publication, each at its store.
+fn play_publication<O: Sink, E: Outside>(
     alloc: Global,
-    world: &mut World,
-    line: &[u8],
+    publication: &Publication,
+    resolvers: &mut Vec<Handed>,
+    script: &[u8],
     output: &mut O,
-) -> Result<(), Stop>
-    ensures ok { OnOk result (LineAnswered world.old (reading_of line.now) world.new (O.written output.old) (O.written output.new)) }
-    ensures part { OnErr result (WrittenInPart world.old (reading_of line.now) (O.written output.old) (O.written output.new)) }
-    ensures no_event { IsErrOf result Stop.NoEvent → is_no_event (reading_of line.now) ≡ true }
-    ensures fault { IsErrOf result Stop.WriteFault → Rose (O.count output.old) (O.count output.new) }
-    ensures later { O.count output.old ≤ O.count output.new }
+    outside: &mut E,
+) -> Ending
+    requires valid { (resolvers : ℕ) × IsValid resolvers publication.now }
+    requires short { length script.now ≤ 67108864 }
+    ensures ends { PlayEnds result publication.now (handed_view (λ r. says r) (λ r. tally_of r) resolvers.old.items) (lines_of script.now)
+        (record { was = O.written output.old; written = O.written output.new; before = (E.counts outside.old).stores; after = (E.counts outside.new).stores }) (O.count output.old) (O.count output.new) }
+    ensures part { (O.written output.new ≡ O.written output.old) ⊎ AnsweredInPart publication.now (handed_view (λ r. says r) (λ r. tally_of r) resolvers.old.items) (lines_of script.now)
+        (record { was = O.written output.old; written = O.written output.new; before = (E.counts outside.old).stores; after = (E.counts outside.new).stores }) }
 {
-    match reading::read_line(alloc, line)? {
-        Line::Quiet => Ok(()),
-        Line::Event(event) => play_event(alloc, world, event, output),
-        Line::NoEvent(_) => Err(Stop::NoEvent),
+    let path = Words::new(String::new(alloc));
+    match start(alloc, outside, &path, publication) {
+        Ok(started) => play_started(alloc, started, resolvers, script, output, outside, &path),
+        Err(ending) => ending,
     }
 }
 
-/// Plays the lines of a script from empty sites. Each answer is written before the next line is
-/// looked at.
-pub fn play<O: Sink>(alloc: Global, script: &[u8], output: &mut O) -> Result<(), Stop>
-    ensures whole { OnOk result (has_no_event (lines_of script.now) ≡ false) }
-    ensures done { OnOk result (Answered (lines_of script.now) (O.written output.old) (O.written output.new)) }
-    ensures no_event { IsErrOf result Stop.NoEvent → has_no_event (lines_of script.now) ≡ true }
-    ensures before { IsErrOf result Stop.NoEvent → Answered (lines_of script.now) (O.written output.old) (O.written output.new) }
-    ensures part { AnsweredInPart (lines_of script.now) (O.written output.old) (O.written output.new) }
-    ensures fault { IsErrOf result Stop.WriteFault → Rose (O.count output.old) (O.count output.new) }
-    ensures later { O.count output.old ≤ O.count output.new }
+/// Plays an input that was read whole: a publication, a line of three dashes and a script.
+pub fn play_input<O: Sink, E: Outside>(
+    alloc: Global,
+    input: &[u8],
+    resolvers: &mut Vec<Handed>,
+    output: &mut O,
+    outside: &mut E,
+) -> Ending
+    requires { length input.now ≤ 67108864 }
+    ensures ends { InputEnds result (handed_view (λ r. says r) (λ r. tally_of r) resolvers.old.items) input.now
+        (record { was = O.written output.old; written = O.written output.new; before = (E.counts outside.old).stores; after = (E.counts outside.new).stores }) (O.count output.old) (O.count output.new) }
+    ensures part { WrittenInPart (handed_view (λ r. says r) (λ r. tally_of r) resolvers.old.items) input.now
+        (record { was = O.written output.old; written = O.written output.new; before = (E.counts outside.old).stores; after = (E.counts outside.new).stores }) }
+    ensures silent { is_early (status_of result) ≡ true → O.written output.new ≡ O.written output.old }
 {
-    let mut world = World::start(alloc)?;
-    let mut rest = script;
-    while !rest.is_empty() {
-        let (line, more) = cut_line(rest);
-        play_line(alloc, &mut world, line, output)?;
-        rest = more;
+    let (publication, script) = cut_input(input);
+    match read(alloc, publication, resolvers.len()) {
+        Ok(publication) => {
+            play_publication(alloc, &publication, resolvers, script, output, outside)
+        }
+        Err(fault) => refused(fault),
     }
-    Ok(())
 }

@@ -1,3 +1,0 @@
-pub mod Determined
-pub mod Suffix
-pub mod Puts
