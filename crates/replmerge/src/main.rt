@@ -8,8 +8,6 @@ mod play;
 mod run;
 mod script;
 mod stores;
-#[cfg(test)]
-mod tests;
 
 use ending::Status;
 use merge_keeper::MemoryKeeper;
