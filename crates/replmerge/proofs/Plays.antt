@@ -88,3 +88,9 @@ pub part-of : (p q : Publication) → q ≡ p → (a b : ℕ) → b ≡ a → (h
 part-of p q is a b same handed lines was written after part =
     subst (λ (n : ℕ). AnsweredInPart p handed lines (record { was = was; written = written; before = n; after = after })) same
     (subst (λ (x : Publication). AnsweredInPart x handed lines (record { was = was; written = written; before = b; after = after })) is part)
+
+pub ends-of : (ending : Ending) (p q : Publication) → q ≡ p → (a b : ℕ) → b ≡ a → (handed : HandedView) (lines : List (List ℕ)) (was written : Option (List ℕ)) (after writes refused : ℕ)
+    → PlayEnds ending q handed lines (record { was = was; written = written; before = b; after = after }) writes refused → PlayEnds ending p handed lines (record { was = was; written = written; before = a; after = after }) writes refused
+ends-of ending p q is a b same handed lines was written after writes refused ends =
+    subst (λ (n : ℕ). PlayEnds ending p handed lines (record { was = was; written = written; before = n; after = after }) writes refused) same
+    (subst (λ (x : Publication). PlayEnds ending x handed lines (record { was = was; written = written; before = b; after = after }) writes refused) is ends)
