@@ -1,5 +1,5 @@
 -- Why a run ends, by what ended a part of it; and the status by which that is told.
-use Rattle.std.proofs.Common.{Err, List, None, Option, Some, ap, arith, inl, inr, length, refl, subst, sym, true, ℕ, ◌+◌, ◌++◌, ◌<◌, ◌∙◌, ◌≡◌, ◌≤◌}
+use Rattle.std.proofs.Common.{Err, List, None, Ok, Option, Some, ap, arith, inl, inr, length, refl, subst, sym, true, ℕ, ◌+◌, ◌++◌, ◌<◌, ◌∙◌, ◌≡◌, ◌≤◌, ◌⊎◌}
 use Rattle.std.proofs.lemmas.List.{length-append}
 use Rattle.std.specs.Prelude.{IfSome}
 use Rattle.merge_ports.specs.Faults.{Rose}
@@ -10,13 +10,14 @@ use Rattle.merge_schema.specs.declared.fault.SchemaFault.{SchemaFault}
 use Rattle.merge_schema.specs.declared.fault.SchemaFault.TheVariants as schema
 use Rattle.merge_schema.specs.declared.publication.Publication.{Publication}
 use Rattle.merge_script.specs.Input.{IsCut, publication_of, script_of}
+use Rattle.merge_script.specs.Lines.{lines_of}
 use Rattle.merge_script.proofs.Cuts.{IsCut-input}
 use Rattle.merge_world.specs.Views.{HandedView}
 use Rattle.replmerge.specs.declared.ending.Ending.{Ending}
 use Rattle.replmerge.specs.declared.ending.Ending.TheVariants.{Damaged, Done, NoEvent, NoMemory, ReadFault, Refused, StoreFault, TooLong, Usage, WriteFault}
 use Rattle.replmerge.specs.Commands.{is_play}
 use Rattle.replmerge.specs.Endings.{refused_for, unread}
-use Rattle.replmerge.specs.Headline.{InputEnds, IsTaken, IsTakenInput, PlayEnds, RunEnds, Sides, WrittenInPart, lines_of_input}
+use Rattle.replmerge.specs.Headline.{AnsweredInPart, InputEnds, IsTaken, IsTakenInput, PlayEnds, RunEnds, Sides, WrittenInPart, lines_of_input}
 
 module _ (handed : HandedView) (input : List ℕ) (sides : Sides) (writes refused : ℕ) where
   abbrev Input : Ending → Type 0
@@ -54,6 +55,23 @@ module _ (handed : HandedView) (input : List ℕ) (sides : Sides) (writes refuse
         → ((fault ≡ schema.NoMemory → ⊥) → IsAnswer resolvers text (Err fault)) → Input ending
     refused-by fault ending is resolvers counted text same answer =
         subst Input (sym is) (refused-ends fault (λ known. subst (λ (t : List ℕ). IsAnswer (length handed.tallies) t (Err fault)) same (subst (λ (n : ℕ). IsAnswer n text (Err fault)) counted (answer known))))
+
+-- the script was that of an input that was read, and the text before it is this publication
+module _ (handed : HandedView) (input : List ℕ) (sides : Sides) (fits : length input ≤ 67108864) (resolvers : ℕ) (counted : resolvers ≡ length handed.tallies)
+    (text : List ℕ) (before : text ≡ publication_of input) (publication : Publication) (answer : IsAnswer resolvers text (Ok publication)) (script : List ℕ) (behind : script ≡ script_of input) where
+  taken-so : IsTaken (length handed.tallies) input publication
+  taken-so = record {
+    fits = fits;
+    read = subst (λ (t : List ℕ). IsAnswer (length handed.tallies) t (Ok publication)) before (subst (λ (n : ℕ). IsAnswer n text (Ok publication)) counted answer);
+  }
+
+  pub played-ends : (writes refused : ℕ) (ending : Ending) → PlayEnds ending publication handed (lines_of script) sides writes refused → InputEnds ending handed input sides writes refused
+  played-ends writes refused ending ends =
+      input-ends handed input sides writes refused publication taken-so ending (subst (λ (l : List ℕ). PlayEnds ending publication handed (lines_of l) sides writes refused) behind ends)
+
+  pub played-part : (sides.written ≡ sides.was) ⊎ AnsweredInPart publication handed (lines_of script) sides → WrittenInPart handed input sides
+  played-part (inl same) = inl same
+  played-part (inr part) = inr (publication, taken-so, subst (λ (l : List ℕ). AnsweredInPart publication handed (lines_of l) sides) behind part)
 
 -- the script is a part of its input
 pub short-script : (input script : List ℕ) → script ≡ script_of input → (limit : ℕ) → length input ≤ limit → length script ≤ limit

@@ -2,6 +2,7 @@
 use Rattle.std.proofs.Common.{Err, List, None, Ok, Option, Result, Some, arith, inl, inr, refl, subst, sym, ◌≡◌, ◌≤◌, ℕ, count_by}
 use Rattle.std.specs.Prelude.{OnOk}
 use Rattle.merge_ports.specs.Faults.{Rose}
+use Rattle.merge_schema.specs.Valid.{IsValid}
 use Rattle.merge_schema.specs.declared.publication.Publication.{Publication}
 use Rattle.merge_batch.specs.declared.refusal.Refusal.{Refusal}
 use Rattle.merge_model.specs.Reach.{is_store_fault}
@@ -12,6 +13,7 @@ use Rattle.merge_world.specs.Playing.{AllHappened}
 use Rattle.merge_world.specs.Restarts.{IsLost}
 use Rattle.merge_world.specs.Views.{HandedView, SitesView}
 use Rattle.merge_world.proofs.Playings.{played-runs}
+use Rattle.merge_laws.specs.Promised.{MachineHasPromises}
 use Rattle.merge_play.specs.Played.{Played, PlayedInPart}
 use Rattle.merge_play.specs.declared.stop.Stop.{Stop}
 use Rattle.merge_play.specs.declared.stop.Stop.TheVariants as stop
@@ -24,13 +26,18 @@ use Rattle.replmerge.specs.Stores.{RoseBy}
 use Rattle.replmerge.proofs.Fresh.{fresh-world}
 use Rattle.replmerge.proofs.Rises.{rose-less, rose-one}
 
-module _ (publication : Publication) (handed : HandedView) (n before after : ℕ) (rose : RoseBy n before after) where
+module _ (promises : MachineHasPromises) (publication : Publication) (valid : (resolvers : ℕ) × IsValid resolvers publication) (handed : HandedView) (n before after : ℕ) (rose : RoseBy n before after) where
   run-of : (events : List Event) (new : SitesView) (behind : HandedView) (said : List Answer) → AllHappened events (fresh_view publication) new handed behind said → new.faults ≤ n
       → IsRun publication handed events said before after
   run-of events new behind said all le =
       let ran = played-runs events (fresh_view publication) new handed behind said all (fresh-world publication handed.tallies) in
       let few = ran.3 in
-      record { slips = ran.0; said = ran.1; few = rose-less (count_by is_store_fault ran.0) n before after (omega (arith, few, le)) rose }
+      record {
+        slips = ran.0;
+        said = ran.1;
+        few = rose-less (count_by is_store_fault ran.0) n before after (omega (arith, few, le)) rose;
+        promised = promises valid.0 publication valid.1 handed.says handed.tallies ran.0 events;
+      }
 
   module _ (lines : List (List ℕ)) (was written : Option (List ℕ)) where
     abbrev sides : Sides

@@ -12,11 +12,12 @@ use Rattle.merge_model.specs.Failing.{Slips}
 use Rattle.merge_model.specs.Play.{names_of}
 use Rattle.merge_model.specs.Reach.{is_store_fault}
 use Rattle.merge_model.specs.Reading.{events_of, fault_of}
-use Rattle.merge_model.specs.Runs.{machine_says}
+use Rattle.merge_model.specs.Runs.{machine_says, world_behind}
 use Rattle.merge_model.specs.Text.{texts_of}
 use Rattle.merge_model.specs.declared.answer.Answer.{Answer}
 use Rattle.merge_model.specs.declared.event.Event.{Event}
 use Rattle.merge_world.specs.Views.{HandedView}
+use Rattle.merge_laws.specs.Promised.{HasPromises}
 use Rattle.replmerge.specs.declared.ending.Ending.{Ending}
 use Rattle.replmerge.specs.declared.ending.Ending.TheVariants.{Damaged, Done, NoEvent, NoMemory, ReadFault, Refused, StoreFault, TooLong, Usage, WriteFault}
 use Rattle.replmerge.specs.Commands.{is_play}
@@ -35,11 +36,12 @@ pub record Sides : Type 0 where
   pub before : ℕ
   pub after : ℕ
 
--- These answers are given in a run of the sites from nothing, each decision is what the resolvers say that were handed in, at their tallies, and no more steps fail by a store than stores failed.
+-- These answers are given in a run of the sites from nothing, each decision is what the resolvers say that were handed in, at their tallies, and no more steps fail by a store than stores failed. Behind it stand the tables of a model of which all is promised.
 pub record IsRun (publication : Publication) (handed : HandedView) (events : List Event) (answers : List Answer) (before after : ℕ) : Type 0 where
   pub slips : Slips
   pub said : machine_says publication handed.says handed.tallies slips events ≡ answers
   pub few : RoseBy (count_by is_store_fault slips) before after
+  pub promised : HasPromises publication handed.says (world_behind publication handed.says handed.tallies slips events)
 
 -- What was written is the text of a run over the events of the lines before the first that is no event, or of all.
 pub record Answered (publication : Publication) (handed : HandedView) (lines : List (List ℕ)) (sides : Sides) : Type 0 where

@@ -31,6 +31,7 @@ fn play_started<O: Sink, E: Outside>(
 ) -> Ending
     requires publisher { started.0 ≡ fresh_publisher started.0.publication }
     requires subscribers { started.1.items ≡ fresh_subscribers started.0.publication }
+    requires valid { (resolvers : ℕ) × IsValid resolvers started.0.publication }
     requires room { E.HasRoom outside.old (record { 0 = 0 }) path.now }
     requires rooms { AreRooms (E.HasRoom outside.old) path.now (map site_of started.1.items) }
     requires short { length script.now ≤ 67108864 }
