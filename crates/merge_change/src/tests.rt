@@ -66,44 +66,57 @@ fn refusal(publication: &Publication, change: &Change, rows: usize) -> Result<Op
     }
 }
 
+// Whether a change is refused so, or not at all, where no row is held.
+fn is_answered(
+    publication: &Publication,
+    change: Change,
+    rows: usize,
+    want: Option<Refusal>,
+) -> Result<bool, Fail>
+    requires valid { (resolvers : ℕ) × IsValid resolvers publication.now }
+    requires rows { rows ≤ 200000 }
+{
+    Ok(refusal(publication, &change, rows)? == want)
+}
+
 #[test]
 fn first_rule_that_is_broken(rt: HostRuntime) -> Result<(), Fail> {
     let alloc = rt.alloc();
     let publication = read(alloc, PUBLICATION.as_bytes(), 5)?;
     let note = insert(alloc, TICKET, 1, text(alloc, 4000)?)?;
-    assert_eq!(rt; refusal(&publication, &note, 199_999)?, None);
-    let count = 200_001;
-    assert_eq!(rt;
-        refusal(&publication, &note, 200_000)?,
-        Some(Refusal::TooManyRows { count })
-    );
+    assert!(rt; is_answered(&publication, note, 199_999, None)?);
+    let note = insert(alloc, TICKET, 1, text(alloc, 4000)?)?;
+    let full = Some(Refusal::TooManyRows { count: 200_001 });
+    assert!(rt; is_answered(&publication, note, 200_000, full)?);
     let identity = insert(alloc, TICKET, 0, Value::Bit(true))?;
-    let column = 0;
-    assert_eq!(rt;
-        refusal(&publication, &identity, 0)?,
-        Some(Refusal::IdentityColumn { column })
-    );
+    let not_by_users = Some(Refusal::IdentityColumn { column: 0 });
+    assert!(rt; is_answered(&publication, identity, 0, not_by_users)?);
     let wrong = insert(alloc, ITEM, 0, text(alloc, 4001)?)?;
-    assert_eq!(rt;
-        refusal(&publication, &wrong, 0)?,
-        Some(Refusal::WrongType { column })
+    assert!(rt;
+        is_answered(
+            &publication,
+            wrong,
+            0,
+            Some(Refusal::WrongType { column: 0 })
+        )?
     );
     let absent = insert(alloc, ITEM, 7, Value::Null)?;
-    assert_eq!(rt;
-        refusal(&publication, &absent, 0)?,
-        Some(Refusal::WrongType { column: 7 })
+    assert!(rt;
+        is_answered(
+            &publication,
+            absent,
+            0,
+            Some(Refusal::WrongType { column: 7 })
+        )?
     );
     let long = insert(alloc, ITEM, 1, text(alloc, 4001)?)?;
-    let length = 4001;
-    assert_eq!(rt;
-        refusal(&publication, &long, 200_000)?,
-        Some(Refusal::RowTooLong { length })
-    );
+    let too_long = Some(Refusal::RowTooLong { length: 4001 });
+    assert!(rt; is_answered(&publication, long, 200_000, too_long)?);
     let delete = Change::Delete {
         article: ITEM,
         row: RowId(1),
     };
-    assert_eq!(rt; refusal(&publication, &delete, 0)?, Some(Refusal::NoRow));
+    assert!(rt; is_answered(&publication, delete, 0, Some(Refusal::NoRow))?);
     Ok(())
 }
 

@@ -4,6 +4,12 @@ use merge_types::{RowId, SiteId, Value};
 use std::alloc::Global;
 use std::test::Fail;
 
+// What a line says, as its debug text has it.
+fn said(alloc: Global, line: &[u8]) -> Result<String, Fail> {
+    let line = read_line(alloc, line)?;
+    Ok(format!(in alloc; "{line:?}")?)
+}
+
 // The event of a line, if it is one.
 fn event(alloc: Global, line: &[u8]) -> Result<Option<Event>, Fail> {
     match read_line(alloc, line)? {
@@ -12,46 +18,31 @@ fn event(alloc: Global, line: &[u8]) -> Result<Option<Event>, Fail> {
     }
 }
 
-// The number of the first wrong word, if the line is no event.
-fn wrong(alloc: Global, line: &[u8]) -> Result<Option<u64>, Fail> {
-    match read_line(alloc, line)? {
-        Line::NoEvent(word) => Ok(Some(word)),
-        Line::Quiet | Line::Event(_) => Ok(None),
-    }
-}
-
 #[test]
 fn each_event_is_read(rt: HostRuntime) -> Result<(), Fail> {
-    let alloc = rt.alloc();
-    let one = SiteId(1);
-    assert!(rt; matches!(event(alloc, b"wait 7")?, Some(Event::Wait(7))));
-    assert!(rt; matches!(event(alloc, b"close 1")?, Some(Event::Close(site)) if site == one));
-    assert!(rt; matches!(event(alloc, b"sync 1")?, Some(Event::Sync(site)) if site == one));
-    assert!(rt;
-        matches!(event(alloc, b"send 1 join")?, Some(Event::SendJoin(site)) if site == one)
-    );
-    assert!(rt; matches!(event(alloc, b"send 1 upload")?, Some(Event::SendUpload(_))));
-    assert!(rt; matches!(event(alloc, b"send 1 ranges")?, Some(Event::SendRanges(_))));
-    assert!(rt;
-        matches!(
-            event(alloc, b"send 1 download")?,
-            Some(Event::SendDownload(_))
-        )
-    );
-    assert!(rt; matches!(event(alloc, b"deliver 12")?, Some(Event::Deliver(12))));
-    assert!(rt; matches!(event(alloc, b"reinit 1")?, Some(Event::Reinit(_))));
-    assert!(rt; matches!(event(alloc, b"purge")?, Some(Event::Purge)));
-    assert!(rt; matches!(event(alloc, b"restart 0")?, Some(Event::Restart(SiteId(0)))));
-    assert!(rt; matches!(event(alloc, b"partition 1")?, Some(Event::Partition(_))));
-    assert!(rt; matches!(event(alloc, b"conflicts 0")?, Some(Event::Conflicts(_))));
-    assert!(rt; matches!(event(alloc, b"ranges 0")?, Some(Event::Ranges(_))));
-    assert!(rt; matches!(event(alloc, b"generations 0")?, Some(Event::Generations(_))));
-    assert!(rt;
-        matches!(
-            event(alloc, b"count 65535")?,
-            Some(Event::Count(SiteId(65535)))
-        )
-    );
+    for (line, want) in [
+        (b"wait 7".as_slice(), "Event(Wait(7))"),
+        (b"close 1", "Event(Close(SiteId(1)))"),
+        (b"sync 1", "Event(Sync(SiteId(1)))"),
+        (b"send 1 join", "Event(SendJoin(SiteId(1)))"),
+        (b"send 1 upload", "Event(SendUpload(SiteId(1)))"),
+        (b"send 1 ranges", "Event(SendRanges(SiteId(1)))"),
+        (b"send 1 download", "Event(SendDownload(SiteId(1)))"),
+        (b"deliver 12", "Event(Deliver(12))"),
+        (b"reinit 1", "Event(Reinit(SiteId(1)))"),
+        (b"purge", "Event(Purge)"),
+        (b"restart 0", "Event(Restart(SiteId(0)))"),
+        (b"partition 1", "Event(Partition(SiteId(1)))"),
+        (b"conflicts 0", "Event(Conflicts(SiteId(0)))"),
+        (b"ranges 0", "Event(Ranges(SiteId(0)))"),
+        (b"generations 0", "Event(Generations(SiteId(0)))"),
+        (b"count 65535", "Event(Count(SiteId(65535)))"),
+        (b"", "Quiet"),
+        (b" \t ", "Quiet"),
+        (b"  # wait 1", "Quiet"),
+    ] {
+        assert_eq!(rt; said(rt.alloc(), line)?.as_str(), want);
+    }
     Ok(())
 }
 
@@ -116,32 +107,26 @@ fn local_changes_are_read(rt: HostRuntime) -> Result<(), Fail> {
 }
 
 #[test]
-fn blank_lines_and_comments_ask_for_nothing(rt: HostRuntime) -> Result<(), Fail> {
-    let alloc = rt.alloc();
-    assert!(rt; matches!(read_line(alloc, b"")?, Line::Quiet));
-    assert!(rt; matches!(read_line(alloc, b" \t ")?, Line::Quiet));
-    assert!(rt; matches!(read_line(alloc, b"  # wait 1")?, Line::Quiet));
-    Ok(())
-}
-
-#[test]
 fn the_first_wrong_word_is_told(rt: HostRuntime) -> Result<(), Fail> {
-    let alloc = rt.alloc();
-    assert_eq!(rt; wrong(alloc, b"insrt 0 item")?, Some(1));
-    assert_eq!(rt; wrong(alloc, b"wait")?, Some(2));
-    assert_eq!(rt; wrong(alloc, b"wait 4294967296")?, Some(2));
-    assert_eq!(rt; wrong(alloc, b"wait 1 2")?, Some(3));
-    assert_eq!(rt; wrong(alloc, b"sync 65536")?, Some(2));
-    assert_eq!(rt; wrong(alloc, b"insert 0")?, Some(3));
-    assert_eq!(rt; wrong(alloc, b"insert 0 1tem")?, Some(3));
-    assert_eq!(rt; wrong(alloc, b"insert 0 item qty=1 qty")?, Some(5));
-    assert_eq!(rt; wrong(alloc, b"insert 0 item qty=01")?, Some(4));
-    assert_eq!(rt; wrong(alloc, b"update 0 item 0.1")?, Some(5));
-    assert_eq!(rt; wrong(alloc, b"update 0 item 0.0 qty=1")?, Some(4));
-    assert_eq!(rt; wrong(alloc, b"delete 0 item 0.1 qty=1")?, Some(5));
-    assert_eq!(rt; wrong(alloc, b"send 1 range")?, Some(3));
-    assert_eq!(rt; wrong(alloc, b"deliver 18446744073709551616")?, Some(2));
-    assert_eq!(rt; wrong(alloc, b"purge 0")?, Some(2));
-    assert_eq!(rt; wrong(alloc, b"\xff")?, Some(0));
+    for (line, want) in [
+        (b"insrt 0 item".as_slice(), "NoEvent(1)"),
+        (b"wait", "NoEvent(2)"),
+        (b"wait 4294967296", "NoEvent(2)"),
+        (b"wait 1 2", "NoEvent(3)"),
+        (b"sync 65536", "NoEvent(2)"),
+        (b"insert 0", "NoEvent(3)"),
+        (b"insert 0 1tem", "NoEvent(3)"),
+        (b"insert 0 item qty=1 qty", "NoEvent(5)"),
+        (b"insert 0 item qty=01", "NoEvent(4)"),
+        (b"update 0 item 0.1", "NoEvent(5)"),
+        (b"update 0 item 0.0 qty=1", "NoEvent(4)"),
+        (b"delete 0 item 0.1 qty=1", "NoEvent(5)"),
+        (b"send 1 range", "NoEvent(3)"),
+        (b"deliver 18446744073709551616", "NoEvent(2)"),
+        (b"purge 0", "NoEvent(2)"),
+        (b"\xff", "NoEvent(0)"),
+    ] {
+        assert_eq!(rt; said(rt.alloc(), line)?.as_str(), want);
+    }
     Ok(())
 }
