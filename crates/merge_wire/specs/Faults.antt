@@ -2,13 +2,13 @@
 use Rattle.std.specs.Prelude.{◌≡◌, ◌<◌, ◌≤◌, ◌⊎◌, ℕ, List, ◌++◌, length, map}
 use Rattle.std.specs.declared.option.Option.{Option}
 use Rattle.std.specs.Io.KnownBytes.{Consumes, IsAtEnd}
-use Rattle.httparse.specs.Grammar.{RequestHead, print_request, HasNoRequest, ResponseHead, print_response, HasNoResponse}
+use Rattle.httparse.specs.Grammar.{RequestHead, print_request, ResponseHead, print_response}
 use Rattle.httparse.specs.Spans.{name_and_value}
 use Rattle.merge_ports.specs.Faults.{Rose}
 use Rattle.merge_wire.specs.declared.fault.WireFault.{WireFault}
 use Rattle.merge_wire.specs.declared.fault.WireFault.TheVariants as fault
 use Rattle.merge_wire.specs.Fields.{HasLength, IsLengthFault, body_limit}
-use Rattle.merge_wire.specs.Heads.{IsTakenRequest, IsTakenResponse, IsBadRequest, IsBadResponse, head_limit}
+use Rattle.merge_wire.specs.Heads.{IsTakenRequest, IsTakenResponse, IsBadRequest, IsBadResponse, AwaitsRequest, AwaitsResponse}
 
 -- such bytes were taken from a source, where it tells them
 abbrev pub Took : Option (List ℕ) → Option (List ℕ) → (List ℕ → Type 0) → Type 0
@@ -33,9 +33,9 @@ pub record LacksBody (bytes : List ℕ) : Type 0 where
   pub less : length front < length_of
   pub spelled : bytes ≡ print_request head ++ front
 
--- no head is there yet, or not the whole body
+-- no head is there yet and one can come, or not the whole body
 abbrev pub IsUnfinished : List ℕ → Type 0
-IsUnfinished bytes = ((length bytes < head_limit) × HasNoRequest bytes) ⊎ LacksBody bytes
+IsUnfinished bytes = AwaitsRequest bytes ⊎ LacksBody bytes
 
 -- Each fault of reading a request, by what was taken from the source and how its count of faults moved.
 abbrev pub IsRequestFault : Option (List ℕ) → Option (List ℕ) → ℕ → ℕ → WireFault → Type 0
@@ -50,7 +50,7 @@ IsRequestFault old new before after fault.NoMemory = Unit {0}
 -- the same of the head alone
 abbrev pub IsHeadFault : Option (List ℕ) → Option (List ℕ) → ℕ → ℕ → WireFault → Type 0
 IsHeadFault old new before after fault.BadHead = Took old new IsBadRequest
-IsHeadFault old new before after fault.Ended = TookLast old new (λ bytes. (length bytes < head_limit) × HasNoRequest bytes)
+IsHeadFault old new before after fault.Ended = TookLast old new AwaitsRequest
 IsHeadFault old new before after fault.ReadFault = Rose before after
 IsHeadFault old new before after fault.NoMemory = Unit {0}
 IsHeadFault old new before after _ = ⊥
@@ -86,6 +86,6 @@ abbrev pub IsResponseFault : List ℕ → WireFault → Type 0
 IsResponseFault bytes fault.BadHead = IsBadResponse bytes
 IsResponseFault bytes fault.BadLength = HasResponseLengthFault fault.BadLength bytes
 IsResponseFault bytes (fault.TooLong n) = HasResponseLengthFault (fault.TooLong n) bytes
-IsResponseFault bytes fault.Ended = ((length bytes < head_limit) × HasNoResponse bytes) ⊎ LacksResponseBody bytes
+IsResponseFault bytes fault.Ended = AwaitsResponse bytes ⊎ LacksResponseBody bytes
 IsResponseFault bytes fault.NoMemory = Unit {0}
 IsResponseFault bytes _ = ⊥

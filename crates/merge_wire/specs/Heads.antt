@@ -1,6 +1,6 @@
 -- Heads of messages, in the grammar of `httparse`.
 use Rattle.std.specs.Prelude.{◌≡◌, ◌<◌, ◌≤◌, ◌⊎◌, ℕ, List, length, map, take}
-use Rattle.httparse.specs.Grammar.{RequestHead, IsRequestHead, print_request, HasNoRequest, ResponseHead, IsResponseHead, print_response, HasNoResponse}
+use Rattle.httparse.specs.Grammar.{RequestHead, IsRequestHead, print_request, HasNoRequest, MayBecomeRequest, ResponseHead, IsResponseHead, print_response, HasNoResponse, MayBecomeResponse}
 use Rattle.httparse.specs.Spans.{RequestOverflows, ResponseOverflows, name_and_value}
 use Rattle.merge_wire.specs.Fields.{Pair}
 
@@ -29,3 +29,15 @@ IsBadRequest bytes = RequestOverflows field_limit bytes ⊎ ((length bytes ≡ h
 -- the same of the first bytes of a response
 abbrev pub IsBadResponse : List ℕ → Type 0
 IsBadResponse bytes = ResponseOverflows field_limit (take head_limit bytes) ⊎ ((head_limit ≤ length bytes) × HasNoResponse (take head_limit bytes))
+
+-- no head is there yet, and more bytes can bring one
+pub record AwaitsRequest (bytes : List ℕ) : Type 0 where
+  pub short : length bytes < head_limit
+  pub open_head : HasNoRequest bytes
+  pub hopeful : MayBecomeRequest bytes
+
+-- the same of a response
+pub record AwaitsResponse (bytes : List ℕ) : Type 0 where
+  pub short : length bytes < head_limit
+  pub open_head : HasNoResponse bytes
+  pub hopeful : MayBecomeResponse bytes

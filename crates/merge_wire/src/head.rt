@@ -1,7 +1,7 @@
 //! The head of a request.
 ghost use Rattle.std.specs.Prelude.{◌≡◌, ◌≤◌, ◌⊎◌, [], ◌∷◌, length, Err, IfOk, IfErr, IfSome, IfNone, IsErr};
 ghost use Rattle.std.specs.Io.KnownBytes.{Consumes, Keeps};
-ghost use Rattle.httparse.specs.Grammar.{HasNoRequest};
+ghost use Rattle.httparse.specs.Grammar.{HasNoRequest, MayBecomeRequest};
 ghost use Rattle.httparse.specs.Spans.{IsRequestOf, IsRequestWithin, RequestOverflows};
 ghost use Rattle.merge_ports.specs.Parts.{ConsumesFront};
 ghost use Rattle.merge_wire.specs.Faults.{IsHeadFault, IsByteFault};
@@ -16,7 +16,7 @@ use merge_types::Octets;
 use std::alloc::Global;
 
 // Reads a head and no byte behind it.
-#[tactic(auto, using(crate::proofs::HeadLemmas::no_empty))]
+#[tactic(auto, using(crate::proofs::HeadLemmas::no_empty, crate::proofs::HeadLemmas::empty_hopeful))]
 pub fn read_head<S: Source>(
     alloc: Global,
     source: &mut S,
@@ -48,6 +48,7 @@ fn head_of(bytes: &[u8], fields: &mut [HeaderSpan; 32]) -> Result<Option<Request
     ensures some { IfOk result (λ found. IfSome found (IsRequestOf bytes.now fields.new)) }
     ensures within { IfOk result (λ found. IfSome found (IsRequestWithin bytes.now fields.new)) }
     ensures none { IfOk result (λ found. IfNone found (HasNoRequest bytes.now)) }
+    ensures hopeful { IfOk result (λ found. IfNone found (MayBecomeRequest bytes.now)) }
     ensures bad { IfErr result (λ e. (e ≡ WireFault.BadHead) × RequestOverflows field_limit bytes.now) }
 {
     match parse_request(bytes, fields) {

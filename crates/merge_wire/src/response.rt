@@ -1,6 +1,6 @@
 //! Responses as they are read.
 ghost use Rattle.std.specs.Prelude.{◌≡◌, ◌≤◌, length as count, take, IfOk, IfErr};
-ghost use Rattle.httparse.specs.Grammar.{HasNoResponse};
+ghost use Rattle.httparse.specs.Grammar.{HasNoResponse, MayBecomeResponse};
 ghost use Rattle.httparse.specs.Spans.{IsResponseOf, IsResponseWithin};
 ghost use Rattle.merge_wire.specs.Heads.{head_limit};
 ghost use Rattle.merge_wire.specs.Messages.{IsResponse};
@@ -56,9 +56,10 @@ fn copy_front(alloc: Global, bytes: &[u8], length: u64) -> Result<Octets, NoMemo
     Ok(Octets::new(bytes[..length as usize].to_vec(alloc)?))
 }
 
-// No head is there yet. More bytes can bring one only where a head may have more.
+// No head is there yet. More bytes can bring one only where a head may have more than there are.
 fn unfinished(bytes: &[u8]) -> WireFault
-    requires { HasNoResponse (take head_limit bytes.now) }
+    requires open_head { HasNoResponse (take head_limit bytes.now) }
+    requires hopeful { MayBecomeResponse (take head_limit bytes.now) }
     ensures { IsResponseFault bytes.now result }
 {
     if bytes.len() < HEAD_LIMIT {
