@@ -8,3 +8,4 @@ pub mod WrittenLemmas
 pub mod OneMessage
 pub mod ResponseWritten
 pub mod PieceLemmas
+pub mod NoFault

@@ -16,7 +16,7 @@ decimal_one m n lm ln e =
     let q = decimal_is_IsNumeral n ln in
     sym p.1 ∙ ap (λ (ds : List ℕ). digits_value 10 ds) e ∙ q.1
 
-one_length : (m n : ℕ) (fs : List Pair) → HasOne m fs → HasOne n fs → m ≡ n
+pub one_length : (m n : ℕ) (fs : List Pair) → HasOne m fs → HasOne n fs → m ≡ n
 one_length m n [] p q = absurd p
 one_length m n (f ∷ fs) (inl p) (inl q) = decimal_one m n p.1.0 q.1.0 (sym p.1.1 ∙ q.1.1)
 one_length m n (f ∷ fs) (inl p) (inr q) = absurd (q.0 p.0)

@@ -1,8 +1,7 @@
 -- Heads of messages, in the grammar of `httparse`.
-use Rattle.std.specs.Prelude.{◌≡◌, ◌<◌, ◌≤◌, ◌⊎◌, ℕ, List, length, map, take}
+use Rattle.std.specs.Prelude.{◌≡◌, ◌<◌, ◌≤◌, ◌⊎◌, ℕ, List, length, take}
 use Rattle.httparse.specs.Grammar.{RequestHead, IsRequestHead, print_request, HasNoRequest, MayBecomeRequest, ResponseHead, IsResponseHead, print_response, HasNoResponse, MayBecomeResponse}
-use Rattle.httparse.specs.Spans.{RequestOverflows, ResponseOverflows, name_and_value}
-use Rattle.merge_wire.specs.Fields.{Pair}
+use Rattle.httparse.specs.Spans.{RequestOverflows, ResponseOverflows}
 
 -- the most bytes and fields of a head
 abbrev pub head_limit : ℕ

@@ -288,6 +288,53 @@ fn a_told_length_takes_no_reads(rt: HostRuntime) -> Result<(), Fail> {
     Ok(())
 }
 
+// A head is read byte by byte, and a body by 4,096 bytes.
+#[test]
+fn reads_follow_the_bytes(rt: HostRuntime) -> Result<(), Fail> {
+    for (length, reads) in [(0, 0), (1, 1), (4096, 1), (4097, 2), (100_000, 25)] {
+        let head = format!(in rt.alloc(); "POST /x HTTP/1.1\r\nContent-Length: {length}\r\n\r\n")?;
+        let mut bytes = octets(rt.alloc(), head.as_bytes())?;
+        for _ in 0..length {
+            bytes.push(b' ')?;
+        }
+        let mut source = MemorySource::new(bytes, Listing::empty(rt.alloc()));
+        let message = read_message(rt.alloc(), &mut source)?;
+        assert_eq!(rt; message.body.len(), length);
+        assert_eq!(rt; source.calls, head.len() as u64 + reads);
+    }
+    Ok(())
+}
+
+// What ends inside a head has ended where a head can still come of it.
+#[test]
+fn a_bad_front_has_not_ended(rt: HostRuntime) -> Result<(), Fail> {
+    for (bytes, fault) in [
+        (b"GET /".as_slice(), WireFault::Ended),
+        (b"G\x00", WireFault::BadHead),
+        (b"POST / HTTP/2", WireFault::BadHead),
+        (b"POST / HTTP/1.1\r\na b", WireFault::BadHead),
+        (b"POST / HTTP/1.1\na: b\n", WireFault::Ended),
+        (b"POST / HTTP/1.1\na: b\r", WireFault::Ended),
+        (b"POST / HTTP/1.1\na: b\rc", WireFault::BadHead),
+    ] {
+        assert_eq!(rt; request_fault(rt.alloc(), bytes)?, Some(fault), "{bytes:?}");
+    }
+    // a field too many
+    let mut text = with_fields(rt.alloc(), "a:\n", 31)?;
+    text.truncate(text.len() - 3);
+    text.push_str("a:")?;
+    assert_eq!(rt;
+        request_fault(rt.alloc(), text.as_bytes())?,
+        Some(WireFault::Ended)
+    );
+    text.push('\n')?;
+    assert_eq!(rt;
+        request_fault(rt.alloc(), text.as_bytes())?,
+        Some(WireFault::BadHead)
+    );
+    Ok(())
+}
+
 #[test]
 fn odd_responses(rt: HostRuntime) -> Result<(), Fail> {
     let responses = [

@@ -1,3 +1,4 @@
+use Rattle.merge_wire.proofs.NoFault.{request_at_no_fault, response_at_no_fault}
 use Rattle.merge_wire.proofs.OneMessage.{one_request, one_response}
 use Rattle.merge_wire.proofs.ResponseWritten.{response_reads_back}
 use Rattle.merge_wire.proofs.WrittenLemmas.{request_reads_back}
@@ -14,3 +15,9 @@ returns-clause-one_request c = one_request
 
 pub returns-clause-one_response : goal.returns-clause-one_response
 returns-clause-one_response c = one_response
+
+pub returns-clause-request_or_fault : goal.returns-clause-request_or_fault
+returns-clause-request_or_fault c = request_at_no_fault
+
+pub returns-clause-response_or_fault : goal.returns-clause-response_or_fault
+returns-clause-response_or_fault c = response_at_no_fault
