@@ -18,6 +18,7 @@ pub fn write_message<S: Sink>(sink: &mut S, message: &Message) -> Result<(), Wir
     ensures front { OnErr result (AppendsFront (S.written sink.old) (S.written sink.new) (message_text message.now)) }
     ensures fault { IfErr result (λ e. (e ≡ WireFault.WriteFault) × Rose (S.count sink.old) (S.count sink.new)) }
     ensures later { S.count sink.old ≤ S.count sink.new }
+    ensures kept { OnOk result (S.count sink.new ≡ S.count sink.old) }
 {
     if message.status == 0 {
         write_request(sink, message)
@@ -31,6 +32,7 @@ fn write_request<S: Sink>(sink: &mut S, message: &Message) -> Result<(), WireFau
     ensures front { OnErr result (AppendsFront (S.written sink.old) (S.written sink.new) (joined (request_pieces message.now))) }
     ensures fault { IfErr result (λ e. (e ≡ WireFault.WriteFault) × Rose (S.count sink.old) (S.count sink.new)) }
     ensures later { S.count sink.old ≤ S.count sink.new }
+    ensures kept { OnOk result (S.count sink.new ≡ S.count sink.old) }
 {
     let body = message.body.as_slice();
     let mut buffer = Buffer::new();
@@ -54,6 +56,7 @@ fn write_response<S: Sink>(sink: &mut S, message: &Message) -> Result<(), WireFa
     ensures front { OnErr result (AppendsFront (S.written sink.old) (S.written sink.new) (joined (response_pieces message.now))) }
     ensures fault { IfErr result (λ e. (e ≡ WireFault.WriteFault) × Rose (S.count sink.old) (S.count sink.new)) }
     ensures later { S.count sink.old ≤ S.count sink.new }
+    ensures kept { OnOk result (S.count sink.new ≡ S.count sink.old) }
 {
     let body = message.body.as_slice();
     let mut buffer = Buffer::new();
@@ -106,6 +109,7 @@ fn send<S: Sink>(sink: &mut S, pieces: &[&[u8]]) -> Result<(), WireFault>
     ensures front { OnErr result (AppendsFront (S.written sink.old) (S.written sink.new) (joined_pieces pieces.now)) }
     ensures fault { IfErr result (λ e. (e ≡ WireFault.WriteFault) × Rose (S.count sink.old) (S.count sink.new)) }
     ensures later { S.count sink.old ≤ S.count sink.new }
+    ensures kept { OnOk result (S.count sink.new ≡ S.count sink.old) }
 {
     for piece in pieces {
         match write_whole(sink, piece) {

@@ -1,5 +1,5 @@
 -- What was written is the pieces so far, and on a failure a front of one more.
-use Rattle.std.proofs.Common.{◌≡◌, ◌≤◌, ℕ, List, take, sym, subst, arith}
+use Rattle.std.proofs.Common.{◌∙◌, ℕ, List, take, sym, subst}
 use Rattle.std.specs.Io.KnownBytes.{Appends}
 use Rattle.merge_ports.proofs.Known.{Appends-append}
 use Rattle.merge_wire.specs.Pieces.{joined_pieces}
@@ -16,5 +16,5 @@ loop-piece-preserved g c = record {
       subst (λ (l : List ℕ). Appends (g.S.Sink.written c.args.sink.now) (g.S.Sink.written c.write_whole.new.sink) l)
       (sym (one_more c.args.pieces.now c.loop-piece.piece-index _ c.loop-piece-test.true))
       (Appends-append _ (g.S.Sink.written c.loop-piece.sink) _ _ _ c.loop-piece.invariant.written c.in-Ok.ensures.whole);
-  later = omega (arith, c.loop-piece.invariant.later, c.in-Ok.ensures.cause.later);
+  kept = c.in-Ok.ensures.cause.kept ∙ c.loop-piece.invariant.kept;
 }
