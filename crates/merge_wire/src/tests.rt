@@ -163,11 +163,16 @@ fn responses_are_written_line_by_line(rt: HostRuntime) -> Result<(), Fail> {
 }
 
 // A head with so many fields more, and a body of one byte.
-fn with_fields(alloc: Global, field: &str, times: u32) -> Result<String, Fail> {
+fn begun(alloc: Global, field: &str, times: u32) -> Result<String, Fail> {
     let mut text = String::from_str(alloc, "POST / HTTP/1.1\r\nContent-Length: 1\r\n")?;
     for _ in 0..times {
         text.push_str(field)?;
     }
+    Ok(text)
+}
+
+fn with_fields(alloc: Global, field: &str, times: u32) -> Result<String, Fail> {
+    let mut text = begun(alloc, field, times)?;
     text.push_str("\r\nx")?;
     Ok(text)
 }
@@ -300,7 +305,7 @@ fn reads_follow_the_bytes(rt: HostRuntime) -> Result<(), Fail> {
         let mut source = MemorySource::new(bytes, Listing::empty(rt.alloc()));
         let message = read_message(rt.alloc(), &mut source)?;
         assert_eq!(rt; message.body.len(), length);
-        assert_eq!(rt; source.calls, head.len() as u64 + reads);
+        assert_eq!(rt; source.calls, (head.len() as u64).saturating_add(reads));
     }
     Ok(())
 }
@@ -320,8 +325,7 @@ fn a_bad_front_has_not_ended(rt: HostRuntime) -> Result<(), Fail> {
         assert_eq!(rt; request_fault(rt.alloc(), bytes)?, Some(fault), "{bytes:?}");
     }
     // a field too many
-    let mut text = with_fields(rt.alloc(), "a:\n", 31)?;
-    text.truncate(text.len() - 3);
+    let mut text = begun(rt.alloc(), "a:\n", 31)?;
     text.push_str("a:")?;
     assert_eq!(rt;
         request_fault(rt.alloc(), text.as_bytes())?,
