@@ -1,12 +1,10 @@
 -- What is written of plain values, changes and cells is read again.
-use Rattle.std.proofs.Common.{◌≡◌, ◌∙◌, ◌<◌, ◌^◌, ◌==◌, ℕ, ℤ, pos, negsuc, List, [], ◌∷◌, map, Bool, true, cond, Some, None, refl, sym, ap, FitsSigned, arith}
+use Rattle.std.proofs.Common.{◌≡◌, ◌<◌, ◌^◌, ℕ, ℤ, pos, negsuc, List, [], ◌∷◌, map, Bool, true, Some, refl, ap, FitsSigned, arith}
 use Rattle.std.specs.List.{AllByRecursion}
 use Rattle.std.specs.Int.{w64}
 use Rattle.std.proofs.lemmas.Bool.{lt-ltb}
 use Rattle.hex.specs.Hex.{IsBytes}
 use Rattle.hex.proofs.HexLemmas.{decode_of-encode_lower}
-use Rattle.uuid.specs.Text.{parsed}
-use Rattle.uuid.proofs.OrderLemmas.{from_be_bytes-to_be_bytes_16}
 use Rattle.serde_json.specs.Data.{Data}
 use Rattle.serde_json.specs.View.{items_of}
 use Rattle.serde_json.proofs.OnLiterals.{serde_json_on_literals}
@@ -16,14 +14,15 @@ use Rattle.merge_types.specs.declared.values.Value.{Value}
 use Rattle.merge_types.specs.declared.values.Value.TheVariants.{Null, Int, Bit, Text, Day, Guid, Bytes}
 use Rattle.merge_types.specs.Day.{IsDay}
 use Rattle.merge_types.specs.Guid.{guid_text}
-use Rattle.merge_types.proofs.Guids.{parsed-guid_text, length-guid_text}
+use Rattle.merge_types.proofs.Guids.{IsGuidText-guid_text}
 use Rattle.merge_units.specs.declared.version.Cell.{Cell}
 use Rattle.merge_lineage.specs.Lineage.{ascending}
 use Rattle.merge_json.specs.Reading.{◌>>=◌, Reader, whole_at, below_at, signed_at, each_at, list_at}
 use Rattle.merge_json.specs.Written.{ReadsBack, whole, signed, list_of, dot_data, guid_data, value_data, cell_data}
-use Rattle.merge_json.specs.Values.{guid_of, number_in, bytes_at, day_at, guid_at, count_of, tagged_at, int_at, value_at}
+use Rattle.merge_json.specs.Values.{guid_of, bytes_at, day_at, guid_at, count_of, tagged_at, int_at, value_at}
 use Rattle.merge_json.specs.Rows.{site_at, dot_at, lineage_at, row_at, cell_at}
 use Rattle.merge_json.proofs.DayTexts.{day_again}
+use Rattle.merge_json.proofs.GuidTexts.{guid_is}
 
 pub below_again : (limit n : ℕ) → n < limit → below_at limit (whole n) ≡ Some n
 unfolding below_at whole_at
@@ -54,11 +53,7 @@ unfolding lineage_at
 lineage_again dots rising h = rw (list_again dot_at dot_data dots h, rising) refl
 
 pub guid_again : (n : ℕ) → n < 2 ^ 128 → guid_of (guid_text n) ≡ Some n
-unfolding guid_of
-guid_again n lt =
-    ap (λ (b : Bool). cond b (number_in (parsed (guid_text n))) None) (ap (λ (k : ℕ). k == 36) (length-guid_text n))
-    ∙ ap number_in (sym (parsed-guid_text n))
-    ∙ ap (λ (k : ℕ). Some k) (from_be_bytes-to_be_bytes_16 n lt)
+guid_again n lt = guid_is (guid_text n) n (IsGuidText-guid_text n lt)
 
 pub row_again : (row : RowId) → row.0 < 2 ^ 128 → row_at (guid_data row.0) ≡ Some row
 unfolding row_at

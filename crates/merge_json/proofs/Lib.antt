@@ -1,5 +1,7 @@
 pub mod Each
+pub mod Readers
 pub mod DayTexts
+pub mod GuidTexts
 pub mod Again
 pub mod RequestsAgain
 pub mod RepliesAgain
@@ -8,3 +10,14 @@ pub mod Sent
 pub mod Proper
 pub mod ProperMessages
 pub mod ToldRefusals
+pub mod FormLemmas
+pub mod ValueForms
+pub mod ItemForms
+pub mod RequestForms
+pub mod SentForms
+pub mod ReplyForms
+pub mod AnswerForms
+pub mod Weights
+pub mod Lengths
+pub mod RequestLengths
+pub mod ReplyLengths

@@ -1,5 +1,5 @@
 -- What is read can be sent: its days lie in the calendar's years, and its refusals are told.
-use Rattle.std.proofs.Common.{◌≡◌, ◌==◌, ℕ, suc, ℤ, List, [], ◌∷◌, codes, Bool, true, false, cond, Option, Some, None, Result, Ok, Err, refl, subst}
+use Rattle.std.proofs.Common.{◌≡◌, ◌==◌, ℕ, suc, ℤ, List, [], ◌∷◌, codes, Bool, true, false, cond, Option, Some, None, Ok, subst}
 use Rattle.std.specs.Prelude.{All}
 use Rattle.std.proofs.lemmas.List.Elements.{All-nil, All-cons}
 use Rattle.hex.specs.Hex.{decode_of}
@@ -10,28 +10,13 @@ use Rattle.merge_types.specs.declared.values.Value.TheVariants.{Null, Int, Bit, 
 use Rattle.merge_types.specs.Day.{IsDay}
 use Rattle.merge_types.specs.Literal.{IsProper}
 use Rattle.merge_units.specs.declared.version.Cell.{Cell}
-use Rattle.merge_json.specs.Reading.{◌>>=◌, Reader, each_at, list_at, placed, mapped, numbered_at}
+use Rattle.merge_json.specs.Reading.{◌>>=◌, Reader, each_at, list_at, mapped, numbered_at}
 use Rattle.merge_json.specs.Days.{day_of}
 use Rattle.merge_json.specs.Values.{guid_of, when_ok, bytes_at, day_at, guid_at, tag_at, count_of, tagged_at, int_at, value_at}
 use Rattle.merge_json.specs.Rows.{dot_at, cell_at}
 use Rattle.merge_json.specs.Sendable.{HasProperDays}
 use Rattle.merge_json.proofs.DayTexts.{day_proper}
-
--- what a chain of steps gave, each step gave
-pub bind_some : {A B : Type 0} (o : Option A) (k : A → Option B) (b : B) → (o >>= k) ≡ Some b → (a : A) × (o ≡ Some a) × (k a ≡ Some b)
-bind_some (Some a) k b e = (a, refl, e)
-bind_some None k b e = absurd cc
-
-pub placed_ok : {A B : Type 0} (place : ℕ) (o : Option A) (go : A → Result B ℕ) (b : B) → placed place o go ≡ Ok b → (a : A) × (o ≡ Some a) × (go a ≡ Ok b)
-placed_ok place (Some a) go b e = (a, refl, e)
-placed_ok place None go b e = absurd cc
-
-pub mapped_ok : {A B : Type 0} (f : A → B) (r : Result A ℕ) (b : B) → mapped f r ≡ Ok b → (a : A) × (r ≡ Ok a) × (f a ≡ b)
-mapped_ok f (Ok a) b e = (a, refl, cc)
-mapped_ok f (Err place) b e = absurd cc
-
-pub some_same : {A : Type 0} (a b : A) → Some a ≡ Some b → a ≡ b
-some_same a b e = cc
+use Rattle.merge_json.proofs.Readers.{bind_some, placed_ok, mapped_ok, some_same}
 
 pub each_all : {A : Type 0} (read : Reader A) (P : A → Type 0) → ((d : Data) (x : A) → read d ≡ Some x → P x) → (ds : Items) (xs : List A) → each_at read ds ≡ Some xs → All P xs
 each_all read P h no_items xs e = subst (All P) (some_same [] xs e) (All-nil P)

@@ -28,7 +28,8 @@ use Rattle.merge_json.specs.Replies.{joined_at, uploaded_at, ranged_at, remove_o
 use Rattle.merge_json.specs.Replies as replies
 use Rattle.merge_json.specs.Bodies.{data_at, request_of, request_sent, reply_of}
 use Rattle.merge_json.specs.Sendable.{HasProperDays, IsProperBody, IsProperItem, IsProperAct, IsProperOrder, IsSendableRequest, IsSendableReply}
-use Rattle.merge_json.proofs.Proper.{bind_some, placed_ok, mapped_ok, some_same, list_all_read, numbered_all, cell_proper}
+use Rattle.merge_json.proofs.Readers.{bind_some, placed_ok, mapped_ok, some_same}
+use Rattle.merge_json.proofs.Proper.{list_all_read, numbered_all, cell_proper}
 
 body_proper : (live dead : Option Data) (body : Body) → body_of live dead ≡ Some body → IsProperBody body
 body_proper (Some d) None body e =

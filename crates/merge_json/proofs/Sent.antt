@@ -9,7 +9,7 @@ use Rattle.merge_json.specs.Requests.{path_of, kind_at, request_at}
 use Rattle.merge_json.specs.Replies.{reply_at}
 use Rattle.merge_json.specs.Bodies.{data_at, request_of, request_sent, reply_of}
 
-path_again : (r : Request) → kind_at (path_of (kind_of r)) ≡ Some (kind_of r)
+pub path_again : (r : Request) → kind_at (path_of (kind_of r)) ≡ Some (kind_of r)
 unfolding kind_at
 path_again (request.Join m) = refl
 path_again (request.Upload m) = refl

@@ -6,7 +6,7 @@ use Rattle.merge_batch.specs.declared.reply.Reply.{Reply}
 use Rattle.merge_batch.specs.declared.reply.Reply.TheVariants as reply
 use Rattle.merge_batch.specs.Refusals.{reply_to}
 use Rattle.merge_json.specs.Sendable.{IsSendableReply}
-use Rattle.merge_json.proofs.Proper.{some_same}
+use Rattle.merge_json.proofs.Readers.{some_same}
 
 pub told_sendable : (refused : Refusal) (r : Reply) → reply_to refused ≡ Some r → IsSendableReply r
 told_sendable (refusal.UnknownSite site) r e = subst IsSendableReply (some_same (reply.Refused 1 (site.0 ∷ [])) r e) refl

@@ -10,3 +10,8 @@ pub mod Bodies
 pub mod WrittenRequests
 pub mod WrittenReplies
 pub mod Sendable
+pub mod Forms
+pub mod RequestForms
+pub mod ReplyForms
+pub mod Messages
+pub mod Limits

@@ -1,5 +1,6 @@
 -- Values of columns as they are read.
-use Rattle.std.specs.Prelude.{◌==◌, ℕ, List, length, codes, Option, Some, None, Result, Ok, Err, if◌then◌else◌}
+use Rattle.std.specs.Prelude.{◌==◌, ◌^◌, ◌&&◌, nat_lt, bytes_eq, ℕ, List, map, codes, Option, Some, None, Result, Ok, Err, if◌then◌else◌}
+use Rattle.std.specs.Char.{to_ascii_lowercase}
 use Rattle.std.specs.Int.{w128, from_be_bytes}
 use Rattle.hex.specs.Hex.{decode_of}
 use Rattle.hex.specs.declared.FromHexError.{FromHexError}
@@ -9,15 +10,19 @@ use Rattle.serde_json.specs.Events.{members_len}
 use Rattle.serde_json.specs.Find.{get, as_i64, as_str, as_object}
 use Rattle.merge_types.specs.declared.values.Value.{Value}
 use Rattle.merge_types.specs.declared.values.Value.TheVariants.{Null, Int, Bit, Text, Day, Guid, Bytes}
+use Rattle.merge_types.specs.Guid.{guid_text}
 use Rattle.merge_json.specs.Reading.{◌>>=◌, Reader}
 use Rattle.merge_json.specs.Days.{day_of}
 
 abbrev pub number_in : Option (List ℕ) → Option ℕ
 number_in bytes = bytes >>= λ bs. Some (from_be_bytes w128 bs)
 
--- the number of 36 characters, in either case
+-- the number that 36 characters write, in either case. What a text could mean is made out first, and counts where it is written so
+abbrev pub guid_printed_as : List ℕ → ℕ → Option ℕ
+guid_printed_as text n = if nat_lt n (2 ^ 128) && bytes_eq (map to_ascii_lowercase text) (guid_text n) then Some n else None
+
 unfoldable pub guid_of : List ℕ → Option ℕ
-guid_of text = if length text == 36 then number_in (parsed text) else None
+guid_of text = number_in (parsed (map to_ascii_lowercase text)) >>= guid_printed_as text
 
 abbrev pub when_ok : Result (List ℕ) FromHexError → Option (List ℕ)
 when_ok (Ok bytes) = Some bytes

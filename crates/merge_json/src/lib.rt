@@ -23,7 +23,7 @@ mod written_replies;
 mod written_requests;
 
 pub use fault::BodyFault;
-pub use laws::form_laws;
+pub use laws::{form_laws, reply_laws, request_laws};
 pub use path::{kind_of_path, path_of};
 pub use reply::{read_reply, write_reply};
 pub use request::{read_request, write_request};

@@ -1,11 +1,13 @@
 //! Replies as bodies.
-ghost use Rattle.std.specs.Prelude.{◌≡◌, IfOk, Ok};
+ghost use Rattle.std.specs.Prelude.{◌≡◌, ◌≤◌, length, IfOk, IfErr};
 ghost use Rattle.serde_json.specs.View.{view};
 ghost use Rattle.serde_json.specs.Written.{compact_text};
 ghost use Rattle.merge_batch.specs.Heads.{answered_kind};
 ghost use Rattle.merge_json.specs.Outcomes.{GivesAt};
 ghost use Rattle.merge_json.specs.Replies.{reply_at};
 ghost use Rattle.merge_json.specs.Bodies.{reply_of};
+ghost use Rattle.merge_json.specs.Limits.{body_limit, IsShortReply};
+ghost use Rattle.merge_json.specs.Messages.{IsAnswered, IsAnsweredBad, IsFault};
 ghost use Rattle.merge_json.specs.Sendable.{IsSendableReply};
 ghost use Rattle.merge_json.specs.WrittenReplies.{reply_data};
 
@@ -22,7 +24,8 @@ use std::alloc::Global;
 pub fn write_reply(alloc: Global, reply: &Reply) -> Result<Octets, NoMemory>
     requires { IsSendableReply reply.now }
     ensures text { IfOk result (λ body. body ≡ compact_text (reply_data reply.now)) }
-    ensures reads_back { IfOk result (λ body. reply_of (answered_kind reply.now) body ≡ Ok reply.now) }
+    ensures reads_back { IfOk result (λ body. IsAnswered (answered_kind reply.now) body reply.now) }
+    ensures short { IfOk result (λ body. IsShortReply reply.now → length body ≤ body_limit) }
 {
     let value = reply_value(alloc, reply)?;
     let body = body::write(alloc, &value)?;
@@ -31,11 +34,11 @@ pub fn write_reply(alloc: Global, reply: &Reply) -> Result<Octets, NoMemory>
 
 /// The reply of a body that is to be of a kind.
 pub fn read_reply(alloc: Global, kind: Kind, body: &[u8]) -> Result<Reply, BodyFault>
-    ensures read { GivesAt (λ r. r) result (reply_of kind body.now) }
+    ensures read { IfOk result (IsAnswered kind body.now) }
+    ensures fault { IfErr result (IsFault (IsAnsweredBad kind body.now)) }
     ensures sendable { IfOk result IsSendableReply }
 {
-    let reply = read_kind(alloc, kind, body)?;
-    Ok(reply)
+    read_kind(alloc, kind, body)
 }
 
 #[tactic(auto, unfolding(crate::specs::Bodies::reply_of))]

@@ -1,11 +1,13 @@
 //! Requests as bodies.
-ghost use Rattle.std.specs.Prelude.{◌≡◌, IfOk, Ok};
+ghost use Rattle.std.specs.Prelude.{◌≡◌, ◌≤◌, length, IfOk, IfErr};
 ghost use Rattle.serde_json.specs.View.{view};
 ghost use Rattle.serde_json.specs.Written.{compact_text};
 ghost use Rattle.merge_batch.specs.Heads.{kind_of};
 ghost use Rattle.merge_json.specs.Outcomes.{GivesAt};
 ghost use Rattle.merge_json.specs.Requests.{request_at, path_of};
 ghost use Rattle.merge_json.specs.Bodies.{request_of, request_sent};
+ghost use Rattle.merge_json.specs.Limits.{body_limit, IsShortRequest};
+ghost use Rattle.merge_json.specs.Messages.{IsSent, IsSentBad, IsFault};
 ghost use Rattle.merge_json.specs.Sendable.{IsSendableRequest};
 ghost use Rattle.merge_json.specs.WrittenRequests.{request_data};
 
@@ -22,7 +24,8 @@ use std::alloc::Global;
 pub fn write_request(alloc: Global, request: &Request) -> Result<Octets, NoMemory>
     requires { IsSendableRequest request.now }
     ensures text { IfOk result (λ body. body ≡ compact_text (request_data request.now)) }
-    ensures reads_back { IfOk result (λ body. request_sent (path_of (kind_of request.now)) body ≡ Ok request.now) }
+    ensures reads_back { IfOk result (λ body. IsSent (path_of (kind_of request.now)) body request.now) }
+    ensures short { IfOk result (λ body. IsShortRequest request.now → length body ≤ body_limit) }
 {
     let value = request_value(alloc, request)?;
     let body = body::write(alloc, &value)?;
@@ -31,11 +34,11 @@ pub fn write_request(alloc: Global, request: &Request) -> Result<Octets, NoMemor
 
 /// The request of a body that came to a path. To any other path than those of `path_of` goes none.
 pub fn read_request(alloc: Global, path: &[u8], body: &[u8]) -> Result<Request, BodyFault>
-    ensures read { GivesAt (λ r. r) result (request_sent path.now body.now) }
+    ensures read { IfOk result (IsSent path.now body.now) }
+    ensures fault { IfErr result (IsFault (IsSentBad path.now body.now)) }
     ensures sendable { IfOk result IsSendableRequest }
 {
-    let request = read_sent(alloc, path, body)?;
-    Ok(request)
+    read_sent(alloc, path, body)
 }
 
 #[tactic(auto, unfolding(crate::specs::Bodies::request_sent))]

@@ -239,25 +239,58 @@ fn replies_of_strangers_are_no_messages(rt: HostRuntime) -> Result<(), Fail> {
     Ok(())
 }
 
-// Deep nesting, many keys and long numbers: refused, or read in time that follows the length.
+// A piece so many times, between two others.
+fn repeated(
+    alloc: Global,
+    begin: &str,
+    piece: &str,
+    times: u32,
+    end: &str,
+) -> Result<String, Fail> {
+    let mut text = String::from_str(alloc, begin)?;
+    for _ in 0..times {
+        text.push_str(piece)?;
+    }
+    text.push_str(end)?;
+    Ok(text)
+}
+
+// Deep nesting, many keys, long numbers and strings of escapes: refused, or read in time that follows the length.
 #[test]
 fn heavy_bodies_are_answered(rt: HostRuntime) -> Result<(), Fail> {
-    let mut deep = String::new(rt.alloc());
-    for _ in 0..2000 {
-        deep.push('[')?;
+    for (begin, piece, times, end, is_read) in [
+        ("", "[", 100_000, "", false),
+        (r#"{"seq":1,"more":"#, r#"{"a":"#, 100_000, "", false),
+        (r#"{"more":["#, "[],", 50_000, r#"[]],"seq":1}"#, true),
+        ("{", r#""seq":"1","#, 100_000, r#""seq":1}"#, true),
+        (r#"{"seq":1"#, "0", 10_000, "}", false),
+        (r#"{"seq":1."#, "0", 10_000, "}", false),
+        (r#"{"more":0."#, "7", 10_000, r#","seq":1}"#, true),
+        (r#"{"more":1e"#, "9", 10_000, r#","seq":1}"#, false),
+        (
+            r#"{"more":""#,
+            r#"\"\\\/\b\f\n\r\t\u0001\u00e9\ud83d\ude00"#,
+            10_000,
+            r#"","seq":1}"#,
+            true,
+        ),
+        (r#"{"more":""#, r"\ud83d", 10_000, r#"","seq":1}"#, false),
+    ] {
+        let body = repeated(rt.alloc(), begin, piece, times, end)?;
+        let again = reply_again(rt.alloc(), Kind::Join, body.as_str())?;
+        assert_eq!(rt; again.is_ok(), is_read, "{begin}{piece}");
     }
-    assert!(rt; request_again(rt.alloc(), "/merge/join", deep.as_str())?.is_err());
-    let mut many = String::from_str(rt.alloc(), "{")?;
-    for _ in 0..500 {
-        many.push_str(r#""site":1,"#)?;
+    Ok(())
+}
+
+#[test]
+fn many_keys_are_read(rt: HostRuntime) -> Result<(), Fail> {
+    let mut body = String::from_str(rt.alloc(), "{")?;
+    for number in 0..20_000 {
+        let member = format!(in rt.alloc(); "\"{number}\":{number},")?;
+        body.push_str(member.as_str())?;
     }
-    many.push_str(r#""seq":1,"generation":0,"number":0}"#)?;
-    assert!(rt; request_again(rt.alloc(), "/merge/join", many.as_str())?.is_ok());
-    let mut long = String::from_str(rt.alloc(), r#"{"seq":1"#)?;
-    for _ in 0..2000 {
-        long.push('0')?;
-    }
-    long.push('}')?;
-    assert!(rt; reply_again(rt.alloc(), Kind::Join, long.as_str())?.is_err());
+    body.push_str(r#""seq":1}"#)?;
+    assert!(rt; reply_again(rt.alloc(), Kind::Join, body.as_str())?.is_ok());
     Ok(())
 }

@@ -6,9 +6,8 @@ ghost use Rattle.merge_json.specs.Outcomes.{Gives};
 ghost use Rattle.merge_json.specs.Values.{guid_of};
 
 use crate::stop::Stop;
-use merge_types::read_day;
+use merge_types::{read_day, read_guid};
 use serde_json::Value;
-use uuid::Uuid;
 
 // The text of a JSON string.
 pub(crate) fn text(value: &Value) -> Result<&str, Stop>
@@ -20,17 +19,13 @@ pub(crate) fn text(value: &Value) -> Result<&str, Stop>
     }
 }
 
-// The number of an identifier. The other forms that the library reads have another length.
-#[tactic(auto, unfolding(crate::specs::Values::guid_of))]
+// The number of an identifier.
 pub(crate) fn guid(text: &str) -> Result<u128, Stop>
     ensures { Gives (λ n. n) result (guid_of text.now) }
 {
-    if text.len() != 36 {
-        return Err(Stop::Broken);
-    }
-    match Uuid::parse_str(text) {
-        Ok(uuid) => Ok(uuid.as_u128()),
-        Err(_) => Err(Stop::Broken),
+    match read_guid(text.as_bytes()) {
+        Some(number) => Ok(number),
+        None => Err(Stop::Broken),
     }
 }
 

@@ -1,25 +1,10 @@
-use Rattle.std.proofs.Common.{◌≡◌, ◌∙◌, ◌==◌, ℕ, List, Bool, true, false, cond, length, Option, Some, None, refl, ap}
-use Rattle.uuid.specs.Text.{parsed}
-use Rattle.merge_json.specs.Values.{guid_of, number_in}
+use Rattle.std.proofs.Common.{ℕ, List, subst}
+use Rattle.merge_types.specs.Guid.{IsGuidText}
+use Rattle.merge_json.proofs.GuidTexts.{guid_is, no_guid}
 use Rattle.merge_json.proofs.texts.guid.Goals as goal
 
-no : false ≡ true → ⊥
-no e = absurd cc
+pub returns-in-Some : goal.returns-in-Some
+returns-in-Some c = guid_is c.args.text.now c.in-Some.number (subst (λ (t : List ℕ). IsGuidText t c.in-Some.number) c.as_bytes.ensures.value c.in-Some.ensures.some)
 
-none_of : (o : Option (List ℕ)) → ((u : List ℕ) → o ≡ Some u → ⊥) → number_in o ≡ None
-none_of (Some u) none = absurd (none u refl)
-none_of None none = refl
-
-abbrev nothing : Option ℕ
-nothing = None
-
-either : (b : Bool) → cond b nothing nothing ≡ nothing
-either true = refl
-either false = refl
-
-no_number : (text : List ℕ) → ((u : List ℕ) → parsed text ≡ Some u → ⊥) → guid_of text ≡ None
-unfolding guid_of
-no_number text none = ap (λ (o : Option ℕ). cond (length text == 36) o nothing) (none_of (parsed text) none) ∙ either (length text == 36)
-
-pub returns-in-Err : goal.returns-in-Err
-returns-in-Err c = no_number c.args.text.now (λ u e. no (c.in-Err.ensures.ok.1 (u, e)))
+pub returns-in-None : goal.returns-in-None
+returns-in-None c = no_guid c.args.text.now (subst (λ (t : List ℕ). (n : ℕ) → IsGuidText t n → ⊥) c.as_bytes.ensures.value c.in-None.ensures.none)
