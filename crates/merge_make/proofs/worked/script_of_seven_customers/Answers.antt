@@ -1,0 +1,7 @@
+use Rattle.std.specs.Prelude.{refl}
+use Rattle.merge_model.specs.Play.{opened_play}
+use Rattle.merge_make.proofs.worked.script_of_seven_customers.Goals as goal
+
+pub returns : goal.returns
+unfolding opened_play
+returns c = refl
