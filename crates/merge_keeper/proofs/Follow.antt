@@ -153,7 +153,7 @@ after_append cmp [] b es = refl
 after_append cmp (e ∷ a) b es = after_append cmp a b (rows_after cmp es e)
 
 -- an entry at a key that no other has may be put before the others, or after
-put_past : {X : Type 0} (f : X → EntryKey) (g : X → List ℕ) (k : EntryKey) (v : List ℕ) (xs : List X) → AllByRecursion (λ x. entry_cmp k (f x) ≡ Equal → Less ≡ Equal) xs → (es : Map)
+pub put_past : {X W : Type 0} (f : X → EntryKey) (g : X → W) (k : EntryKey) (v : W) (xs : List X) → AllByRecursion (λ x. entry_cmp k (f x) ≡ Equal → Less ≡ Equal) xs → (es : List (EntryKey × W))
     → rows_after_all entry_cmp (insert_entry entry_cmp es k v) (puts_of f g xs) ≡ insert_entry entry_cmp (rows_after_all entry_cmp es (puts_of f g xs)) k v
 put_past f g k v [] h es = refl
 put_past f g k v (x ∷ xs) h es =
@@ -166,8 +166,16 @@ then_less Equal e = e
 then_less Greater e = absurd cc
 
 -- a key of one byte is no key of eleven
-held_apart : (article : ℕ) (grant : Grant) → entry_cmp (held_key article) (grant_key grant) ≡ Equal → Less ≡ Equal
+pub held_apart : (article : ℕ) (grant : Grant) → entry_cmp (held_key article) (grant_key grant) ≡ Equal → Less ≡ Equal
 held_apart article grant e = then_less (nat_cmp (article % 256) (grant.article % 256)) e
+
+then_greater : (o : Ordering) → ordering_then o Greater ≡ Equal → Less ≡ Equal
+then_greater Less e = e
+then_greater Equal e = absurd cc
+then_greater Greater e = absurd cc
+
+pub grant_apart : (grant : Grant) (article : ℕ) → entry_cmp (grant_key grant) (held_key article) ≡ Equal → Less ≡ Equal
+grant_apart grant article e = then_greater (nat_cmp (grant.article % 256) (article % 256)) e
 
 all_apart : (article : ℕ) (grants : List Grant) → AllByRecursion (λ grant. entry_cmp (held_key article) (grant_key grant) ≡ Equal → Less ≡ Equal) grants
 all_apart article [] = tt
@@ -181,7 +189,7 @@ held_past (p ∷ puts) grants es =
     ∙ held_past puts grants (insert_entry entry_cmp es (held_key p.0) (held_value p.0 p.1))
 
 -- grants with other keys have other entries
-keys_apart : (a b : Grant) → IsGrantKey (grant_key_in a) → IsGrantKey (grant_key_in b) → (grant_key_in a ≡ grant_key_in b → ⊥) → entry_cmp (grant_key a) (grant_key b) ≡ Equal → Less ≡ Equal
+pub keys_apart : (a b : Grant) → IsGrantKey (grant_key_in a) → IsGrantKey (grant_key_in b) → (grant_key_in a ≡ grant_key_in b → ⊥) → entry_cmp (grant_key a) (grant_key b) ≡ Equal → Less ≡ Equal
 keys_apart a b fa fb other e =
     let same : grant_key_bytes (grant_key_in a) ≡ grant_key_bytes (grant_key_in b) = ap (λ (k : EntryKey). k.key) (entry_exact (grant_key a) (grant_key b) e) in
     absurd (other ((are_records grant_key_bytes grant_key_at IsGrantKey grant_key_is).one_value (grant_key_bytes (grant_key_in a)) (grant_key_in a) (grant_key_in b) (fa, refl) (fb, same)))

@@ -1,5 +1,5 @@
 -- A store that a subscriber wrote loads, and gives its tables.
-use Rattle.std.proofs.Common.{◌≡◌, ◌∙◌, ℕ, ◌+◌, ◌^◌, ◌<◌, ◌==◌, ◌&&◌, nat_le, nat_lt, Bool, true, false, cond, List, [], ◌∷◌, ◌++◌, map, filter, Option, Some, None, Result, Ok, Err, unwrap_or, refl, sym, ap, arith}
+use Rattle.std.proofs.Common.{◌≡◌, ◌∙◌, ℕ, ◌+◌, ◌^◌, ◌<◌, ◌==◌, ◌&&◌, nat_le, nat_lt, Bool, true, false, cond, List, [], ◌∷◌, ◌++◌, map, filter, Option, Some, None, Result, Ok, Err, refl, sym, ap, arith}
 use Rattle.std.specs.List.{AllByRecursion}
 use Rattle.std.specs.Option.{option_map, option_map_or}
 use Rattle.std.specs.Int.{w8, w64, to_be_bytes}
@@ -8,9 +8,6 @@ use Rattle.std.proofs.lemmas.List.{append-nil}
 use Rattle.merge_types.specs.declared.row_key.RowKey.{RowKey}
 use Rattle.merge_units.specs.declared.site_row.SubscriberRow.{SubscriberRow}
 use Rattle.merge_gens.specs.declared.closings.Closing.{Closing}
-use Rattle.merge_conflict.specs.Kinds.{number_of_kind, kind_of_number}
-use Rattle.merge_conflict.specs.declared.kind.ConflictKind.{ConflictKind}
-use Rattle.merge_conflict.specs.declared.kind.ConflictKind.TheVariants.{Discarded, RowUpdate, ColumnUpdate, DeleteWins, UpdateWins}
 use Rattle.merge_conflict.specs.declared.row.ConflictRow.{ConflictRow}
 use Rattle.merge_ident.specs.Holders.{Holder}
 use Rattle.merge_schema.specs.declared.publication.Identity.{Identity}
@@ -19,43 +16,30 @@ use Rattle.merge_batch.specs.declared.request.Outstanding.{Outstanding}
 use Rattle.merge_batch.specs.declared.request.Outstanding.TheVariants.{Join, Upload, Ranges, Download}
 use Rattle.merge_ports.specs.declared.entry.EntryKey.{EntryKey}
 use Rattle.merge_ports.specs.Entries.{Map}
-use Rattle.merge_record.specs.Reading.{◌>>=◌, Reader, number_at, whole_of}
-use Rattle.merge_record.specs.Codec.{IsBelow, IsCodec}
+use Rattle.merge_record.specs.Reading.{number_at}
+use Rattle.merge_record.specs.Codec.{IsBelow}
 use Rattle.merge_record.specs.Rows.{subscriber_row_at, subscriber_row_bytes, IsSubscriberRow}
 use Rattle.merge_record.specs.Tables.{held_at, held_bytes, row_key_at, row_key_bytes, IsHeld, IsRowKey}
 use Rattle.merge_record.specs.declared.ranges.HeldRanges.{HeldRanges}
-use Rattle.merge_record.proofs.Codecs.{number, record_again, wide8, wide64}
 use Rattle.merge_record.proofs.TableCodecs.{held_is, row_key_is, subscriber_row_is}
 use Rattle.merge_keeper.specs.Encoded.{encoded_entry}
 use Rattle.merge_keeper.specs.Entries.{closing_entries, closing_key, closing_pair, closing_value, conflict_entries, conflict_key, conflict_pair, conflict_value, held_entries, held_key, held_ranges, held_value, row_entries, row_entry_key, state_key, subscriber_row_value, was_received}
-use Rattle.merge_keeper.specs.Start.{conflict_row, go_on, holder_of, identity_at, last_conflict, last_conflict_behind, loaded_behind, number_in, pair_reading, replaced, row_of_kind, KeepOneByOne, Loading}
-use Rattle.merge_keeper.specs.States.{conflict_at, conflict_spelling, subscriber_spelling, subscriber_state_at, IsConflict, IsSubscriberState}
+use Rattle.merge_keeper.specs.Start.{go_on, holder_of, identity_at, last_conflict, last_conflict_behind, loaded_behind, replaced, Loading}
+use Rattle.merge_keeper.specs.States.{subscriber_spelling, subscriber_state_at, IsConflict, IsSubscriberState}
 use Rattle.merge_keeper.specs.Stored.{subscriber_records, subscriber_state}
-use Rattle.merge_keeper.specs.SubscriberRules.{held_with, state_of, value_of, with_closings, with_conflicts, with_rows, KeepRules, Numbered, Run}
+use Rattle.merge_keeper.specs.SubscriberRules.{held_with, state_of, value_of, with_closings, with_conflicts, with_rows, KeepRules, Run}
 use Rattle.merge_keeper.specs.SubscriberStart.{begun, first_missing, generation_in, go_from, has_closings, is_sound, loading, outstanding_of, passed, reading_in, reading_of, state_is_sound, subscriber_loaded}
-use Rattle.merge_keeper.specs.declared.states.ConflictValue.{ConflictValue}
 use Rattle.merge_keeper.specs.declared.states.SubscriberState.{SubscriberState}
 use Rattle.merge_keeper.specs.declared.stored.SubscriberStored.{SubscriberStored}
 use Rattle.merge_keeper.specs.declared.subscriber_record.SubscriberRecord.{SubscriberRecord}
 use Rattle.merge_keeper.specs.declared.subscriber_record.SubscriberRecord.TheVariants.{State, Row, Closed, Lost, Held}
+use Rattle.merge_keeper.proofs.Fronts.{both_true, each_so, map_twice, one_by_one, same_number}
 use Rattle.merge_keeper.proofs.Loads.{members_load}
-use Rattle.merge_keeper.proofs.StateCodecs.{conflict_is, subscriber_state_is}
+use Rattle.merge_keeper.proofs.Readings.{again, conflict_again, num8, num64, pair_again}
+use Rattle.merge_keeper.proofs.Sought.{conflict_entry, last_is, last_skips}
+use Rattle.merge_keeper.proofs.StateCodecs.{subscriber_state_is}
 
 -- ---- readings of what is written
-
-again : {A : Type 0} (s : A → List ℕ) (r : Reader A) (F : A → Type 0) → IsCodec s r F → (a : A) → F a → whole_of (r (s a)) ≡ Some a
-again s r F p a fits = record_again s r F p (s a) a (fits, refl)
-
-pair_again : {K V : Type 0} (s : K → List ℕ) (t : V → List ℕ) (r : Reader K) (q : Reader V) (F : K → Type 0) (G : V → Type 0) → IsCodec s r F → IsCodec t q G → (k : K) (v : V) → F k → G v → pair_reading r q (s k) (t v) ≡ Some (k, v)
-pair_again {K = K} {V = V} s t r q F G p g k v fk gv =
-    ap (λ (o : Option K). o >>= λ k. whole_of (q (t v)) >>= λ v. (let x : Option (K × V) = Some (k, v) in x)) (again s r F p k fk)
-    ∙ ap (λ (o : Option V). o >>= λ v. (let x : Option (K × V) = Some (k, v) in x)) (again t q G g v gv)
-
-num8 : IsCodec (to_be_bytes w8) (number_at w8) (IsBelow (2 ^ 8))
-num8 = number w8 (2 ^ 8) wide8
-
-num64 : IsCodec (to_be_bytes w64) (number_at w64) (IsBelow (2 ^ 64))
-num64 = number w64 (2 ^ 64) wide64
 
 state_reads : (t : SubscriberStored) → IsSubscriberState (state_of t) → reading_of (state_key, subscriber_state t) ≡ Some (State (state_of t))
 unfolding reading_in
@@ -71,84 +55,43 @@ unfolding reading_in
 closing_reads c hg hm =
     ap (λ (o : Option (ℕ × ℕ)). option_map (λ p. Closed (record { generation = p.0; moment = record { 0 = p.1 } })) o) (pair_again (to_be_bytes w64) (to_be_bytes w64) (number_at w64) (number_at w64) (IsBelow (2 ^ 64)) (IsBelow (2 ^ 64)) num64 num64 c.generation c.moment.0 hg hm)
 
-kind_back : (kind : ConflictKind) → kind_of_number (number_of_kind kind) ≡ Some kind
-kind_back Discarded = refl
-kind_back RowUpdate = refl
-kind_back ColumnUpdate = refl
-kind_back DeleteWins = refl
-kind_back UpdateWins = refl
-
 conflict_reads : (row : ConflictRow) → row.number < 2 ^ 64 → IsConflict (value_of row) → reading_of (conflict_key row.number, conflict_value row.number row) ≡ Some (Lost row)
 unfolding reading_in
-conflict_reads row hn hv =
-    ap (λ (o : Option (ℕ × ConflictValue)). option_map Lost (o >>= λ p. conflict_row p.0 p.1)) (pair_again (to_be_bytes w64) conflict_spelling (number_at w64) conflict_at (IsBelow (2 ^ 64)) IsConflict num64 conflict_is row.number (value_of row) hn hv)
-    ∙ ap (λ (o : Option ConflictKind). option_map Lost (option_map (row_of_kind row.number (value_of row)) o)) (kind_back row.kind)
+conflict_reads row hn hv = ap (λ (o : Option ConflictRow). option_map Lost o) (conflict_again row hn hv)
 
 held_reads : (article : ℕ) (holder : Holder) → article < 2 ^ 8 → IsHeld (held_ranges holder) → reading_of (held_key article, held_value article holder) ≡ Some (Held article (held_ranges holder))
 unfolding reading_in
 held_reads article holder ha hh =
     ap (λ (o : Option (ℕ × HeldRanges)). option_map (λ p. Held p.0 p.1) o) (pair_again (to_be_bytes w8) held_bytes (number_at w8) held_at (IsBelow (2 ^ 8)) IsHeld num8 held_is article (held_ranges holder) ha hh)
 
--- ---- lists
-
-map_twice : {X Y Z : Type 0} (f : Y → Z) (g : X → Y) (xs : List X) → map f (map g xs) ≡ map (λ x. f (g x)) xs
-map_twice f g [] = refl
-map_twice f g (x ∷ xs) = ap (λ l. f (g x) ∷ l) (map_twice f g xs)
-
-one_by_one : {X : Type 0} (P Q : List X → X → Type 0) → ((front : List X) (x : X) → P front x → Q front x) → (front xs : List X) → KeepOneByOne P front xs → KeepOneByOne Q front xs
-one_by_one P Q to front [] h = tt
-one_by_one P Q to front (x ∷ xs) h = (to front x h.0, one_by_one P Q to (front ++ x ∷ []) xs h.1)
-
 -- ---- what is sought behind the state
 
-last_skips : {X : Type 0} (entry : X → EntryKey × List ℕ) → ((x : X) → number_in (entry x).0 ≡ None) → (last : ℕ) (xs : List X) (rest : Map) → last_conflict_behind last (map entry xs ++ rest) ≡ last_conflict_behind last rest
-last_skips entry none last [] rest = refl
-last_skips entry none last (x ∷ xs) rest =
-    ap (λ (o : Option ℕ). last_conflict_behind (unwrap_or o last) (map entry xs ++ rest)) (none x) ∙ last_skips entry none last xs rest
-
-missing_skips : {X : Type 0} (entry : X → EntryKey × List ℕ) → ((x : X) → generation_in (entry x).0 ≡ None) → (last next : ℕ) (xs : List X) (rest : Map) → first_missing last next (map entry xs ++ rest) ≡ first_missing last next rest
+pub missing_skips : {X : Type 0} (entry : X → EntryKey × List ℕ) → ((x : X) → generation_in (entry x).0 ≡ None) → (last next : ℕ) (xs : List X) (rest : Map) → first_missing last next (map entry xs ++ rest) ≡ first_missing last next rest
 missing_skips entry none last next [] rest = refl
 missing_skips entry none last next (x ∷ xs) rest =
     ap (λ (o : Option ℕ). first_missing last (passed last next o) (map entry xs ++ rest)) (none x) ∙ missing_skips entry none last next xs rest
 
-abbrev conflict_entry : ConflictRow → EntryKey × List ℕ
-conflict_entry row = (conflict_key row.number, conflict_value row.number row)
-
-abbrev closing_entry : Closing → EntryKey × List ℕ
+abbrev pub closing_entry : Closing → EntryKey × List ℕ
 closing_entry c = (closing_key c.generation, closing_value c.generation c.moment)
 
-abbrev held_entry : ℕ × Holder → EntryKey × List ℕ
+abbrev pub held_entry : ℕ × Holder → EntryKey × List ℕ
 held_entry p = (held_key p.0, held_value p.0 p.1)
-
-last_is : (counter last : ℕ) (rows : List ConflictRow) (rest : Map) → AllByRecursion (λ row. row.number < 2 ^ 64) rows → Numbered counter last rows → last_conflict_behind last (map conflict_entry rows ++ rest) ≡ last_conflict_behind counter rest
-last_is counter last [] rest fits h = ap (λ (n : ℕ). last_conflict_behind n rest) h
-last_is counter last (row ∷ rows) rest fits h =
-    ap (λ (o : Option ℕ). last_conflict_behind (unwrap_or o last) (map conflict_entry rows ++ rest)) (again (to_be_bytes w64) (number_at w64) (IsBelow (2 ^ 64)) num64 row.number fits.0)
-    ∙ ap (λ (n : ℕ). last_conflict_behind n (map conflict_entry rows ++ rest)) h.0
-    ∙ last_is counter (last + 1) rows rest fits.1 h.1
 
 passed_by_test : (b : Bool) (next : ℕ) → b ≡ true → cond b (next + 1) next ≡ next + 1
 passed_by_test true next e = refl
 passed_by_test false next e = absurd cc
 
-both_true : (a b : Bool) → a ≡ true → b ≡ true → (a && b) ≡ true
-both_true true b here there = there
-both_true false b here there = absurd cc
-
-same_number : (n : ℕ) → (n == n) ≡ true
-same_number n = grind (arith, nat_tests)
+-- a closed generation has its number in its key
+pub one_passed : (last next : ℕ) (c : Closing) (rest : Map) → c.generation < 2 ^ 64 → first_missing last next (closing_entry c ∷ rest) ≡ first_missing last (passed last next (Some c.generation)) rest
+one_passed last next c rest fits = ap (λ (o : Option ℕ). first_missing last (passed last next o) rest) (again (to_be_bytes w64) (number_at w64) (IsBelow (2 ^ 64)) num64 c.generation fits)
 
 run_is : (last next : ℕ) (closings : List Closing) (rest : Map) → AllByRecursion (λ c. c.generation < 2 ^ 64) closings → Run last next closings → first_missing last next (map closing_entry closings ++ rest) ≡ first_missing last (last + 1) rest
 run_is last next [] rest fits h = ap (λ (n : ℕ). first_missing last n rest) h
 run_is last next (c ∷ closings) rest fits h =
-    ap (λ (o : Option ℕ). first_missing last (passed last next o) (map closing_entry closings ++ rest)) (again (to_be_bytes w64) (number_at w64) (IsBelow (2 ^ 64)) num64 c.generation fits.0)
+    one_passed last next c (map closing_entry closings ++ rest) fits.0
     ∙ ap (λ (n : ℕ). first_missing last (cond ((n == next) && nat_le n last) (next + 1) next) (map closing_entry closings ++ rest)) h.0
     ∙ ap (λ (n : ℕ). first_missing last n (map closing_entry closings ++ rest)) (passed_by_test ((next == next) && nat_le next last) next (both_true (next == next) (nat_le next last) (same_number next) h.1))
     ∙ run_is last (next + 1) closings rest fits.1 h.2
-
-each_so : {X : Type 0} (P : X → Type 0) (Q : List X → X → Type 0) → ((front : List X) (x : X) → Q front x → P x) → (front xs : List X) → KeepOneByOne Q front xs → AllByRecursion P xs
-each_so P Q to front [] h = tt
-each_so P Q to front (x ∷ xs) h = (to front x h.0, each_so P Q to (front ++ x ∷ []) xs h.1)
 
 -- ---- the tables of the state
 

@@ -2,7 +2,10 @@ pub mod Counts
 pub mod Edits
 pub mod Encoded
 pub mod Entries
+pub mod Given
 pub mod Kept
+pub mod Orders
+pub mod PublisherRules
 pub mod PublisherStart
 pub mod Start
 pub mod States

@@ -17,7 +17,10 @@ mod subscriber_start;
 #[cfg(test)]
 mod tests;
 
-pub use laws::{damage_is_first, edits_follow, state_records, stored_tables_load};
+pub use laws::{
+    damage_is_first, edits_follow, loaded_has_no_other_record, loaded_keeps_rules,
+    publisher_stored_tables_load, state_records, stored_tables_load,
+};
 pub use memory::{MemoryKeeper, Stop};
 pub use publisher_record::PublisherRecord;
 pub use publisher_start::start_publisher;
