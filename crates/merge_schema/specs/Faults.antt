@@ -1,5 +1,7 @@
--- The numbers of faults.
-use Rattle.std.specs.Prelude.{ℕ, Option, Some, None}
+-- The numbers and the words of faults.
+use Rattle.std.specs.Prelude.{◌++◌, ◌∷◌, List, ℕ, Option, Some, None, codes}
+use Rattle.std.specs.Fmt.{decimal}
+use Rattle.merge_types.specs.Names.{shown_text}
 use Rattle.merge_schema.specs.declared.fault.SchemaFault.{SchemaFault}
 use Rattle.merge_schema.specs.declared.fault.SchemaFault.TheVariants.{NotToml, Missing, BadValue, Duplicate, UnknownArticle, JoinCycle, JoinTypes, TooMany, NotBuilt, NoMemory}
 
@@ -14,3 +16,16 @@ number_of (JoinTypes article) = Some 7
 number_of (TooMany what number) = Some 8
 number_of (NotBuilt key) = Some 9
 number_of NoMemory = None
+
+-- What notes say of a fault. A key or a name that is no name is in quotes; what stands twice is as the text has it.
+abbrev pub words_of : SchemaFault → List ℕ
+words_of NotToml = codes "not toml"
+words_of (Missing key) = codes "missing " ++ shown_text key
+words_of (BadValue key) = codes "bad value " ++ shown_text key
+words_of (Duplicate name) = codes "duplicate " ++ name
+words_of (UnknownArticle name) = codes "unknown article " ++ shown_text name
+words_of (JoinCycle article) = codes "join cycle " ++ shown_text article
+words_of (JoinTypes article) = codes "join types " ++ shown_text article
+words_of (TooMany what number) = codes "too many " ++ shown_text what ++ 32 ∷ decimal number
+words_of (NotBuilt key) = codes "not built " ++ shown_text key
+words_of NoMemory = codes "no memory"

@@ -60,6 +60,12 @@ flat_map-escaped_character (c ∷ cs) =
     ∙ ap (λ (rest : List ℕ). flat_map escaped_byte (encode_utf8 c) ++ rest) (flat_map-escaped_character cs)
     ∙ sym (flat_map-append escaped_byte (encode_utf8 c) (encode_utf8_all cs))
 
+-- one character more behind the quote
+pub escaped-more : (cs : List ℕ) (c : ℕ) → (34 ∷ flat_map escaped_character cs) ++ escaped_character c ≡ 34 ∷ flat_map escaped_character (cs ++ c ∷ [])
+escaped-more cs c =
+    ap (λ (inner : List ℕ). 34 ∷ inner)
+    (sym (flat_map-append escaped_character cs (c ∷ []) ∙ ap (λ (rest : List ℕ). flat_map escaped_character cs ++ rest) (flat_map-cons escaped_character c [] ∙ append-nil (escaped_character c))))
+
 -- what the characters are escaped as is what the bytes are
 pub quoted-IsEscaped : (text bytes : List ℕ) → IsEscaped text bytes → text ≡ quoted bytes
 unfolding quoted

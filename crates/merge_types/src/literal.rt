@@ -13,6 +13,7 @@ use crate::{NoMemory, Value, Words};
 pub use day::read_day;
 pub use guid::read_guid;
 pub use number::{read_decimal, read_int};
+pub(crate) use quoted::Quoted;
 use std::alloc::Global;
 
 impl Value {

@@ -5,6 +5,7 @@ ghost use Rattle.merge_types.specs.Names.{begins_name, continues_name, is_name_t
 
 use crate::Words;
 use crate::limits::NAME_LIMIT;
+use crate::literal::Quoted;
 use std::fmt;
 
 /// Whether a byte may begin a name: an ASCII letter or `_`.
@@ -46,31 +47,24 @@ pub struct Shown<'a>(&'a str);
 
 impl Words {
     /// The text as notes show a key or a name.
-    pub fn shown(&self) -> Shown<'_> {
+    pub fn shown(&self) -> Shown<'_>
+        ensures { result.0.now ≡ self.now }
+    {
         Shown(self.as_str())
     }
 }
 
 impl fmt::Display for Shown<'_> {
+    ghost use Rattle.std.specs.Prelude.{Some};
+    ghost use Rattle.merge_types.specs.Names.{shown_text};
+
+    ghost output = { λ text. Some (shown_text text.0.now) };
+
     fn fmt<W: fmt::Write>(&self, f: &mut fmt::Formatter<W>) -> fmt::Result {
         if is_name(self.0.as_bytes()) {
-            return f.write_str(self.0);
+            f.write_str(self.0)
+        } else {
+            Quoted(self.0).fmt(f)
         }
-        f.write_str("\"")?;
-        for c in self.0.chars() {
-            match c {
-                '"' => f.write_str("\\\"")?,
-                '\\' => f.write_str("\\\\")?,
-                '\n' => f.write_str("\\n")?,
-                '\r' => f.write_str("\\r")?,
-                '\t' => f.write_str("\\t")?,
-                '\0'..='\u{1f}' | '\u{7f}' => {
-                    let code = c as u32;
-                    write!(f, "\\u{code:04x}")?;
-                }
-                _ => f.write_char(c)?,
-            }
-        }
-        f.write_str("\"")
     }
 }

@@ -2,49 +2,66 @@
 ghost use Rattle.std.specs.Prelude.{◌≡◌, ℕ, ◌<◌, List, [], ◌∷◌, ◌++◌, false, IfOk, IfSome, IfNone, OnOk, option_map, string_bytes, IsUtf8};
 ghost use Rattle.hex.specs.Hex.{hex_digit_value};
 ghost use Rattle.std.specs.Fmt.{digit_glyph};
-ghost use Rattle.merge_types.specs.Quoted.{IsEscaped, escaped_character, quoted, IsQuoted, Spells, piece_at, escape_at, long_at, plain_meaning, letter_meaning, digits_meaning};
+ghost use Rattle.merge_types.specs.Quoted.{quoted, IsQuoted, Spells, piece_at, escape_at, long_at, plain_meaning, letter_meaning, digits_meaning};
 ghost use Rattle.merge_types.specs.Meaning.{meaning_bytes};
 
 use crate::{NoMemory, Words};
-use std::alloc::{AllocError, Global};
+use std::alloc::Global;
+use std::fmt;
 
-/// The text in quotes, with its escapes: `"` and `\\` behind a backslash, U+000A, U+000D and U+0009 as
+/// A text in quotes, with its escapes: `"` and `\\` behind a backslash, U+000A, U+000D and U+0009 as
 /// `\n`, `\r` and `\t`, and each other control character below U+0020 and U+007F as `\u00XX`.
+#[derive(Clone, Copy)]
+pub struct Quoted<'a>(pub &'a str);
+
+impl fmt::Display for Quoted<'_> {
+    ghost use Rattle.std.specs.Prelude.{Some};
+    ghost use Rattle.merge_types.specs.Quoted.{quoted};
+
+    ghost output = { λ text. Some (quoted text.0.now) };
+
+    fn fmt<W: fmt::Write>(&self, f: &mut fmt::Formatter<W>) -> fmt::Result {
+        f.write_str("\"")?;
+        for c in self.0.chars() {
+            Escaped(c).fmt(f)?;
+        }
+        f.write_str("\"")
+    }
+}
+
+// A character as it stands in a text in quotes.
+#[derive(Clone, Copy)]
+struct Escaped(char);
+
+impl fmt::Display for Escaped {
+    ghost use Rattle.std.specs.Prelude.{Some};
+    ghost use Rattle.merge_types.specs.Quoted.{escaped_character};
+
+    ghost output = { λ c. Some (escaped_character c.0) };
+
+    fn fmt<W: fmt::Write>(&self, f: &mut fmt::Formatter<W>) -> fmt::Result {
+        match self.0 {
+            '"' => f.write_str("\\\""),
+            '\\' => f.write_str("\\\\"),
+            '\n' => f.write_str("\\n"),
+            '\r' => f.write_str("\\r"),
+            '\t' => f.write_str("\\t"),
+            c @ ('\0'..='\u{1f}' | '\u{7f}') => {
+                let high = hex_digit((c as u32 / 16) as u8);
+                let low = hex_digit((c as u32 % 16) as u8);
+                write!(f, "\\u00{high}{low}")
+            }
+            c => f.write_char(c),
+        }
+    }
+}
+
+/// The text in quotes.
 pub fn print(alloc: Global, text: &str) -> Result<Words, NoMemory>
     ensures { IfOk result (λ words. words ≡ quoted text.now) }
 {
-    let text = escape(alloc, text)?;
-    Ok(Words::new(text))
-}
-
-// Each character with its escape, in quotes.
-fn escape(alloc: Global, text: &str) -> Result<String, AllocError>
-    ensures { IfOk result (λ s. IsEscaped (string_bytes s) text.now) }
-{
-    let mut out = String::from_str(alloc, "\"")?;
-    for c in text.chars() {
-        push_escaped(&mut out, c)?;
-    }
-    out.push('"')?;
-    Ok(out)
-}
-
-fn push_escaped(out: &mut String, c: char) -> Result<(), AllocError>
-    ensures { OnOk result (string_bytes out.new ≡ string_bytes out.old ++ escaped_character c) }
-{
-    match c {
-        '"' => out.push_str("\\\""),
-        '\\' => out.push_str("\\\\"),
-        '\n' => out.push_str("\\n"),
-        '\r' => out.push_str("\\r"),
-        '\t' => out.push_str("\\t"),
-        '\0'..='\u{1f}' | '\u{7f}' => {
-            out.push_str("\\u00")?;
-            out.push(hex_digit((c as u32 / 16) as u8))?;
-            out.push(hex_digit((c as u32 % 16) as u8))
-        }
-        _ => out.push(c),
-    }
+    let text = Quoted(text);
+    Ok(Words::new(format!(in alloc; "{text}")?))
 }
 
 fn hex_digit(value: u8) -> char
