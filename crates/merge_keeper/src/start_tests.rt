@@ -7,15 +7,14 @@ use merge_types::{ColType, Column, HostName, Listing, Octets, SiteId, Tracking, 
 use std::alloc::{AllocError, Global};
 use std::test::Fail;
 
-// One article with one column, an Int that is its identity column; site 1 subscribes.
-fn publication(alloc: Global) -> Result<Publication, Fail> {
+// One column, an Int that is its identity column.
+fn article(alloc: Global) -> Result<Article, Fail> {
     let mut columns = Listing::empty(alloc);
     columns.push(Column {
         name: Words::of(alloc, "qty")?,
         ty: ColType::Int,
     })?;
-    let mut articles = Listing::empty(alloc);
-    articles.push(Article {
+    Ok(Article {
         name: Words::of(alloc, "item")?,
         columns,
         tracking: Tracking::ByColumn,
@@ -31,21 +30,30 @@ fn publication(alloc: Global) -> Result<Publication, Fail> {
         }),
         resolver: 0,
         resolver_column: None,
-    })?;
-    let mut subscriptions = Listing::empty(alloc);
-    subscriptions.push(Subscription {
+    })
+}
+
+fn subscription(alloc: Global) -> Result<Subscription, Fail> {
+    Ok(Subscription {
         site: SiteId(1),
         host: HostName(Words::of(alloc, "h1")?),
         kind: SubKind::Server,
         priority: 0,
-    })?;
-    Ok(Publication {
+    })
+}
+
+// The article, to which site 1 subscribes.
+fn publication(alloc: Global) -> Result<Publication, Fail> {
+    let mut publication = Publication {
         name: Words::of(alloc, "first")?,
         retention_days: 14,
         conflict_retention_days: 14,
-        articles,
-        subscriptions,
-    })
+        articles: Listing::empty(alloc),
+        subscriptions: Listing::empty(alloc),
+    };
+    publication.articles.push(article(alloc)?)?;
+    publication.subscriptions.push(subscription(alloc)?)?;
+    Ok(publication)
 }
 
 // The state of the publisher: 1 change, generation 1 closed, nothing in the open one, 1 conflict.
@@ -110,45 +118,44 @@ fn changed(alloc: Global, bytes: &[u8], at: usize, byte: u8) -> Result<Octets, A
     Ok(Listing::new(bytes))
 }
 
-fn put(
-    alloc: Global,
-    entries: &mut Entries,
-    change: Change,
-    table: u8,
-    key: &[u8],
-    value: &[u8],
-) -> Result<(), Fail> {
-    let mut place = Listing::new(key.to_vec(alloc)?);
-    let mut content = Listing::new(value.to_vec(alloc)?);
-    if change.0 == table && change.1 == key.len() {
-        if change.2 {
-            place = changed(alloc, key, change.3, change.4)?;
-        } else {
-            content = changed(alloc, value, change.3, change.4)?;
-        }
-    }
+// An entry of a store: its table, its key and its value.
+type Part = (u8, &'static [u8], &'static [u8]);
+
+fn put(alloc: Global, entries: &mut Entries, change: Change, part: &Part) -> Result<(), Fail> {
+    let (table, key, value) = *part;
+    let is_here = change.0 == table && change.1 == key.len();
+    let place = if is_here && change.2 {
+        changed(alloc, key, change.3, change.4)?
+    } else {
+        Listing::new(key.to_vec(alloc)?)
+    };
+    let content = if is_here && !change.2 {
+        changed(alloc, value, change.3, change.4)?
+    } else {
+        Listing::new(value.to_vec(alloc)?)
+    };
     entries.insert(EntryKey { table, key: place }, content)?;
     Ok(())
 }
 
-fn publisher_store(alloc: Global, change: Change) -> Result<Entries, Fail> {
-    let mut entries = Entries::empty(alloc);
-    put(alloc, &mut entries, change, 1, &[], &STATE)?;
-    put(alloc, &mut entries, change, 2, &ROW_KEY, &ROW)?;
-    put(alloc, &mut entries, change, 3, &MOVE_KEY, &MOVE)?;
-    put(alloc, &mut entries, change, 4, &ONE, &[0; 8])?;
-    put(alloc, &mut entries, change, 5, &ONE, &CONFLICT)?;
-    put(alloc, &mut entries, change, 6, &[0], &HELD)?;
-    put(alloc, &mut entries, change, 6, &GRANT_KEY, &GRANT)?;
-    put(alloc, &mut entries, change, 7, &[0, 1], &[0; 48])?;
-    Ok(entries)
-}
+const PUBLISHER: &[Part] = &[
+    (1, &[], &STATE),
+    (2, &ROW_KEY, &ROW),
+    (3, &MOVE_KEY, &MOVE),
+    (4, &ONE, &[0; 8]),
+    (5, &ONE, &CONFLICT),
+    (6, &[0], &HELD),
+    (6, &GRANT_KEY, &GRANT),
+    (7, &[0, 1], &[0; 48]),
+];
 
-fn subscriber_store(alloc: Global, change: Change) -> Result<Entries, Fail> {
+const SUBSCRIBER: &[Part] = &[(1, &[], &SITE_STATE), (4, &ONE, &ONE), (6, &[0], &HELD)];
+
+fn store(alloc: Global, parts: &[Part], change: Change) -> Result<Entries, Fail> {
     let mut entries = Entries::empty(alloc);
-    put(alloc, &mut entries, change, 1, &[], &SITE_STATE)?;
-    put(alloc, &mut entries, change, 4, &ONE, &ONE)?;
-    put(alloc, &mut entries, change, 6, &[0], &HELD)?;
+    for part in parts {
+        put(alloc, &mut entries, change, part)?;
+    }
     Ok(entries)
 }
 
@@ -158,69 +165,164 @@ fn held(alloc: Global) -> Result<Listing<(u8, Ranges)>, Fail> {
     Ok(held)
 }
 
-// The table and the length of the key of the entry that is named.
-fn named<T: Drop>(start: &Result<T, StartFault>) -> Option<(u8, usize)> {
+// What a start says of its store: the table and the length of the key of the entry that is named,
+// where one is.
+#[derive(Clone, Copy, Debug, PartialEq, Eq)]
+enum Said {
+    Loads,
+    Damaged(u8, usize),
+    Fails,
+}
+
+fn told<T: Drop>(start: &Result<T, StartFault>) -> Said {
     match start {
-        Err(StartFault::Damaged(key)) => Some((key.table, key.key.len())),
-        _ => None,
+        Ok(_) => Said::Loads,
+        Err(StartFault::Damaged(key)) => Said::Damaged(key.table, key.key.len()),
+        Err(_) => Said::Fails,
     }
+}
+
+// What a start of the publisher says of its store with this change.
+fn publisher_said(alloc: Global, change: Change) -> Result<Said, Fail> {
+    let publication = publication(alloc)?;
+    let store = store(alloc, PUBLISHER, change)?;
+    let held = held(alloc)?;
+    Ok(told(&start_publisher(alloc, &publication, held, &store)))
+}
+
+// What a start of subscriber 1 says of its store with this change.
+fn subscriber_said(alloc: Global, change: Change) -> Result<Said, Fail> {
+    let publication = publication(alloc)?;
+    let store = store(alloc, SUBSCRIBER, change)?;
+    let held = held(alloc)?;
+    Ok(told(&start_subscriber(alloc, &publication, SiteId(1), held, &store)))
 }
 
 #[test]
 fn stores_that_break_no_rule_load(rt: HostRuntime) -> Result<(), Fail> {
-    let alloc = rt.alloc();
-    let publication = publication(alloc)?;
-    let store = publisher_store(alloc, NO_CHANGE)?;
-    assert!(rt; start_publisher(alloc, &publication, held(alloc)?, &store).is_ok());
-    let store = subscriber_store(alloc, NO_CHANGE)?;
-    assert!(rt; start_subscriber(alloc, &publication, SiteId(1), held(alloc)?, &store).is_ok());
+    assert_eq!(rt; publisher_said(rt.alloc(), NO_CHANGE)?, Said::Loads);
+    assert_eq!(rt; subscriber_said(rt.alloc(), NO_CHANGE)?, Said::Loads);
     Ok(())
 }
 
+const PUBLISHER_CASES: &[(&str, Change, Said)] = &[
+    (
+        "a third kind of move",
+        Change(3, 19, false, 0, 3),
+        Said::Damaged(3, 19),
+    ),
+    (
+        "another site",
+        Change(1, 0, false, 2, 1),
+        Said::Damaged(1, 0),
+    ),
+    (
+        "2^62 changes",
+        Change(1, 0, false, 3, 0x40),
+        Said::Damaged(1, 0),
+    ),
+    (
+        "an article that is not there",
+        Change(2, 17, true, 0, 1),
+        Said::Damaged(2, 17),
+    ),
+    (
+        "a top that is not known",
+        Change(2, 17, false, 22, 2),
+        Said::Damaged(2, 17),
+    ),
+    (
+        "a change that was not made",
+        Change(2, 17, false, 10, 2),
+        Said::Damaged(2, 17),
+    ),
+    (
+        "a generation behind the open one",
+        Change(2, 17, false, 40, 3),
+        Said::Damaged(2, 17),
+    ),
+    (
+        "a generation that is not closed",
+        Change(4, 8, true, 7, 2),
+        Said::Damaged(4, 8),
+    ),
+    (
+        "an entry in the open one, which has none",
+        Change(2, 17, false, 40, 2),
+        Said::Damaged(2, 17),
+    ),
+    (
+        "the first number is not 1",
+        Change(5, 8, true, 7, 2),
+        Said::Damaged(5, 8),
+    ),
+    (
+        "the numbers end below the counter",
+        Change(1, 0, false, 34, 2),
+        Said::Damaged(1, 0),
+    ),
+    (
+        "the first number is not 1",
+        Change(6, 11, true, 10, 2),
+        Said::Damaged(6, 11),
+    ),
+    (
+        "the next value is in no range",
+        Change(6, 1, false, 40, 11),
+        Said::Damaged(6, 1),
+    ),
+    (
+        "more ranges than were granted",
+        Change(6, 1, false, 7, 2),
+        Said::Damaged(6, 1),
+    ),
+    (
+        "a watermark of a generation not closed",
+        Change(7, 2, false, 39, 2),
+        Said::Damaged(7, 2),
+    ),
+];
+
 #[test]
 fn each_rule_names_its_entry_at_the_publisher(rt: HostRuntime) -> Result<(), Fail> {
-    let alloc = rt.alloc();
-    let publication = publication(alloc)?;
-    let cases = [
-        (Change(3, 19, false, 0, 3), (3, 19)), // 1: a third kind of move
-        (Change(1, 0, false, 2, 1), (1, 0)), // 2: another site
-        (Change(1, 0, false, 3, 0x40), (1, 0)), // 3: 2^62 changes
-        (Change(2, 17, true, 0, 1), (2, 17)), // 4: an article that is not there
-        (Change(2, 17, false, 22, 2), (2, 17)), // 5: a top that is not known
-        (Change(2, 17, false, 10, 2), (2, 17)), // 6: a change that was not made
-        (Change(2, 17, false, 40, 3), (2, 17)), // 7: a generation behind the open one
-        (Change(4, 8, true, 7, 2), (4, 8)), // 8: a generation that is not closed
-        (Change(2, 17, false, 40, 2), (2, 17)), // 9: an entry in the open one, which has none
-        (Change(5, 8, true, 7, 2), (5, 8)), // 10: the first number is not 1
-        (Change(1, 0, false, 34, 2), (1, 0)), // 10: the numbers end below the counter
-        (Change(6, 11, true, 10, 2), (6, 11)), // 11: the first number is not 1
-        (Change(6, 1, false, 40, 11), (6, 1)), // 12: the next value is in no range
-        (Change(6, 1, false, 7, 2), (6, 1)), // 13: more ranges than were granted
-        (Change(7, 2, false, 39, 2), (7, 2)), // 14: a watermark of a generation not closed
-    ];
-    for (change, entry) in cases {
-        let store = publisher_store(alloc, change)?;
-        let start = start_publisher(alloc, &publication, held(alloc)?, &store);
-        assert_eq!(rt; named(&start), Some(entry));
+    for (shows, change, expected) in PUBLISHER_CASES {
+        assert_eq!(rt; publisher_said(rt.alloc(), *change)?, *expected, "{shows}");
     }
     Ok(())
 }
 
+const SUBSCRIBER_CASES: &[(&str, Change, Said)] = &[
+    (
+        "another site",
+        Change(1, 0, false, 2, 2),
+        Said::Damaged(1, 0),
+    ),
+    (
+        "generation 2 is not there",
+        Change(1, 0, false, 18, 2),
+        Said::Damaged(1, 0),
+    ),
+    (
+        "a change that was not made",
+        Change(4, 8, false, 7, 2),
+        Said::Damaged(4, 8),
+    ),
+    (
+        "a generation not closed was received",
+        Change(1, 0, false, 82, 2),
+        Said::Damaged(1, 0),
+    ),
+    (
+        "a message of no kind",
+        Change(1, 0, false, 58, 1),
+        Said::Damaged(1, 0),
+    ),
+];
+
 #[test]
 fn each_rule_names_its_entry_at_a_subscriber(rt: HostRuntime) -> Result<(), Fail> {
-    let alloc = rt.alloc();
-    let publication = publication(alloc)?;
-    let cases = [
-        (Change(1, 0, false, 2, 2), (1, 0)), // 2: another site
-        (Change(1, 0, false, 18, 2), (1, 0)), // 8: generation 2 is not there
-        (Change(4, 8, false, 7, 2), (4, 8)), // 8: a change that was not made
-        (Change(1, 0, false, 82, 2), (1, 0)), // 14: a generation not closed was received
-        (Change(1, 0, false, 58, 1), (1, 0)), // 15: a message of no kind
-    ];
-    for (change, entry) in cases {
-        let store = subscriber_store(alloc, change)?;
-        let start = start_subscriber(alloc, &publication, SiteId(1), held(alloc)?, &store);
-        assert_eq!(rt; named(&start), Some(entry));
+    for (shows, change, expected) in SUBSCRIBER_CASES {
+        assert_eq!(rt; subscriber_said(rt.alloc(), *change)?, *expected, "{shows}");
     }
     Ok(())
 }

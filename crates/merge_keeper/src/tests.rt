@@ -32,82 +32,147 @@ fn keeper(alloc: Global, failing: &[u64], stops: &[Stop]) -> Result<MemoryKeeper
     Ok(MemoryKeeper::new(alloc, Entries::empty(alloc), failing, stops))
 }
 
+// Why a commit that puts one entry is refused, if it is.
+fn commit_fault(
+    alloc: Global,
+    keeper: &mut MemoryKeeper,
+    key: u8,
+    value: u8,
+) -> Result<Option<KeepFault>, Fail> {
+    let edits = put(alloc, key, value)?;
+    match keeper.commit(&edits) {
+        Ok(()) => Ok(None),
+        Err(fault) => Ok(Some(fault)),
+    }
+}
+
+const COMMITS: &[(u8, u8, Option<KeepFault>)] = &[
+    (1, 7, None),
+    (2, 8, None),
+    (3, 9, Some(KeepFault::Failed)),
+];
+
 #[test]
 fn commits_are_loaded(rt: HostRuntime) -> Result<(), Fail> {
     let alloc = rt.alloc();
     let mut keeper = keeper(alloc, &[2], &[])?;
-    keeper.commit(&put(alloc, 1, 7)?)?;
-    keeper.commit(&put(alloc, 2, 8)?)?;
-    assert_eq!(rt; keeper.commit(&put(alloc, 3, 9)?), Err(KeepFault::Failed));
+    for (key, value, fault) in COMMITS {
+        assert_eq!(rt;
+            commit_fault(alloc, &mut keeper, *key, *value)?,
+            *fault,
+            "{key}"
+        );
+    }
     assert_eq!(rt; keeper.load()?.len(), 2);
     assert_eq!(rt; keeper.faults(), 1);
     assert_eq!(rt; keeper.left().len(), 2);
     Ok(())
 }
 
+const STOPS: &[(&str, bool, usize)] = &[
+    ("before the second commit", false, 1),
+    ("after the second commit", true, 2),
+];
+
 #[test]
 fn a_stop_leaves_the_map_before_or_after(rt: HostRuntime) -> Result<(), Fail> {
     let alloc = rt.alloc();
-    for (is_after, left) in [(false, 1), (true, 2)] {
-        let mut keeper = keeper(alloc, &[], &[Stop { call: 1, is_after }])?;
-        keeper.commit(&put(alloc, 1, 7)?)?;
-        assert_eq!(rt; keeper.commit(&put(alloc, 2, 8)?), Err(KeepFault::Failed));
+    for (shows, is_after, left) in STOPS {
+        let stop = Stop {
+            call: 1,
+            is_after: *is_after,
+        };
+        let mut keeper = keeper(alloc, &[], &[stop])?;
+        assert_eq!(rt; commit_fault(alloc, &mut keeper, 1, 7)?, None);
+        assert_eq!(rt;
+            commit_fault(alloc, &mut keeper, 2, 8)?,
+            Some(KeepFault::Failed)
+        );
         assert!(rt; keeper.load().is_err());
         assert_eq!(rt; keeper.faults(), 2);
-        assert_eq!(rt; keeper.left().len(), left);
+        assert_eq!(rt; keeper.left().len(), *left, "{shows}");
     }
     Ok(())
+}
+
+fn zeros(alloc: Global, length: usize) -> Result<Vec<u8>, Fail> {
+    let mut bytes = Vec::new(alloc);
+    for _ in 0..length {
+        bytes.push(0)?;
+    }
+    Ok(bytes)
+}
+
+// So many bytes, each 0 but those at these places.
+fn bytes(alloc: Global, length: usize, places: &[(usize, u8)]) -> Result<Vec<u8>, Fail> {
+    let mut bytes = zeros(alloc, length)?;
+    for (at, byte) in places {
+        if let Some(place) = bytes.get_mut(*at) {
+            *place = *byte;
+        }
+    }
+    Ok(bytes)
+}
+
+fn is_read<T: Field>(alloc: Global, bytes: &[u8]) -> Result<bool, Fail> {
+    Ok(T::read(alloc, bytes)?.is_some())
+}
+
+// Whether a front of the bytes is a record.
+fn is_cut<T: Field>(alloc: Global, bytes: &[u8]) -> Result<bool, Fail> {
+    for length in 0..bytes.len() {
+        if is_read::<T>(alloc, &bytes[..length])? {
+            return Ok(true);
+        }
+    }
+    Ok(false)
 }
 
 // Whether the bytes are a record, and none of their fronts and no longer bytes are.
-fn is_cut_nowhere<T: Field>(alloc: Global, bytes: &[u8]) -> Result<bool, Fail> {
-    for length in 0..bytes.len() {
-        if T::read(alloc, &bytes[..length])?.is_some() {
-            return Ok(false);
-        }
-    }
-    let mut longer = bytes.to_vec(alloc)?;
-    longer.push(0)?;
-    Ok(T::read(alloc, bytes)?.is_some() && T::read(alloc, &longer)?.is_none())
+fn is_whole<T: Field>(alloc: Global, length: usize, places: &[(usize, u8)]) -> Result<bool, Fail> {
+    let mut bytes = bytes(alloc, length, places)?;
+    let is_whole = is_read::<T>(alloc, &bytes)? && !is_cut::<T>(alloc, &bytes)?;
+    bytes.push(0)?;
+    Ok(is_whole && !is_read::<T>(alloc, &bytes)?)
 }
 
 #[test]
-fn states_and_conflicts_are_read_whole(rt: HostRuntime) -> Result<(), Fail> {
-    let alloc = rt.alloc();
-    let mut publisher = [0; 43];
-    publisher[0] = 1;
-    assert!(rt; is_cut_nowhere::<PublisherState>(alloc, &publisher)?);
-    let mut subscriber = [0; 93];
-    subscriber[0] = 2;
-    subscriber[92] = 1;
-    assert!(rt; is_cut_nowhere::<SubscriberState>(alloc, &subscriber)?);
-    // The version of a row that was deleted, behind article, row, kind, site, verdict and moment.
-    let mut conflict = [0; 51];
-    conflict[17] = 1;
-    conflict[20] = 1;
-    conflict[29] = 1;
-    conflict[39] = 9;
-    conflict[40] = 2;
-    conflict[50] = 9;
-    assert!(rt; is_cut_nowhere::<ConflictValue>(alloc, &conflict)?);
+fn states_are_read_whole(rt: HostRuntime) -> Result<(), Fail> {
+    assert!(rt; is_whole::<PublisherState>(rt.alloc(), 43, &[(0, 1)])?);
+    assert!(rt; is_whole::<SubscriberState>(rt.alloc(), 93, &[(0, 2), (92, 1)])?);
+    Ok(())
+}
+
+// The version of a row that was deleted, behind article, row, kind, site, verdict and moment.
+const CONFLICT: &[(usize, u8)] = &[(17, 1), (20, 1), (29, 1), (39, 9), (40, 2), (50, 9)];
+
+#[test]
+fn conflicts_are_read_whole(rt: HostRuntime) -> Result<(), Fail> {
+    assert!(rt; is_whole::<ConflictValue>(rt.alloc(), 51, CONFLICT)?);
     Ok(())
 }
 
 #[test]
+fn the_state_of_the_other_kind_of_site_is_none(rt: HostRuntime) -> Result<(), Fail> {
+    let state = bytes(rt.alloc(), 43, &[(0, 2)])?;
+    assert!(rt; !is_read::<PublisherState>(rt.alloc(), &state)?);
+    Ok(())
+}
+
+const NO_STATES: &[(&str, &[(usize, u8)])] = &[
+    ("a third phase", &[(0, 2), (92, 3)]),
+    (
+        "a join that asks from a generation",
+        &[(0, 2), (66, 5), (91, 1), (92, 1)],
+    ),
+];
+
+#[test]
 fn what_breaks_the_grammar_is_no_state(rt: HostRuntime) -> Result<(), Fail> {
-    let alloc = rt.alloc();
-    // The state of the other kind of site, a third phase, and a join that asks from a generation.
-    let mut publisher = [0; 43];
-    publisher[0] = 2;
-    assert!(rt; PublisherState::read(alloc, &publisher)?.is_none());
-    let mut subscriber = [0; 93];
-    subscriber[0] = 2;
-    subscriber[92] = 3;
-    assert!(rt; SubscriberState::read(alloc, &subscriber)?.is_none());
-    subscriber[92] = 1;
-    subscriber[66] = 5;
-    subscriber[91] = 1;
-    assert!(rt; SubscriberState::read(alloc, &subscriber)?.is_none());
+    for (shows, places) in NO_STATES {
+        let state = bytes(rt.alloc(), 93, places)?;
+        assert!(rt; !is_read::<SubscriberState>(rt.alloc(), &state)?, "{shows}");
+    }
     Ok(())
 }
 
