@@ -1,6 +1,6 @@
 //! Publication texts with their answers. Expected answers are worked out from docs/publication-file.md.
-use crate::{SubKind, is_built, read};
-use merge_types::{ColType, NoMemory, SiteId, Tracking};
+use crate::{Article, Identity, JoinFilter, SchemaFault, SubKind, Subscription, is_built, read};
+use merge_types::{ColType, Column, NoMemory, SiteId, Tracking};
 use std::alloc::Global;
 use std::test::Fail;
 
@@ -34,7 +34,7 @@ fn article(alloc: Global, keys: &str) -> Result<String, NoMemory> {
     answer(alloc, &[TOP, ITEM, keys, QTY, SITE])
 }
 
-const TOPS: [(&str, &str); 22] = [
+const TOPS: &[(&str, &str)] = &[
     ("ok", "name = \"p\"\n"),
     ("ok", "retention_days = 1\nname = \"_\"\n"),
     (
@@ -93,12 +93,12 @@ const TOPS: [(&str, &str); 22] = [
 fn top_keys(rt: HostRuntime) -> Result<(), Fail> {
     for (expected, top) in TOPS {
         let told = answer(rt.alloc(), &[top, ITEM, QTY, SITE])?;
-        assert_eq!(rt; told.as_str(), expected, "{top}");
+        assert_eq!(rt; told.as_str(), *expected, "{top}");
     }
     Ok(())
 }
 
-const WHOLE: [(&str, &str); 17] = [
+const WHOLE: &[(&str, &str)] = &[
     (
         "bad value identity",
         "name = \"a\"\n[[article]]\nname = \"item\"\ncolumn = [{ name = \"c\", type = \"int\", identity = { range = 1, pub_range = 1 } }, { name = \"d\", type = \"int\", identity = { range = 0 } }]\n",
@@ -152,18 +152,30 @@ const WHOLE: [(&str, &str); 17] = [
         "ok",
         "name = \"a\"\nsubscription = []\n[[article]]\nname = \"item\"\njoin = []\n[[article.column]]\nname = \"c\"\ntype = \"guid\"\n",
     ),
+    (
+        "bad value column",
+        "name = \"p\"\n[[article]]\nname = \"item\"\ncolumn = 1\n",
+    ),
+    (
+        "bad value name",
+        "name = 1\narticle = [1, 2, 3, 4, 5, 6, 7, 8, 9, 10, 11, 12, 13, 14, 15, 16, 17, 18, 19, 20, 21, 22, 23, 24, 25, 26, 27, 28, 29, 30, 31, 32, 33]\n",
+    ),
+    (
+        "too many article 33",
+        "name = \"p\"\narticle = [1, 2, 3, 4, 5, 6, 7, 8, 9, 10, 11, 12, 13, 14, 15, 16, 17, 18, 19, 20, 21, 22, 23, 24, 25, 26, 27, 28, 29, 30, 31, 32, 33]\n",
+    ),
 ];
 
 #[test]
 fn tables(rt: HostRuntime) -> Result<(), Fail> {
     for (expected, text) in WHOLE {
         let told = answer(rt.alloc(), &[text])?;
-        assert_eq!(rt; told.as_str(), expected, "{text}");
+        assert_eq!(rt; told.as_str(), *expected, "{text}");
     }
     Ok(())
 }
 
-const ARTICLES: [(&str, &str); 30] = [
+const ARTICLES: &[(&str, &str)] = &[
     ("ok", "tracking = \"row\"\nresolver = \"subscriber\"\n"),
     ("ok", "tracking = \"column\"\nfilter = \"qty = 1\"\n"),
     ("ok", "resolver = \"maximum\"\nresolver_column = \"qty\"\n"),
@@ -221,14 +233,12 @@ const ARTICLES: [(&str, &str); 30] = [
 fn article_keys(rt: HostRuntime) -> Result<(), Fail> {
     for (expected, keys) in ARTICLES {
         let told = article(rt.alloc(), keys)?;
-        assert_eq!(rt; told.as_str(), expected, "{keys}");
+        assert_eq!(rt; told.as_str(), *expected, "{keys}");
     }
-    let told = answer(rt.alloc(), &[TOP, ITEM, "column = 1\n"])?;
-    assert_eq!(rt; told.as_str(), "bad value column");
     Ok(())
 }
 
-const IDENTITIES: [(&str, &str); 19] = [
+const IDENTITIES: &[(&str, &str)] = &[
     ("ok", "range = 1, pub_range = 1000000000"),
     (
         "ok",
@@ -278,12 +288,12 @@ fn identity_keys(rt: HostRuntime) -> Result<(), Fail> {
             rt.alloc(),
             &[TOP, ITEM, QTY, "identity = { ", keys, " }\n", SITE],
         )?;
-        assert_eq!(rt; told.as_str(), expected, "{keys}");
+        assert_eq!(rt; told.as_str(), *expected, "{keys}");
     }
     Ok(())
 }
 
-const SUBSCRIPTIONS: [(&str, &str); 21] = [
+const SUBSCRIPTIONS: &[(&str, &str)] = &[
     ("ok", "site = 63\nhost = \"\"\n"),
     (
         "ok",
@@ -341,7 +351,7 @@ const SUBSCRIPTIONS: [(&str, &str); 21] = [
 fn subscription_keys(rt: HostRuntime) -> Result<(), Fail> {
     for (expected, keys) in SUBSCRIPTIONS {
         let told = answer(rt.alloc(), &[TOP, ITEM, QTY, "[[subscription]]\n", keys])?;
-        assert_eq!(rt; told.as_str(), expected, "{keys}");
+        assert_eq!(rt; told.as_str(), *expected, "{keys}");
     }
     Ok(())
 }
@@ -353,15 +363,16 @@ const A: &str =
 const B: &str =
     "[[article]]\nname = \"b\"\ncolumn = [{ name = \"i\", type = \"int\" }, { name = \"d\", type = \"day\" }]\n";
 
-const PAIRS: [(&str, &str, &str); 16] = [
+// Joins by their columns `i`.
+const BY_A: &str = "join = [{ column = \"i\", parent = \"a\", parent_column = \"i\" }]\n";
+
+const BY_B: &str = "join = [{ column = \"i\", parent = \"b\", parent_column = \"i\" }]\n";
+
+const PAIRS: &[(&str, &str, &str)] = &[
+    ("ok", "", BY_A),
     (
         "ok",
-        "",
-        "join = [{ column = \"i\", parent = \"a\", parent_column = \"i\" }]\n",
-    ),
-    (
-        "ok",
-        "join = [{ column = \"i\", parent = \"b\", parent_column = \"i\" }]\n",
+        BY_B,
         "resolver = \"minimum\"\nresolver_column = \"d\"\n",
     ),
     (
@@ -374,24 +385,12 @@ const PAIRS: [(&str, &str, &str); 16] = [
         "",
         "join = [{ column = \"i\", parent = \"a\", parent_column = \"i\" }, { column = \"d\", parent = \"a\", parent_column = \"i\" }]\n",
     ),
-    (
-        "join cycle a",
-        "join = [{ column = \"i\", parent = \"b\", parent_column = \"i\" }]\n",
-        "join = [{ column = \"i\", parent = \"a\", parent_column = \"i\" }]\n",
-    ),
-    (
-        "join cycle b",
-        "",
-        "join = [{ column = \"i\", parent = \"b\", parent_column = \"i\" }]\n",
-    ),
-    (
-        "join cycle b",
-        "join = [{ column = \"i\", parent = \"b\", parent_column = \"i\" }]\n",
-        "join = [{ column = \"i\", parent = \"b\", parent_column = \"i\" }]\n",
-    ),
+    ("join cycle a", BY_B, BY_A),
+    ("join cycle b", "", BY_B),
+    ("join cycle b", BY_B, BY_B),
     (
         "join types b",
-        "join = [{ column = \"i\", parent = \"a\", parent_column = \"i\" }]\n",
+        BY_A,
         "join = [{ column = \"d\", parent = \"a\", parent_column = \"i\" }]\n",
     ),
     (
@@ -429,20 +428,21 @@ const PAIRS: [(&str, &str, &str); 16] = [
         "join = [{ column = \"t\", parent = \"b\", parent_column = \"i\" }]\n",
         "filter = \"t = 1\"\n",
     ),
-    ("bad value tracking", "tracking = 1\n", "name = \"a\"\n"),
+    ("bad value tracking", "tracking = 1\n", ""),
 ];
 
 #[test]
 fn later_steps(rt: HostRuntime) -> Result<(), Fail> {
     for (expected, first, second) in PAIRS {
-        if expected == "bad value tracking" {
-            let told = answer(rt.alloc(), &[TOP, A, first, B])?;
-            assert_eq!(rt; told.as_str(), expected);
-        } else {
-            let told = answer(rt.alloc(), &[TOP, A, first, B, second])?;
-            assert_eq!(rt; told.as_str(), expected, "{first}{second}");
-        }
+        let told = answer(rt.alloc(), &[TOP, A, first, B, second])?;
+        assert_eq!(rt; told.as_str(), *expected, "{first}{second}");
     }
+    Ok(())
+}
+
+// An article that comes twice is told before what is wrong with another one.
+#[test]
+fn an_article_comes_twice(rt: HostRuntime) -> Result<(), Fail> {
     let told = answer(rt.alloc(), &[TOP, B, A, "filter = \"x\"\n", B])?;
     assert_eq!(rt; told.as_str(), "duplicate b");
     Ok(())
@@ -460,96 +460,280 @@ fn repeated(alloc: Global, count: usize, before: &str, behind: &str) -> Result<S
     Ok(text)
 }
 
+// The answer for these parts and so many numbered tables behind them.
+fn numbered(
+    alloc: Global,
+    parts: &[&str],
+    count: usize,
+    before: &str,
+    behind: &str,
+) -> Result<String, NoMemory> {
+    let head = text_of(alloc, parts)?;
+    let tables = repeated(alloc, count, before, behind)?;
+    answer(alloc, &[head.as_str(), tables.as_str()])
+}
+
+const LIMITS: &[(&str, &[&str], usize, &str, &str)] = &[
+    ("ok", &[TOP], 32, "[[article]]\nname = \"a", ONE_BIT),
+    (
+        "too many article 33",
+        &[TOP],
+        33,
+        "[[article]]\nname = \"a",
+        ONE_BIT,
+    ),
+    (
+        "ok",
+        &[TOP, ITEM],
+        64,
+        "[[article.column]]\nname = \"c",
+        "\"\ntype = \"bit\"\n",
+    ),
+    (
+        "too many column 65",
+        &[TOP, ITEM],
+        65,
+        "[[article.column]]\nname = \"c",
+        "\"\ntype = \"bit\"\n",
+    ),
+    (
+        "ok",
+        &[TOP, ITEM, QTY],
+        63,
+        "[[subscription]]\nsite = ",
+        "\nhost = \"h\"\n",
+    ),
+    (
+        "too many subscription 64",
+        &[TOP, ITEM, QTY],
+        64,
+        "[[subscription]]\nsite = ",
+        "\nhost = \"h\"\n",
+    ),
+    ("ok", &[TOP, A, B], 8, JOIN, "\n"),
+    ("too many join 9", &[TOP, A, B], 9, JOIN, "\n"),
+];
+
+const ONE_BIT: &str = "\"\ncolumn = [{ name = \"c\", type = \"bit\" }]\n";
+
+// A number behind it is a comment.
+const JOIN: &str = "[[article.join]]\ncolumn = \"i\"\nparent = \"a\"\nparent_column = \"i\"\n#";
+
 #[test]
 fn limits(rt: HostRuntime) -> Result<(), Fail> {
-    let alloc = rt.alloc();
-    for (count, expected) in [(32, "ok"), (33, "too many article 33")] {
-        let behind = "\"\ncolumn = [{ name = \"c\", type = \"bit\" }]\n";
-        let articles = repeated(alloc, count, "[[article]]\nname = \"a", behind)?;
-        let told = answer(alloc, &[TOP, articles.as_str()])?;
-        assert_eq!(rt; told.as_str(), expected);
+    for (expected, parts, count, before, behind) in LIMITS {
+        let told = numbered(rt.alloc(), parts, *count, before, behind)?;
+        assert_eq!(rt; told.as_str(), *expected);
     }
-    for (count, expected) in [(64, "ok"), (65, "too many column 65")] {
-        let columns = repeated(
-            alloc,
-            count,
-            "[[article.column]]\nname = \"c",
-            "\"\ntype = \"bit\"\n",
-        )?;
-        let told = answer(alloc, &[TOP, ITEM, columns.as_str()])?;
-        assert_eq!(rt; told.as_str(), expected);
-    }
-    for (count, expected) in [(63, "ok"), (64, "too many subscription 64")] {
-        let sites = repeated(
-            alloc,
-            count,
-            "[[subscription]]\nsite = ",
-            "\nhost = \"h\"\n",
-        )?;
-        let told = answer(alloc, &[TOP, ITEM, QTY, sites.as_str()])?;
-        assert_eq!(rt; told.as_str(), expected);
-    }
-    for (count, expected) in [(8, "ok"), (9, "too many join 9")] {
-        let before = "[[article.join]]\ncolumn = \"i\"\nparent = \"a\"\nparent_column = \"i\"\n#";
-        let joins = repeated(alloc, count, before, "\n")?;
-        let told = answer(alloc, &[TOP, A, B, joins.as_str()])?;
-        assert_eq!(rt; told.as_str(), expected);
-    }
-    let told = answer(
-        alloc,
-        &[
-            "name = 1\narticle = [1, 2, 3, 4, 5, 6, 7, 8, 9, 10, 11, 12, 13, 14, 15, 16, 17, 18, 19, 20, 21, 22, 23, 24, 25, 26, 27, 28, 29, 30, 31, 32, 33]\n",
-        ],
-    )?;
-    assert_eq!(rt; told.as_str(), "bad value name");
-    let told = answer(
-        alloc,
-        &[
-            "name = \"p\"\narticle = [1, 2, 3, 4, 5, 6, 7, 8, 9, 10, 11, 12, 13, 14, 15, 16, 17, 18, 19, 20, 21, 22, 23, 24, 25, 26, 27, 28, 29, 30, 31, 32, 33]\n",
-        ],
-    )?;
-    assert_eq!(rt; told.as_str(), "too many article 33");
     Ok(())
 }
 
-fn spaces(alloc: Global, count: usize) -> Result<String, NoMemory> {
-    let mut text = String::new(alloc);
+// The answer for a piece so many times between two texts, and these parts behind.
+fn filled(
+    alloc: Global,
+    before: &[&str],
+    piece: &str,
+    count: usize,
+    behind: &[&str],
+) -> Result<String, NoMemory> {
+    let mut text = text_of(alloc, before)?;
     for _ in 0..count {
-        text.push_str(" ")?;
+        text.push_str(piece)?;
     }
-    Ok(text)
+    let rest = text_of(alloc, behind)?;
+    answer(alloc, &[text.as_str(), rest.as_str()])
 }
+
+const LONG_TEXTS: &[(&str, &[&str], &str, usize, &[&str])] = &[
+    (
+        "ok",
+        &[TOP, ITEM, "filter = \"qty = 1"],
+        " ",
+        3993,
+        &["\"\n", QTY, SITE],
+    ),
+    (
+        "bad value filter",
+        &[TOP, ITEM, "filter = \"qty = 1"],
+        " ",
+        3994,
+        &["\"\n", QTY, SITE],
+    ),
+    ("ok", &[TOP, ITEM, QTY, HOST], " ", 128, &["\"\n"]),
+    (
+        "bad value host",
+        &[TOP, ITEM, QTY, HOST],
+        " ",
+        129,
+        &["\"\n"],
+    ),
+    ("ok", &["name = \""], "a", 64, &["\"\n", ITEM, QTY]),
+    (
+        "bad value name",
+        &["name = \""],
+        "a",
+        65,
+        &["\"\n", ITEM, QTY],
+    ),
+];
+
+const HOST: &str = "[[subscription]]\nsite = 1\nhost = \"";
 
 #[test]
 fn long_texts(rt: HostRuntime) -> Result<(), Fail> {
+    for (expected, before, piece, count, behind) in LONG_TEXTS {
+        let told = filled(rt.alloc(), before, piece, *count, behind)?;
+        assert_eq!(rt; told.as_str(), *expected);
+    }
+    Ok(())
+}
+
+const C: &str = "[[article]]\nname = \"c\"\ncolumn = [{ name = \"i\", type = \"int\" }]\n";
+
+const ORDERS: &[(&str, &str, [u8; 3])] = &[
+    (BY_B, BY_A, [2, 1, 0]),
+    (
+        BY_A,
+        "join = [{ column = \"i\", parent = \"c\", parent_column = \"i\" }, { column = \"i\", parent = \"a\", parent_column = \"i\" }]\n",
+        [2, 0, 1],
+    ),
+];
+
+// A chain of three, and an article with two joins.
+#[test]
+fn orders(rt: HostRuntime) -> Result<(), Fail> {
     let alloc = rt.alloc();
-    for (blanks, expected) in [(3993, "ok"), (3994, "bad value filter")] {
-        let blanks = spaces(alloc, blanks)?;
-        let keys = text_of(alloc, &["filter = \"qty = 1", blanks.as_str(), "\"\n"])?;
-        assert_eq!(rt; article(alloc, keys.as_str())?.as_str(), expected);
+    for (first, second, expected) in ORDERS {
+        let text = text_of(alloc, &[TOP, C, first, B, second, A])?;
+        let publication = read(alloc, text.as_bytes(), 5)?;
+        assert!(rt; publication.articles.len() <= 32);
+        let order = publication.evaluation_order(alloc)?;
+        assert_eq!(rt; order.as_slice(), expected.as_slice());
     }
-    for (length, expected) in [(128, "ok"), (129, "bad value host")] {
-        let host = spaces(alloc, length)?;
-        let told = answer(
-            alloc,
-            &[
-                TOP,
-                ITEM,
-                QTY,
-                "[[subscription]]\nsite = 1\nhost = \"",
-                host.as_str(),
-                "\"\n",
-            ],
-        )?;
-        assert_eq!(rt; told.as_str(), expected);
+    Ok(())
+}
+
+const UNBUILT: &[(&str, &[&str])] = &[
+    ("ok", &[TOP, ITEM, QTY]),
+    (
+        "ok",
+        &[
+            TOP,
+            ITEM,
+            "resolver = \"priority\"\nresolver_column = \"qty\"\n",
+            QTY,
+        ],
+    ),
+    (
+        "not built tracking",
+        &[
+            TOP,
+            ITEM,
+            "tracking = \"column\"\nfilter = \"qty = 1\"\n",
+            QTY,
+        ],
+    ),
+    (
+        "not built filter",
+        &[
+            TOP,
+            ITEM,
+            "filter = \"qty = 1\"\nresolver = \"subscriber\"\n",
+            QTY,
+        ],
+    ),
+    (
+        "not built resolver",
+        &[TOP, ITEM, "resolver = \"subscriber\"\n", QTY],
+    ),
+    (
+        "not built identity",
+        &[TOP, ITEM, QTY, "identity = { range = 1, pub_range = 1 }\n"],
+    ),
+    ("not built join", &[TOP, A, B, BY_A]),
+];
+
+// The words of the first part that is not built, or `ok`.
+fn built(alloc: Global, parts: &[&str]) -> Result<String, SchemaFault> {
+    let text = text_of(alloc, parts)?;
+    let publication = read(alloc, text.as_bytes(), 5)?;
+    match is_built(alloc, &publication) {
+        Ok(()) => Ok(String::from_str(alloc, "ok")?),
+        Err(fault) => Ok(format!(in alloc; "{fault}")?),
     }
-    for (count, expected) in [(64, "ok"), (65, "bad value name")] {
-        let mut name = String::new(alloc);
-        for _ in 0..count {
-            name.push_str("a")?;
-        }
-        let told = answer(alloc, &["name = \"", name.as_str(), "\"\n", ITEM, QTY])?;
-        assert_eq!(rt; told.as_str(), expected);
+}
+
+#[test]
+fn parts_that_are_not_built(rt: HostRuntime) -> Result<(), Fail> {
+    for (expected, parts) in UNBUILT {
+        let told = built(rt.alloc(), parts)?;
+        assert_eq!(rt; told.as_str(), *expected);
+    }
+    Ok(())
+}
+
+#[test]
+fn handlers(rt: HostRuntime) -> Result<(), Fail> {
+    let alloc = rt.alloc();
+    let text = text_of(alloc, &[TOP, ITEM, "resolver = \"handler15\"\n", QTY])?;
+    for (resolvers, expected) in [(15, None), (16, Some(15))] {
+        let place = match read(alloc, text.as_bytes(), resolvers) {
+            Ok(publication) => match publication.articles.as_slice().get(0) {
+                Some(article) => Some(article.resolver),
+                None => None,
+            },
+            Err(_) => None,
+        };
+        assert_eq!(rt; place, expected);
+    }
+    Ok(())
+}
+
+const QUOTED: &[(&str, &str)] = &[
+    ("bad value \"a\\nb\"", "\"a\\nb\" = 1\n"),
+    ("bad value \"a-b\"", "a-b = 1\n"),
+    ("bad value \"\"", "\"\" = 1\n"),
+    (
+        "unknown article \"\\u001b[0m\"",
+        "join = [{ column = \"qty\", parent = \"\\u001b[0m\", parent_column = \"x\" }]\n",
+    ),
+];
+
+#[test]
+fn keys_that_are_no_names_are_told_in_quotes(rt: HostRuntime) -> Result<(), Fail> {
+    for (expected, keys) in QUOTED {
+        let told = article(rt.alloc(), keys)?;
+        assert_eq!(rt; told.as_str(), *expected, "{keys}");
+    }
+    Ok(())
+}
+
+const NUMBERS: &[(u8, &str)] = &[
+    (2, "resolver = \"maximum\"\n"),
+    (3, "tracking = 1\n"),
+    (
+        5,
+        "join = [{ column = \"qty\", parent = \"far\", parent_column = \"x\" }]\n",
+    ),
+    (
+        6,
+        "join = [{ column = \"qty\", parent = \"item\", parent_column = \"qty\" }]\n",
+    ),
+];
+
+// The number of the fault of the article `item` with these keys.
+fn number(alloc: Global, keys: &str) -> Result<Option<u8>, NoMemory> {
+    let text = text_of(alloc, &[TOP, ITEM, keys, QTY])?;
+    match read(alloc, text.as_bytes(), 5) {
+        Ok(_) => Ok(None),
+        Err(fault) => Ok(fault.number()),
+    }
+}
+
+#[test]
+fn faults_have_numbers(rt: HostRuntime) -> Result<(), Fail> {
+    for (expected, keys) in NUMBERS {
+        assert_eq!(rt; number(rt.alloc(), keys)?, Some(*expected), "{keys}");
     }
     Ok(())
 }
@@ -605,222 +789,105 @@ site = 5
 host = \"south\"
 ";
 
+fn is_customer(article: &Article) -> bool {
+    article.name.as_str() == "customer"
+        && article.tracking == Tracking::ByColumn
+        && article.filter.is_some()
+        && article.resolver == 1
+        && article.resolver_column == Some(1)
+        && article.columns.len() == 3
+}
+
+fn is_order(article: &Article) -> bool {
+    article.tracking == Tracking::Row
+        && article.filter.is_none()
+        && article.resolver == 0
+        && article.resolver_column == None
+}
+
+fn are_number_and_reference(columns: &[Column]) -> bool {
+    match columns {
+        [number, reference] => {
+            number.name.as_str() == "number"
+                && number.ty == ColType::Int
+                && reference.ty == ColType::Guid
+        }
+        _ => false,
+    }
+}
+
+// An identity column of which the file gives the two ranges alone.
+fn is_plain(identity: Identity) -> bool {
+    identity.column == 0
+        && identity.seed == 1
+        && identity.range == 100
+        && identity.pub_range == 1000
+        && identity.threshold == 80
+        && identity.greatest == i64::MAX
+}
+
+fn are_of_customers(joins: &[JoinFilter]) -> bool {
+    match joins {
+        [join] => join.column == 1 && join.parent == 0 && join.parent_column == 2,
+        _ => false,
+    }
+}
+
+fn are_north_and_south(subscriptions: &[Subscription]) -> bool {
+    match subscriptions {
+        [north, south] => {
+            (north.site.0, north.kind, north.priority) == (3, SubKind::Server, 50)
+                && (south.site.0, south.kind, south.priority) == (5, SubKind::Client, 0)
+                && south.host.0.as_str() == "south"
+        }
+        _ => false,
+    }
+}
+
 #[test]
 fn a_publication(rt: HostRuntime) -> Result<(), Fail> {
-    let alloc = rt.alloc();
-    let Ok(publication) = read(alloc, SHOP.as_bytes(), 5) else {
-        assert!(rt; false, "refused");
-        return Ok(());
-    };
-    let publication = publication.copy()?;
+    let publication = read(rt.alloc(), SHOP.as_bytes(), 5)?.copy()?;
     assert_eq!(rt; publication.name.as_str(), "shop");
     assert_eq!(rt; publication.retention_days, 30);
     assert_eq!(rt; publication.conflict_retention_days, 14);
-    let [customer, order] = publication.articles.as_slice() else {
-        assert!(rt; false, "two articles");
-        return Ok(());
-    };
-    assert_eq!(rt; customer.name.as_str(), "customer");
-    assert_eq!(rt; customer.tracking, Tracking::ByColumn);
-    assert!(rt; customer.filter.is_some());
-    assert_eq!(rt; customer.resolver, 1);
-    assert_eq!(rt; customer.resolver_column, Some(1));
-    assert_eq!(rt; customer.columns.len(), 3);
-    assert_eq!(rt; order.tracking, Tracking::Row);
-    assert!(rt; order.filter.is_none());
-    assert_eq!(rt; order.resolver, 0);
-    assert_eq!(rt; order.resolver_column, None);
-    let [number, reference] = order.columns.as_slice() else {
-        assert!(rt; false, "two columns");
-        return Ok(());
-    };
-    assert_eq!(rt; number.name.as_str(), "number");
-    assert_eq!(rt; number.ty, ColType::Int);
-    assert_eq!(rt; reference.ty, ColType::Guid);
-    let Some(identity) = order.identity else {
-        assert!(rt; false, "an identity");
-        return Ok(());
-    };
-    assert_eq!(rt;
-        (identity.column, identity.seed, identity.range),
-        (0, 1, 100)
-    );
-    assert_eq!(rt; (identity.pub_range, identity.threshold), (1000, 80));
-    assert_eq!(rt; identity.greatest, i64::MAX);
-    let [join] = order.joins.as_slice() else {
-        assert!(rt; false, "one join");
-        return Ok(());
-    };
-    assert_eq!(rt; (join.column, join.parent, join.parent_column), (1, 0, 2));
-    let [north, south] = publication.subscriptions.as_slice() else {
-        assert!(rt; false, "two subscriptions");
-        return Ok(());
-    };
-    assert_eq!(rt;
-        (north.site.0, north.kind, north.priority),
-        (3, SubKind::Server, 50)
-    );
-    assert_eq!(rt;
-        (south.site.0, south.kind, south.priority),
-        (5, SubKind::Client, 0)
-    );
-    assert_eq!(rt; south.host.0.as_str(), "south");
+    assert!(rt; are_north_and_south(publication.subscriptions.as_slice()));
     Ok(())
 }
+
+#[test]
+fn articles_of_a_publication(rt: HostRuntime) -> Result<(), Fail> {
+    let publication = read(rt.alloc(), SHOP.as_bytes(), 5)?.copy()?;
+    if let [customer, order] = publication.articles.as_slice() {
+        assert!(rt; is_customer(customer));
+        assert!(rt; is_order(order));
+        assert!(rt; are_number_and_reference(order.columns.as_slice()));
+        assert!(rt; order.identity.is_some_and(|identity| is_plain(identity)));
+        assert!(rt; are_of_customers(order.joins.as_slice()));
+    } else {
+        assert!(rt; false, "two articles");
+    }
+    Ok(())
+}
+
+const ARTICLE_PLACES: &[(&str, Option<usize>)] = &[("order", Some(1)), ("orders", None)];
+
+const SITE_PLACES: &[(SiteId, Option<usize>)] = &[(SiteId(5), Some(1)), (SiteId(1), None)];
+
+const COLUMN_PLACES: &[(&str, Option<usize>)] = &[("id", Some(2)), ("i", None)];
 
 #[test]
 fn places(rt: HostRuntime) -> Result<(), Fail> {
-    let Ok(publication) = read(rt.alloc(), SHOP.as_bytes(), 5) else {
-        assert!(rt; false, "refused");
-        return Ok(());
-    };
-    assert_eq!(rt; publication.article_place("order"), Some(1));
-    assert_eq!(rt; publication.article_place("orders"), None);
-    assert_eq!(rt; publication.subscription_place(SiteId(5)), Some(1));
-    assert_eq!(rt; publication.subscription_place(SiteId(1)), None);
+    let publication = read(rt.alloc(), SHOP.as_bytes(), 5)?;
+    for (name, place) in ARTICLE_PLACES {
+        assert_eq!(rt; publication.article_place(name), *place, "{name}");
+    }
+    for (site, place) in SITE_PLACES {
+        assert_eq!(rt; publication.subscription_place(*site), *place, "{site:?}");
+    }
     if let Some(customer) = publication.articles.as_slice().get(0) {
-        assert_eq!(rt; customer.column_place("id"), Some(2));
-        assert_eq!(rt; customer.column_place("i"), None);
-    }
-    Ok(())
-}
-
-const C: &str = "[[article]]\nname = \"c\"\ncolumn = [{ name = \"i\", type = \"int\" }]\n";
-
-const ORDERS: [(&str, &str, [u8; 3]); 2] = [
-    (
-        "join = [{ column = \"i\", parent = \"b\", parent_column = \"i\" }]\n",
-        "join = [{ column = \"i\", parent = \"a\", parent_column = \"i\" }]\n",
-        [2, 1, 0],
-    ),
-    (
-        "join = [{ column = \"i\", parent = \"a\", parent_column = \"i\" }]\n",
-        "join = [{ column = \"i\", parent = \"c\", parent_column = \"i\" }, { column = \"i\", parent = \"a\", parent_column = \"i\" }]\n",
-        [2, 0, 1],
-    ),
-];
-
-// A chain of three, and an article with two joins.
-#[test]
-fn orders(rt: HostRuntime) -> Result<(), Fail> {
-    let alloc = rt.alloc();
-    for (first, second, expected) in ORDERS {
-        let text = text_of(alloc, &[TOP, C, first, B, second, A])?;
-        let Ok(publication) = read(alloc, text.as_bytes(), 5) else {
-            assert!(rt; false, "refused");
-            return Ok(());
-        };
-        assert!(rt; publication.articles.len() <= 32);
-        let order = publication.evaluation_order(alloc)?;
-        assert_eq!(rt; order.as_slice(), expected.as_slice());
-    }
-    Ok(())
-}
-
-const UNBUILT: [(&str, &str); 7] = [
-    ("ok", ""),
-    ("ok", "resolver = \"priority\"\nresolver_column = \"qty\"\n"),
-    (
-        "not built tracking",
-        "tracking = \"column\"\nfilter = \"qty = 1\"\n",
-    ),
-    (
-        "not built filter",
-        "filter = \"qty = 1\"\nresolver = \"subscriber\"\n",
-    ),
-    ("not built resolver", "resolver = \"subscriber\"\n"),
-    ("not built identity", "identity\n"),
-    ("not built join", "join\n"),
-];
-
-#[test]
-fn parts_that_are_not_built(rt: HostRuntime) -> Result<(), Fail> {
-    let alloc = rt.alloc();
-    for (expected, keys) in UNBUILT {
-        let text = match keys {
-            "identity\n" => text_of(
-                alloc,
-                &[TOP, ITEM, QTY, "identity = { range = 1, pub_range = 1 }\n"],
-            )?,
-            "join\n" => text_of(
-                alloc,
-                &[
-                    TOP,
-                    A,
-                    B,
-                    "join = [{ column = \"i\", parent = \"a\", parent_column = \"i\" }]\n",
-                ],
-            )?,
-            _ => text_of(alloc, &[TOP, ITEM, keys, QTY])?,
-        };
-        let Ok(publication) = read(alloc, text.as_bytes(), 5) else {
-            assert!(rt; false, "refused");
-            return Ok(());
-        };
-        let told = match is_built(alloc, &publication) {
-            Ok(()) => String::from_str(alloc, "ok")?,
-            Err(fault) => format!(in alloc; "{fault}")?,
-        };
-        assert_eq!(rt; told.as_str(), expected, "{keys}");
-    }
-    Ok(())
-}
-
-#[test]
-fn handlers(rt: HostRuntime) -> Result<(), Fail> {
-    let alloc = rt.alloc();
-    let text = text_of(alloc, &[TOP, ITEM, "resolver = \"handler15\"\n", QTY])?;
-    for (resolvers, expected) in [(15, None), (16, Some(15))] {
-        let place = match read(alloc, text.as_bytes(), resolvers) {
-            Ok(publication) => match publication.articles.as_slice().get(0) {
-                Some(article) => Some(article.resolver),
-                None => None,
-            },
-            Err(_) => None,
-        };
-        assert_eq!(rt; place, expected);
-    }
-    Ok(())
-}
-
-#[test]
-fn keys_that_are_no_names_are_told_in_quotes(rt: HostRuntime) -> Result<(), Fail> {
-    for (expected, keys) in [
-        ("bad value \"a\\nb\"", "\"a\\nb\" = 1\n"),
-        ("bad value \"a-b\"", "a-b = 1\n"),
-        ("bad value \"\"", "\"\" = 1\n"),
-        (
-            "unknown article \"\\u001b[0m\"",
-            "join = [{ column = \"qty\", parent = \"\\u001b[0m\", parent_column = \"x\" }]\n",
-        ),
-    ] {
-        let told = article(rt.alloc(), keys)?;
-        assert_eq!(rt; told.as_str(), expected, "{keys}");
-    }
-    Ok(())
-}
-
-#[test]
-fn faults_have_numbers(rt: HostRuntime) -> Result<(), Fail> {
-    let alloc = rt.alloc();
-    for (number, keys) in [
-        (2, "resolver = \"maximum\"\n"),
-        (3, "tracking = 1\n"),
-        (
-            5,
-            "join = [{ column = \"qty\", parent = \"far\", parent_column = \"x\" }]\n",
-        ),
-        (
-            6,
-            "join = [{ column = \"qty\", parent = \"item\", parent_column = \"qty\" }]\n",
-        ),
-    ] {
-        let text = text_of(alloc, &[TOP, ITEM, keys, QTY])?;
-        let told = match read(alloc, text.as_bytes(), 5) {
-            Ok(_) => None,
-            Err(fault) => fault.number(),
-        };
-        assert_eq!(rt; told, Some(number), "{keys}");
+        for (name, place) in COLUMN_PLACES {
+            assert_eq!(rt; customer.column_place(name), *place, "{name}");
+        }
     }
     Ok(())
 }
@@ -829,10 +896,7 @@ fn faults_have_numbers(rt: HostRuntime) -> Result<(), Fail> {
 fn articles_and_sites_are_looked_up(rt: HostRuntime) -> Result<(), Fail> {
     let alloc = rt.alloc();
     let text = text_of(alloc, &[TOP, ITEM, QTY, SITE])?;
-    let Ok(publication) = read(alloc, text.as_bytes(), 5) else {
-        assert!(rt; false, "refused");
-        return Ok(());
-    };
+    let publication = read(alloc, text.as_bytes(), 5)?;
     assert!(rt; publication.article_at(1).is_none());
     let first = publication.article_at(0).ok_or("no article")?;
     assert_eq!(rt; first.name.as_str(), "item");
