@@ -1,3 +1,4 @@
+pub mod SortedRows
 pub mod Lengths
 pub mod Steps
 pub mod FitsAfter
