@@ -11,7 +11,7 @@ use Rattle.std.proofs.lemmas.Bool.Decides.{nat_tests}
 use Rattle.std.proofs.lemmas.Cmp.{tied_itself}
 use Rattle.std.proofs.lemmas.List.{append_assoc, length-append}
 use Rattle.std.proofs.lemmas.List.Elements.{All-append, All-from_recursion, recursion_from_All}
-use Rattle.merge_types.specs.Limits.{counter_limit}
+use Rattle.merge_types.specs.Limits.{number_limit}
 use Rattle.merge_types.specs.RowKeys.{key_cmp}
 use Rattle.merge_types.specs.declared.identifiers.Moment.{Moment}
 use Rattle.merge_types.specs.declared.row_key.RowKey.{RowKey}
@@ -19,7 +19,7 @@ use Rattle.merge_table.specs.Edits.{rows_after_all}
 use Rattle.merge_units.specs.declared.site_row.SubscriberRow.{SubscriberRow}
 use Rattle.merge_units.specs.declared.version.Version.{Version}
 use Rattle.merge_schema.specs.declared.publication.Publication.{Publication}
-use Rattle.merge_gens.specs.Entries.{entry_cmp, entry_of}
+use Rattle.merge_gens.specs.Entries.{entry_cmp}
 use Rattle.merge_gens.specs.Index.{entries_after_all}
 use Rattle.merge_gens.specs.Book.{Book, closed_now, forgotten, forgotten_if_any}
 use Rattle.merge_gens.specs.Book as gens
@@ -48,10 +48,10 @@ use Rattle.merge_model.proofs.KeyLookUps.{key-test, keys-same}
 use Rattle.merge_model.proofs.Sorted.{key_total}
 use Rattle.merge_table.proofs.Room.{AreAbove}
 use Rattle.merge_sub.proofs.Indexed.{entries-append, is_among, taken-all}
-use Rattle.merge_sub.proofs.Unsent.{GoesOn, forgotten-filling}
+use Rattle.merge_sub.proofs.Opened.{GoesOn, forgotten-filling}
 use Rattle.merge_sub.specs.Anew.{dropped_entries, dropped_rows, is_unsent, lost_from, lost_row, row_entries}
 use Rattle.merge_sub.specs.Drafts.{after}
-use Rattle.merge_sub.specs.Held.{AreFitting, AreIndexed, AreMade, AreNumbered, AreUnsent, Held, IsSound, keeps, kept_by, tables_of}
+use Rattle.merge_sub.specs.Held.{AreFitting, AreIndexed, AreMade, AreNumbered, Held, IsSound, KeepOpened, entry_behind, keeps, kept_by, tables_of}
 use Rattle.merge_sub.specs.declared.changes.Changes.{Changes}
 use Rattle.merge_sub.specs.declared.anew.Discarding.{Discarding}
 
@@ -66,7 +66,7 @@ rows-dropped (row ∷ rows) =
     ap (λ (b : Bool). (let left : Rows = cond b rows (row ∷ remove_entry (is_at (key_cmp row.0)) rows) in rows_after_all key_cmp left (dropped_rows rows))) first ∙ rows-dropped rows
 
 -- whether one of the rows keeps the generation
-abbrev some_keeps : RowKey → ℕ → Rows → Bool
+abbrev pub some_keeps : RowKey → ℕ → Rows → Bool
 some_keeps k g rows = list_any (λ (row : RowKey × SubscriberRow). same_key k row.0 && is_among g row.1.generations) rows
 
 drop-tests : (here there found : Bool) → (not there && (not here && found)) ≡ (not (here || there) && found)
@@ -75,13 +75,13 @@ drop-tests true false found = refl
 drop-tests false true found = refl
 drop-tests false false found = refl
 
-entries-dropped : (rows : Rows) (s : set.FinSet entry_cmp) (k : RowKey) (g : ℕ) → set.contains (entries_after_all s (dropped_entries rows)) (entry_of g k) ≡ (not (some_keeps k g rows) && set.contains s (entry_of g k))
+entries-dropped : (rows : Rows) (s : set.FinSet entry_cmp) (k : RowKey) (g : ℕ) → set.contains (entries_after_all s (dropped_entries rows)) (entry_behind g k) ≡ (not (some_keeps k g rows) && set.contains s (entry_behind g k))
 entries-dropped [] s k g = refl
 entries-dropped (row ∷ rows) s k g =
-    ap (λ (e : set.FinSet entry_cmp). set.contains e (entry_of g k)) (entries-append s (row_entries row) (dropped_entries rows))
+    ap (λ (e : set.FinSet entry_cmp). set.contains e (entry_behind g k)) (entries-append s (row_entries row) (dropped_entries rows))
     ∙ entries-dropped rows (entries_after_all s (row_entries row)) k g
     ∙ ap (λ (b : Bool). not (some_keeps k g rows) && b) (taken-all row.0 row.1.generations s k g)
-    ∙ drop-tests (same_key k row.0 && is_among g row.1.generations) (some_keeps k g rows) (set.contains s (entry_of g k))
+    ∙ drop-tests (same_key k row.0 && is_among g row.1.generations) (some_keeps k g rows) (set.contains s (entry_behind g k))
 
 found-keeps : (k : RowKey) (g : ℕ) (row : RowKey × SubscriberRow) (rows : Rows) (here : Bool) → is_at (key_cmp k) row.0 ≡ here → same_key k row.0 ≡ here → (keeps (row_at rows k) g ≡ true → some_keeps k g rows ≡ true)
     → keeps (let found : Option SubscriberRow = cond here (Some row.1) (row_at rows k) in found) g ≡ true → ((here && is_among g row.1.generations) || some_keeps k g rows) ≡ true
@@ -104,7 +104,7 @@ pub dropped-indexed : (rows : Rows) (entries : set.FinSet entry_cmp) → AreInde
 unfolding AreIndexed
 dropped-indexed rows entries indexed = λ k g.
     entries-dropped rows entries k g
-    ∙ none-left (some_keeps k g rows) (set.contains entries (entry_of g k)) (λ there. kept-some rows k g (sym (indexed k g) ∙ there))
+    ∙ none-left (some_keeps k g rows) (set.contains entries (entry_behind g k)) (λ there. kept-some rows k g (sym (indexed k g) ∙ there))
 
 -- What is discarded.
 
@@ -200,15 +200,15 @@ emptied s now lost c closes sound last is state done rows held conflicts =
     emptied-book (settled s.gens c.gens) sound last (is ∙ ap (λ (b : Book). b.filling.last_closed) (sym closes)) ∙ ap (λ (b : Book). (let e : Book = record b { closings = [] } in e)) closes in
     rw (state, done, rows, held, conflicts, book, rows-dropped s.rows, is) refl
 
-pub emptied-sound : (publication : Publication) (s : SubscriberTables) (entries : set.FinSet entry_cmp) → IsSound publication s entries → (made : SubscriberTables) → made.rows ≡ [] → made.held ≡ s.held → made.received ≤ made.gens.filling.last_closed → made.gens.filling.last_closed ≤ counter_limit → AreNumbered made.conflict_count made.conflicts
+pub emptied-sound : (publication : Publication) (s : SubscriberTables) (entries : set.FinSet entry_cmp) → IsSound publication s entries → (made : SubscriberTables) → made.rows ≡ [] → made.held ≡ s.held → made.received ≤ made.gens.filling.last_closed → made.gens.filling.last_closed ≤ number_limit → AreNumbered made.conflict_count made.conflicts
     → IsSound publication made (entries_after_all entries (dropped_entries s.rows))
-unfolding AreFitting AreMade AreUnsent
+unfolding AreFitting AreMade KeepOpened
 emptied-sound publication s entries sound made none held within limited numbered = record {
   valid = sound.valid;
   indexed = rw none (dropped-indexed s.rows entries sound.indexed);
   fitting = rw none (λ key row there. absurd cc);
   made = rw none (λ key row there. absurd cc);
-  unsent = rw none (λ key row there. absurd cc);
+  opened = rw none (λ key row there. absurd cc);
   within = within;
   limited = limited;
   ranged = rw held sound.ranged;
@@ -274,7 +274,7 @@ emptied-ready old now view sound h same lost numbered d count counted all rows h
     let ranges : rows_after_all nat_cmp old.held.rows d.held ≡ old.held.rows = ap (λ (edits : List (Edit ℕ Holder)). rows_after_all nat_cmp old.held.rows edits) held in
     let last : (forgotten_if_any (settled old.gens.book d.gens) d.done).filling.last_closed ≡ d.gens.filling.last_closed = ap (λ (filling : Filling). filling.last_closed) (forgotten-filling (settled old.gens.book d.gens) d.done) in
     let within : d.state.received ≤ (forgotten_if_any (settled old.gens.book d.gens) d.done).filling.last_closed = omega (arith, received, last) in
-    let limited : (forgotten_if_any (settled old.gens.book d.gens) d.done).filling.last_closed ≤ counter_limit = omega (arith, last, closes.limited sound.limited) in
+    let limited : (forgotten_if_any (settled old.gens.book d.gens) d.done).filling.last_closed ≤ number_limit = omega (arith, last, closes.limited sound.limited) in
     let there : IsSound old.publication (after d (tables_of old)) (entries_after_all old.unsent.entries (dropped_entries old.rows.rows)) = emptied-sound old.publication (tables_of old) old.unsent.entries sound (after d (tables_of old)) none ranges within limited behind in
     subst (λ (i : List (Edit IndexEntry (Unit {0}))). IsSound old.publication (after d (tables_of h)) (entries_after_all old.unsent.entries i)) (sym is)
     (subst (λ (s : SubscriberTables). IsSound old.publication (after d s) (entries_after_all old.unsent.entries (dropped_entries old.rows.rows))) (sym same) there)

@@ -27,7 +27,7 @@ use Rattle.merge_gens.specs.Entries.{entry_cmp}
 use Rattle.merge_types.specs.declared.identifiers.SiteId.{SiteId}
 use Rattle.std.specs.FinSet as set
 use Rattle.merge_sub.specs.Begin.{holders_from, with_ranges}
-use Rattle.merge_sub.specs.Held.{AreFitting, AreIndexed, AreMade, AreNumbered, AreRanged, AreUnsent, IsSound}
+use Rattle.merge_sub.specs.Held.{AreFitting, AreIndexed, AreMade, AreNumbered, AreRanged, IsSound, KeepOpened}
 
 -- the ranges of one article, in front of others
 abbrev pub with_article : ℕ → Option Identity → List (ℕ × Holder) → List (ℕ × Holder)
@@ -109,13 +109,13 @@ begun-ranged publication article = holders-at article 0 publication.articles art
 
 pub begun-sound : (publication : Publication) (site : SiteId) → ((resolvers : ℕ) × IsValid resolvers publication) → (s : SubscriberTables) → s ≡ empty_subscriber publication site
     → (entries : set.FinSet entry_cmp) → entries ≡ set.empty → IsSound publication s entries
-unfolding AreIndexed AreFitting AreMade AreNumbered AreUnsent
+unfolding AreIndexed AreFitting AreMade AreNumbered KeepOpened
 begun-sound publication site valid s is entries none = rw (is, none) (record {
   valid = valid;
   indexed = λ key generation. set.contains-empty entry_cmp _;
   fitting = λ key row held. absurd cc;
   made = λ key row held. absurd cc;
-  unsent = λ key row held. absurd cc;
+  opened = λ key row held. absurd cc;
   within = omega arith;
   limited = omega arith;
   ranged = begun-ranged publication;

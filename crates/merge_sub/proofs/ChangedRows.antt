@@ -5,7 +5,7 @@ use Rattle.std.specs.List.{AllByRecursion, Contains, cons_option, last_or, list_
 use Rattle.std.specs.List.Sorted.{IsStrictlySortedBy}
 use Rattle.std.specs.Map.{keys_of}
 use Rattle.std.specs.Option.{option_and_then}
-use Rattle.std.specs.Prelude.{◌≡◌, ◌==◌, ◌&&◌, ◌||◌, ◌<◌, ◌≤◌, ◌↔◌, ◌+◌, ◌++◌, ℕ, suc, Bool, true, false, List, [], ◌∷◌, IsTrue, None, Option, Some, cond, filter, filter_map, is_some, length, drop, map, nat_le, nat_lt, option_map, refl}
+use Rattle.std.specs.Prelude.{◌≡◌, ◌==◌, ◌&&◌, ◌||◌, ◌<◌, ◌≤◌, ◌↔◌, ◌+◌, ◌-◌, ◌++◌, ℕ, suc, Bool, true, false, List, [], ◌∷◌, IsTrue, None, Option, Some, cond, filter, filter_map, is_some, length, drop, map, nat_le, nat_lt, option_map, refl}
 use Rattle.std.proofs.Common.{ap, arith, subst, sym, ◌∙◌}
 use Rattle.std.proofs.lemmas.Bool.Decides.{nat_tests}
 use Rattle.std.proofs.lemmas.Cmp.{eq_by_cmp_equiv}
@@ -27,10 +27,11 @@ use Rattle.merge_model.specs.Keys.{row_at}
 use Rattle.merge_model.specs.Sending.{upload_item}
 use Rattle.merge_model.specs.Tables.{SubscriberTables}
 use Rattle.merge_model.proofs.KeyLookUps.{keys-exact}
+use Rattle.merge_model.proofs.Lists.{any-same}
 use Rattle.merge_model.proofs.Sorted.{key_total}
 use Rattle.merge_sub.proofs.Anewly.{AreFound, rows-found}
-use Rattle.merge_sub.specs.Held.{AreIndexed, keeps, kept_by}
-use Rattle.merge_sub.specs.Sent.{AreChanged, has_between, item_at, item_of, row_item}
+use Rattle.merge_sub.specs.Held.{AreIndexed, entry_behind, keeps, kept_by}
+use Rattle.merge_sub.specs.Sent.{AreChanged, AreKeeping, is_in, item_at, item_of, keeps_in, row_item}
 
 abbrev Rows : Type 0
 Rows = List (RowKey × SubscriberRow)
@@ -42,34 +43,42 @@ same-bool true b there back = sym (there refl)
 same-bool false true there back = back refl
 same-bool false false there back = refl
 
-abbrev is_inside : ℕ → ℕ → ℕ → Bool
-is_inside from to generation = nat_lt from generation && nat_le generation to
-
-pub has-kept : (row : Option SubscriberRow) (from to generation : ℕ) → from < generation → generation ≤ to → keeps row generation ≡ true → has_between from to row ≡ true
-has-kept row from to generation above below keep =
+pub has-kept : (row : Option SubscriberRow) (first end generation : ℕ) → first ≤ generation → generation < end → keeps row generation ≡ true → keeps_in first end row ≡ true
+has-kept row first end generation above below keep =
     let found = any_found (λ (kept : ℕ). kept == generation) (kept_by row) keep in
     let same : found.0 ≡ generation = (let is = found.2 in grind (arith, nat_tests, is)) in
-    any_at (is_inside from to) (kept_by row) found.0 found.1 (grind (arith, nat_tests, same, above, below))
+    any_at (is_in first end) (kept_by row) found.0 found.1 (grind (arith, nat_tests, same, above, below))
 
-kept-has : (row : Option SubscriberRow) (from to : ℕ) → has_between from to row ≡ true → (generation : ℕ) × (from < generation) × (generation ≤ to) × (keeps row generation ≡ true)
-kept-has row from to has =
-    let found = any_found (is_inside from to) (kept_by row) has in
+kept-has : (row : Option SubscriberRow) (first end : ℕ) → keeps_in first end row ≡ true → (generation : ℕ) × (first ≤ generation) × (generation < end) × (keeps row generation ≡ true)
+kept-has row first end has =
+    let found = any_found (is_in first end) (kept_by row) has in
     let inside = found.2 in
     (found.0, grind (arith, nat_tests, inside), grind (arith, nat_tests, inside), any_at (λ (kept : ℕ). kept == found.0) (kept_by row) found.0 found.1 (grind (arith, nat_tests)))
 
-pub changed-each : (rows : Rows) (entries : set.FinSet entry_cmp) → AreIndexed rows entries → (from to : ℕ) (added : List RowKey) → AddsRowsBetween entries from to [] added
-    → (keys : List RowKey) → ((key : RowKey) → Contains keys key ↔ Contains added key) → (key : RowKey) → list_any (is_at (key_cmp key)) keys ≡ has_between from to (row_at rows key)
+-- a number behind one is that behind a generation
+found-kept : (rows : Rows) (entries : set.FinSet entry_cmp) → AreIndexed rows entries → (first end : ℕ) (key : RowKey) → HasBetween entries first end key → keeps_in first end (row_at rows key) ≡ true
 unfolding AreIndexed
-changed-each rows entries indexed from to added adds keys same key =
-    let between = added_rows entries from to [] added adds key in
-    same-bool (list_any (is_at (key_cmp key)) keys) (has_between from to (row_at rows key))
+found-kept rows entries indexed first end key (number, above, below, found) =
+    let at : number ≡ (number - 1) + 1 = omega (arith, above) in
+    let there : IsTrue (set.contains entries (entry_behind (number - 1) key)) = subst (λ (n : ℕ). IsTrue (set.contains entries (entry_of n key))) at found in
+    has-kept (row_at rows key) first end (number - 1) (omega (arith, above)) (omega (arith, above, below)) (sym (indexed key (number - 1)) ∙ there)
+
+kept-found : (rows : Rows) (entries : set.FinSet entry_cmp) → AreIndexed rows entries → (first end : ℕ) (key : RowKey) → keeps_in first end (row_at rows key) ≡ true → HasBetween entries first end key
+unfolding AreIndexed
+kept-found rows entries indexed first end key has =
+    let found = kept-has (row_at rows key) first end has in
+    (found.0 + 1, omega (arith, found.1), omega (arith, found.2), indexed key found.0 ∙ found.3)
+
+keeping-each : (rows : Rows) (entries : set.FinSet entry_cmp) → AreIndexed rows entries → (first end : ℕ) (added : List RowKey) → AddsRowsBetween entries first end [] added
+    → (keys : List RowKey) → ((key : RowKey) → Contains keys key ↔ Contains added key) → (key : RowKey) → list_any (is_at (key_cmp key)) keys ≡ keeps_in first end (row_at rows key)
+keeping-each rows entries indexed first end added adds keys same key =
+    let between = added_rows entries first end [] added adds key in
+    same-bool (list_any (is_at (key_cmp key)) keys) (keeps_in first end (row_at rows key))
     (λ there.
     let inside : Contains (map row_of adds.between) key = subst (λ (ks : List RowKey). Contains ks key) adds.added ((same key).0 (Contains-from_any keys-exact key keys there)) in
-    let found = between.0 inside in
-    has-kept (row_at rows key) from to found.0 found.1 found.2 (sym (indexed key found.0) ∙ found.3))
+    found-kept rows entries indexed first end key (between.0 inside))
     (λ has.
-    let found = kept-has (row_at rows key) from to has in
-    let inside : Contains (map row_of adds.between) key = between.1 (found.0, found.1, found.2, indexed key found.0 ∙ found.3) in
+    let inside : Contains (map row_of adds.between) key = between.1 (kept-found rows entries indexed first end key has) in
     list_any-from_Contains (eq_by_cmp_equiv key_total) key keys ((same key).1 (subst (λ (ks : List RowKey). Contains ks key) (sym adds.added) inside)))
 
 -- What is sent of the rows that are found is what is sent of all.
@@ -91,10 +100,19 @@ mapped-some : {A B : Type 0} (f : A → B) (o : Option A) → is_some (option_ma
 mapped-some f None = refl
 mapped-some f (Some a) = refl
 
+abbrev is_inside : ℕ → ℕ → ℕ → Bool
+is_inside from to generation = nat_lt from generation && nat_le generation to
+
+inside-in : (from to generation : ℕ) → is_inside from to generation ≡ is_in (from + 1) (to + 1) generation
+inside-in from to generation = grind (arith, nat_tests)
+
 -- an item is sent of just the rows that keep a generation between
-item-there : (from to : ℕ) (key : RowKey) (row : Option SubscriberRow) → is_some (option_and_then (item_of from to key) row) ≡ has_between from to row
+item-there : (from to : ℕ) (key : RowKey) (row : Option SubscriberRow) → is_some (option_and_then (item_of from to key) row) ≡ keeps_in (from + 1) (to + 1) row
 item-there from to key None = refl
-item-there from to key (Some row) = mapped-some (row_item key row) (last_between from to row.generations) ∙ last-kept (is_inside from to) row.generations
+item-there from to key (Some row) =
+    mapped-some (row_item key row) (last_between from to row.generations)
+    ∙ last-kept (is_inside from to) row.generations
+    ∙ any-same (is_inside from to) (is_in (from + 1) (to + 1)) (inside-in from to) row.generations
 
 abbrev item_with : RowKey → ℕ → Option Version → Option UploadItem
 item_with key generation version = option_map (λ (version : Version). record { article = key.article; row = key.row; generation = generation; version = version }) version
@@ -152,16 +170,16 @@ all-given : {X Y : Type 0} (f : X → Option Y) (xs : List X) → AllByRecursion
 all-given f [] all = refl
 all-given f (x ∷ xs) all = given-step (f x) (filter_map f xs) (length xs) all.0 (all-given f xs all.1)
 
-has-row : (from to : ℕ) (row : Option SubscriberRow) → has_between from to row ≡ true → is_some row ≡ true
-has-row from to None has = absurd cc
-has-row from to (Some row) has = refl
+has-row : (first end : ℕ) (row : Option SubscriberRow) → keeps_in first end row ≡ true → is_some row ≡ true
+has-row first end None has = absurd cc
+has-row first end (Some row) has = refl
 
 sent-of-all : (rows : Rows) (from to : ℕ) (keys : List RowKey) → AreChanged rows from to keys → filter_map (item_at rows from to) (keys_of rows) ≡ filter_map (item_at rows from to) keys
 sent-of-all rows from to keys changed =
     same-given key_cmp key_total key_exact (item_at rows from to) (keys_of rows) keys changed.ordered changed.ascending
     (λ key some.
-    let has : has_between from to (row_at rows key) ≡ true = sym (item-there from to key (row_at rows key)) ∙ some in
-    sym (is_some-lookup (is_at (key_cmp key)) rows) ∙ has-row from to (row_at rows key) has ∙ sym (changed.each key ∙ has))
+    let has : keeps_in (from + 1) (to + 1) (row_at rows key) ≡ true = sym (item-there from to key (row_at rows key)) ∙ some in
+    sym (is_some-lookup (is_at (key_cmp key)) rows) ∙ has-row (from + 1) (to + 1) (row_at rows key) has ∙ sym (changed.each key ∙ has))
 
 -- the rows that were changed between, and what is sent of them
 pub sent-items : (s : SubscriberTables) (from to : ℕ) (keys : List RowKey) → AreChanged s.rows from to keys → filter_map (upload_item s) (changed_between_by_rows s from to) ≡ filter_map (item_at s.rows from to) keys
@@ -195,12 +213,12 @@ count-rises (row ∷ rows) from a b less =
     (wider from a b less row.1.generations) (count-rises rows from a b less)
 
 -- what an index finds
-pub changed_rows : (rows : Rows) (entries : set.FinSet entry_cmp) → AreIndexed rows entries → IsStrictlySortedBy key_cmp (keys_of rows) → (from to : ℕ) (old added : List RowKey) → old ≡ [] → AddsRowsBetween entries from to old added
-    → (keys : List RowKey) → IsStrictlySortedBy key_cmp keys → ((key : RowKey) → Contains keys key ↔ Contains added key) → AreChanged rows from to keys
-changed_rows rows entries indexed ordered from to old added none adds keys ascending same = record {
+pub keeping_rows : (rows : Rows) (entries : set.FinSet entry_cmp) → AreIndexed rows entries → IsStrictlySortedBy key_cmp (keys_of rows) → (first end : ℕ) (old added : List RowKey) → old ≡ [] → AddsRowsBetween entries first end old added
+    → (keys : List RowKey) → IsStrictlySortedBy key_cmp keys → ((key : RowKey) → Contains keys key ↔ Contains added key) → AreKeeping rows first end keys
+keeping_rows rows entries indexed ordered first end old added none adds keys ascending same = record {
   ordered = ordered;
   ascending = ascending;
-  each = changed-each rows entries indexed from to added (subst (λ (o : List RowKey). AddsRowsBetween entries from to o added) none adds) keys same;
+  each = keeping-each rows entries indexed first end added (subst (λ (o : List RowKey). AddsRowsBetween entries first end o added) none adds) keys same;
 }
 
 -- The items of rows, one after the other.

@@ -1,5 +1,5 @@
 -- Rows by the generations that they keep, as one row keeps others.
-use Rattle.std.specs.Prelude.{◌≡◌, ◌==◌, ◌&&◌, ◌||◌, ◌++◌, ℕ, Bool, true, false, not, List, [], ◌∷◌, None, Option, Some, cond, if◌then◌else◌, map, refl}
+use Rattle.std.specs.Prelude.{◌≡◌, ◌+◌, ◌==◌, ◌&&◌, ◌||◌, ◌++◌, ℕ, Bool, true, false, not, List, [], ◌∷◌, None, Option, Some, cond, if◌then◌else◌, map, refl}
 use Rattle.std.specs.FinSet as set
 use Rattle.std.specs.List.{flat_map, list_any}
 use Rattle.std.specs.Ordering.{eq_by_cmp}
@@ -14,7 +14,7 @@ use Rattle.merge_gens.specs.declared.index.IndexEntry.{IndexEntry}
 use Rattle.merge_gens.proofs.EntryLists.{entry_total}
 use Rattle.merge_model.specs.Keys.{put_row, row_at, same_key}
 use Rattle.merge_model.proofs.KeyLookUps.{keys-same, row-put}
-use Rattle.merge_sub.specs.Held.{AreIndexed, keeps, kept_by}
+use Rattle.merge_sub.specs.Held.{AreIndexed, entry_behind, keeps, kept_by}
 use Rattle.merge_sub.specs.Local.{put_entry, reindexing, take_entry}
 
 abbrev Entries : Type 0
@@ -31,14 +31,20 @@ pub entries-append : (entries : Entries) (xs ys : Edits) → entries_after_all e
 entries-append entries [] ys = refl
 entries-append entries (x ∷ xs) ys = entries-append (entries_after entries x) xs ys
 
-entry-is : (k key : RowKey) (g h : ℕ) → eq_by_cmp entry_cmp (entry_of g k) (entry_of h key) ≡ ((h == g) && same_key k key)
-entry-is k key g h = grind (arith, nat_tests)
+same-behind : (g h : ℕ) → ((h + 1) == (g + 1)) ≡ (h == g)
+same-behind g h = grind (arith, nat_tests)
 
-put-one : (k key : RowKey) (g h : ℕ) (s : Entries) → set.contains (set.insert s (entry_of h key)) (entry_of g k) ≡ (((h == g) && same_key k key) || set.contains s (entry_of g k))
-put-one k key g h s = set.contains-insert entry_total s (entry_of h key) (entry_of g k) ∙ ap (λ (b : Bool). b || set.contains s (entry_of g k)) (entry-is k key g h)
+entry-of : (k key : RowKey) (g h : ℕ) → eq_by_cmp entry_cmp (entry_of g k) (entry_of h key) ≡ ((h == g) && same_key k key)
+entry-of k key g h = grind (arith, nat_tests)
 
-take-one : (k key : RowKey) (g h : ℕ) (s : Entries) → set.contains (set.remove s (entry_of h key)) (entry_of g k) ≡ (not ((h == g) && same_key k key) && set.contains s (entry_of g k))
-take-one k key g h s = set.contains-remove entry_total s (entry_of h key) (entry_of g k) ∙ ap (λ (b : Bool). not b && set.contains s (entry_of g k)) (entry-is k key g h)
+entry-is : (k key : RowKey) (g h : ℕ) → eq_by_cmp entry_cmp (entry_behind g k) (entry_behind h key) ≡ ((h == g) && same_key k key)
+entry-is k key g h = entry-of k key (g + 1) (h + 1) ∙ ap (λ (b : Bool). b && same_key k key) (same-behind g h)
+
+put-one : (k key : RowKey) (g h : ℕ) (s : Entries) → set.contains (set.insert s (entry_behind h key)) (entry_behind g k) ≡ (((h == g) && same_key k key) || set.contains s (entry_behind g k))
+put-one k key g h s = set.contains-insert entry_total s (entry_behind h key) (entry_behind g k) ∙ ap (λ (b : Bool). b || set.contains s (entry_behind g k)) (entry-is k key g h)
+
+take-one : (k key : RowKey) (g h : ℕ) (s : Entries) → set.contains (set.remove s (entry_behind h key)) (entry_behind g k) ≡ (not ((h == g) && same_key k key) && set.contains s (entry_behind g k))
+take-one k key g h s = set.contains-remove entry_total s (entry_behind h key) (entry_behind g k) ∙ ap (λ (b : Bool). not b && set.contains s (entry_behind g k)) (entry-is k key g h)
 
 take-tests : (same any here found : Bool) → (not (same && any) && (not (here && same) && found)) ≡ (not (same && (here || any)) && found)
 take-tests false any true found = refl
@@ -56,16 +62,16 @@ put-tests true true false found = refl
 put-tests true false true found = refl
 put-tests true false false found = refl
 
-pub taken-all : (key : RowKey) (hs : List ℕ) (s : Entries) (k : RowKey) (g : ℕ) → set.contains (entries_after_all s (map (take_entry key) hs)) (entry_of g k) ≡ (not (same_key k key && is_among g hs) && set.contains s (entry_of g k))
-taken-all key [] s k g = none (same_key k key) (set.contains s (entry_of g k))
+pub taken-all : (key : RowKey) (hs : List ℕ) (s : Entries) (k : RowKey) (g : ℕ) → set.contains (entries_after_all s (map (take_entry key) hs)) (entry_behind g k) ≡ (not (same_key k key && is_among g hs) && set.contains s (entry_behind g k))
+taken-all key [] s k g = none (same_key k key) (set.contains s (entry_behind g k))
   where
     none : (same found : Bool) → found ≡ (not (same && false) && found)
     none true found = refl
     none false found = refl
 taken-all key (h ∷ hs) s k g =
-    taken-all key hs (set.remove s (entry_of h key)) k g
+    taken-all key hs (set.remove s (entry_behind h key)) k g
     ∙ ap (λ (b : Bool). not (same_key k key && is_among g hs) && b) (take-one k key g h s)
-    ∙ take-tests (same_key k key) (is_among g hs) (h == g) (set.contains s (entry_of g k))
+    ∙ take-tests (same_key k key) (is_among g hs) (h == g) (set.contains s (entry_behind g k))
 
 drop-tests : (here there found : Bool) → (not there && (not here && found)) ≡ (not (here || there) && found)
 drop-tests true true found = refl
@@ -75,24 +81,24 @@ drop-tests false false found = refl
 
 -- the same of several, each with its key and the generations that it loses
 pub taken-each : {X : Type 0} (key : X → RowKey) (kept : X → List ℕ) (xs : List X) (s : Entries) (k : RowKey) (g : ℕ)
-    → set.contains (entries_after_all s (flat_map (λ (x : X). map (take_entry (key x)) (kept x)) xs)) (entry_of g k) ≡ (not (list_any (λ (x : X). same_key k (key x) && is_among g (kept x)) xs) && set.contains s (entry_of g k))
+    → set.contains (entries_after_all s (flat_map (λ (x : X). map (take_entry (key x)) (kept x)) xs)) (entry_behind g k) ≡ (not (list_any (λ (x : X). same_key k (key x) && is_among g (kept x)) xs) && set.contains s (entry_behind g k))
 taken-each key kept [] s k g = refl
 taken-each {X} key kept (x ∷ xs) s k g =
-    ap (λ (e : Entries). set.contains e (entry_of g k)) (entries-append s (map (take_entry (key x)) (kept x)) (flat_map (λ (y : X). map (take_entry (key y)) (kept y)) xs))
+    ap (λ (e : Entries). set.contains e (entry_behind g k)) (entries-append s (map (take_entry (key x)) (kept x)) (flat_map (λ (y : X). map (take_entry (key y)) (kept y)) xs))
     ∙ taken-each key kept xs (entries_after_all s (map (take_entry (key x)) (kept x))) k g
     ∙ ap (λ (b : Bool). not (list_any (λ (y : X). same_key k (key y) && is_among g (kept y)) xs) && b) (taken-all (key x) (kept x) s k g)
-    ∙ drop-tests (same_key k (key x) && is_among g (kept x)) (list_any (λ (y : X). same_key k (key y) && is_among g (kept y)) xs) (set.contains s (entry_of g k))
+    ∙ drop-tests (same_key k (key x) && is_among g (kept x)) (list_any (λ (y : X). same_key k (key y) && is_among g (kept y)) xs) (set.contains s (entry_behind g k))
 
-put-all : (key : RowKey) (hs : List ℕ) (s : Entries) (k : RowKey) (g : ℕ) → set.contains (entries_after_all s (map (put_entry key) hs)) (entry_of g k) ≡ ((same_key k key && is_among g hs) || set.contains s (entry_of g k))
-put-all key [] s k g = none (same_key k key) (set.contains s (entry_of g k))
+pub put-all : (key : RowKey) (hs : List ℕ) (s : Entries) (k : RowKey) (g : ℕ) → set.contains (entries_after_all s (map (put_entry key) hs)) (entry_behind g k) ≡ ((same_key k key && is_among g hs) || set.contains s (entry_behind g k))
+put-all key [] s k g = none (same_key k key) (set.contains s (entry_behind g k))
   where
     none : (same found : Bool) → found ≡ ((same && false) || found)
     none true found = refl
     none false found = refl
 put-all key (h ∷ hs) s k g =
-    put-all key hs (set.insert s (entry_of h key)) k g
+    put-all key hs (set.insert s (entry_behind h key)) k g
     ∙ ap (λ (b : Bool). (same_key k key && is_among g hs) || b) (put-one k key g h s)
-    ∙ put-tests (same_key k key) (is_among g hs) (h == g) (set.contains s (entry_of g k))
+    ∙ put-tests (same_key k key) (is_among g hs) (h == g) (set.contains s (entry_behind g k))
 
 -- what is found once one row keeps others
 kept-test : (same any : Bool) (g : ℕ) (found : Option SubscriberRow) (row : SubscriberRow) → is_among g row.generations ≡ any
@@ -115,7 +121,7 @@ unfolding AreIndexed
 replaced-indexed rows entries key row indexed = λ k g.
     let before : List ℕ = kept_by (row_at rows key) in
     let left : Entries = entries_after_all entries (map (take_entry key) before) in
-    ap (λ (e : Entries). set.contains e (entry_of g k)) (entries-append entries (map (take_entry key) before) (map (put_entry key) row.generations))
+    ap (λ (e : Entries). set.contains e (entry_behind g k)) (entries-append entries (map (take_entry key) before) (map (put_entry key) row.generations))
     ∙ put-all key row.generations left k g
     ∙ ap (λ (b : Bool). (same_key k key && is_among g row.generations) || b) (taken-all key before entries k g ∙ ap (λ (b : Bool). not (same_key k key && is_among g before) && b) (indexed k g))
     ∙ ap (λ (b : Bool). (same_key k key && is_among g row.generations) || (not b && keeps (row_at rows k) g)) (own-kept (same_key k key) g (row_at rows key) (row_at rows k) (λ same. ap (row_at rows) (sym (keys-same k key same))))

@@ -1,10 +1,10 @@
 -- What the publisher has taken is let go: rows keep no generation up to one, and are found by none.
 use Rattle.std.specs.BTreeMap.{is_at}
 use Rattle.std.specs.FinSet as set
-use Rattle.std.specs.List.{AllByRecursion, cons_option, flat_map, list_any}
+use Rattle.std.specs.List.{cons_option, flat_map, list_any}
 use Rattle.std.specs.List.Sorted.{IsStrictlySortedBy}
 use Rattle.std.specs.Map.{keys_of}
-use Rattle.std.specs.Prelude.{◌≡◌, ◌<◌, ◌≤◌, ◌==◌, ◌&&◌, ◌||◌, ℕ, Bool, true, false, not, List, [], ◌∷◌, None, Option, Some, cond, filter, filter_map, if◌then◌else◌, map, nat_le, nat_lt, option_map, refl}
+use Rattle.std.specs.Prelude.{◌≡◌, ◌+◌, ◌==◌, ◌&&◌, ◌||◌, ℕ, Bool, true, false, not, List, [], ◌∷◌, None, Option, Some, cond, filter, filter_map, if◌then◌else◌, map, nat_le, nat_lt, option_map, refl}
 use Rattle.std.proofs.Common.{ap, arith, subst, sym, ◌∙◌}
 use Rattle.std.proofs.lemmas.Bool.Decides.{nat_tests}
 use Rattle.merge_types.specs.RowKeys.{key_cmp}
@@ -15,27 +15,22 @@ use Rattle.merge_table.specs.declared.edit.Edit.TheVariants.{Put}
 use Rattle.merge_table.proofs.LookUps.{rows_from_look_ups}
 use Rattle.merge_table.proofs.Sorted.{sorted_after_all}
 use Rattle.merge_units.specs.declared.site_row.SubscriberRow.{SubscriberRow}
-use Rattle.merge_gens.specs.Entries.{entry_cmp, entry_of}
+use Rattle.merge_gens.specs.Entries.{entry_cmp}
 use Rattle.merge_gens.specs.Index.{entries_after_all}
 use Rattle.merge_model.specs.Keys.{put_row, row_at, same_key}
 use Rattle.merge_model.specs.Taking.{row_above}
 use Rattle.merge_model.proofs.KeyLookUps.{key-test, keys-same, keys-tied, row-put}
 use Rattle.merge_model.proofs.Lists.{any-same}
 use Rattle.merge_model.proofs.Sorted.{key_total}
-use Rattle.merge_model.proofs.Tests.{either}
 use Rattle.merge_sub.proofs.ChangedRows.{has-kept}
 use Rattle.merge_sub.proofs.Indexed.{is_among, taken-each}
-use Rattle.merge_sub.specs.Held.{AreIndexed, EachRow, keeps, kept_by}
+use Rattle.merge_sub.specs.Held.{AreIndexed, entry_behind, keeps, kept_by}
 use Rattle.merge_sub.specs.Local.{take_entry}
-use Rattle.merge_sub.specs.Sent.{has_between}
+use Rattle.merge_sub.specs.Sent.{AreKeeping, is_in, keeps_in}
 use Rattle.merge_sub.specs.Taking.{entries_let_go, kept_above, let_go}
 
 abbrev Rows : Type 0
 Rows = List (RowKey × SubscriberRow)
-
--- a generation that is kept has been open
-abbrev pub AreOpened : Rows → Type 0
-AreOpened rows = EachRow (λ key row. AllByRecursion (λ (generation : ℕ). 0 < generation) row.generations) rows
 
 pub and-none : (b : Bool) → (b && false) ≡ false
 and-none true = refl
@@ -101,22 +96,20 @@ found-let-go received all [] rows gone so_far k = so_far k
 found-let-go received all (key ∷ keys) rows gone so_far k = found-step received all rows keys gone so_far (found-let-go received all keys) key (row_at all key) refl k
 
 -- a row with no generation up to one keeps all
-none-inside : (received : ℕ) (generations : List ℕ) → AllByRecursion (λ (g : ℕ). 0 < g) generations → list_any (λ (g : ℕ). nat_lt 0 g && nat_le g received) generations ≡ false → filter (λ (g : ℕ). nat_lt received g) generations ≡ generations
-none-inside received [] opened none = refl
-none-inside received (g ∷ generations) opened none =
-    let low = opened.0 in
-    let first : nat_lt received g ≡ true = grind (arith, nat_tests, none, low) in
-    let behind : list_any (λ (h : ℕ). nat_lt 0 h && nat_le h received) generations ≡ false = grind (arith, none) in
-    rw first (ap (λ (xs : List ℕ). g ∷ xs) (none-inside received generations opened.1 behind))
+none-inside : (received : ℕ) (generations : List ℕ) → list_any (is_in 0 (received + 1)) generations ≡ false → filter (λ (g : ℕ). nat_lt received g) generations ≡ generations
+none-inside received [] none = refl
+none-inside received (g ∷ generations) none =
+    let first : nat_lt received g ≡ true = grind (arith, nat_tests, none) in
+    let behind : list_any (is_in 0 (received + 1)) generations ≡ false = grind (arith, none) in
+    rw first (ap (λ (xs : List ℕ). g ∷ xs) (none-inside received generations behind))
 
-all-kept : (received : ℕ) (row : SubscriberRow) → AllByRecursion (λ (g : ℕ). 0 < g) row.generations → list_any (λ (g : ℕ). nat_lt 0 g && nat_le g received) row.generations ≡ false → kept_above received row ≡ row
-all-kept received row opened none = ap (λ (g : List ℕ). (let r : SubscriberRow = record { version = row.version; generations = g } in r)) (none-inside received row.generations opened none)
+all-kept : (received : ℕ) (row : SubscriberRow) → list_any (is_in 0 (received + 1)) row.generations ≡ false → kept_above received row ≡ row
+all-kept received row none = ap (λ (g : List ℕ). (let r : SubscriberRow = record { version = row.version; generations = g } in r)) (none-inside received row.generations none)
 
-let-go-all : (received : ℕ) (found : Option SubscriberRow) (here : Bool) → here ≡ has_between 0 received found → ((row : SubscriberRow) → found ≡ Some row → AllByRecursion (λ (g : ℕ). 0 < g) row.generations)
-    → let_go_if (here || false) received found ≡ option_map (kept_above received) found
-let-go-all received found true is opened = refl
-let-go-all received None false is opened = refl
-let-go-all received (Some row) false is opened = ap (λ (r : SubscriberRow). Some r) (sym (all-kept received row (opened row refl) (sym is)))
+let-go-all : (received : ℕ) (found : Option SubscriberRow) (here : Bool) → here ≡ keeps_in 0 (received + 1) found → let_go_if (here || false) received found ≡ option_map (kept_above received) found
+let-go-all received found true is = refl
+let-go-all received None false is = refl
+let-go-all received (Some row) false is = ap (λ (r : SubscriberRow). Some r) (sym (all-kept received row (sym is)))
 
 above-step : (received : ℕ) (row : SubscriberRow) (here : Bool) (found above : Option SubscriberRow) → above ≡ option_map (kept_above received) found
     → (let kept : Option SubscriberRow = cond here (Some (kept_above received row)) above in kept) ≡ option_map (kept_above received) (let first : Option SubscriberRow = cond here (Some row) found in first)
@@ -135,14 +128,13 @@ pub above-sorted : (received : ℕ) (rows : Rows) → IsStrictlySortedBy key_cmp
 above-sorted received rows sorted = subst (λ (keys : List RowKey). IsStrictlySortedBy key_cmp keys) (sym (above-keys received rows)) sorted
 
 -- where all rows that keep a generation up to one let it go, each row does
-pub rows-let-go : (received : ℕ) (all : Rows) (keys : List RowKey) → IsStrictlySortedBy key_cmp (keys_of all) → ((key : RowKey) → list_any (is_at (key_cmp key)) keys ≡ has_between 0 received (row_at all key)) → AreOpened all
-    → rows_after_all key_cmp all (filter_map (let_go all received) keys) ≡ map (row_above received) all
-rows-let-go received all keys sorted each opened =
+pub rows-let-go : (received : ℕ) (all : Rows) (keys : List RowKey) → AreKeeping all 0 (received + 1) keys → rows_after_all key_cmp all (filter_map (let_go all received) keys) ≡ map (row_above received) all
+rows-let-go received all keys keeping =
     rows_from_look_ups key_cmp key_total keys-tied (rows_after_all key_cmp all (filter_map (let_go all received) keys)) (map (row_above received) all)
-    (sorted_after_all key_cmp key_total all (filter_map (let_go all received) keys) sorted) (above-sorted received all sorted)
+    (sorted_after_all key_cmp key_total all (filter_map (let_go all received) keys) keeping.ordered) (above-sorted received all keeping.ordered)
     (λ k.
     found-let-go received all keys all (λ q. false) (λ q. refl) k
-    ∙ let-go-all received (row_at all k) (list_any (is_at (key_cmp k)) keys) (each k) (opened k)
+    ∙ let-go-all received (row_at all k) (list_any (is_at (key_cmp k)) keys) (keeping.each k)
     ∙ sym (row-above received all k))
 
 -- What is found by generation.
@@ -180,10 +172,10 @@ any-at-key k f (key ∷ keys) =
     ∙ ap (λ (b : Bool). (b || list_any (is_at (key_cmp k)) keys) && f k) (sym (key-test k key))
 
 entries-let-go : (received : ℕ) (all : Rows) (keys : List RowKey) (s : set.FinSet entry_cmp) (k : RowKey) (g : ℕ)
-    → set.contains (entries_after_all s (flat_map (entries_let_go all received) keys)) (entry_of g k) ≡ (not (list_any (is_at (key_cmp k)) keys && (nat_le g received && keeps (row_at all k) g)) && set.contains s (entry_of g k))
+    → set.contains (entries_after_all s (flat_map (entries_let_go all received) keys)) (entry_behind g k) ≡ (not (list_any (is_at (key_cmp k)) keys && (nat_le g received && keeps (row_at all k) g)) && set.contains s (entry_behind g k))
 entries-let-go received all keys s k g =
     taken-each (λ (key : RowKey). key) (λ (key : RowKey). filter (λ (h : ℕ). nat_le h received) (kept_by (row_at all key))) keys s k g
-    ∙ ap (λ (b : Bool). not b && set.contains s (entry_of g k))
+    ∙ ap (λ (b : Bool). not b && set.contains s (entry_behind g k))
     (any-same (λ (key : RowKey). same_key k key && is_among g (filter (λ (h : ℕ). nat_le h received) (kept_by (row_at all key)))) (λ (key : RowKey). same_key k key && (nat_le g received && keeps (row_at all key) g))
     (λ key. ap (λ (b : Bool). same_key k key && b) (among-filter (λ (h : ℕ). nat_le h received) g (kept_by (row_at all key)))) keys
     ∙ any-at-key k (λ (key : RowKey). nat_le g received && keeps (row_at all key) g) keys)
@@ -198,21 +190,12 @@ gone-tests false true false high is there = rw is refl
 gone-tests false false true high is there = rw is refl
 gone-tests false false false high is there = rw is refl
 
-opened-among : (xs : List ℕ) (g : ℕ) → AllByRecursion (λ (h : ℕ). 0 < h) xs → is_among g xs ≡ true → 0 < g
-opened-among [] g opened is = absurd cc
-opened-among (x ∷ xs) g opened is =
-    either (0 < g) (x == g) (is_among g xs) is (λ same. let low = opened.0 in grind (arith, nat_tests, same, low)) (λ more. opened-among xs g opened.1 more)
-
-opened-kept : (found : Option SubscriberRow) → ((row : SubscriberRow) → found ≡ Some row → AllByRecursion (λ (h : ℕ). 0 < h) row.generations) → (g : ℕ) → keeps found g ≡ true → 0 < g
-opened-kept None opened g keep = absurd cc
-opened-kept (Some row) opened g keep = opened-among row.generations g (opened row refl) keep
-
 -- each row is found by the generations above one that it keeps
-pub let-go-indexed : (received : ℕ) (all : Rows) (keys : List RowKey) (entries : set.FinSet entry_cmp) → AreIndexed all entries → ((key : RowKey) → list_any (is_at (key_cmp key)) keys ≡ has_between 0 received (row_at all key)) → AreOpened all
-    → (k : RowKey) (g : ℕ) → set.contains (entries_after_all entries (flat_map (entries_let_go all received) keys)) (entry_of g k) ≡ (nat_lt received g && keeps (row_at all k) g)
+pub let-go-indexed : (received : ℕ) (all : Rows) (keys : List RowKey) (entries : set.FinSet entry_cmp) → AreIndexed all entries → AreKeeping all 0 (received + 1) keys
+    → (k : RowKey) (g : ℕ) → set.contains (entries_after_all entries (flat_map (entries_let_go all received) keys)) (entry_behind g k) ≡ (nat_lt received g && keeps (row_at all k) g)
 unfolding AreIndexed
-let-go-indexed received all keys entries indexed each opened k g =
+let-go-indexed received all keys entries indexed keeping k g =
     entries-let-go received all keys entries k g
     ∙ ap (λ (b : Bool). not (list_any (is_at (key_cmp k)) keys && (nat_le g received && keeps (row_at all k) g)) && b) (indexed k g)
     ∙ gone-tests (list_any (is_at (key_cmp k)) keys) (keeps (row_at all k) g) (nat_le g received) (nat_lt received g) (grind (arith, nat_tests))
-    (λ keep low. each k ∙ has-kept (row_at all k) 0 received g (opened-kept (row_at all k) (opened k) g keep) (grind (arith, nat_tests, low)) keep)
+    (λ keep low. keeping.each k ∙ has-kept (row_at all k) 0 (received + 1) g (omega arith) (grind (arith, nat_tests, low)) keep)

@@ -8,11 +8,13 @@ pub mod Indexed
 pub mod LetGo
 pub mod LocalChanges
 pub mod Messages
+pub mod Opened
 pub mod Ordered
 pub mod Ready
 pub mod Replies
+pub mod Restored
 pub mod Rows
+pub mod Standing
 pub mod Steps
 pub mod Taken
-pub mod Unsent
 pub mod Uploading

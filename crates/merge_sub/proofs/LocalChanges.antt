@@ -40,7 +40,7 @@ use Rattle.merge_model.specs.Subscriber.{generations_at, sub_counters, sub_drawn
 use Rattle.merge_model.specs.Tables.{SubscriberTables}
 use Rattle.merge_sub.proofs.Indexed.{replaced-indexed}
 use Rattle.merge_sub.proofs.Rows.{fitting-put, made-more, made-put}
-use Rattle.merge_sub.proofs.Unsent.{GoesOn, entry-goes-on, unsent-changed}
+use Rattle.merge_sub.proofs.Opened.{GoesOn, entry-goes-on, kept-changed}
 use Rattle.merge_sub.specs.Held.{AreFitting, AreIndexed, AreMade, AreRanged, Held, IsSound, tables_of}
 use Rattle.merge_sub.specs.Local.{IsChanged, changed_key, reindexing, with_change}
 use Rattle.std.specs.FinSet as set
@@ -130,7 +130,7 @@ local-sound publication s entries sound change identity whole held ranged key ro
       indexed = rw (changed.index, changed.at) (replaced-indexed s.rows entries at row sound.indexed);
       fitting = fitting-put publication s.rows sound.fitting key row (changed.fits whole);
       made = made-put s.site (s.changes + 1) s.rows (made-more s.site s.changes s.rows sound.made) key row last;
-      unsent = unsent-changed s.received (sub_last_closed s) (sub_last_closed s + (s.gens.filling.filled + 1) / entry_limit) sound.within on.rises s.rows sound.unsent key row (rw changed.at changed.generations);
+      opened = kept-changed (sub_last_closed s) (sub_last_closed s + (s.gens.filling.filled + 1) / entry_limit) on.rises s.rows sound.opened key row (rw changed.at changed.generations);
       within = omega (arith, sound.within, on.rises);
       limited = on.limited sound.limited;
       ranged = ranged;

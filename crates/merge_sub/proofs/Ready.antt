@@ -9,7 +9,7 @@ use Rattle.merge_conflict.specs.declared.row.ConflictRow.{ConflictRow}
 use Rattle.std.proofs.lemmas.List.{append-nil}
 use Rattle.merge_conflict.specs.Rising.{AreRising}
 use Rattle.merge_model.specs.Tables.{SubscriberTables}
-use Rattle.merge_sub.proofs.Unsent.{GoesOn, unsent-later}
+use Rattle.merge_sub.proofs.Opened.{GoesOn, kept-later}
 use Rattle.merge_sub.specs.Held.{AreNumbered, Held, IsSound, tables_of}
 use Rattle.merge_sub.specs.Drafts.{IsDrafted, after}
 use Rattle.merge_sub.specs.declared.state.State.{State}
@@ -37,7 +37,7 @@ still-ready h before same d state gens changes index numbers counts received clo
         indexed = sound.indexed;
         fitting = sound.fitting;
         made = rw numbers sound.made;
-        unsent = rw received (unsent-later h.state.received h.gens.book.filling.last_closed gens.filling.last_closed on.rises h.rows.rows sound.unsent);
+        opened = kept-later h.gens.book.filling.last_closed gens.filling.last_closed on.rises h.rows.rows sound.opened;
         within = omega (arith, received, on.rises, sound.within);
         limited = on.limited sound.limited;
         ranged = sound.ranged;

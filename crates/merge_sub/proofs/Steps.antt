@@ -5,7 +5,7 @@ use Rattle.std.proofs.Common.{ap, arith, get_or, sym, ◌∙◌}
 use Rattle.std.proofs.Math.Seq.{drop-cons}
 use Rattle.std.proofs.lemmas.List.{append_assoc}
 
-rest-at : {X : Type 0} (xs : List X) (at : ℕ) (d : X) → at < length xs → drop at xs ≡ get_or xs at d ∷ drop (at + 1) xs
+pub rest-at : {X : Type 0} (xs : List X) (at : ℕ) (d : X) → at < length xs → drop at xs ≡ get_or xs at d ∷ drop (at + 1) xs
 rest-at xs at d less = let next : at + 1 ≡ suc at = omega arith in rw next (drop-cons xs at d less)
 
 abbrev pub given : {Y : Type 0} → Option Y → List Y

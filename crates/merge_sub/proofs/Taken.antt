@@ -4,9 +4,8 @@ use Rattle.std.specs.List.{flat_map, fold}
 use Rattle.std.specs.List.Sorted.{IsStrictlySortedBy}
 use Rattle.std.specs.Map.{keys_of}
 use Rattle.std.specs.Ordering.{nat_cmp}
-use Rattle.std.specs.Prelude.{◌≡◌, ◌≤◌, ◌<◌, ◌+◌, ◌++◌, ◌&&◌, ℕ, Bool, true, List, [], ◌∷◌, None, Option, Some, filter_map, map, nat_lt, refl}
+use Rattle.std.specs.Prelude.{◌≡◌, ◌≤◌, ◌+◌, ◌++◌, ◌&&◌, ℕ, Bool, true, List, [], ◌∷◌, None, Option, Some, filter_map, map, nat_lt, refl}
 use Rattle.std.proofs.Common.{ap, arith, subst, sym, ◌∙◌}
-use Rattle.std.proofs.lemmas.Bool.Decides.{nat_tests}
 use Rattle.std.proofs.lemmas.List.{append-nil}
 use Rattle.merge_types.specs.RowKeys.{key_cmp}
 use Rattle.merge_types.specs.declared.row_key.RowKey.{RowKey}
@@ -30,15 +29,16 @@ use Rattle.merge_model.specs.Faults.{heard_by}
 use Rattle.merge_model.specs.Keys.{row_at}
 use Rattle.merge_model.specs.Tables.{SubscriberTables}
 use Rattle.merge_model.specs.Taking.{key_of_download, row_above, with_grant, with_grants}
-use Rattle.merge_model.proofs.Finding.{all-weaker, some_same}
-use Rattle.merge_model.proofs.Lists.{all-kept, all-of}
+use Rattle.merge_model.proofs.Finding.{some_same}
+use Rattle.merge_model.proofs.Lists.{all-of}
 use Rattle.merge_sub.proofs.Granted.{grants-ranged, ranged-made}
-use Rattle.merge_sub.proofs.LetGo.{AreOpened, let-go-indexed, rows-let-go}
+use Rattle.merge_sub.proofs.LetGo.{let-go-indexed, rows-let-go}
+use Rattle.merge_sub.proofs.Opened.{opened-filter}
 use Rattle.merge_sub.proofs.Ordered.{orders-made, taken-fitting, taken-keeps, taken-made, taken-rows, taken_rows}
 use Rattle.merge_sub.specs.Drafts.{after}
-use Rattle.merge_sub.specs.Held.{AreAhead, AreIndexed, AreMade, AreNumbered, AreUnsent, Held, IsSound, tables_of}
-use Rattle.merge_sub.specs.Sent.{AreChanged}
-use Rattle.merge_sub.specs.Taking.{AreOrders, at_state, entries_let_go, granted, kept_above, let_go, order_of, ordered, with_orders}
+use Rattle.merge_sub.specs.Held.{AreIndexed, AreMade, AreNumbered, HaveOpened, Held, IsSound, KeepOpened, tables_of}
+use Rattle.merge_sub.specs.Sent.{AreKeeping}
+use Rattle.merge_sub.specs.Taking.{AreOrders, at_state, entries_let_go, granted, let_go, order_of, ordered, with_orders}
 use Rattle.merge_sub.specs.declared.changes.Changes.{Changes}
 use Rattle.merge_sub.specs.declared.state.State.{State}
 
@@ -60,57 +60,46 @@ rows-append : (rows : Rows) (xs ys : Edits) → rows_after_all key_cmp rows (xs 
 rows-append rows [] ys = refl
 rows-append rows (x ∷ xs) ys = rows-append (rows_after key_cmp rows x) xs ys
 
-unsent-opened : (received closed : ℕ) (rows : Rows) → AreUnsent received closed rows → AreOpened rows
-unfolding AreUnsent
-unsent-opened received closed rows unsent key row found =
-    all-weaker (λ (g : ℕ). (received < g) × (g ≤ closed + 1)) (λ (g : ℕ). 0 < g) (λ g ahead. (let above = ahead.0 in omega (arith, above))) row.generations (unsent key row found)
-
 -- the edits of a reply that lets rows go and orders them
 abbrev edits_by : Rows → ℕ → List RowKey → List DownloadItem → Edits
 edits_by rows received keys items = filter_map (let_go rows received) keys ++ filter_map (order_of rows received) items
 
-orders-after : (s : SubscriberTables) (received : ℕ) (keys : List RowKey) (items : List DownloadItem) → AreChanged s.rows 0 received keys → AreOpened s.rows → rows_after_all key_cmp s.rows (edits_by s.rows received keys items) ≡ taken_rows s received items
-orders-after s received keys items changed opened =
+orders-after : (s : SubscriberTables) (received : ℕ) (keys : List RowKey) (items : List DownloadItem) → AreKeeping s.rows 0 (received + 1) keys → rows_after_all key_cmp s.rows (edits_by s.rows received keys items) ≡ taken_rows s received items
+orders-after s received keys items keeping =
     rows-append s.rows (filter_map (let_go s.rows received) keys) (filter_map (order_of s.rows received) items)
-    ∙ ap (λ (rows : Rows). rows_after_all key_cmp rows (filter_map (order_of s.rows received) items)) (rows-let-go received s.rows keys changed.ordered changed.each opened)
+    ∙ ap (λ (rows : Rows). rows_after_all key_cmp rows (filter_map (order_of s.rows received) items)) (rows-let-go received s.rows keys keeping)
     ∙ orders-made s received items (map (row_above received) s.rows)
 
-above-ahead : (before received closed : ℕ) (row : SubscriberRow) → AreAhead before closed row.generations → AreAhead received closed (kept_above received row).generations
-above-ahead before received closed row ahead =
-    all-kept (λ (g : ℕ). (received < g) × (g ≤ closed + 1)) (λ (g : ℕ). nat_lt received g) row.generations
-    (all-weaker (λ (g : ℕ). (before < g) × (g ≤ closed + 1)) (λ (g : ℕ). nat_lt received g ≡ true → (received < g) × (g ≤ closed + 1)) (λ g ahead above. (grind (arith, nat_tests, above), ahead.1)) row.generations ahead)
+ordered-opened : (closed : ℕ) (key : RowKey) (act : Act) (row : SubscriberRow) → row_of (ordered key act) ≡ Some row → HaveOpened closed row.generations
+ordered-opened closed key (order.Put lineage live) row is = subst (λ (r : SubscriberRow). HaveOpened closed r.generations) (some_same _ _ is) tt
+ordered-opened closed key order.RemoveDeleted row is = absurd cc
+ordered-opened closed key order.RemoveLeft row is = absurd cc
 
-ordered-ahead : (received closed : ℕ) (key : RowKey) (act : Act) (row : SubscriberRow) → row_of (ordered key act) ≡ Some row → AreAhead received closed row.generations
-ordered-ahead received closed key (order.Put lineage live) row is = subst (λ (r : SubscriberRow). AreAhead received closed r.generations) (some_same _ _ is) tt
-ordered-ahead received closed key order.RemoveDeleted row is = absurd cc
-ordered-ahead received closed key order.RemoveLeft row is = absurd cc
+taken-kept : (s : SubscriberTables) (received closed : ℕ) (items : List DownloadItem) → IsStrictlySortedBy key_cmp (keys_of s.rows) → KeepOpened closed s.rows → KeepOpened closed (taken_rows s received items)
+unfolding KeepOpened
+taken-kept s received closed items sorted kept =
+    taken-rows (λ (key : RowKey) (row : SubscriberRow). HaveOpened closed row.generations) s received items sorted
+    (λ key row found. opened-filter closed (λ (generation : ℕ). nat_lt received generation) row.generations (kept key row found))
+    (all-of (λ (item : DownloadItem). (row : SubscriberRow) → row_of (ordered (key_of_download item) item.act) ≡ Some row → HaveOpened closed row.generations)
+    (λ item row is. ordered-opened closed (key_of_download item) item.act row is) items)
 
-taken-unsent : (s : SubscriberTables) (received closed : ℕ) (items : List DownloadItem) → IsStrictlySortedBy key_cmp (keys_of s.rows) → AreUnsent s.received closed s.rows → AreUnsent received closed (taken_rows s received items)
-unfolding AreUnsent
-taken-unsent s received closed items sorted unsent =
-    taken-rows (λ (key : RowKey) (row : SubscriberRow). AreAhead received closed row.generations) s received items sorted
-    (λ key row found. above-ahead s.received received closed row (unsent key row found))
-    (all-of (λ (item : DownloadItem). (row : SubscriberRow) → row_of (ordered (key_of_download item) item.act) ≡ Some row → AreAhead received closed row.generations)
-    (λ item row is. ordered-ahead received closed (key_of_download item) item.act row is) items)
-
-taken-indexed : (s : SubscriberTables) (entries : Entries) (received closed : ℕ) (keys : List RowKey) (items : List DownloadItem) → AreIndexed s.rows entries → AreChanged s.rows 0 received keys → AreOpened s.rows
+taken-indexed : (s : SubscriberTables) (entries : Entries) (received : ℕ) (keys : List RowKey) (items : List DownloadItem) → AreIndexed s.rows entries → AreKeeping s.rows 0 (received + 1) keys
     → AreIndexed (taken_rows s received items) (entries_after_all entries (flat_map (entries_let_go s.rows received) keys))
 unfolding AreIndexed
-taken-indexed s entries received closed keys items indexed changed opened k g =
-    let-go-indexed received s.rows keys entries indexed changed.each opened k g ∙ sym (taken-keeps s received items changed.ordered k g)
+taken-indexed s entries received keys items indexed keeping k g =
+    let-go-indexed received s.rows keys entries indexed keeping k g ∙ sym (taken-keeps s received items keeping.ordered k g)
 
 -- what holds then
 orders-sound : (publication : Publication) (s : SubscriberTables) (entries : Entries) → IsSound publication s entries → (state : State) → state.changes ≡ s.changes → state.conflict_count ≡ s.conflict_count → state.received ≤ s.gens.filling.last_closed
-    → (keys : List RowKey) → AreChanged s.rows 0 state.received keys → (items : List DownloadItem) → AreOrders publication s items
+    → (keys : List RowKey) → AreKeeping s.rows 0 (state.received + 1) keys → (items : List DownloadItem) → AreOrders publication s items
     → IsSound publication (with_orders items state s) (entries_after_all entries (flat_map (entries_let_go s.rows state.received) keys))
-orders-sound publication s entries sound state changes counts within keys changed items orders =
-    let opened : AreOpened s.rows = unsent-opened s.received s.gens.filling.last_closed s.rows sound.unsent in
+orders-sound publication s entries sound state changes counts within keys keeping items orders =
     record {
       valid = sound.valid;
-      indexed = taken-indexed s entries state.received s.gens.filling.last_closed keys items sound.indexed changed opened;
-      fitting = taken-fitting publication s state.received items changed.ordered sound.fitting orders;
-      made = subst (λ (n : ℕ). AreMade s.site n (taken_rows s state.received items)) (sym changes) (taken-made publication s state.received items changed.ordered sound.made orders);
-      unsent = taken-unsent s state.received s.gens.filling.last_closed items changed.ordered sound.unsent;
+      indexed = taken-indexed s entries state.received keys items sound.indexed keeping;
+      fitting = taken-fitting publication s state.received items keeping.ordered sound.fitting orders;
+      made = subst (λ (n : ℕ). AreMade s.site n (taken_rows s state.received items)) (sym changes) (taken-made publication s state.received items keeping.ordered sound.made orders);
+      opened = taken-kept s state.received s.gens.filling.last_closed items keeping.ordered sound.opened;
       within = within;
       limited = sound.limited;
       ranged = sound.ranged;
@@ -126,9 +115,9 @@ pub record AreTaken (s : SubscriberTables) (state : State) (keys : List RowKey) 
   pub held : c.held ≡ []
   pub conflicts : c.conflicts.rows ≡ []
 
-taken-after : (s : SubscriberTables) (state : State) (keys : List RowKey) (items : List DownloadItem) (c : Changes) → AreTaken s state keys items c → AreChanged s.rows 0 state.received keys → AreOpened s.rows → after c s ≡ with_orders items state s
-taken-after s state keys items c are changed opened =
-    let rows : rows_after_all key_cmp s.rows (edits_by s.rows state.received keys items) ≡ taken_rows s state.received items = orders-after s state.received keys items changed opened in
+taken-after : (s : SubscriberTables) (state : State) (keys : List RowKey) (items : List DownloadItem) (c : Changes) → AreTaken s state keys items c → AreKeeping s.rows 0 (state.received + 1) keys → after c s ≡ with_orders items state s
+taken-after s state keys items c are keeping =
+    let rows : rows_after_all key_cmp s.rows (edits_by s.rows state.received keys items) ≡ taken_rows s state.received items = orders-after s state.received keys items keeping in
     let none : s.conflicts ++ [] ≡ s.conflicts = append-nil s.conflicts in
     rw (are.own, are.gens, are.done, are.rows, are.held, are.conflicts, rows, none) refl
 
@@ -155,7 +144,7 @@ granted-sound publication s entries sound state changes counts received ranged =
   indexed = sound.indexed;
   fitting = sound.fitting;
   made = subst (λ (n : ℕ). AreMade s.site n s.rows) (sym changes) sound.made;
-  unsent = subst (λ (n : ℕ). AreUnsent n s.gens.filling.last_closed s.rows) (sym received) sound.unsent;
+  opened = sound.opened;
   within = omega (arith, received, sound.within);
   limited = sound.limited;
   ranged = grants-ranged publication s.held ranged.grants sound.ranged;
@@ -169,25 +158,25 @@ pub record KeepsCounts (h : Held) (state : State) : Type 0 where
   pub conflicts : state.conflict_count ≡ h.state.conflict_count
 
 pub taken-ready : (old now : Held) → old ≡ now → IsSound old.publication (tables_of old) old.unsent.entries → (h : Held) → tables_of h ≡ tables_of old → (state : State) → KeepsCounts now state → state.received ≤ now.gens.book.filling.last_closed
-    → (keys : List RowKey) → AreChanged old.rows.rows 0 state.received keys → (items : List DownloadItem) → AreOrders now.publication (tables_of now) items → (c : Changes) → AreTaken (tables_of old) state keys items c
+    → (keys : List RowKey) → AreKeeping old.rows.rows 0 (state.received + 1) keys → (items : List DownloadItem) → AreOrders now.publication (tables_of now) items → (c : Changes) → AreTaken (tables_of old) state keys items c
     → (index : IndexEdits) → index ≡ flat_map (entries_let_go old.rows.rows state.received) keys → IsSound old.publication (after c (tables_of h)) (entries_after_all old.unsent.entries index)
-taken-ready old now view sound h same state keeps within keys changed items orders c are index is =
+taken-ready old now view sound h same state keeps within keys keeping items orders c are index is =
     let counts : KeepsCounts old state = subst (λ (x : Held). KeepsCounts x state) (sym view) keeps in
     let closed : state.received ≤ old.gens.book.filling.last_closed = subst (λ (x : Held). state.received ≤ x.gens.book.filling.last_closed) (sym view) within in
     let own : AreOrders old.publication (tables_of old) items = subst (λ (x : Held). AreOrders x.publication (tables_of x) items) (sym view) orders in
     let there : IsSound old.publication (with_orders items state (tables_of old)) (entries_after_all old.unsent.entries (flat_map (entries_let_go old.rows.rows state.received) keys)) =
-    orders-sound old.publication (tables_of old) old.unsent.entries sound state counts.changes counts.conflicts closed keys changed items own in
+    orders-sound old.publication (tables_of old) old.unsent.entries sound state counts.changes counts.conflicts closed keys keeping items own in
     let made : after c (tables_of h) ≡ with_orders items state (tables_of old) =
-    ap (after c) same ∙ taken-after (tables_of old) state keys items c are changed (unsent-opened old.state.received old.gens.book.filling.last_closed old.rows.rows sound.unsent) in
+    ap (after c) same ∙ taken-after (tables_of old) state keys items c are keeping in
     subst (λ (i : IndexEdits). IsSound old.publication (after c (tables_of h)) (entries_after_all old.unsent.entries i)) (sym is)
     (subst (λ (t : SubscriberTables). IsSound old.publication t (entries_after_all old.unsent.entries (flat_map (entries_let_go old.rows.rows state.received) keys))) (sym made) there)
 
-pub taken-draft : (old now : Held) → old ≡ now → IsSound old.publication (tables_of old) old.unsent.entries → (state : State) (keys : List RowKey) → AreChanged old.rows.rows 0 state.received keys → (items : List DownloadItem)
+pub taken-draft : (old now : Held) → old ≡ now → (state : State) (keys : List RowKey) → AreKeeping old.rows.rows 0 (state.received + 1) keys → (items : List DownloadItem)
     → (c : Changes) → AreTaken (tables_of old) state keys items c → (d : Changes) → d ≡ c → after d (tables_of now) ≡ with_orders items state (tables_of now)
-taken-draft old now view sound state keys changed items c are d is =
+taken-draft old now view state keys keeping items c are d is =
     ap (λ (e : Changes). after e (tables_of now)) is
     ∙ subst (λ (x : Held). after c (tables_of x) ≡ with_orders items state (tables_of x)) view
-    (taken-after (tables_of old) state keys items c are changed (unsent-opened old.state.received old.gens.book.filling.last_closed old.rows.rows sound.unsent))
+    (taken-after (tables_of old) state keys items c are keeping)
 
 pub granted-ready : (old now : Held) → old ≡ now → IsSound old.publication (tables_of old) old.unsent.entries → (h : Held) → tables_of h ≡ tables_of old → (state : State) → KeepsCounts now state → state.received ≡ now.state.received
     → (ranged : Ranged) → ranged_fits (heard_by (tables_of now)) ranged ≡ true → (c : Changes) → AreGranted (tables_of old) state ranged c → (index : IndexEdits) → index ≡ [] → IsSound old.publication (after c (tables_of h)) (entries_after_all old.unsent.entries index)

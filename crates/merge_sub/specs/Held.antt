@@ -1,8 +1,8 @@
 -- What a subscriber holds, and what holds of it.
-use Rattle.std.specs.Prelude.{◌≡◌, ◌==◌, ◌+◌, ◌<◌, ◌≤◌, ℕ, Bool, true, List, [], Option, None, Some, is_some, option_map, unwrap_or}
+use Rattle.std.specs.Prelude.{◌≡◌, ◌==◌, ◌+◌, ◌≤◌, ℕ, Bool, true, List, [], Option, None, Some, is_some, option_map, unwrap_or}
 use Rattle.std.specs.FinSet as set
 use Rattle.std.specs.List.{AllByRecursion, list_any}
-use Rattle.merge_types.specs.Limits.{counter_limit}
+use Rattle.merge_types.specs.Limits.{number_limit}
 use Rattle.merge_types.specs.declared.identifiers.SiteId.{SiteId}
 use Rattle.merge_types.specs.declared.row_key.RowKey.{RowKey}
 use Rattle.merge_table.specs.Contents.{Contents}
@@ -11,6 +11,7 @@ use Rattle.merge_units.specs.declared.site_row.SubscriberRow.{SubscriberRow}
 use Rattle.merge_gens.specs.Book.{BookWithRoom}
 use Rattle.merge_gens.specs.Entries.{entry_cmp, entry_of}
 use Rattle.merge_gens.specs.Index.{Index}
+use Rattle.merge_gens.specs.declared.index.IndexEntry.{IndexEntry}
 use Rattle.merge_ident.specs.Holders.{Holder}
 use Rattle.merge_conflict.specs.Table.{RowsWithRoom}
 use Rattle.merge_conflict.specs.declared.row.ConflictRow.{ConflictRow}
@@ -62,9 +63,13 @@ kept_by row = unwrap_or (option_map (λ (row : SubscriberRow). row.generations) 
 abbrev pub keeps : Option SubscriberRow → ℕ → Bool
 keeps row generation = list_any (λ (kept : ℕ). kept == generation) (kept_by row)
 
+-- The index has a generation at the number behind it. What lies behind a number is found, so what lies behind 0 has generation 0.
+abbrev pub entry_behind : ℕ → RowKey → IndexEntry
+entry_behind generation key = entry_of (generation + 1) key
+
 -- each row is found by the generations that it keeps, and by no other
 unfoldable pub AreIndexed : List (RowKey × SubscriberRow) → set.FinSet entry_cmp → Type 0
-AreIndexed rows entries = (key : RowKey) (generation : ℕ) → set.contains entries (entry_of generation key) ≡ keeps (row_at rows key) generation
+AreIndexed rows entries = (key : RowKey) (generation : ℕ) → set.contains entries (entry_behind generation key) ≡ keeps (row_at rows key) generation
 
 -- rows fit their articles
 unfoldable pub AreFitting : Publication → List (RowKey × SubscriberRow) → Type 0
@@ -74,13 +79,13 @@ AreFitting publication rows = EachRow (λ (key : RowKey) (row : SubscriberRow). 
 unfoldable pub AreMade : SiteId → ℕ → List (RowKey × SubscriberRow) → Type 0
 AreMade site changes rows = EachRow (λ (key : RowKey) (row : SubscriberRow). number_of row.version.lineage site.0 ≤ changes) rows
 
--- generations that the publisher has not taken, up to the open one
-abbrev pub AreAhead : ℕ → ℕ → List ℕ → Type 0
-AreAhead received closed generations = AllByRecursion (λ (generation : ℕ). (received < generation) × (generation ≤ closed + 1)) generations
+-- generations that have been open: the open one, and those before it
+abbrev pub HaveOpened : ℕ → List ℕ → Type 0
+HaveOpened closed generations = AllByRecursion (λ (generation : ℕ). generation ≤ closed + 1) generations
 
 -- rows keep no others
-unfoldable pub AreUnsent : ℕ → ℕ → List (RowKey × SubscriberRow) → Type 0
-AreUnsent received closed rows = EachRow (λ (key : RowKey) (row : SubscriberRow). AreAhead received closed row.generations) rows
+unfoldable pub KeepOpened : ℕ → List (RowKey × SubscriberRow) → Type 0
+KeepOpened closed rows = EachRow (λ (key : RowKey) (row : SubscriberRow). HaveOpened closed row.generations) rows
 
 -- ranges are held of exactly the articles with an identity column
 unfoldable pub AreRanged : Publication → List (ℕ × Holder) → Type 0
@@ -96,8 +101,8 @@ pub record IsSound (publication : Publication) (s : SubscriberTables) (entries :
   pub indexed : AreIndexed s.rows entries
   pub fitting : AreFitting publication s.rows
   pub made : AreMade s.site s.changes s.rows
-  pub unsent : AreUnsent s.received s.gens.filling.last_closed s.rows
+  pub opened : KeepOpened s.gens.filling.last_closed s.rows
   pub within : s.received ≤ s.gens.filling.last_closed
-  pub limited : s.gens.filling.last_closed ≤ counter_limit
+  pub limited : s.gens.filling.last_closed ≤ number_limit
   pub ranged : AreRanged publication s.held
   pub numbered : AreNumbered s.conflict_count s.conflicts

@@ -8,7 +8,6 @@ use Rattle.merge_table.specs.declared.edit.Edit.{Edit}
 use Rattle.merge_table.specs.declared.edit.Edit.TheVariants.{Put, Take}
 use Rattle.merge_units.specs.declared.site_row.SubscriberRow.{SubscriberRow}
 use Rattle.merge_gens.specs.Book.{entered}
-use Rattle.merge_gens.specs.Entries.{entry_of}
 use Rattle.merge_gens.specs.declared.index.IndexEntry.{IndexEntry}
 use Rattle.merge_ident.specs.Holders.{Holder}
 use Rattle.merge_schema.specs.declared.publication.Publication.{Publication}
@@ -18,6 +17,7 @@ use Rattle.merge_change.specs.Allowed.{HasIdentity}
 use Rattle.merge_model.specs.Keys.{put_row}
 use Rattle.merge_model.specs.Subscriber.{generations_at, sub_last_closed, sub_next_dot, sub_version_at, with_open}
 use Rattle.merge_model.specs.Tables.{SubscriberTables}
+use Rattle.merge_sub.specs.Held.{entry_behind}
 
 -- the key of the row that a change of the site is about
 abbrev pub changed_key : SubscriberTables → Change → RowKey
@@ -35,10 +35,10 @@ with_change key row held latest s = record s {
 
 -- a row loses a generation, and gains one
 abbrev pub take_entry : RowKey → ℕ → Edit IndexEntry (Unit {0})
-take_entry key generation = Take (entry_of generation key)
+take_entry key generation = Take (entry_behind generation key)
 
 abbrev pub put_entry : RowKey → ℕ → Edit IndexEntry (Unit {0})
-put_entry key generation = Put (entry_of generation key) tt
+put_entry key generation = Put (entry_behind generation key) tt
 
 -- the changes of an index by which a row keeps other generations
 abbrev pub reindexing : RowKey → List ℕ → List ℕ → List (Edit IndexEntry (Unit {0}))

@@ -4,7 +4,7 @@ use Rattle.std.specs.List.{list_any}
 use Rattle.std.specs.List.Sorted.{IsStrictlySortedBy}
 use Rattle.std.specs.Map.{keys_of}
 use Rattle.std.specs.Option.{option_and_then}
-use Rattle.std.specs.Prelude.{◌≡◌, ◌&&◌, ℕ, Bool, List, Option, filter_map, length, nat_le, nat_lt, option_map}
+use Rattle.std.specs.Prelude.{◌≡◌, ◌+◌, ◌&&◌, ℕ, Bool, List, Option, filter_map, length, nat_le, nat_lt, option_map}
 use Rattle.merge_types.specs.RowKeys.{key_cmp}
 use Rattle.merge_types.specs.declared.row_key.RowKey.{RowKey}
 use Rattle.merge_units.specs.declared.site_row.SubscriberRow.{SubscriberRow}
@@ -13,15 +13,22 @@ use Rattle.merge_model.specs.ByNumbers.{changed_row_between, last_between}
 use Rattle.merge_model.specs.Keys.{row_at}
 use Rattle.merge_sub.specs.Held.{kept_by}
 
--- whether a row keeps a generation behind one, up to another
-abbrev pub has_between : ℕ → ℕ → Option SubscriberRow → Bool
-has_between from to row = list_any (λ (generation : ℕ). nat_lt from generation && nat_le generation to) (kept_by row)
+-- whether a row keeps a generation from one on, below another
+abbrev pub is_in : ℕ → ℕ → ℕ → Bool
+is_in first end generation = nat_le first generation && nat_lt generation end
+
+abbrev pub keeps_in : ℕ → ℕ → Option SubscriberRow → Bool
+keeps_in first end row = list_any (is_in first end) (kept_by row)
 
 -- the rows that do, by article and row, each once
-pub record AreChanged (rows : List (RowKey × SubscriberRow)) (from to : ℕ) (keys : List RowKey) : Type 0 where
+pub record AreKeeping (rows : List (RowKey × SubscriberRow)) (first end : ℕ) (keys : List RowKey) : Type 0 where
   pub ordered : IsStrictlySortedBy key_cmp (keys_of rows)
   pub ascending : IsStrictlySortedBy key_cmp keys
-  pub each : (key : RowKey) → list_any (is_at (key_cmp key)) keys ≡ has_between from to (row_at rows key)
+  pub each : (key : RowKey) → list_any (is_at (key_cmp key)) keys ≡ keeps_in first end (row_at rows key)
+
+-- the rows that keep one behind `from`, up to `to`
+abbrev pub AreChanged : List (RowKey × SubscriberRow) → ℕ → ℕ → List RowKey → Type 0
+AreChanged rows from to keys = AreKeeping rows (from + 1) (to + 1) keys
 
 -- how many of them are changed between
 abbrev pub changed_count : List (RowKey × SubscriberRow) → ℕ → ℕ → ℕ

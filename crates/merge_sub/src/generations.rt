@@ -1,8 +1,8 @@
 //! The generations that rows keep.
-ghost use Rattle.std.specs.Prelude.{◌≡◌, ◌++◌, IfOk, OnOk, map};
+ghost use Rattle.std.specs.Prelude.{◌≡◌, ◌+◌, ◌++◌, IfOk, OnOk, map};
 ghost use Rattle.merge_model.specs.Keys.{row_at};
 ghost use Rattle.merge_model.specs.Subscriber.{with_open};
-ghost use Rattle.merge_sub.specs.Held.{kept_by};
+ghost use Rattle.merge_sub.specs.Held.{entry_behind, kept_by};
 ghost use Rattle.merge_sub.specs.Local.{put_entry, reindexing, take_entry};
 
 use merge_gens::{IndexChanges, IndexEntry};
@@ -10,6 +10,28 @@ use merge_table::{Edit, Table};
 use merge_types::{Listing, NoMemory, RowKey};
 use merge_units::SubscriberRow;
 use std::alloc::Global;
+
+// The number behind one. No generation that was open has the greatest number, so the refusal never
+// comes.
+pub(crate) fn behind(number: u64) -> Result<u64, NoMemory>
+    ensures { IfOk result (λ next. next ≡ number + 1) }
+{
+    match number.checked_add(1) {
+        Some(next) => Ok(next),
+        None => Err(NoMemory),
+    }
+}
+
+// The entry of a row in the index for a generation that it keeps. It stands at the number behind the
+// generation: a store may have rows with generation 0, and the index finds what lies behind a number.
+pub(crate) fn entry_behind(generation: u64, key: RowKey) -> Result<IndexEntry, NoMemory>
+    ensures { IfOk result (λ entry. entry ≡ entry_behind generation key) }
+{
+    Ok(IndexEntry {
+        generation: behind(generation)?,
+        key,
+    })
+}
 
 // The generations that the row keeps, none where it is not held.
 pub(crate) fn kept_by(rows: &Table<RowKey, SubscriberRow>, key: RowKey) -> &[u64]
@@ -59,10 +81,7 @@ pub(crate) fn add_takes(
     ensures { OnOk result (changes.new ≡ changes.old ++ map (take_entry key) generations.now) }
 {
     for generation in generations {
-        changes.push(Edit::Take(IndexEntry {
-            generation: *generation,
-            key,
-        }))?;
+        changes.push(Edit::Take(entry_behind(*generation, key)?))?;
     }
     Ok(())
 }
@@ -72,11 +91,7 @@ fn add_puts(changes: &mut IndexChanges, key: RowKey, generations: &[u64]) -> Res
     ensures { OnOk result (changes.new ≡ changes.old ++ map (put_entry key) generations.now) }
 {
     for generation in generations {
-        let entry = IndexEntry {
-            generation: *generation,
-            key,
-        };
-        changes.push(Edit::Put(entry, ()))?;
+        changes.push(Edit::Put(entry_behind(*generation, key)?, ()))?;
     }
     Ok(())
 }

@@ -20,5 +20,6 @@ mod upload;
 
 pub use anew::Discarding;
 pub use changes::{Changes, Draft};
+pub use starting::Kept;
 pub use state::State;
 pub use subscriber::Subscriber;

@@ -14,15 +14,15 @@ ghost use Rattle.merge_sub.specs.Local.{take_entry};
 ghost use Rattle.merge_sub.specs.Taking.{AreOrders, answered, at_state, entries_let_go, granted, heard_in, is_unsent_at, kept_above, let_go, order_of, ordered, with_orders};
 
 use crate::changes::{RangesEdit, RowEdit};
-use crate::generations::kept_by;
+use crate::generations::{entry_behind, kept_by};
 use crate::still::{later, still};
-use crate::upload::changed_between;
+use crate::upload::changed_up_to;
 use crate::{Changes, Draft, State, Subscriber};
 use merge_batch::{
     Act, DownloadItem, HeardRanges, Outstanding, RangeGrant, Ranged, Refusal, Reply, Standing,
     reply_fault,
 };
-use merge_gens::{GenIndex, IndexChanges, IndexEntry};
+use merge_gens::IndexChanges;
 use merge_ident::{Range, Ranges};
 use merge_model::Taken;
 use merge_table::{Edit, Table};
@@ -204,7 +204,7 @@ impl Subscriber {
         ensures publication { self.new.publication ≡ self.old.publication }
     {
         let received = state.received;
-        let keys = changed_between(self.alloc, &self.unsent, &self.rows, 0, received)?;
+        let keys = changed_up_to(self.alloc, &self.unsent, &self.rows, received)?;
         let index = entries_let_go(self.alloc, &self.rows, &keys, received)?;
         let mut rows = rows_let_go(self.alloc, &self.rows, &keys, received)?;
         add_orders(self.alloc, &mut rows, &self.rows, items, received)?;
@@ -350,10 +350,7 @@ fn add_takes_up_to(
 {
     for generation in generations {
         if *generation <= received {
-            changes.push(Edit::Take(IndexEntry {
-                generation: *generation,
-                key,
-            }))?;
+            changes.push(Edit::Take(entry_behind(*generation, key)?))?;
         }
     }
     Ok(())

@@ -1,6 +1,6 @@
 //! What a site sends: the rows that it changed in generations that the publisher has not taken.
 ghost use Rattle.std.specs.List.{cons_option};
-ghost use Rattle.std.specs.Prelude.{◌≡◌, ◌++◌, ◌<◌, ◌≤◌, ◌⊎◌, [], Err, IfOk, Ok, OnOk, filter_map, unwrap_or};
+ghost use Rattle.std.specs.Prelude.{◌≡◌, ◌+◌, ◌++◌, ◌<◌, ◌≤◌, ◌⊎◌, [], Err, IfOk, Ok, OnOk, filter_map, unwrap_or};
 ghost use Rattle.merge_types.specs.Limits.{counter_limit};
 ghost use Rattle.merge_batch.specs.declared.refusal.Refusal.{Refusal as OneRefusal};
 ghost use Rattle.merge_batch.specs.declared.refusal.Refusal.TheVariants.{NoMemory as no_memory};
@@ -11,8 +11,9 @@ ghost use Rattle.merge_model.specs.Sending.{make_upload, upload_sent};
 ghost use Rattle.merge_model.specs.Subscriber.{sub_at_moment, sub_closed};
 ghost use Rattle.merge_sub.specs.Drafts.{IsDrafted, IsDraftedIfAny, drafted, drafted_if_any};
 ghost use Rattle.merge_sub.specs.Held.{AreIndexed, tables_of};
-ghost use Rattle.merge_sub.specs.Sent.{AreChanged, changed_count, item_at};
+ghost use Rattle.merge_sub.specs.Sent.{AreChanged, AreKeeping, changed_count, item_at};
 
+use crate::generations::behind;
 use crate::still::{later, still};
 use crate::{Draft, State, Subscriber};
 use merge_batch::{Outstanding, Refusal, Upload, UploadItem, UploadItems};
@@ -84,7 +85,26 @@ impl Subscriber {
     }
 }
 
-// The rows that keep a generation behind one, up to another. The time grows with these.
+// The rows that keep a generation from one on, below another. The time grows with these. The index
+// has a generation at the number behind it.
+fn keeping(
+    alloc: Global,
+    index: &GenIndex,
+    rows: &Table<RowKey, SubscriberRow>,
+    first: u64,
+    end: u64,
+) -> Result<Vec<RowKey>, NoMemory>
+    requires { AreIndexed rows.now.rows index.now.entries }
+    ensures { IfOk result (λ keys. AreKeeping rows.now.rows first end keys.items) }
+{
+    let mut keys = Vec::new(alloc);
+    index.between(first, end, &mut keys)?;
+    sort_rows(&mut keys);
+    let _ = rows.iter();
+    Ok(keys)
+}
+
+// The rows that keep a generation behind one, up to another.
 pub(crate) fn changed_between(
     alloc: Global,
     index: &GenIndex,
@@ -95,11 +115,20 @@ pub(crate) fn changed_between(
     requires { AreIndexed rows.now.rows index.now.entries }
     ensures { IfOk result (λ keys. AreChanged rows.now.rows from to keys.items) }
 {
-    let mut keys = Vec::new(alloc);
-    index.between(from, to, &mut keys)?;
-    sort_rows(&mut keys);
-    let _ = rows.iter();
-    Ok(keys)
+    keeping(alloc, index, rows, behind(from)?, behind(to)?)
+}
+
+// The rows that keep a generation up to one.
+pub(crate) fn changed_up_to(
+    alloc: Global,
+    index: &GenIndex,
+    rows: &Table<RowKey, SubscriberRow>,
+    to: u64,
+) -> Result<Vec<RowKey>, NoMemory>
+    requires { AreIndexed rows.now.rows index.now.entries }
+    ensures { IfOk result (λ keys. AreKeeping rows.now.rows 0 (to + 1) keys.items) }
+{
+    keeping(alloc, index, rows, 0, behind(to)?)
 }
 
 // The end of the batch behind a generation, where this is the last closed one, and its rows.

@@ -1,7 +1,7 @@
 use Rattle.std.specs.Prelude.{refl}
 use Rattle.std.proofs.Common.{rules}
 use Rattle.merge_sub.proofs.Ready.{still-ready}
-use Rattle.merge_sub.proofs.Unsent.{closing-goes-on}
+use Rattle.merge_sub.proofs.Opened.{closing-goes-on}
 use Rattle.merge_sub.proofs.subscriber.Subscriber.draft_close.Goals as goal
 
 pub returns-clause-ready : goal.returns-clause-ready

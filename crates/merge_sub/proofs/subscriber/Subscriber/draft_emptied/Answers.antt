@@ -1,7 +1,7 @@
 use Rattle.std.specs.Prelude.{◌+◌, None, Some, false, refl}
 use Rattle.std.proofs.Common.{rules}
 use Rattle.merge_sub.proofs.Anewly.{emptied-draft, emptied-ready}
-use Rattle.merge_sub.proofs.Unsent.{closing-goes-on, closing-last}
+use Rattle.merge_sub.proofs.Opened.{closing-goes-on, closing-last}
 use Rattle.merge_sub.proofs.subscriber.Subscriber.draft_emptied.Goals as goal
 
 pub prepare-requires-2-clause-sound : goal.prepare-requires-2-clause-sound

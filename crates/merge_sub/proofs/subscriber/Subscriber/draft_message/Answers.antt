@@ -1,7 +1,7 @@
 use Rattle.std.specs.Prelude.{refl}
 use Rattle.std.proofs.Common.{rules}
 use Rattle.merge_sub.proofs.Ready.{still-ready}
-use Rattle.merge_sub.proofs.Unsent.{still-goes-on}
+use Rattle.merge_sub.proofs.Opened.{still-goes-on}
 use Rattle.merge_sub.proofs.subscriber.Subscriber.draft_message.Goals as goal
 
 pub returns-clause-ready : goal.returns-clause-ready

@@ -29,7 +29,7 @@ prepare-requires-3-clause-sound c =
 
 pub returns-clause-made : goal.returns-clause-made
 returns-clause-made c =
-    taken-draft _ _ c.self.view_is c.self.invariant c.args.state c.in_ok-keys.keys.items c.in_ok-keys.ensures c.args.items.now
+    taken-draft _ _ c.self.view_is c.args.state c.in_ok-keys.keys.items c.in_ok-keys.ensures c.args.items.now
     (record { state = c.args.state; gens = c.in_ok-gens.gens; done = Some c.args.state.received; rows = c.add_orders.new.edits; held = c.empty-2.result; conflicts = c.in_ok-conflicts.conflicts })
     (record {
       own = refl;

@@ -1,7 +1,0 @@
-use Rattle.merge_sub.proofs.ChangedRows.{changed_rows}
-use Rattle.merge_sub.proofs.upload.changed_between.Goals as goal
-
-pub returns : goal.returns
-returns c =
-    changed_rows c.args.rows.now.rows c.args.index.now.entries c.requires c.iter.ensures.ordered c.args.from c.args.to c.new-keys.result.items c.between.new.rows.items c.new-keys.ensures.items c.in_ok-between.ensures.rows
-    c.sort_rows.new.rows.items c.sort_rows.ensures.ascending c.sort_rows.ensures.same
