@@ -1,0 +1,4 @@
+pub mod Offers
+pub mod Slots
+pub mod Stores
+pub mod Texts

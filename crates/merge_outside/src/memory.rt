@@ -1,0 +1,143 @@
+//! An outside in memory, for tests of commands.
+ghost use Rattle.std.specs.Prelude.{◌≡◌, [], IfOk, IfSome, option_copied};
+ghost use Rattle.merge_outside.specs.Texts.{bytes_at, text_at};
+
+use crate::commands::CommandOutside;
+use merge_link::{Exchange, Link, MemoryClock, MemoryLink};
+use merge_ports::{Counts, Keeper, MemoryOutside, MemorySource, OpenFault, Outside, Source};
+use merge_types::{Listing, Moment, NoMemory, Octets, SiteId, Words};
+use std::alloc::Global;
+use std::mem;
+
+/// A text at a path. The reads whose numbers are listed, counted from 0, fail.
+#[derive(Debug, Drop)]
+pub struct MemoryText {
+    pub path: Words,
+    pub bytes: Octets,
+    pub failing: Listing<u64>,
+}
+
+/// An outside whose stores, texts, responses and moments are those that it is given. The openings of
+/// texts whose numbers are listed, counted from 0, fail, and so do those of a path that no text has.
+/// The first link and the first clock get the responses and the moments, later ones get none.
+#[derive(Drop)]
+pub struct MemoryCommands<K: Drop> {
+    pub stores: MemoryOutside<K>,
+    pub texts: Listing<MemoryText>,
+    pub failing_texts: Listing<u64>,
+    /// How many openings of texts there were.
+    pub opened_texts: u64,
+    pub responses: Listing<Octets>,
+    /// The numbers of the asks that fail, for the first link.
+    pub failing_asks: Listing<u64>,
+    /// What the link carried that was given back last.
+    pub exchanges: Listing<Exchange>,
+    pub moments: Listing<Moment>,
+    pub alloc: Global,
+}
+
+impl<K: Keeper> MemoryCommands<K> {
+    /// An outside with these stores, and nothing else.
+    pub fn new(alloc: Global, stores: MemoryOutside<K>) -> Self
+        ensures { result ≡ record { stores = stores; texts = []; failing_texts = []; opened_texts = 0; responses = []; failing_asks = []; exchanges = []; moments = []; alloc = alloc } }
+    {
+        MemoryCommands {
+            stores,
+            texts: Listing::empty(alloc),
+            failing_texts: Listing::empty(alloc),
+            opened_texts: 0,
+            responses: Listing::empty(alloc),
+            failing_asks: Listing::empty(alloc),
+            exchanges: Listing::empty(alloc),
+            moments: Listing::empty(alloc),
+            alloc,
+        }
+    }
+}
+
+fn text_at<'a>(texts: &'a [MemoryText], path: &Words) -> Option<&'a MemoryText>
+    ensures { option_copied result ≡ text_at texts.now path.now }
+{
+    texts
+        .iter()
+        .find(|text| text.path.as_str() == path.as_str())
+}
+
+// The text of a list at a path, and none where the list has none.
+fn source_at(texts: &[MemoryText], path: &Words) -> Result<Option<MemorySource>, NoMemory>
+    ensures left { IfOk result (λ found. IfSome found (λ source. ⟦<MemorySource as Source>⟧.left source ≡ bytes_at texts.now path.now)) }
+    ensures fresh { IfOk result (λ found. IfSome found (λ source. source.faults ≡ 0)) }
+{
+    match text_at(texts, path) {
+        Some(text) => {
+            let bytes = text.bytes.clone()?;
+            Ok(Some(MemorySource::new(bytes, text.failing.clone()?)))
+        }
+        None => Ok(None),
+    }
+}
+
+impl<K: Keeper> Outside for MemoryCommands<K> {
+    type Keep = K;
+
+    ghost told = { λ o. ⟦<MemoryOutside<K> as Outside>⟧.told o.stores };
+
+    ghost HasRoom = { λ o. ⟦<MemoryOutside<K> as Outside>⟧.HasRoom o.stores };
+
+    ghost counts = { λ o. o.stores.counts };
+
+    fn keeper(&mut self, site: SiteId, path: &Words) -> Result<K, OpenFault> {
+        self.stores.keeper(site, path)
+    }
+
+    fn keeper_back(&mut self, site: SiteId, path: &Words, keeper: K) {
+        self.stores.keeper_back(site, path, keeper);
+    }
+
+    fn faults(&self) -> Counts {
+        self.stores.counts
+    }
+}
+
+impl<K: Keeper> CommandOutside for MemoryCommands<K> {
+    ghost use Rattle.std.specs.Prelude.{Some, drop};
+
+    type In = MemorySource;
+
+    type Line = MemoryLink;
+
+    type Timer = MemoryClock;
+
+    ghost offers = { λ o. record { texts = bytes_at o.texts; responses = Some o.responses; exchanges = Some o.exchanges; moments = Some (record { coming = o.moments; last = record { 0 = 0 } }) } };
+
+    fn text(&mut self, path: &Words) -> Result<MemorySource, OpenFault> {
+        let call = self.opened_texts;
+        self.opened_texts = self.opened_texts.saturating_add(1);
+        if !self.failing_texts.as_slice().contains(&call) {
+            if let Some(source) = source_at(self.texts.as_slice(), path)? {
+                return Ok(source);
+            }
+        }
+        self.stores.counts.texts = self.stores.counts.texts.saturating_add(1);
+        Err(OpenFault::Failed)
+    }
+
+    fn text_back(&mut self, text: MemorySource) {
+        self.stores.counts.texts = self.stores.counts.texts.saturating_add(text.faults());
+    }
+
+    fn link(&mut self, _address: &Words) -> Result<MemoryLink, NoMemory> {
+        let responses = mem::replace(&mut self.responses, Listing::empty(self.alloc));
+        let failing = mem::replace(&mut self.failing_asks, Listing::empty(self.alloc));
+        Ok(MemoryLink::new(self.alloc, responses, failing))
+    }
+
+    fn link_back(&mut self, link: MemoryLink) {
+        self.stores.counts.links = self.stores.counts.links.saturating_add(link.faults());
+        self.exchanges = link.exchanges;
+    }
+
+    fn clock(&mut self) -> MemoryClock {
+        MemoryClock::new(mem::replace(&mut self.moments, Listing::empty(self.alloc)))
+    }
+}
