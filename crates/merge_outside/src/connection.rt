@@ -61,7 +61,8 @@ impl Connection {
     }
 
     fn read_in_time(&mut self, piece: &mut [u8]) -> io::Result<usize>
-        ensures { ReadsAtMost result piece.new }
+        ensures bound { ReadsAtMost result piece.new }
+        ensures same { self.new.faults ≡ self.old.faults }
     {
         let left = left_of(&self.rt, &self.started, self.within)?;
         self.stream.set_read_timeout(Some(left))?;
@@ -69,7 +70,8 @@ impl Connection {
     }
 
     fn write_in_time(&mut self, piece: &[u8]) -> io::Result<usize>
-        ensures { WritesAtMost result piece.now }
+        ensures bound { WritesAtMost result piece.now }
+        ensures same { self.new.faults ≡ self.old.faults }
     {
         let left = left_of(&self.rt, &self.started, self.within)?;
         self.stream.set_write_timeout(Some(left))?;

@@ -1,5 +1,5 @@
 //! Keepers that are kept while their stores are not open.
-ghost use Rattle.std.specs.Prelude.{◌≡◌, OnOk, OnErr, ◌<◌, IfSome, length, position, None};
+ghost use Rattle.std.specs.Prelude.{◌≡◌, ◌<◌, IfOk, IfSome, OnOk, length, position, None, true};
 ghost use Rattle.merge_outside.specs.Slots.{is_slot, kept_in, HasSlot, KeepsSlots, KeepsOthers};
 ghost use Rattle.merge_types.specs.declared.identifiers.SiteId.{SiteId as Site};
 ghost use Rattle.std.specs.Prelude.{List, ℕ};
@@ -23,6 +23,18 @@ fn place_of<K: Drop>(slots: &[Slot<K>], site: SiteId, path: &Words) -> Option<us
     slots.iter().position(|slot| slot.site.0 == site.0 && slot.path.as_str() == path.as_str())
 }
 
+#[tactic(auto, using(crate::proofs::Kept::own_slot))]
+fn empty_slot<K: Drop>(alloc: Global, site: SiteId, path: &Words) -> Result<Slot<K>, NoMemory>
+    ensures own { IfOk result (λ slot. is_slot site path.now slot ≡ true) }
+    ensures empty { IfOk result (λ slot. slot.kept ≡ None) }
+{
+    Ok(Slot {
+        site,
+        path: Words::of(alloc, path.as_str())?,
+        kept: None,
+    })
+}
+
 /// Makes an empty slot for a store that has none.
 pub(crate) fn make_slot<K: Drop>(
     alloc: Global,
@@ -35,12 +47,8 @@ pub(crate) fn make_slot<K: Drop>(
     ensures still { KeepsSlots slots.old.items slots.new.items }
 {
     if place_of(slots, site, path).is_none() {
-        let path = Words::of(alloc, path.as_str())?;
-        slots.push(Slot {
-            site,
-            path,
-            kept: None,
-        })?;
+        let slot = empty_slot(alloc, site, path)?;
+        slots.push(slot)?;
     }
     Ok(())
 }

@@ -63,8 +63,8 @@ impl SqliteKeeper<FileStore<File>> {
     /// The keeper of the store file at a path, which is made where there is no file. It has no faults.
     ///
     /// `Failed` comes for a file that is no database, for one that has other tables than a store has,
-    /// for one that another keeper or process holds, and for a folder in which no file can be made;
-    /// what stands there is left as it is.
+    /// for one that another keeper or process holds, and for a folder in which no file can be made.
+    /// The file is left as it is; a log without a commit may be left beside it.
     pub fn open(rt: &HostRuntime, path: &str) -> Result<Self, KeepFault>
         ensures { IfOk result (λ keeper. keeper.count ≡ 0) }
     {
