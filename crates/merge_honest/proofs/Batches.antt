@@ -1,0 +1,26 @@
+-- What a batch has by where it ends.
+use Rattle.std.specs.List.{last_or, range_with_len}
+use Rattle.std.specs.Prelude.{Bool, List, None, Option, Some, cond, filter, min, nat_le, refl, suc, true, unwrap_or, zero, ℕ, ◌+◌, ◌-◌, ◌<◌, ◌≡◌, ◌≤◌, ◌∷◌, false}
+use Rattle.std.proofs.Common.{arith}
+use Rattle.std.proofs.lemmas.Bool.Decides.{nat_tests}
+use Rattle.merge_types.specs.Limits.{generation_limit, item_limit}
+use Rattle.merge_model.specs.PublisherDownload.{batch_end}
+
+last-step : (P : ℕ → Type 0) (b : Bool) (from d : ℕ) (o : Option ℕ) (kept : List ℕ) → (b ≡ true → P from) → P (unwrap_or o d) → ((other : Option ℕ) → P (unwrap_or other d) → P (unwrap_or (last_or other kept) d))
+    → P (unwrap_or (last_or o (cond b (from ∷ kept) kept)) d)
+last-step P true from d o kept here up more = more (Some from) (here refl)
+last-step P false from d o kept here up more = more o up
+
+last-holds : (P : ℕ → Type 0) (test : ℕ → Bool) (n from d : ℕ) (o : Option ℕ) → ((k : ℕ) → from ≤ k → k < from + n → test k ≡ true → P k) → P (unwrap_or o d) → P (unwrap_or (last_or o (filter test (range_with_len from n))) d)
+last-holds P test zero from d o each up = up
+last-holds P test (suc n) from d o each up =
+    last-step P (test from) from d o (filter test (range_with_len (from + 1) n)) (λ is. each from (omega arith) (omega arith) is) up
+    (λ other low. last-holds P test n (from + 1) d other (λ k first behind is. each k (omega (arith, first)) (omega (arith, behind)) is) low)
+
+-- it ends where it begins, or at a generation behind, within the limits
+pub batch-holds : (P : ℕ → Type 0) (items : ℕ → ℕ) (from last : ℕ) → P from → ((k : ℕ) → from < k → k ≤ from + generation_limit → k ≤ last → nat_le (items k) item_limit ≡ true → P k) → P (batch_end items from last)
+batch-holds P items from last base each =
+    let few : min generation_limit (last - from) ≤ generation_limit = grind (arith, nat_tests) in
+    let within : min generation_limit (last - from) ≤ last - from = grind (arith, nat_tests) in
+    last-holds P (λ (to : ℕ). nat_le (items to) item_limit) (min generation_limit (last - from)) (from + 1) from None
+    (λ k low up is. each k (omega (arith, low)) (omega (arith, up, few)) (omega (arith, low, up, within)) is) base

@@ -1,0 +1,8 @@
+use Rattle.merge_honest.proofs.FewReasons.{first-reason, none-unexpected}
+use Rattle.merge_honest.proofs.expected.requests_are_refused_for_little.Goals as goal
+
+pub returns : goal.returns
+returns c = record {
+  few = none-unexpected;
+  first = first-reason;
+}

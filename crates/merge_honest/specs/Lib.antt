@@ -1,0 +1,4 @@
+pub mod Delivered
+pub mod SentWell
+pub mod Bounded
+pub mod OwnPairs
