@@ -30,7 +30,7 @@ use Rattle.merge_site.specs.Subscribers.{IsKeptSubscriber, subscriber_stored}
 use Rattle.merge_site.proofs.Printed.{none-lost, none-printable}
 
 -- of no article a range was received
-none_received : (xs : List (ℕ × Identity)) → filter was_received (map holder_for xs) ≡ []
+pub none_received : (xs : List (ℕ × Identity)) → filter was_received (map holder_for xs) ≡ []
 none_received [] = refl
 none_received (x ∷ xs) = none_received xs
 
@@ -43,7 +43,7 @@ holders_keys m number [] few = tt
 holders_keys m number (article ∷ articles) few =
     rw (holders-step number article articles article.identity refl) (article_keys m number article.identity (holders_from (number + 1) articles) (omega (arith, few)) (holders_keys m (number + 1) articles (omega (arith, few))))
 
-new_keys : (publication : Publication) → length publication.articles ≤ 32 → AllKeys (λ n. n < 2 ^ 8) (new_holders publication)
+pub new_keys : (publication : Publication) → length publication.articles ≤ 32 → AllKeys (λ n. n < 2 ^ 8) (new_holders publication)
 new_keys publication few = holders_keys 256 0 publication.articles (omega (arith, few))
 
 -- nothing is stored

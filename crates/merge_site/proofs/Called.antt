@@ -1,5 +1,5 @@
 -- What a call did: it made its step, it was refused, or its commit failed.
-use Rattle.std.proofs.Common.{◌≡◌, ℕ, ◌+◌, ◌≤◌, Bool, true, inl, inr, ◌⊎◌, ap, refl}
+use Rattle.std.proofs.Common.{◌≡◌, ℕ, ◌+◌, ◌≤◌, Bool, true, inl, inr, ◌⊎◌, ap, refl, subst, sym}
 use Rattle.std.specs.Prelude.{Err, IfOk, Ok, Option, Result, Some}
 use Rattle.std.proofs.lemmas.Result.{IfOk-at_ok}
 use Rattle.merge_batch.specs.declared.refusal.Refusal.{Refusal}
@@ -20,6 +20,11 @@ module _ {T A : Type 0} (by : Result (T × A) Refusal) (commits : A → Bool) (o
 pub ok-all : {X E : Type 0} {P : X → Type 0} (result : Result X E) → ((x : X) → P x) → IfOk result P
 ok-all (Ok x) all = all x
 ok-all (Err e) all = tt
+
+-- and one that holds of the same
+pub ok-same : {X E T : Type 0} (f : X → T) (P : T → Type 0) (result : Result X E) (t : T) → P t → IfOk result (λ x. f x ≡ t) → IfOk result (λ x. P (f x))
+ok-same f P (Ok x) t holds is = subst P (sym is) holds
+ok-same f P (Err e) t holds is = tt
 
 -- a draft was worked out, and its commit failed
 pub stopped : {X T A : Type 0} (f : X → T) (by : Result (T × A) Refusal) (of : A → Bool) (commits : Bool) (worked : Result (X × A) Refusal) (x : X) (a : A) (old new : T) (before after : ℕ) (why : Refusal)

@@ -5,9 +5,12 @@ pub mod Edited
 pub mod Granted
 pub mod Keyed
 pub mod ListsAfter
+pub mod NewHolders
 pub mod Printed
 pub mod PublisherCalls
 pub mod PublisherEdited
 pub mod PublisherRequests
 pub mod Ranged
 pub mod SubscriberCalls
+pub mod SubscriberStarted
+pub mod Told

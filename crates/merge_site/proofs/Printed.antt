@@ -24,8 +24,9 @@ use Rattle.merge_units.specs.declared.version.Body.TheVariants.{Dead, Live}
 use Rattle.merge_units.specs.declared.version.Cell.{Cell}
 use Rattle.merge_units.specs.declared.version.Version.{Version}
 use Rattle.merge_conflict.specs.declared.row.ConflictRow.{ConflictRow}
+use Rattle.merge_model.proofs.Finding.{all-weaker}
 use Rattle.merge_model.specs.Proper.{AreProper, IsProperBody}
-use Rattle.merge_record.specs.Versions.{IsShortBody, IsShortCell, IsShortValue, IsShortVersion, is_day}
+use Rattle.merge_record.specs.Versions.{IsBody, IsCell, IsShortBody, IsShortCell, IsShortValue, IsShortVersion, IsValue, IsVersion, is_day}
 use Rattle.merge_keeper.specs.Edits.{IsShortEdit, IsShortLoser}
 use Rattle.merge_world.specs.Printable.{AreLostPrintable, ArePrintable}
 use Rattle.merge_site.specs.Lists.{conflict_put}
@@ -64,6 +65,45 @@ body-proper (Dead top) short = tt
 
 pub version-proper : (version : Version) → IsShortVersion version → IsProperBody version.body
 version-proper version short = body-proper version.body short.1
+
+-- ---- and so can what was read of one
+
+value-short : (value : Value) → IsValue value → IsShortValue value
+value-short Null is = tt
+value-short (Int number) is = tt
+value-short (Bit bit) is = tt
+value-short (Text words) is = is.0
+value-short (Day day) is = is.1
+value-short (Guid number) is = tt
+value-short (Bytes octets) is = is
+
+values-short : (values : List Value) → AllByRecursion IsValue values → AllByRecursion IsShortValue values
+values-short [] are = tt
+values-short (value ∷ values) are = (value-short value are.0, values-short values are.1)
+
+cell-short : (cell : Cell) → IsCell cell → IsShortCell cell
+cell-short cell is = (is.1.0, values-short cell.values is.1.1)
+
+cells-short : (cells : List Cell) → AllByRecursion IsCell cells → AllByRecursion IsShortCell cells
+cells-short [] are = tt
+cells-short (cell ∷ cells) are = (cell-short cell are.0, cells-short cells are.1)
+
+body-short : (body : Body) → IsBody body → IsShortBody body
+body-short (Live cells) is = (is.0, cells-short cells is.1)
+body-short (Dead top) is = tt
+
+record-proper : (version : Version) → IsVersion version → IsProperBody version.body
+record-proper version is = body-proper version.body (body-short version.body is.1)
+
+pub records-printable : {R : Type 0} (version : R → Version) (rows : List (RowKey × R)) → AllByRecursion (λ (row : RowKey × R). IsVersion (version row.1)) rows → ArePrintable version rows
+records-printable {R = R} version rows are =
+    All-from_recursion (λ (row : RowKey × R). IsProperBody (version row.1).body) rows
+    (all-weaker (λ (row : RowKey × R). IsVersion (version row.1)) (λ (row : RowKey × R). IsProperBody (version row.1).body) (λ row is. record-proper (version row.1) is) rows are)
+
+pub lost-records-printable : (rows : List ConflictRow) → AllByRecursion (λ (row : ConflictRow). IsVersion row.losing) rows → AreLostPrintable rows
+lost-records-printable rows are =
+    All-from_recursion (λ (row : ConflictRow). IsProperBody row.losing.body) rows
+    (all-weaker (λ (row : ConflictRow). IsVersion row.losing) (λ (row : ConflictRow). IsProperBody row.losing.body) (λ row is. record-proper row.losing is) rows are)
 
 -- ---- rows after edits
 

@@ -32,6 +32,24 @@ subscriber_stored s = record {
   held = s.held;
 }
 
+-- tables that are stored, as a subscriber holds them
+abbrev pub stored_tables : SubscriberStored → SubscriberTables
+stored_tables t = record {
+  site = t.site;
+  changes = t.changes;
+  gens = record { filling = t.filling; closings = t.closings };
+  conflict_count = t.conflict_count;
+  latest = t.latest;
+  seq = t.seq;
+  outstanding = t.outstanding;
+  received = t.received;
+  watermark = t.watermark;
+  is_joined = t.is_joined;
+  rows = t.rows;
+  conflicts = t.conflicts;
+  held = t.held;
+}
+
 -- the records of the tables
 unfoldable pub records_of : SubscriberTables → Map
 records_of s = subscriber_records (subscriber_stored s)

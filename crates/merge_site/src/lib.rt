@@ -18,6 +18,7 @@ mod short;
 mod sites;
 mod subscriber;
 mod subscriber_commit;
+mod subscriber_start;
 
 pub use beginning::NotStarted;
 pub use publisher::KeptPublisher;

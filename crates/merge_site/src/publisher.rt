@@ -17,7 +17,7 @@ ghost use Rattle.merge_site.specs.Beginning.{IsEmptyStore, StartsNot};
 
 use crate::beginning::{NotStarted, check_empty};
 use crate::publisher_commit::{commit_and_purge, finish};
-use crate::restarting::check_publisher;
+use crate::restarting::load_publisher;
 use merge_batch::Refusal;
 use merge_model::Forgotten;
 use merge_ports::Keeper;
@@ -176,6 +176,7 @@ impl<K: Keeper> KeptPublisher<K> {
         ensures restarted { Restarted self.old.tables self.new.tables self.old.faults self.new.faults result }
         ensures publication { self.new.publication ≡ self.old.publication }
     {
-        check_publisher(self.alloc, &mut self.keeper, self.publisher.publication())
+        let _ = load_publisher(self.alloc, &mut self.keeper, self.publisher.publication())?;
+        Ok(())
     }
 }

@@ -19,7 +19,7 @@ ghost use Rattle.merge_world.specs.Views.{SubscriberCall};
 ghost use Rattle.merge_site.specs.Beginning.{IsEmptyStore, StartsNot};
 
 use crate::beginning::{NotStarted, check_empty};
-use crate::restarting::check_subscriber;
+use crate::restarting::load_subscriber;
 use crate::subscriber_commit::{finish, finish_message};
 use merge_batch::{Download, Join, RangeAsk, Refusal, Reply, Upload};
 use merge_conflict::ConflictRow;
@@ -39,9 +39,9 @@ use std::marker::Model;
 /// changed here.
 #[derive(Drop)]
 pub struct KeptSubscriber<K: Keeper> {
-    alloc: Global,
+    pub(crate) alloc: Global,
     pub(crate) keeper: K,
-    subscriber: Subscriber,
+    pub(crate) subscriber: Subscriber,
 }
 
 impl<K: Keeper> Model for KeptSubscriber<K> {
@@ -250,12 +250,13 @@ impl<K: Keeper> KeptSubscriber<K> {
         ensures publication { self.new.publication ≡ self.old.publication }
         ensures site { self.new.tables.site ≡ self.old.tables.site }
     {
-        check_subscriber(
+        let _ = load_subscriber(
             self.alloc,
             &mut self.keeper,
             self.subscriber.publication(),
             self.subscriber.site(),
-        )
+        )?;
+        Ok(())
     }
 
     pub fn site(&self) -> SiteId
