@@ -5,7 +5,7 @@ use Rattle.std.specs.Io.KnownBytes.{Appends}
 use Rattle.hex.specs.Hex.{encode_lower}
 use Rattle.merge_ports.specs.Faults.{Rose}
 use Rattle.merge_ports.specs.Parts.{AppendsFront}
-use Rattle.merge_schema.specs.Faults.{number_of}
+use Rattle.merge_schema.specs.Faults.{number_of, words_of}
 use Rattle.replmerge.specs.declared.ending.Ending.{Ending}
 use Rattle.replmerge.specs.declared.ending.Ending.TheVariants.{Damaged, Done, NoEvent, NoMemory, ReadFault, Refused, StoreFault, TooLong, Usage, WriteFault}
 
@@ -14,18 +14,18 @@ abbrev pub key_text : List ℕ → List ℕ
 key_text [] = codes "-"
 key_text (byte ∷ key) = encode_lower (byte ∷ key)
 
--- One line for each ending but the good one, where `help` is the program's help and `words` are those of the publication's fault. The help has lines of its own.
-abbrev pub note_of : (help words : List ℕ) → Ending → List ℕ
-note_of help words Done = []
-note_of help words Usage = codes "usage\n" ++ help
-note_of help words (Refused fault) = codes "publication refused: " ++ decimal (unwrap_or (number_of fault) 0) ++ 32 ∷ words ++ 10 ∷ []
-note_of help words (NoEvent line word) = codes "line " ++ decimal line ++ codes " word " ++ decimal word ++ codes ": no event\n"
-note_of help words ReadFault = codes "read fault\n"
-note_of help words WriteFault = codes "write fault\n"
-note_of help words StoreFault = codes "store fault\n"
-note_of help words (Damaged table key) = codes "damaged " ++ decimal table ++ 32 ∷ key_text key ++ 10 ∷ []
-note_of help words NoMemory = codes "no memory\n"
-note_of help words TooLong = codes "input too long\n"
+-- One line for each ending but the good one, where `help` is the program's help. The help has lines of its own.
+abbrev pub note_of : (help : List ℕ) → Ending → List ℕ
+note_of help Done = []
+note_of help Usage = codes "usage\n" ++ help
+note_of help (Refused fault) = codes "publication refused: " ++ decimal (unwrap_or (number_of fault) 0) ++ 32 ∷ words_of fault ++ 10 ∷ []
+note_of help (NoEvent line word) = codes "line " ++ decimal line ++ codes " word " ++ decimal word ++ codes ": no event\n"
+note_of help ReadFault = codes "read fault\n"
+note_of help WriteFault = codes "write fault\n"
+note_of help StoreFault = codes "store fault\n"
+note_of help (Damaged table key) = codes "damaged " ++ decimal table ++ 32 ∷ key_text key ++ 10 ∷ []
+note_of help NoMemory = codes "no memory\n"
+note_of help TooLong = codes "input too long\n"
 
 -- The notes got the whole of a text; or a front of it, since a write failed; or nothing, since memory was wanting.
 abbrev pub IsTold : List ℕ → (old new : Option (List ℕ)) → (before after : ℕ) → Type 0
@@ -34,5 +34,4 @@ IsTold note old new before after = Appends old new note ⊎ (AppendsFront old ne
 -- What the notes got of an ending.
 pub record Told (ending : Ending) (old new : Option (List ℕ)) (before after : ℕ) : Type 0 where
   pub help : List ℕ
-  pub words : List ℕ
-  pub told : IsTold (note_of help words ending) old new before after
+  pub told : IsTold (note_of help ending) old new before after

@@ -1,7 +1,7 @@
 //! What the notes are told of an ending.
 ghost use Rattle.std.specs.Prelude.{◌≡◌, ◌++◌, ◌∷◌, [], IfOk, List, OnErr, ℕ, codes, string_bytes, unwrap_or};
 ghost use Rattle.std.specs.Fmt.{decimal};
-ghost use Rattle.merge_schema.specs.Faults.{number_of};
+ghost use Rattle.merge_schema.specs.Faults.{number_of, words_of};
 ghost use Rattle.replmerge.specs.Notes.{IsTold, Told, key_text};
 
 use crate::command::help;
@@ -20,20 +20,12 @@ fn usage_note(alloc: Global) -> Result<String, NoMemory>
     Ok(note)
 }
 
-// A refusal of the publication, by its number and its words.
-fn refusal_note(alloc: Global, number: u8, words: &str) -> Result<String, NoMemory>
-    ensures { IfOk result (λ note. string_bytes note ≡ codes "publication refused: " ++ decimal number ++ 32 ∷ words.now ++ 10 ∷ []) }
-{
-    Ok(format!(in alloc; "publication refused: {number} {words}\n")?)
-}
-
-// Why the publication was refused.
+// Why the publication was refused, by the fault's number and its words.
 fn refused_note(alloc: Global, fault: &SchemaFault) -> Result<String, NoMemory>
-    ensures { IfOk result (λ note. (words : List ℕ) × (string_bytes note ≡ codes "publication refused: " ++ decimal (unwrap_or (number_of fault.now) 0) ++ 32 ∷ words ++ 10 ∷ [])) }
+    ensures { IfOk result (λ note. string_bytes note ≡ codes "publication refused: " ++ decimal (unwrap_or (number_of fault.now) 0) ++ 32 ∷ words_of fault.now ++ 10 ∷ []) }
 {
-    let words = fault.to_string(alloc)?;
     let number = fault.number().unwrap_or(0);
-    refusal_note(alloc, number, words.as_str())
+    Ok(format!(in alloc; "publication refused: {number} {fault}\n")?)
 }
 
 // A key in hexadecimal.

@@ -1,10 +1,10 @@
 -- What was told, by the ending.
 use Rattle.std.proofs.Common.{string_bytes}
-use Rattle.replmerge.proofs.Tellings.{told, told-refused}
+use Rattle.replmerge.proofs.Tellings.{told, told-made}
 use Rattle.replmerge.proofs.notes.tell.Goals as goal
 
 pub returns-in-Refused : goal.returns-in-Refused
-returns-in-Refused g c = told-refused _ _ _ _ (λ text. string_bytes text) _ _ c.in-Refused.is c.refused_note.result c.refused_note.ensures c.write_made-in-Refused.ensures.ok c.write_made-in-Refused.ensures.err
+returns-in-Refused g c = told-made _ _ _ _ (λ text. string_bytes text) _ _ c.in-Refused.is c.refused_note.result c.refused_note.ensures c.write_made-in-Refused.ensures.ok c.write_made-in-Refused.ensures.err
 
 pub returns-in-ReadFault : goal.returns-in-ReadFault
 returns-in-ReadFault g c = told _ _ _ _ _ _ c.in-ReadFault.is c.write_note.ensures
