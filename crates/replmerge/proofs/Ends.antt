@@ -1,5 +1,5 @@
 -- Why a run ends, by what ended a part of it; and the status by which that is told.
-use Rattle.std.proofs.Common.{Err, List, None, Ok, Option, Some, ap, arith, inl, inr, length, refl, subst, sym, true, ℕ, ◌+◌, ◌++◌, ◌<◌, ◌∙◌, ◌≡◌, ◌≤◌, ◌⊎◌}
+use Rattle.std.proofs.Common.{Err, List, None, Ok, Option, Some, ap, arith, inl, inr, length, refl, subst, sym, ℕ, ◌+◌, ◌++◌, ◌<◌, ◌∙◌, ◌≡◌, ◌≤◌, ◌⊎◌}
 use Rattle.std.proofs.lemmas.List.{length-append}
 use Rattle.std.specs.Prelude.{IfSome}
 use Rattle.merge_ports.specs.Faults.{Rose}
@@ -15,9 +15,8 @@ use Rattle.merge_script.proofs.Cuts.{IsCut-input}
 use Rattle.merge_world.specs.Views.{HandedView}
 use Rattle.replmerge.specs.declared.ending.Ending.{Ending}
 use Rattle.replmerge.specs.declared.ending.Ending.TheVariants.{Damaged, Done, NoEvent, NoMemory, ReadFault, Refused, StoreFault, TooLong, Usage, WriteFault}
-use Rattle.replmerge.specs.Commands.{is_play}
 use Rattle.replmerge.specs.Endings.{refused_for, unread}
-use Rattle.replmerge.specs.Headline.{AnsweredInPart, InputEnds, IsTaken, IsTakenInput, PlayEnds, RunEnds, Sides, WrittenInPart, lines_of_input}
+use Rattle.replmerge.specs.Headline.{AnsweredInPart, InputEnds, IsTaken, IsTakenInput, PlayEnds, PlayRunEnds, Sides, WrittenInPart, lines_of_input}
 
 module _ (handed : HandedView) (input : List ℕ) (sides : Sides) (writes refused : ℕ) where
   abbrev Input : Ending → Type 0
@@ -95,33 +94,32 @@ any-of (Some l) = tt
 pub in-part-of : (left : Option (List ℕ)) (input slice : List ℕ) (handed : HandedView) (sides : Sides) → slice ≡ input → WrittenInPart handed slice sides → IfSome left (λ (l : List ℕ). input ≡ l) → IfSome left (λ (l : List ℕ). WrittenInPart handed l sides)
 in-part-of left input slice handed sides is part same = some-of (λ (l : List ℕ). WrittenInPart handed l sides) left input same (subst (λ (l : List ℕ). WrittenInPart handed l sides) is part)
 
-module _ (words : List (List ℕ)) (left : Option (List ℕ)) (handed : HandedView) (sides : Sides) (writes refused reads failed : ℕ) where
+module _ (left : Option (List ℕ)) (handed : HandedView) (sides : Sides) (writes refused reads failed : ℕ) where
   abbrev Ends : Ending → Type 0
-  Ends ending = RunEnds ending words left handed sides writes refused reads failed
+  Ends ending = PlayRunEnds ending left handed sides writes refused reads failed
 
-  module _ (play : is_play words ≡ true) where
-    read-ends : (input : List ℕ) → IfSome left (λ (l : List ℕ). input ≡ l) → (ending : Ending) → InputEnds ending handed input sides writes refused → Ends ending
-    read-ends input same Done p = (play, some-of (λ (l : List ℕ). InputEnds Done handed l sides writes refused) left input same p)
-    read-ends input same (Refused fault) p = (play, some-of (λ (l : List ℕ). InputEnds (Refused fault) handed l sides writes refused) left input same p)
-    read-ends input same (NoEvent line word) p = (play, some-of (λ (l : List ℕ). InputEnds (NoEvent line word) handed l sides writes refused) left input same p)
-    read-ends input same WriteFault p = (play, p.1, some-of (IsTakenInput (length handed.tallies)) left input same p.0)
-    read-ends input same StoreFault p = (play, p.1, some-of (IsTakenInput (length handed.tallies)) left input same p.0)
-    read-ends input same (Damaged table key) p = (play, some-of (λ (l : List ℕ). InputEnds (Damaged table key) handed l sides writes refused) left input same p)
-    read-ends input same NoMemory p = (play, any-of left)
-    read-ends input same Usage p = absurd p
-    read-ends input same ReadFault p = absurd p
-    read-ends input same TooLong p = absurd p
+  read-ends : (input : List ℕ) → IfSome left (λ (l : List ℕ). input ≡ l) → (ending : Ending) → InputEnds ending handed input sides writes refused → Ends ending
+  read-ends input same Done p = some-of (λ (l : List ℕ). InputEnds Done handed l sides writes refused) left input same p
+  read-ends input same (Refused fault) p = some-of (λ (l : List ℕ). InputEnds (Refused fault) handed l sides writes refused) left input same p
+  read-ends input same (NoEvent line word) p = some-of (λ (l : List ℕ). InputEnds (NoEvent line word) handed l sides writes refused) left input same p
+  read-ends input same WriteFault p = (p.1, some-of (IsTakenInput (length handed.tallies)) left input same p.0)
+  read-ends input same StoreFault p = (p.1, some-of (IsTakenInput (length handed.tallies)) left input same p.0)
+  read-ends input same (Damaged table key) p = some-of (λ (l : List ℕ). InputEnds (Damaged table key) handed l sides writes refused) left input same p
+  read-ends input same NoMemory p = any-of left
+  read-ends input same Usage p = absurd p
+  read-ends input same ReadFault p = absurd p
+  read-ends input same TooLong p = absurd p
 
-    pub ends-by-slice : (input slice : List ℕ) → slice ≡ input → IfSome left (λ (l : List ℕ). input ≡ l) → (ending : Ending) → InputEnds ending handed slice sides writes refused → Ends ending
-    ends-by-slice input slice is same ending p = read-ends input same ending (subst (λ (l : List ℕ). InputEnds ending handed l sides writes refused) is p)
+  pub ends-by-slice : (input slice : List ℕ) → slice ≡ input → IfSome left (λ (l : List ℕ). input ≡ l) → (ending : Ending) → InputEnds ending handed slice sides writes refused → Ends ending
+  ends-by-slice input slice is same ending p = read-ends input same ending (subst (λ (l : List ℕ). InputEnds ending handed l sides writes refused) is p)
 
-    unread-ends : (fault : Unread) → (fault ≡ reading.TooLong → IfSome left (λ (l : List ℕ). 67108864 < length l)) → (fault ≡ reading.Failed → Rose reads failed) → Ends (unread fault)
-    unread-ends reading.Failed long rose = (play, rose refl)
-    unread-ends reading.TooLong long rose = (play, long refl)
-    unread-ends reading.NoMemory long rose = (play, any-of left)
+  unread-ends : (fault : Unread) → (fault ≡ reading.TooLong → IfSome left (λ (l : List ℕ). 67108864 < length l)) → (fault ≡ reading.Failed → Rose reads failed) → Ends (unread fault)
+  unread-ends reading.Failed long rose = rose refl
+  unread-ends reading.TooLong long rose = long refl
+  unread-ends reading.NoMemory long rose = any-of left
 
-    pub ends-unread : (fault : Unread) (ending : Ending) → ending ≡ unread fault → (fault ≡ reading.TooLong → IfSome left (λ (l : List ℕ). 67108864 < length l)) → (fault ≡ reading.Failed → Rose reads failed) → Ends ending
-    ends-unread fault ending is long rose = subst Ends (sym is) (unread-ends fault long rose)
+  pub ends-unread : (fault : Unread) (ending : Ending) → ending ≡ unread fault → (fault ≡ reading.TooLong → IfSome left (λ (l : List ℕ). 67108864 < length l)) → (fault ≡ reading.Failed → Rose reads failed) → Ends ending
+  ends-unread fault ending is long rose = subst Ends (sym is) (unread-ends fault long rose)
 
 -- where nothing is written, that is a front of what could be
 pub nothing-written : (left : Option (List ℕ)) (handed : HandedView) (sides : Sides) → sides.written ≡ sides.was → IfSome left (λ (l : List ℕ). WrittenInPart handed l sides)

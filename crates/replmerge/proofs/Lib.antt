@@ -1,5 +1,7 @@
+pub mod Commands
 pub mod Ends
 pub mod Fresh
+pub mod Makes
 pub mod Plays
 pub mod Rises
 pub mod Rooms

@@ -27,7 +27,7 @@ use Rattle.replmerge.proofs.Fresh.{fresh-world}
 use Rattle.replmerge.proofs.Rises.{rose-less, rose-one}
 
 module _ (promises : MachineHasPromises) (publication : Publication) (valid : (resolvers : ℕ) × IsValid resolvers publication) (handed : HandedView) (n before after : ℕ) (rose : RoseBy n before after) where
-  run-of : (events : List Event) (new : SitesView) (behind : HandedView) (said : List Answer) → AllHappened events (fresh_view publication) new handed behind said → new.faults ≤ n
+  pub run-of : (events : List Event) (new : SitesView) (behind : HandedView) (said : List Answer) → AllHappened events (fresh_view publication) new handed behind said → new.faults ≤ n
       → IsRun publication handed events said before after
   run-of events new behind said all le =
       let ran = played-runs events (fresh_view publication) new handed behind said all (fresh-world publication handed.tallies) in

@@ -1,5 +1,5 @@
 -- What a run of the program may write, and the cause of each of its statuses.
-use Rattle.std.specs.Prelude.{Bool, Err, List, None, Ok, Option, Some, count_by, false, true, length, nat_lt, take, IfSome, ℕ, ◌++◌, ◌==◌, ◌||◌, ◌<◌, ◌≡◌, ◌≢◌, ◌≤◌, ◌⊎◌}
+use Rattle.std.specs.Prelude.{Bool, Err, List, None, Ok, Option, Some, length, nat_lt, take, IfSome, ℕ, ◌++◌, ◌==◌, ◌||◌, ◌<◌, ◌≡◌, ◌≢◌, ◌≤◌, ◌⊎◌}
 use Rattle.std.specs.Io.KnownBytes.{Appends}
 use Rattle.merge_ports.specs.Faults.{Rose}
 use Rattle.merge_schema.specs.Answers.{IsAnswer}
@@ -8,40 +8,25 @@ use Rattle.merge_schema.specs.declared.fault.SchemaFault.TheVariants.{NoMemory a
 use Rattle.merge_schema.specs.declared.publication.Publication.{Publication}
 use Rattle.merge_script.specs.Input.{publication_of, script_of}
 use Rattle.merge_script.specs.Lines.{lines_of}
-use Rattle.merge_model.specs.Failing.{Slips}
 use Rattle.merge_model.specs.Play.{names_of}
-use Rattle.merge_model.specs.Reach.{is_store_fault}
 use Rattle.merge_model.specs.Reading.{events_of, fault_of}
-use Rattle.merge_model.specs.Runs.{machine_says, world_behind}
 use Rattle.merge_model.specs.Text.{texts_of}
 use Rattle.merge_model.specs.declared.answer.Answer.{Answer}
 use Rattle.merge_model.specs.declared.event.Event.{Event}
 use Rattle.merge_world.specs.Views.{HandedView}
-use Rattle.merge_laws.specs.Promised.{HasPromises}
 use Rattle.replmerge.specs.declared.ending.Ending.{Ending}
 use Rattle.replmerge.specs.declared.ending.Ending.TheVariants.{Damaged, Done, NoEvent, NoMemory, ReadFault, Refused, StoreFault, TooLong, Usage, WriteFault}
-use Rattle.replmerge.specs.Commands.{is_play}
+use Rattle.replmerge.specs.Commands.{command_of}
+use Rattle.replmerge.specs.Making.{MakeEnds}
+pub use Rattle.replmerge.specs.Runs.{IsRun, Sides}
+use Rattle.replmerge.specs.declared.command.Command.{Command}
+use Rattle.replmerge.specs.declared.command.Command.TheVariants.{Make, Play}
 use Rattle.replmerge.specs.Endings.{status_of}
 use Rattle.replmerge.specs.Notes.{Told}
-use Rattle.replmerge.specs.Stores.{RoseBy}
 
 -- the lines of an input's script
 abbrev pub lines_of_input : List ℕ → List (List ℕ)
 lines_of_input input = lines_of (script_of input)
-
--- what the output told of its bytes before and behind a run, and how often the stores of sites had failed by then
-pub record Sides : Type 0 where
-  pub was : Option (List ℕ)
-  pub written : Option (List ℕ)
-  pub before : ℕ
-  pub after : ℕ
-
--- These answers are given in a run of the sites from nothing, each decision is what the resolvers say that were handed in, at their tallies, and no more steps fail by a store than stores failed. Behind it stand the tables of a model of which all is promised.
-pub record IsRun (publication : Publication) (handed : HandedView) (events : List Event) (answers : List Answer) (before after : ℕ) : Type 0 where
-  pub slips : Slips
-  pub said : machine_says publication handed.says handed.tallies slips events ≡ answers
-  pub few : RoseBy (count_by is_store_fault slips) before after
-  pub promised : HasPromises publication handed.says (world_behind publication handed.says handed.tallies slips events)
 
 -- What was written is the text of a run over the events of the lines before the first that is no event, or of all.
 pub record Answered (publication : Publication) (handed : HandedView) (lines : List (List ℕ)) (sides : Sides) : Type 0 where
@@ -119,14 +104,23 @@ InputEnds (Damaged table key) handed input sides writes refused = IsTakenInput (
 InputEnds NoMemory handed input sides writes refused = Unit {0}
 InputEnds other handed input sides writes refused = ⊥
 
--- why a run ended; reads failed from `reads` to `failed`
+-- why a run of `play` ended; reads failed from `reads` to `failed`
+abbrev pub PlayRunEnds : Ending → Option (List ℕ) → HandedView → Sides → (writes refused reads failed : ℕ) → Type 0
+PlayRunEnds Usage left handed sides writes refused reads failed = ⊥
+PlayRunEnds ReadFault left handed sides writes refused reads failed = Rose reads failed
+PlayRunEnds TooLong left handed sides writes refused reads failed = IfSome left (λ (input : List ℕ). 67108864 < length input)
+PlayRunEnds WriteFault left handed sides writes refused reads failed = Rose writes refused × IfSome left (IsTakenInput (length handed.tallies))
+PlayRunEnds StoreFault left handed sides writes refused reads failed = Rose sides.before sides.after × IfSome left (IsTakenInput (length handed.tallies))
+PlayRunEnds other left handed sides writes refused reads failed = IfSome left (λ (input : List ℕ). InputEnds other handed input sides writes refused)
+
+-- why a run of a command ended
+abbrev pub CommandEnds : Option Command → Ending → Option (List ℕ) → HandedView → Sides → (writes refused reads failed : ℕ) → Type 0
+CommandEnds None ending left handed sides writes refused reads failed = ending ≡ Usage
+CommandEnds (Some Play) ending left handed sides writes refused reads failed = PlayRunEnds ending left handed sides writes refused reads failed
+CommandEnds (Some (Make customers)) ending left handed sides writes refused reads failed = MakeEnds ending customers handed sides writes refused
+
 abbrev pub RunEnds : Ending → List (List ℕ) → Option (List ℕ) → HandedView → Sides → (writes refused reads failed : ℕ) → Type 0
-RunEnds Usage words left handed sides writes refused reads failed = is_play words ≡ false
-RunEnds ReadFault words left handed sides writes refused reads failed = (is_play words ≡ true) × Rose reads failed
-RunEnds TooLong words left handed sides writes refused reads failed = (is_play words ≡ true) × IfSome left (λ (input : List ℕ). 67108864 < length input)
-RunEnds WriteFault words left handed sides writes refused reads failed = (is_play words ≡ true) × Rose writes refused × IfSome left (IsTakenInput (length handed.tallies))
-RunEnds StoreFault words left handed sides writes refused reads failed = (is_play words ≡ true) × Rose sides.before sides.after × IfSome left (IsTakenInput (length handed.tallies))
-RunEnds other words left handed sides writes refused reads failed = (is_play words ≡ true) × IfSome left (λ (input : List ℕ). InputEnds other handed input sides writes refused)
+RunEnds ending words left handed sides writes refused reads failed = CommandEnds (command_of words) ending left handed sides writes refused reads failed
 
 -- What the notes were told, and that it was why the run ended
 pub record IsNoted (status : ℕ) (words : List (List ℕ)) (left : Option (List ℕ)) (handed : HandedView) (sides : Sides) (writes refused reads failed : ℕ) (old new : Option (List ℕ)) (before after : ℕ) : Type 0 where

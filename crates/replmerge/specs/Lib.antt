@@ -2,6 +2,8 @@ pub mod Commands
 pub mod Endings
 pub mod Fresh
 pub mod Headline
+pub mod Making
 pub mod Notes
+pub mod Runs
 pub mod Stopping
 pub mod Stores

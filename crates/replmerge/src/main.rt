@@ -3,11 +3,14 @@
 
 mod command;
 mod ending;
+mod make;
 mod notes;
 mod play;
 mod run;
 mod script;
 mod stores;
+#[cfg(test)]
+mod tests;
 
 use ending::Status;
 use merge_keeper::MemoryKeeper;

@@ -1,24 +1,19 @@
--- The input that was read is what was left.
-use Rattle.std.proofs.Common.{Err, ap, refl, rules, true, ◌≡◌}
-use Rattle.replmerge.specs.Commands.{is_play}
-use Rattle.replmerge.proofs.Ends.{ends-by-slice, ends-unread, in-part-of, nothing-written}
+-- The words say a command, or none.
+use Rattle.std.proofs.Common.{refl, sym}
+use Rattle.replmerge.proofs.Commands.{by-words, same-command}
 use Rattle.replmerge.proofs.run.work.Goals as goal
 
-pub returns-then-not-is_play_alone-clause-part : goal.returns-then-not-is_play_alone-clause-part
-returns-then-not-is_play_alone-clause-part g c = nothing-written _ _ _ refl
+pub returns-in-None-clause-ends : goal.returns-in-None-clause-ends
+returns-in-None-clause-ends g c = let is = c.in-None.ensures in rw (sym is) refl
 
-pub returns-in-Ok-clause-ends : goal.returns-in-Ok-clause-ends
-returns-in-Ok-clause-ends g c =
-    let play : is_play c.args.words.now ≡ true = search rules in
-    ends-by-slice _ _ _ _ _ _ _ _ play _ _ c.as_slice.ensures c.in-Ok.ensures.whole _ c.play_input.ensures.ends
+pub returns-in-None-clause-played : goal.returns-in-None-clause-played
+returns-in-None-clause-played g c = λ play. let is = c.in-None.ensures in absurd (cc (is, play))
 
-pub returns-in-Ok-clause-part : goal.returns-in-Ok-clause-part
-returns-in-Ok-clause-part g c = let whole = in-part-of _ _ _ _ _ c.as_slice.ensures c.play_input.ensures.part c.in-Ok.ensures.whole in whole
+pub returns-in-Some-clause-ends : goal.returns-in-Some-clause-ends
+returns-in-Some-clause-ends g c = by-words _ _ _ _ _ _ _ _ c.args.words.now _ c.in-Some.ensures c.obey.ensures.ends
 
-pub returns-in-Err-clause-ends : goal.returns-in-Err-clause-ends
-returns-in-Err-clause-ends g c =
-    let play : is_play c.args.words.now ≡ true = search rules in
-    ends-unread _ _ _ _ _ _ _ _ play _ _ c.unread.ensures (λ is. c.in-Err.ensures.long (ap (λ f. Err f) is)) (λ is. c.in-Err.ensures.failed (ap (λ f. Err f) is))
+pub returns-in-Some-clause-played : goal.returns-in-Some-clause-played
+returns-in-Some-clause-played g c = λ play. c.obey.ensures.played (same-command c.args.words.now _ _ c.in-Some.ensures play)
 
-pub returns-in-Err-clause-part : goal.returns-in-Err-clause-part
-returns-in-Err-clause-part g c = nothing-written _ _ _ refl
+pub returns-in-Some-clause-silent : goal.returns-in-Some-clause-silent
+returns-in-Some-clause-silent g c = c.obey.ensures.silent
