@@ -11,8 +11,6 @@ mod response;
 mod slots;
 mod store;
 mod tcp;
-#[cfg(test)]
-mod tests;
 mod text;
 
 pub use clock::SystemClock;

@@ -1,14 +1,11 @@
-//! What a file holds after commits, and which files are refused.
+//! Which files are refused, and that the holder of one goes on.
 use crate::SqliteKeeper;
 use merge_ports::{EntryEdit, KeepFault, Keeper};
 use merge_types::{Listing, Octets};
-use sqlite::{Connection, FileStore};
-use sqlite_std_file::File;
+use sqlite::Connection;
 use std::alloc::{AllocError, Global};
 use std::fs;
 use std::test::Fail;
-
-fn is_send<T: Send>() {}
 
 fn octets(alloc: Global, bytes: &[u8]) -> Result<Octets, AllocError> {
     Ok(Listing::new(bytes.to_vec(alloc)?))
@@ -57,57 +54,6 @@ fn holds<K: Keeper>(keeper: &mut K, wanted: &[Entry<'_>]) -> Result<bool, KeepFa
         same = same && key.key.as_slice() == bytes && value.as_slice() == kept;
     }
     Ok(same)
-}
-
-// What the store holds as it is opened, and what is then committed.
-type Step<'a> = (&'a [Entry<'a>], &'a [Told<'a>]);
-
-// Opens the store, and says whether it holds what the step says, whose commit is then made.
-fn step(rt: &HostRuntime, name: &str, step: &Step<'_>) -> Result<bool, KeepFault> {
-    let (wanted, told) = *step;
-    let edits = edits_of(rt.alloc(), told)?;
-    let mut keeper = SqliteKeeper::open(rt, name)?;
-    let held = holds(&mut keeper, wanted)?;
-    keeper.commit(&edits)?;
-    Ok(held && keeper.faults() == 0)
-}
-
-#[test]
-fn what_was_committed_is_loaded_by_the_next_open(rt: HostRuntime) -> Result<(), Fail> {
-    is_send::<SqliteKeeper<FileStore<File>>>();
-    clear(&rt, &["kept.db", "kept.db-wal"]);
-    // The later edit of an entry counts, and what is not there is taken away without a fault.
-    let steps: [Step; 3] = [
-        (
-            &[],
-            &[
-                (2, &[1, 0], Some(&[7, 8, 9])),
-                (1, &[], Some(&[1, 0])),
-                (2, &[0, 9], Some(&[])),
-            ],
-        ),
-        (
-            &[
-                (1, &[], &[1, 0]),
-                (2, &[0, 9], &[]),
-                (2, &[1, 0], &[7, 8, 9]),
-            ],
-            &[
-                (2, &[1, 0], None),
-                (9, &[9], None),
-                (255, &[200], Some(&[1])),
-                (255, &[200], Some(&[255])),
-            ],
-        ),
-        (
-            &[(1, &[], &[1, 0]), (2, &[0, 9], &[]), (255, &[200], &[255])],
-            &[],
-        ),
-    ];
-    for (at, told) in steps.iter().enumerate() {
-        assert!(rt; step(&rt, "kept.db", told)?, "at {at}");
-    }
-    Ok(())
 }
 
 // A database with a table of another kind.
