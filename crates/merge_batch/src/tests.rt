@@ -1,10 +1,10 @@
 //! Messages of a publication with one article, that has an identity column.
-ghost use Rattle.std.specs.Prelude.{◌≡◌};
+mod refusals;
 
 use crate::{
     Act, BrokenRule, Download, DownloadItem, DownloadItems, Downloaded, EndedRanges, HeardRanges,
-    Holdings, Join, Joined, Kind, Outstanding, RangeAsk, RangeGrant, RangeGrants, Ranged, Refusal,
-    Reply, Request, Standing, Upload, UploadItem, UploadItems, Uploaded, Want, Wants, join_fault,
+    Holdings, Join, Joined, Kind, Outstanding, RangeAsk, RangeGrant, RangeGrants, Ranged, Reply,
+    Request, Standing, Upload, UploadItem, UploadItems, Uploaded, Want, Wants, join_fault,
     ranges_fault, reply_fault, upload_fault,
 };
 use merge_gens::SiteState;
@@ -12,12 +12,10 @@ use merge_ident::{Grant, Range};
 use merge_lineage::{Lineage, are_ascending};
 use merge_schema::{Article, Identity, Publication, SubKind, Subscription};
 use merge_types::{
-    ColType, Column, Dot, HostName, Listing, Moment, Octets, RowId, SiteId, Tracking, Value,
-    Values, Words,
+    ColType, Column, Dot, HostName, Listing, RowId, SiteId, Tracking, Value, Values, Words,
 };
 use merge_units::{Body, Cell, Cells, Version};
 use std::alloc::Global;
-use std::process::Abort;
 use std::test::Fail;
 
 // The publisher made no change, took two generations of site 1 with its first seven changes, and
@@ -144,174 +142,313 @@ fn publication(alloc: Global) -> Result<Publication, Fail> {
     })
 }
 
-fn own_dot(number: u64) -> Dot
-    ensures { result.number ≡ number }
-{
-    Dot {
-        site: SiteId(1),
-        number,
-    }
-}
+// The site's eighth change, which made the ticket of each message, and its ninth, which the ticket's
+// version does not know.
+const EIGHTH: Dot = Dot {
+    site: SiteId(1),
+    number: 8,
+};
 
-fn lineage(rt: &impl Abort, alloc: Global, number: u64) -> Result<Lineage, Fail> {
-    let dots = [own_dot(number)];
-    assert!(rt; are_ascending(&dots));
+const NINTH: Dot = Dot {
+    site: SiteId(1),
+    number: 9,
+};
+
+// No change has the number 0, and none is of a site that is not there: a lineage knows both.
+const NO_CHANGE: Dot = Dot {
+    site: SiteId(1),
+    number: 0,
+};
+
+const NO_SITE: Dot = Dot {
+    site: SiteId(500),
+    number: 0,
+};
+
+fn lineage(alloc: Global) -> Result<Lineage, Fail> {
+    let dots = [EIGHTH];
+    if !are_ascending(&dots) {
+        return Err(Fail::from("sites do not ascend"));
+    }
     Ok(Lineage::restore(dots.to_vec(alloc)?))
 }
 
 // The cells of a ticket with a number.
-fn cells(alloc: Global, top: u64, number: i64) -> Result<Cells, Fail> {
+fn cells(alloc: Global, top: Dot, number: i64) -> Result<Cells, Fail> {
     let mut values = Values::empty(alloc);
     values.push(Value::Int(number))?;
     values.push(Value::Null)?;
     let mut cells = Cells::empty(alloc);
-    cells.push(Cell {
-        top: own_dot(top),
-        values,
-    })?;
+    cells.push(Cell { top, values })?;
     Ok(cells)
 }
 
-// An upload of one ticket, with a number, that the site's eighth change made.
-fn upload(
-    rt: &impl Abort,
-    alloc: Global,
-    interval: (u64, u64, u64),
-    generation: u64,
-    number: i64,
-) -> Result<Upload, Fail> {
-    let body = Body::Live(cells(alloc, 8, number)?);
-    upload_of(rt, alloc, interval, generation, body)
+// What a version tells of the ticket: the change that set its one cell, and the number there, or the
+// change that deleted it.
+#[derive(Clone, Copy)]
+enum Given {
+    Live(Dot, i64),
+    Dead(Dot),
 }
 
-fn upload_of(
-    rt: &impl Abort,
-    alloc: Global,
+fn version(alloc: Global, given: Given) -> Result<Version, Fail> {
+    let lineage = lineage(alloc)?;
+    let body = match given {
+        Given::Live(top, number) => Body::Live(cells(alloc, top, number)?),
+        Given::Dead(top) => Body::Dead(top),
+    };
+    Ok(Version { lineage, body })
+}
+
+// An upload of the one ticket: its first and its last generation, the last change number, and the
+// generation of the ticket.
+#[derive(Clone, Copy)]
+struct Sent {
     interval: (u64, u64, u64),
     generation: u64,
-    body: Body,
-) -> Result<Upload, Fail> {
-    let version = Version {
-        lineage: lineage(rt, alloc, 8)?,
-        body,
-    };
+    ticket: Given,
+}
+
+fn upload(alloc: Global, sent: &Sent) -> Result<Upload, Fail> {
+    let version = version(alloc, sent.ticket)?;
     let mut items = UploadItems::empty(alloc);
     items.push(UploadItem {
         article: 0,
-        row: RowId::of(own_dot(8)),
-        generation,
+        row: RowId::of(EIGHTH),
+        generation: sent.generation,
         version,
     })?;
+    let (from, to, through) = sent.interval;
     Ok(Upload {
         site: SiteId(1),
         seq: 9,
-        from: interval.0,
-        to: interval.1,
-        through: interval.2,
+        from,
+        to,
+        through,
         items,
     })
 }
 
-fn broken(item: u64, rule: u8) -> Option<BrokenRule> {
-    Some(BrokenRule { item, rule })
+// The place of the item and the rule that are told.
+type Broken = Option<(u64, u8)>;
+
+fn is_broken(fault: Option<BrokenRule>, broken: Broken) -> bool {
+    match (fault, broken) {
+        (Some(rule), Some(told)) => (rule.item, rule.rule) == told,
+        (None, None) => true,
+        _ => false,
+    }
+}
+
+const FIVE: Given = Given::Live(EIGHTH, 5);
+
+const SENT: Sent = Sent {
+    interval: (2, 4, 9),
+    generation: 3,
+    ticket: FIVE,
+};
+
+const UPLOADS: &[(&str, Sent, Broken)] = &[
+    ("no rule", SENT, None),
+    (
+        "no generation",
+        Sent {
+            interval: (4, 4, 9),
+            generation: 3,
+            ticket: FIVE,
+        },
+        Some((0, 1)),
+    ),
+    (
+        "101 generations",
+        Sent {
+            interval: (2, 103, 9),
+            generation: 3,
+            ticket: FIVE,
+        },
+        Some((0, 2)),
+    ),
+    (
+        "the last change number falls",
+        Sent {
+            interval: (2, 4, 6),
+            generation: 3,
+            ticket: FIVE,
+        },
+        Some((0, 4)),
+    ),
+    (
+        "a generation before the first",
+        Sent {
+            interval: (2, 4, 9),
+            generation: 2,
+            ticket: FIVE,
+        },
+        Some((1, 8)),
+    ),
+    (
+        "a number that was not granted",
+        Sent {
+            interval: (2, 4, 9),
+            generation: 3,
+            ticket: Given::Live(EIGHTH, 11),
+        },
+        Some((1, 12)),
+    ),
+    (
+        "a delete",
+        Sent {
+            interval: (2, 4, 9),
+            generation: 3,
+            ticket: Given::Dead(EIGHTH),
+        },
+        None,
+    ),
+    (
+        "a delete by no change",
+        Sent {
+            interval: (2, 4, 9),
+            generation: 3,
+            ticket: Given::Dead(NO_CHANGE),
+        },
+        Some((1, 9)),
+    ),
+    (
+        "a delete by no change of no site",
+        Sent {
+            interval: (2, 4, 9),
+            generation: 3,
+            ticket: Given::Dead(NO_SITE),
+        },
+        Some((1, 9)),
+    ),
+    (
+        "a cell by no change",
+        Sent {
+            interval: (2, 4, 9),
+            generation: 3,
+            ticket: Given::Live(NO_CHANGE, 5),
+        },
+        Some((1, 9)),
+    ),
+];
+
+// Whether an upload, and a copy of its request, break this.
+fn upload_breaks(
+    alloc: Global,
+    publication: &Publication,
+    sent: &Sent,
+    broken: Broken,
+) -> Result<bool, Fail> {
+    let upload = upload(alloc, sent)?;
+    let fault = upload_fault(publication, &TABLES, &upload);
+    let copy = Request::Upload(upload).clone()?;
+    Ok(is_broken(fault, broken) && copy_breaks(publication, &copy, broken))
+}
+
+fn copy_breaks(publication: &Publication, copy: &Request, broken: Broken) -> bool {
+    match copy {
+        Request::Upload(upload) => { is_broken(upload_fault(publication, &TABLES, upload), broken) }
+        _ => false,
+    }
 }
 
 #[test]
 fn uploads(rt: HostRuntime) -> Result<(), Fail> {
     let publication = publication(rt.alloc())?;
-    let cases = [
-        ((2, 4, 9), 3, 5, None),
-        ((4, 4, 9), 3, 5, broken(0, 1)),
-        ((2, 103, 9), 3, 5, broken(0, 2)),
-        ((2, 4, 6), 3, 5, broken(0, 4)),
-        ((2, 4, 9), 2, 5, broken(1, 8)),
-        ((2, 4, 9), 3, 11, broken(1, 12)),
-    ];
-    for (interval, generation, number, expected) in &cases {
-        let upload = upload(&rt, rt.alloc(), *interval, *generation, *number)?;
-        assert_eq!(rt; upload_fault(&publication, &TABLES, &upload), *expected);
+    for (shows, sent, broken) in UPLOADS {
+        assert!(rt;
+            upload_breaks(rt.alloc(), &publication, sent, *broken)?,
+            "{shows}"
+        );
     }
     Ok(())
 }
 
-// No change has the number 0, and none is of a site that is not there: a lineage knows both.
-#[test]
-fn forged_tops(rt: HostRuntime) -> Result<(), Fail> {
-    let publication = publication(rt.alloc())?;
-    for top in [
-        own_dot(0),
-        Dot {
-            site: SiteId(500),
-            number: 0,
-        },
-    ] {
-        let dead = upload_of(&rt, rt.alloc(), (2, 4, 9), 3, Body::Dead(top))?;
-        assert_eq!(rt; upload_fault(&publication, &TABLES, &dead), broken(1, 9));
-    }
-    let body = Body::Live(cells(rt.alloc(), 0, 5)?);
-    let live = upload_of(&rt, rt.alloc(), (2, 4, 9), 3, body)?;
-    assert_eq!(rt; upload_fault(&publication, &TABLES, &live), broken(1, 9));
-    let dead = upload_of(&rt, rt.alloc(), (2, 4, 9), 3, Body::Dead(own_dot(8)))?;
-    assert_eq!(rt; upload_fault(&publication, &TABLES, &dead), None);
-    Ok(())
-}
+const JOINS: &[(u64, Broken)] = &[(1, None), ((1 << 62) - 1, None), (1 << 62, Some((0, 4)))];
 
 #[test]
 fn joins(rt: HostRuntime) {
-    let cases = [(1, None), ((1 << 62) - 1, None), (1 << 62, broken(0, 4))];
-    for (number, expected) in &cases {
+    for (number, broken) in JOINS {
         let join = Join {
             site: SiteId(1),
             seq: 1,
             generation: 0,
             number: *number,
         };
-        assert_eq!(rt; join_fault(&join), *expected);
+        assert!(rt; is_broken(join_fault(&join), *broken), "{number}");
     }
+}
+
+const WANTS: &[(u8, u64, Broken)] = &[(0, 1, None), (0, 2, Some((0, 13))), (1, 0, Some((0, 13)))];
+
+// Whether an ask for a range, of an article of which the site heard of so many, breaks this.
+fn ask_breaks(
+    alloc: Global,
+    publication: &Publication,
+    article: u8,
+    have: u64,
+    broken: Broken,
+) -> Result<bool, Fail> {
+    let mut wants = Wants::empty(alloc);
+    wants.push(Want {
+        article,
+        have,
+        due: true,
+    })?;
+    let ask = RangeAsk {
+        site: SiteId(1),
+        seq: 9,
+        wants,
+    };
+    Ok(is_broken(ranges_fault(publication, &TABLES, &ask), broken))
 }
 
 #[test]
 fn range_requests(rt: HostRuntime) -> Result<(), Fail> {
     let publication = publication(rt.alloc())?;
-    let cases = [(0, 1, None), (0, 2, broken(0, 13)), (1, 0, broken(0, 13))];
-    for (article, have, expected) in &cases {
-        let mut wants = Wants::empty(rt.alloc());
-        wants.push(Want {
-            article: *article,
-            have: *have,
-            due: true,
-        })?;
-        let ask = RangeAsk {
-            site: SiteId(1),
-            seq: 9,
-            wants,
-        };
-        assert_eq!(rt; ranges_fault(&publication, &TABLES, &ask), *expected);
+    for (article, have, broken) in WANTS {
+        assert!(rt;
+            ask_breaks(rt.alloc(), &publication, *article, *have, *broken)?,
+            "{article} {have}"
+        );
     }
     Ok(())
 }
 
-fn downloaded(rt: &impl Abort, alloc: Global, top: u64, received: u64) -> Result<Reply, Fail> {
+// A reply to the site's ninth message.
+#[derive(Clone, Copy)]
+enum Answered {
+    Joined,
+    // Its last generation that was taken.
+    Uploaded(u64),
+    // The number of the range.
+    Ranged(u64),
+    // The change that set the ticket, and the last generation of the site that was taken.
+    Downloaded(Dot, u64),
+    Refused,
+}
+
+fn downloaded(alloc: Global, top: Dot, received: u64) -> Result<Downloaded, Fail> {
+    let lineage = lineage(alloc)?;
+    let live = cells(alloc, top, 5)?;
     let mut items = DownloadItems::empty(alloc);
     items.push(DownloadItem {
         article: 0,
-        row: RowId::of(own_dot(8)),
-        act: Act::Put {
-            lineage: lineage(rt, alloc, 8)?,
-            live: cells(alloc, top, 5)?,
-        },
+        row: RowId::of(EIGHTH),
+        act: Act::Put { lineage, live },
     })?;
-    Ok(Reply::Downloaded(Downloaded {
+    Ok(Downloaded {
         seq: 9,
         from: 3,
         to: 5,
         last: 7,
         received,
         items,
-    }))
+    })
 }
 
-fn ranged(alloc: Global, number: u64) -> Result<Reply, Fail> {
+fn ranged(alloc: Global, number: u64) -> Result<Ranged, Fail> {
     let mut grants = RangeGrants::empty(alloc);
     grants.push(RangeGrant {
         article: 0,
@@ -319,248 +456,208 @@ fn ranged(alloc: Global, number: u64) -> Result<Reply, Fail> {
         begin: 11,
         end: 20,
     })?;
-    Ok(Reply::Ranged(Ranged {
+    Ok(Ranged {
         seq: 9,
         grants,
         ended: EndedRanges::empty(alloc),
-    }))
+    })
+}
+
+fn reply(alloc: Global, answered: Answered) -> Result<Reply, Fail> {
+    match answered {
+        Answered::Joined => Ok(Reply::Joined(Joined { seq: 9 })),
+        Answered::Uploaded(received) => Ok(Reply::Uploaded(Uploaded { seq: 9, received })),
+        Answered::Ranged(number) => Ok(Reply::Ranged(ranged(alloc, number)?)),
+        Answered::Downloaded(top, received) => {
+            Ok(Reply::Downloaded(downloaded(alloc, top, received)?))
+        }
+        Answered::Refused => Ok(Reply::Refused {
+            number: 17,
+            values: Listing::empty(alloc),
+        }),
+    }
+}
+
+const DOWNLOAD: Outstanding = Outstanding::Download { from: 3 };
+
+const UPLOAD: Outstanding = Outstanding::Upload { from: 2, to: 4 };
+
+const MISFIT: Broken = Some((0, 0));
+
+const BAD_ITEM: Broken = Some((1, 0));
+
+const REPLIES: &[(&str, Outstanding, Answered, Broken)] = &[
+    (
+        "a download",
+        DOWNLOAD,
+        Answered::Downloaded(EIGHTH, 2),
+        None,
+    ),
+    (
+        "less was taken than the site heard of",
+        DOWNLOAD,
+        Answered::Downloaded(EIGHTH, 1),
+        MISFIT,
+    ),
+    (
+        "more was taken than the site closed",
+        DOWNLOAD,
+        Answered::Downloaded(EIGHTH, 5),
+        MISFIT,
+    ),
+    (
+        "a top that is not known",
+        DOWNLOAD,
+        Answered::Downloaded(NINTH, 2),
+        BAD_ITEM,
+    ),
+    (
+        "a top that is no change",
+        DOWNLOAD,
+        Answered::Downloaded(NO_CHANGE, 2),
+        BAD_ITEM,
+    ),
+    (
+        "the next range",
+        Outstanding::Ranges,
+        Answered::Ranged(2),
+        None,
+    ),
+    (
+        "a range that was heard of",
+        Outstanding::Ranges,
+        Answered::Ranged(1),
+        MISFIT,
+    ),
+    ("an upload", UPLOAD, Answered::Uploaded(4), None),
+    (
+        "an upload that was taken before",
+        Outstanding::Upload { from: 0, to: 1 },
+        Answered::Uploaded(1),
+        MISFIT,
+    ),
+    ("a join", Outstanding::Join, Answered::Joined, None),
+    ("a reply to a join", UPLOAD, Answered::Joined, MISFIT),
+    ("a refusal", UPLOAD, Answered::Refused, None),
+];
+
+// Whether a reply, and its copy, break this.
+fn reply_breaks(
+    alloc: Global,
+    publication: &Publication,
+    outstanding: Outstanding,
+    answered: Answered,
+    broken: Broken,
+) -> Result<bool, Fail> {
+    let reply = reply(alloc, answered)?;
+    let copy = reply.clone()?;
+    let fault = reply_fault(publication, &OWN, &TABLES, outstanding, &reply);
+    let of_copy = reply_fault(publication, &OWN, &TABLES, outstanding, &copy);
+    Ok(is_broken(fault, broken) && is_broken(of_copy, broken))
 }
 
 #[test]
 fn replies(rt: HostRuntime) -> Result<(), Fail> {
     let publication = publication(rt.alloc())?;
-    let message = Outstanding::Download { from: 3 };
-    for (top, received, expected) in &[
-        (8, 2, None),
-        (8, 1, broken(0, 0)),
-        (8, 5, broken(0, 0)),
-        (9, 2, broken(1, 0)),
-        (0, 2, broken(1, 0)),
-    ] {
-        let reply = downloaded(&rt, rt.alloc(), *top, *received)?;
-        assert_eq!(rt;
-            reply_fault(&publication, &OWN, &TABLES, message, &reply),
-            *expected
-        );
-    }
-    for (number, expected) in &[(2, None), (1, broken(0, 0))] {
-        let reply = ranged(rt.alloc(), *number)?;
-        assert_eq!(rt;
-            reply_fault(&publication, &OWN, &TABLES, Outstanding::Ranges, &reply),
-            *expected
+    for (shows, outstanding, answered, broken) in REPLIES {
+        assert!(rt;
+            reply_breaks(rt.alloc(), &publication, *outstanding, *answered, *broken)?,
+            "{shows}"
         );
     }
     Ok(())
 }
 
-#[test]
-fn replies_of_each_kind(rt: HostRuntime) -> Result<(), Fail> {
-    let publication = publication(rt.alloc())?;
-    let upload = Outstanding::Upload { from: 2, to: 4 };
-    let uploaded = Reply::Uploaded(Uploaded {
-        seq: 9,
-        received: 4,
-    });
-    let joined = Reply::Joined(Joined { seq: 9 });
-    let refused = Reply::Refused {
-        number: 17,
-        values: Listing::empty(rt.alloc()),
-    };
-    assert_eq!(rt;
-        reply_fault(&publication, &OWN, &TABLES, upload, &uploaded),
-        None
-    );
-    let earlier = Reply::Uploaded(Uploaded {
-        seq: 9,
-        received: 1,
-    });
-    assert_eq!(rt;
-        reply_fault(
-            &publication,
-            &OWN,
-            &TABLES,
-            Outstanding::Upload { from: 0, to: 1 },
-            &earlier
-        ),
-        broken(0, 0)
-    );
-    assert_eq!(rt;
-        reply_fault(&publication, &OWN, &TABLES, Outstanding::Join, &joined),
-        None
-    );
-    assert_eq!(rt;
-        reply_fault(&publication, &OWN, &TABLES, upload, &joined),
-        broken(0, 0)
-    );
-    assert_eq!(rt;
-        reply_fault(&publication, &OWN, &TABLES, upload, &refused),
-        None
-    );
-    Ok(())
+const HEADS: &[(Answered, Option<u64>, Kind)] = &[
+    (Answered::Joined, Some(9), Kind::Join),
+    (Answered::Uploaded(4), Some(9), Kind::Upload),
+    (Answered::Ranged(2), Some(9), Kind::Ranges),
+    (Answered::Refused, None, Kind::Refused),
+];
+
+// Whether a reply has this number and kind.
+fn is_headed(
+    alloc: Global,
+    answered: Answered,
+    seq: Option<u64>,
+    kind: Kind,
+) -> Result<bool, Fail> {
+    let reply = reply(alloc, answered)?;
+    Ok(reply.seq() == seq && reply.kind() == kind)
 }
 
 #[test]
-fn heads(rt: HostRuntime) -> Result<(), Fail> {
-    let request = Request::Upload(upload(&rt, rt.alloc(), (2, 4, 9), 3, 5)?);
-    assert_eq!(rt; (request.site(), request.seq()), (SiteId(1), 9));
-    assert_eq!(rt; request.kind(), Kind::Upload);
-    let reply = ranged(rt.alloc(), 2)?;
-    assert_eq!(rt; (reply.seq(), reply.kind()), (Some(9), Kind::Ranges));
-    let refused = Reply::Refused {
-        number: 17,
-        values: Listing::empty(rt.alloc()),
-    };
-    assert_eq!(rt; (refused.seq(), refused.kind()), (None, Kind::Refused));
+fn heads_of_replies(rt: HostRuntime) -> Result<(), Fail> {
+    for (answered, seq, kind) in HEADS {
+        assert!(rt; is_headed(rt.alloc(), *answered, *seq, *kind)?, "{kind:?}");
+    }
     Ok(())
+}
+
+fn has_head(request: &Request, seq: u64, kind: Kind) -> bool {
+    request.site() == SiteId(1) && request.seq() == seq && request.kind() == kind
+}
+
+#[test]
+fn heads_of_requests(rt: HostRuntime) -> Result<(), Fail> {
+    let upload = Request::Upload(upload(rt.alloc(), &SENT)?);
+    let download = Request::Download(Download {
+        site: SiteId(1),
+        seq: 4,
+        from: 3,
+    });
+    assert!(rt; has_head(&upload, 9, Kind::Upload));
+    assert!(rt; has_head(&download, 4, Kind::Download));
+    assert!(rt; has_head(&download.clone()?, 4, Kind::Download));
+    Ok(())
+}
+
+// What the site does with a row.
+#[derive(Clone, Copy)]
+enum Ordered {
+    Put,
+    RemoveDeleted,
+    RemoveLeft,
+}
+
+const ORDERS: &[(&str, bool, Option<Given>, Ordered)] = &[
+    ("a row in the partition", true, Some(FIVE), Ordered::Put),
+    ("a row outside it", false, Some(FIVE), Ordered::RemoveLeft),
+    (
+        "a row that was deleted",
+        false,
+        Some(Given::Dead(EIGHTH)),
+        Ordered::RemoveDeleted,
+    ),
+    ("no row", true, None, Ordered::RemoveDeleted),
+];
+
+fn order(alloc: Global, is_in: bool, held: Option<Given>) -> Result<Act, Fail> {
+    match held {
+        Some(given) => {
+            let version = version(alloc, given)?;
+            Ok(Act::by(alloc, is_in, Some(&version))?)
+        }
+        None => Ok(Act::by(alloc, is_in, None)?),
+    }
+}
+
+fn is_ordered(act: &Act, ordered: Ordered) -> bool {
+    match (act, ordered) {
+        (Act::Put { lineage, live }, Ordered::Put) => {
+            lineage.dots().len() == 1 && live.len() == 1
+        }
+        (Act::RemoveDeleted, Ordered::RemoveDeleted) => true,
+        (Act::RemoveLeft, Ordered::RemoveLeft) => true,
+        _ => false,
+    }
 }
 
 #[test]
 fn orders(rt: HostRuntime) -> Result<(), Fail> {
-    let live = Version {
-        lineage: lineage(&rt, rt.alloc(), 8)?,
-        body: Body::Live(cells(rt.alloc(), 8, 5)?),
-    };
-    let dead = Version {
-        lineage: lineage(&rt, rt.alloc(), 8)?,
-        body: Body::Dead(own_dot(8)),
-    };
-    let Act::Put { lineage, live: put } = Act::by(rt.alloc(), true, Some(&live))? else {
-        return Err(Fail::from("not put"));
-    };
-    assert_eq!(rt; (lineage.dots().len(), put.len()), (1, 1));
-    assert!(rt; matches!(Act::by(rt.alloc(), false, Some(&live))?, Act::RemoveLeft));
-    assert!(rt; matches!(Act::by(rt.alloc(), false, Some(&dead))?, Act::RemoveDeleted));
-    assert!(rt; matches!(Act::by(rt.alloc(), true, None)?, Act::RemoveDeleted));
-    Ok(())
-}
-
-#[test]
-fn copies(rt: HostRuntime) -> Result<(), Fail> {
-    let publication = publication(rt.alloc())?;
-    let request = Request::Upload(upload(&rt, rt.alloc(), (2, 4, 9), 3, 11)?);
-    if let Request::Upload(upload) = request.clone()? {
-        assert_eq!(rt; upload_fault(&publication, &TABLES, &upload), broken(1, 12));
+    for (shows, is_in, held, ordered) in ORDERS {
+        let act = order(rt.alloc(), *is_in, *held)?;
+        assert!(rt; is_ordered(&act, *ordered), "{shows}");
     }
-    let reply = downloaded(&rt, rt.alloc(), 9, 2)?.clone()?;
-    let message = Outstanding::Download { from: 3 };
-    assert_eq!(rt;
-        reply_fault(&publication, &OWN, &TABLES, message, &reply),
-        broken(1, 0)
-    );
-    let download = Download {
-        site: SiteId(1),
-        seq: 9,
-        from: 3,
-    };
-    if let Request::Download(copy) = Request::Download(download).clone()? {
-        assert_eq!(rt; copy, download);
-    }
-    Ok(())
-}
-
-fn key(alloc: Global, bytes: &[u8]) -> Result<Octets, Fail> {
-    Ok(Octets::new(bytes.to_vec(alloc)?))
-}
-
-#[test]
-fn refusals(rt: HostRuntime) -> Result<(), Fail> {
-    let name = Words::of(rt.alloc(), "colour")?;
-    let cases = [
-        (
-            Refusal::UnknownSite { site: SiteId(9) },
-            1,
-            "unknown site 9",
-        ),
-        (
-            Refusal::Expired {
-                last_sync: Moment(1209600),
-                now: Moment(2419201),
-            },
-            2,
-            "expired 1209600 2419201",
-        ),
-        (
-            Refusal::Stale {
-                seq: 4,
-                joined_at: 5,
-            },
-            3,
-            "stale 4 5",
-        ),
-        (
-            Refusal::Gap {
-                from: 3,
-                received: 1,
-            },
-            4,
-            "gap 3 1",
-        ),
-        (Refusal::BadBatch { item: 2, rule: 5 }, 5, "bad batch 2 5"),
-        (
-            Refusal::WrongWatermark { from: 7, last: 4 },
-            6,
-            "wrong watermark 7 4",
-        ),
-        (Refusal::StoreFault, 7, "store fault"),
-        (Refusal::NoRow, 8, "no row"),
-        (
-            Refusal::RowTooLong { length: 8001 },
-            10,
-            "row too long 8001",
-        ),
-        (Refusal::IdentityUsedUp { end: 4 }, 11, "identity used up 4"),
-        (
-            Refusal::TooManyRows { count: 200001 },
-            12,
-            "too many rows 200001",
-        ),
-        (
-            Refusal::Damaged {
-                table: 9,
-                key: key(rt.alloc(), &[])?,
-            },
-            14,
-            "damaged 9 -",
-        ),
-        (
-            Refusal::Damaged {
-                table: 2,
-                key: key(rt.alloc(), &[0, 171])?,
-            },
-            14,
-            "damaged 2 00ab",
-        ),
-        (Refusal::Joining, 15, "joining"),
-        (
-            Refusal::CounterEnd { value: 1 << 61 },
-            16,
-            "counter end 2305843009213693952",
-        ),
-        (Refusal::NotJoined, 17, "not joined"),
-        (Refusal::UnknownName { name }, 18, "name colour"),
-        (Refusal::NoMemory, 0, "no memory"),
-    ];
-    for (refusal, number, text) in &cases {
-        assert_eq!(rt; refusal.number(), *number);
-        let printed = format!(in rt.alloc(); "{refusal}")?;
-        assert_eq!(rt; printed.as_str(), *text);
-    }
-    Ok(())
-}
-
-#[test]
-fn told_refusals(rt: HostRuntime) -> Result<(), Fail> {
-    let gap = Refusal::Gap {
-        from: 3,
-        received: 1,
-    };
-    if let Some(Reply::Refused { number, values }) = gap.reply(rt.alloc())? {
-        assert_eq!(rt; number, 4);
-        assert_eq!(rt; values.as_slice(), [3, 1].as_slice());
-    } else {
-        return Err(Fail::from("no reply"));
-    }
-    let column = Refusal::IdentityColumn { column: 0 };
-    assert!(rt; column.clone()?.reply(rt.alloc())?.is_none());
     Ok(())
 }

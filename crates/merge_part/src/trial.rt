@@ -18,35 +18,10 @@ pub enum Cell {
     Text(&'static str),
 }
 
-/// A change of a row with two columns.
+/// A change of a row with two columns: its article, its number, and what it has afterwards, if it
+/// is live.
 #[derive(Clone, Copy)]
-pub struct Line {
-    pub article: u8,
-    pub row: u128,
-    pub new: Option<(Cell, Cell)>,
-}
-
-/// The row has these values afterwards.
-pub fn put(article: u8, row: u128, first: Cell, second: Cell) -> Line
-    ensures { count_if_some result.new ≡ 1 }
-{
-    Line {
-        article,
-        row,
-        new: Some((first, second)),
-    }
-}
-
-/// The row is not live afterwards.
-pub fn gone(article: u8, row: u128) -> Line
-    ensures { count_if_some result.new ≡ 0 }
-{
-    Line {
-        article,
-        row,
-        new: None,
-    }
-}
+pub struct Line(pub u8, pub u128, pub Option<(Cell, Cell)>);
 
 fn value(alloc: Global, cell: Cell) -> Result<Value, NoMemory> {
     match cell {
@@ -71,12 +46,13 @@ fn values_of(alloc: Global, cells: Option<(Cell, Cell)>) -> Result<Option<Values
 
 /// The change that a line says.
 pub fn change_of(alloc: Global, line: Line) -> Result<RowChange, NoMemory>
-    ensures { IfOk result (λ change. count_if_some change.new ≡ count_if_some line.new) }
+    ensures { IfOk result (λ change. count_if_some change.new ≡ count_if_some line.2) }
 {
+    let Line(article, row, cells) = line;
     Ok(RowChange {
-        article: line.article,
-        row: RowId(line.row),
-        new: values_of(alloc, line.new)?,
+        article,
+        row: RowId(row),
+        new: values_of(alloc, cells)?,
     })
 }
 

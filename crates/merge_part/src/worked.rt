@@ -3,7 +3,7 @@ ghost use Rattle.std.specs.Prelude.{◌≡◌, ◌≤◌, ◌+◌, ◌*◌, leng
 ghost use Rattle.merge_part.specs.Taking.{count_if_some};
 
 use crate::trial::Cell::{Int, Null, Text};
-use crate::trial::{Line, are_fit, change_of, gone, put};
+use crate::trial::{Line, are_fit, change_of};
 use crate::{Membership, Move, Moves};
 use merge_gens::MoveKind;
 use merge_schema::{SchemaFault, read};
@@ -32,7 +32,7 @@ fn moves_of<L: Ledger>(
     steps: &mut Steps<L>,
 ) -> Result<Moves, NoMemory>
     ensures publication { membership.new.publication ≡ membership.old.publication }
-    ensures cost { steps.new ≤ steps.old + length membership.old.publication.subscriptions * count_if_some line.new }
+    ensures cost { steps.new ≤ steps.old + length membership.old.publication.subscriptions * count_if_some line.2 }
 {
     let changes = [change_of(alloc, line)?];
     if !are_fit(membership.publication(), &changes) {
@@ -54,8 +54,8 @@ fn filtered<L: Ledger>(
     let mut steps = Steps::<L>::new(blank);
     let publication = read(alloc, text, 5)?;
     let mut membership = Membership::new(alloc, &publication)?;
-    let nowhere = put(CUSTOMER, 1, Int(1), Null);
-    let there = put(CUSTOMER, 2, Int(2), Text("north"));
+    let nowhere = Line(CUSTOMER, 1, Some((Int(1), Null)));
+    let there = Line(CUSTOMER, 2, Some((Int(2), Text("north"))));
     moves_of(alloc, &mut membership, nowhere, &mut steps)?;
     moves_of(alloc, &mut membership, there, &mut steps)?;
     Ok((
@@ -110,11 +110,21 @@ fn enter<L: Ledger>(
     let first = moves_of(
         alloc,
         membership,
-        put(CUSTOMER, 1, Int(1), Text("north")),
+        Line(CUSTOMER, 1, Some((Int(1), Text("north")))),
         steps,
     )?;
-    let second = moves_of(alloc, membership, put(ORDERS, 2, Int(10), Int(1)), steps)?;
-    let third = moves_of(alloc, membership, put(LINE, 3, Int(10), Int(5)), steps)?;
+    let second = moves_of(
+        alloc,
+        membership,
+        Line(ORDERS, 2, Some((Int(10), Int(1)))),
+        steps,
+    )?;
+    let third = moves_of(
+        alloc,
+        membership,
+        Line(LINE, 3, Some((Int(10), Int(5)))),
+        steps,
+    )?;
     Ok(
         first.as_slice() == [one_move(CUSTOMER, 1, NORTH, MoveKind::Entered)].as_slice()
             && second.as_slice() == [one_move(ORDERS, 2, NORTH, MoveKind::Entered)].as_slice()
@@ -134,7 +144,7 @@ fn change_region<L: Ledger>(
     let moves = moves_of(
         alloc,
         membership,
-        put(CUSTOMER, 1, Int(1), Text("south")),
+        Line(CUSTOMER, 1, Some((Int(1), Text("south")))),
         steps,
     )?;
     Ok(
@@ -157,7 +167,12 @@ fn change_quantity<L: Ledger>(
     membership: &mut Membership,
     steps: &mut Steps<L>,
 ) -> Result<bool, NoMemory> {
-    let moves = moves_of(alloc, membership, put(LINE, 3, Int(10), Int(8)), steps)?;
+    let moves = moves_of(
+        alloc,
+        membership,
+        Line(LINE, 3, Some((Int(10), Int(8)))),
+        steps,
+    )?;
     let is_north = membership.is_in(LINE, RowId(3), NORTH);
     let is_south = membership.is_in(LINE, RowId(3), SOUTH);
     Ok(moves.as_slice().is_empty() && !is_north && is_south)
@@ -172,7 +187,7 @@ fn delete<L: Ledger>(
 ) -> Result<bool, NoMemory>
     ensures { steps.new ≤ steps.old }
 {
-    let changes = [change_of(alloc, gone(CUSTOMER, 1))?];
+    let changes = [change_of(alloc, Line(CUSTOMER, 1, None))?];
     if !are_fit(membership.publication(), &changes) {
         return Ok(false);
     }

@@ -7,7 +7,6 @@ use crate::{
 use merge_lineage::{Lineage, are_ascending};
 use merge_types::{Dot, Octets, Setting, SiteId, Tracking, Value, Values};
 use std::alloc::Global;
-use std::process::Abort;
 use std::test::Fail;
 
 // A change that both sides know, one of the publisher, one of a client, and the publisher's next.
@@ -31,283 +30,411 @@ const NEXT: Dot = Dot {
     number: 3,
 };
 
-fn cell(alloc: Global, top: Dot, number: i64) -> Result<Cell, Fail> {
+// A body that stands in a table.
+#[derive(Clone, Copy)]
+enum Given {
+    // Cells with one number each, by their tops.
+    Live(&'static [(Dot, i64)]),
+    // Cells with so many bytes each, by their tops.
+    Long(&'static [Dot], usize),
+    Dead(Dot),
+}
+
+fn one_value(alloc: Global, value: Value) -> Result<Values, Fail> {
     let mut values = Values::empty(alloc);
-    values.push(Value::Int(number))?;
-    Ok(Cell { top, values })
+    values.push(value)?;
+    Ok(values)
 }
 
-fn live(alloc: Global, cells: &[(Dot, i64)]) -> Result<Body, Fail> {
-    let mut list = Cells::empty(alloc);
-    for (top, number) in cells {
-        list.push(cell(alloc, *top, *number)?)?;
+fn numbers(alloc: Global, list: &[(Dot, i64)]) -> Result<Cells, Fail> {
+    let mut cells = Cells::empty(alloc);
+    for (top, number) in list {
+        let values = one_value(alloc, Value::Int(*number))?;
+        cells.push(Cell { top: *top, values })?;
     }
-    Ok(Body::Live(list))
+    Ok(cells)
 }
 
-// The publisher's version and the client's, which know what these two know.
-fn ours(rt: &impl Abort, alloc: Global, body: Body) -> Result<Version, Fail> {
-    version(rt, alloc, &[OURS], body)
+fn long_cells(alloc: Global, tops: &[Dot], count: usize) -> Result<Cells, Fail> {
+    let mut cells = Cells::empty(alloc);
+    for top in tops {
+        let bytes = Octets::new(vec![in alloc; 0; count]?);
+        let values = one_value(alloc, Value::Bytes(bytes))?;
+        cells.push(Cell { top: *top, values })?;
+    }
+    Ok(cells)
 }
 
-fn theirs(rt: &impl Abort, alloc: Global, body: Body) -> Result<Version, Fail> {
-    version(rt, alloc, &[OLD, THEIRS], body)
+fn body(alloc: Global, given: Given) -> Result<Body, Fail> {
+    match given {
+        Given::Live(list) => Ok(Body::Live(numbers(alloc, list)?)),
+        Given::Long(tops, count) => Ok(Body::Live(long_cells(alloc, tops, count)?)),
+        Given::Dead(top) => Ok(Body::Dead(top)),
+    }
 }
 
-fn version(rt: &impl Abort, alloc: Global, known: &[Dot], body: Body) -> Result<Version, Fail> {
-    let lineage = lineage(rt, alloc, known)?;
-    Ok(Version { lineage, body })
-}
-
-fn lineage(rt: &impl Abort, alloc: Global, known: &[Dot]) -> Result<Lineage, Fail> {
-    assert!(rt; are_ascending(known));
+fn lineage(alloc: Global, known: &[Dot]) -> Result<Lineage, Fail> {
+    if !are_ascending(known) {
+        return Err(Fail::from("sites do not ascend"));
+    }
     Ok(Lineage::restore(known.to_vec(alloc)?))
 }
 
-// The name of the case and the side of each cell.
-fn shown(case: &Case) -> (&str, &[Side]) {
-    match case {
-        Case::Nothing => ("nothing", &[]),
-        Case::Take => ("take", &[]),
-        Case::Unite => ("unite", &[]),
-        Case::Merge(sides) => ("merge", sides.as_slice()),
-        Case::Conflict(sides) => ("conflict", sides.as_slice()),
-        Case::LifeConflict => ("life conflict", &[]),
+fn version(alloc: Global, known: &[Dot], given: Given) -> Result<Version, Fail> {
+    let lineage = lineage(alloc, known)?;
+    let body = body(alloc, given)?;
+    Ok(Version { lineage, body })
+}
+
+// The publisher's version and the client's, which know what these two know.
+fn ours(alloc: Global, given: Given) -> Result<Version, Fail> {
+    version(alloc, &[OURS], given)
+}
+
+fn theirs(alloc: Global, given: Given) -> Result<Version, Fail> {
+    version(alloc, &[OLD, THEIRS], given)
+}
+
+// A case, with the side of each cell.
+#[derive(Clone, Copy)]
+enum Told {
+    Nothing,
+    Take,
+    Unite,
+    Merge(&'static [Side]),
+    Conflict(&'static [Side]),
+    LifeConflict,
+}
+
+fn is_told(case: &Case, told: Told) -> bool {
+    match (case, told) {
+        (Case::Nothing, Told::Nothing) => true,
+        (Case::Take, Told::Take) => true,
+        (Case::Unite, Told::Unite) => true,
+        (Case::Merge(sides), Told::Merge(wanted)) => sides.as_slice() == wanted,
+        (Case::Conflict(sides), Told::Conflict(wanted)) => sides.as_slice() == wanted,
+        (Case::LifeConflict, Told::LifeConflict) => true,
+        _ => false,
     }
 }
 
-fn expect_case(
-    rt: &impl Abort,
-    alloc: Global,
-    publisher: &Version,
-    incoming: &Version,
-    want: (&str, &[Side]),
-) -> Result<(), Fail> {
-    assert!(rt; have_equal_counts(&publisher.body, &incoming.body));
-    let case = classify(alloc, publisher, incoming)?;
-    let (name, sides) = shown(&case);
-    assert_eq!(rt; name, want.0);
-    assert_eq!(rt; sides, want.1);
-    Ok(())
-}
-
-#[test]
-fn live_versions(rt: HostRuntime) -> Result<(), Fail> {
-    let alloc = rt.alloc();
-    let cases: [([Dot; 2], [Dot; 2], &str, &[Side]); 5] = [
-        ([OURS, OLD], [OLD, OLD], "nothing", &[]),
-        ([OLD, OLD], [OLD, THEIRS], "take", &[]),
-        (
-            [OURS, OLD],
-            [OLD, THEIRS],
-            "merge",
-            &[Side::Publisher, Side::Incoming],
-        ),
-        (
-            [OURS, OLD],
-            [THEIRS, OLD],
-            "conflict",
-            &[Side::Both, Side::Neither],
-        ),
-        (
-            [OURS, OURS],
-            [OLD, THEIRS],
-            "conflict",
-            &[Side::Publisher, Side::Both],
-        ),
-    ];
-    for ([a, b], [c, d], name, sides) in cases {
-        let publisher = ours(&rt, alloc, live(alloc, &[(a, 0), (b, 0)])?)?;
-        let incoming = theirs(&rt, alloc, live(alloc, &[(c, 1), (d, 1)])?)?;
-        expect_case(&rt, alloc, &publisher, &incoming, (name, sides))?;
-    }
-    Ok(())
-}
-
-#[test]
-fn deletes(rt: HostRuntime) -> Result<(), Fail> {
-    let alloc = rt.alloc();
-    let publisher = ours(&rt, alloc, live(alloc, &[(OURS, 0)])?)?;
-    let incoming = theirs(&rt, alloc, live(alloc, &[(THEIRS, 1)])?)?;
-    let our_delete = ours(&rt, alloc, Body::Dead(OURS))?;
-    let their_delete = theirs(&rt, alloc, Body::Dead(THEIRS))?;
-    expect_case(&rt, alloc, &our_delete, &their_delete, ("unite", &[]))?;
-    expect_case(
-        &rt,
-        alloc,
-        &publisher,
-        &their_delete,
-        ("life conflict", &[]),
-    )?;
-    expect_case(&rt, alloc, &our_delete, &incoming, ("life conflict", &[]))?;
-    Ok(())
-}
-
-// Two cells with so many bytes each, which these changes set last.
-fn long_cells(alloc: Global, tops: [Dot; 2], bytes: usize) -> Result<Body, Fail> {
-    let mut cells = Cells::empty(alloc);
-    for top in tops {
-        let mut values = Values::empty(alloc);
-        values.push(Value::Bytes(Octets::new(vec![in alloc; 0; bytes]?)))?;
-        cells.push(Cell { top, values })?;
-    }
-    Ok(Body::Live(cells))
-}
-
-#[test]
-fn long_versions_conflict_in_every_cell(rt: HostRuntime) -> Result<(), Fail> {
-    let alloc = rt.alloc();
+const CASES: &[(&str, Given, Given, Told)] = &[
+    (
+        "only the publisher has news",
+        Given::Live(&[(OURS, 0), (OLD, 0)]),
+        Given::Live(&[(OLD, 1), (OLD, 1)]),
+        Told::Nothing,
+    ),
+    (
+        "only the client has news",
+        Given::Live(&[(OLD, 0), (OLD, 0)]),
+        Given::Live(&[(OLD, 1), (THEIRS, 1)]),
+        Told::Take,
+    ),
+    (
+        "news in two cells",
+        Given::Live(&[(OURS, 0), (OLD, 0)]),
+        Given::Live(&[(OLD, 1), (THEIRS, 1)]),
+        Told::Merge(&[Side::Publisher, Side::Incoming]),
+    ),
+    (
+        "news in one cell",
+        Given::Live(&[(OURS, 0), (OLD, 0)]),
+        Given::Live(&[(THEIRS, 1), (OLD, 1)]),
+        Told::Conflict(&[Side::Both, Side::Neither]),
+    ),
+    (
+        "news of the client in one of the publisher's two cells",
+        Given::Live(&[(OURS, 0), (OURS, 0)]),
+        Given::Live(&[(OLD, 1), (THEIRS, 1)]),
+        Told::Conflict(&[Side::Publisher, Side::Both]),
+    ),
+    (
+        "two deletes",
+        Given::Dead(OURS),
+        Given::Dead(THEIRS),
+        Told::Unite,
+    ),
+    (
+        "a delete comes to an update",
+        Given::Live(&[(OURS, 0)]),
+        Given::Dead(THEIRS),
+        Told::LifeConflict,
+    ),
+    (
+        "an update comes to a delete",
+        Given::Dead(OURS),
+        Given::Live(&[(THEIRS, 1)]),
+        Told::LifeConflict,
+    ),
     // A cell of 3,965 bytes is stored in 3,968, and two of these in 7,936.
-    let cases: [(usize, &str, &[Side]); 2] = [
-        (3965, "merge", &[Side::Publisher, Side::Incoming]),
-        (3966, "conflict", &[Side::Both, Side::Both]),
-    ];
-    for (bytes, name, sides) in cases {
-        let publisher = ours(&rt, alloc, long_cells(alloc, [OURS, OLD], bytes)?)?;
-        let incoming = theirs(&rt, alloc, long_cells(alloc, [OLD, THEIRS], 3965)?)?;
-        expect_case(&rt, alloc, &publisher, &incoming, (name, sides))?;
+    (
+        "long cells at the limit",
+        Given::Long(&[OURS, OLD], 3965),
+        Given::Long(&[OLD, THEIRS], 3965),
+        Told::Merge(&[Side::Publisher, Side::Incoming]),
+    ),
+    (
+        "long cells above the limit conflict everywhere",
+        Given::Long(&[OURS, OLD], 3966),
+        Given::Long(&[OLD, THEIRS], 3965),
+        Told::Conflict(&[Side::Both, Side::Both]),
+    ),
+];
+
+// What the client's version is to the publisher's.
+fn case_of(alloc: Global, publisher: &Version, incoming: &Version) -> Result<Case, Fail> {
+    if !have_equal_counts(&publisher.body, &incoming.body) {
+        return Err(Fail::from("not as many cells"));
+    }
+    Ok(classify(alloc, publisher, incoming)?)
+}
+
+fn is_case(alloc: Global, publisher: Given, incoming: Given, told: Told) -> Result<bool, Fail> {
+    let publisher = ours(alloc, publisher)?;
+    let incoming = theirs(alloc, incoming)?;
+    let case = case_of(alloc, &publisher, &incoming)?;
+    Ok(is_told(&case, told))
+}
+
+#[test]
+fn each_case_is_told(rt: HostRuntime) -> Result<(), Fail> {
+    for (shows, publisher, incoming, told) in CASES {
+        assert!(rt;
+            is_case(rt.alloc(), *publisher, *incoming, *told)?,
+            "{shows}"
+        );
     }
     Ok(())
 }
 
-fn expect_cells(
-    rt: &impl Abort,
-    alloc: Global,
-    version: &Version,
-    known: &[Dot],
-    want: &[(Dot, i64)],
-) -> Result<(), Fail> {
-    assert_eq!(rt; version.lineage.dots(), known);
-    match (&version.body, live(alloc, want)?) {
-        (Body::Live(cells), Body::Live(wanted)) => {
-            assert_eq!(rt; cells.as_slice(), wanted.as_slice());
-        }
-        _ => assert!(rt; false, "not live"),
+fn is_number(cell: &Cell, wanted: (Dot, i64)) -> bool {
+    match cell.values.as_slice() {
+        [Value::Int(number)] => cell.top == wanted.0 && *number == wanted.1,
+        _ => false,
     }
-    Ok(())
 }
 
+fn are_numbers(cells: &[Cell], wanted: &[(Dot, i64)]) -> bool {
+    cells.len() == wanted.len() && (0..cells.len()).all(|at| is_number(&cells[at], wanted[at]))
+}
+
+// Whether a version has this body, and knows these changes.
+fn is_version(version: &Version, known: &[Dot], wanted: Given) -> bool {
+    let is_body = match (&version.body, wanted) {
+        (Body::Live(cells), Given::Live(list)) => are_numbers(cells.as_slice(), list),
+        (Body::Dead(top), Given::Dead(change)) => *top == change,
+        _ => false,
+    };
+    is_body && version.lineage.dots() == known
+}
+
+// A decision that stands in a table: of values it brings the number 9.
+#[derive(Clone, Copy)]
+enum Choice {
+    Keep,
+    Take,
+    Nine,
+}
+
+fn decision(alloc: Global, choice: Choice) -> Result<Decision, Fail> {
+    match choice {
+        Choice::Keep => Ok(Decision::KeepPublisher),
+        Choice::Take => Ok(Decision::TakeSubscriber),
+        Choice::Nine => Ok(Decision::Custom(one_value(alloc, Value::Int(9))?)),
+    }
+}
+
+// What two versions become by a decision.
 fn decide(
-    rt: &impl Abort,
     alloc: Global,
     publisher: &Version,
     incoming: &Version,
     decision: &Decision,
 ) -> Result<Version, Fail> {
-    assert!(rt; have_equal_counts(&publisher.body, &incoming.body));
+    if !have_equal_counts(&publisher.body, &incoming.body) {
+        return Err(Fail::from("not as many cells"));
+    }
     let case = classify(alloc, publisher, incoming)?;
-    assert!(rt; fits_decision(&case, &publisher.body, decision));
-    assert!(rt; is_new_where_decided(&publisher.lineage, &incoming.lineage, decision, NEXT));
+    if !fits_decision(&case, &publisher.body, decision)
+        || !is_new_where_decided(&publisher.lineage, &incoming.lineage, decision, NEXT)
+    {
+        return Err(Fail::from("the decision does not fit"));
+    }
     Ok(apply(alloc, publisher, incoming, decision, NEXT)?)
 }
 
-#[test]
-fn each_cell_is_by_its_side(rt: HostRuntime) -> Result<(), Fail> {
-    let alloc = rt.alloc();
-    let publisher = ours(&rt, alloc, live(alloc, &[(OURS, 0), (OURS, 0), (OLD, 0)])?)?;
-    let incoming = theirs(
-        &rt,
-        alloc,
-        live(alloc, &[(THEIRS, 1), (OLD, 1), (THEIRS, 1)])?,
-    )?;
-    let mut values = Values::empty(alloc);
-    values.push(Value::Int(9))?;
-    let cases = [
-        (Decision::KeepPublisher, (OURS, 0), OURS),
-        (Decision::TakeSubscriber, (THEIRS, 1), OURS),
-        (Decision::Custom(values), (NEXT, 9), NEXT),
-    ];
-    for (decision, first, known) in &cases {
-        let version = decide(&rt, alloc, &publisher, &incoming, decision)?;
-        let want = [*first, (OURS, 0), (THEIRS, 1)];
-        expect_cells(&rt, alloc, &version, &[*known, THEIRS], &want)?;
-    }
-    Ok(())
-}
-
-// What a case makes of two versions, where it is told beforehand.
+// The same, where the case is told beforehand.
 fn settle(
-    rt: &impl Abort,
     alloc: Global,
     publisher: &Version,
     incoming: &Version,
     decision: &Decision,
 ) -> Result<Version, Fail> {
-    assert!(rt; have_equal_counts(&publisher.body, &incoming.body));
-    let case = classify(alloc, publisher, incoming)?;
-    assert!(rt; fits_bodies(&case, &publisher.body, &incoming.body, decision));
-    assert!(rt; is_new_where_decided(&publisher.lineage, &incoming.lineage, decision, NEXT));
+    let case = case_of(alloc, publisher, incoming)?;
+    if !fits_bodies(&case, &publisher.body, &incoming.body, decision)
+        || !is_new_where_decided(&publisher.lineage, &incoming.lineage, decision, NEXT)
+    {
+        return Err(Fail::from("the decision does not fit"));
+    }
     Ok(case.apply(alloc, publisher, incoming, decision, NEXT)?)
 }
 
+// Two bodies, a decision, the publisher's last change that is known afterwards, and the body that
+// they become.
+#[derive(Clone, Copy)]
+struct Merge {
+    shows: &'static str,
+    bodies: (Given, Given),
+    choice: Choice,
+    knows: Dot,
+    becomes: Given,
+}
+
+// A cell that both changed, one of the publisher's changes, and one of the client's.
+const PUBLISHER_CELLS: Given = Given::Live(&[(OURS, 0), (OURS, 0), (OLD, 0)]);
+
+const INCOMING_CELLS: Given = Given::Live(&[(THEIRS, 1), (OLD, 1), (THEIRS, 1)]);
+
+const MERGES: &[Merge] = &[
+    Merge {
+        shows: "the publisher's cell is kept",
+        bodies: (PUBLISHER_CELLS, INCOMING_CELLS),
+        choice: Choice::Keep,
+        knows: OURS,
+        becomes: Given::Live(&[(OURS, 0), (OURS, 0), (THEIRS, 1)]),
+    },
+    Merge {
+        shows: "the client's cell is taken",
+        bodies: (PUBLISHER_CELLS, INCOMING_CELLS),
+        choice: Choice::Take,
+        knows: OURS,
+        becomes: Given::Live(&[(THEIRS, 1), (OURS, 0), (THEIRS, 1)]),
+    },
+    Merge {
+        shows: "a decided value is a change",
+        bodies: (PUBLISHER_CELLS, INCOMING_CELLS),
+        choice: Choice::Nine,
+        knows: NEXT,
+        becomes: Given::Live(&[(NEXT, 9), (OURS, 0), (THEIRS, 1)]),
+    },
+    Merge {
+        shows: "nothing new comes in",
+        bodies: (
+            Given::Live(&[(OURS, 0), (OLD, 0)]),
+            Given::Live(&[(OLD, 1), (OLD, 1)]),
+        ),
+        choice: Choice::Keep,
+        knows: OURS,
+        becomes: Given::Live(&[(OURS, 0), (OLD, 0)]),
+    },
+    Merge {
+        shows: "all that is new comes in",
+        bodies: (
+            Given::Live(&[(OLD, 0), (OLD, 0)]),
+            Given::Live(&[(OLD, 1), (THEIRS, 1)]),
+        ),
+        choice: Choice::Keep,
+        knows: OURS,
+        becomes: Given::Live(&[(OLD, 1), (THEIRS, 1)]),
+    },
+    Merge {
+        shows: "each side has a new cell",
+        bodies: (
+            Given::Live(&[(OURS, 0), (OLD, 0)]),
+            Given::Live(&[(OLD, 1), (THEIRS, 1)]),
+        ),
+        choice: Choice::Keep,
+        knows: OURS,
+        becomes: Given::Live(&[(OURS, 0), (THEIRS, 1)]),
+    },
+    Merge {
+        shows: "one cell conflicts, and no other is new",
+        bodies: (
+            Given::Live(&[(OURS, 0), (OLD, 0)]),
+            Given::Live(&[(THEIRS, 1), (OLD, 1)]),
+        ),
+        choice: Choice::Keep,
+        knows: OURS,
+        becomes: Given::Live(&[(OURS, 0), (OLD, 0)]),
+    },
+    Merge {
+        shows: "of two deletes the publisher's stays",
+        bodies: (Given::Dead(OURS), Given::Dead(THEIRS)),
+        choice: Choice::Keep,
+        knows: OURS,
+        becomes: Given::Dead(OURS),
+    },
+    Merge {
+        shows: "an update stays against a delete",
+        bodies: (Given::Live(&[(OURS, 0)]), Given::Dead(THEIRS)),
+        choice: Choice::Keep,
+        knows: OURS,
+        becomes: Given::Live(&[(OURS, 0)]),
+    },
+    Merge {
+        shows: "a delete is taken for an update",
+        bodies: (Given::Live(&[(OURS, 0)]), Given::Dead(THEIRS)),
+        choice: Choice::Take,
+        knows: OURS,
+        becomes: Given::Dead(THEIRS),
+    },
+];
+
+// Whether the bodies become so, by both calls, and by a copy of the decision.
+fn is_merged(alloc: Global, merge: &Merge) -> Result<bool, Fail> {
+    let publisher = ours(alloc, merge.bodies.0)?;
+    let incoming = theirs(alloc, merge.bodies.1)?;
+    let choice = decision(alloc, merge.choice)?;
+    let decided = decide(alloc, &publisher, &incoming, &choice)?;
+    let settled = settle(alloc, &publisher, &incoming, &choice.clone()?)?;
+    let known = [merge.knows, THEIRS];
+    Ok(is_version(&decided, &known, merge.becomes) && is_version(&settled, &known, merge.becomes))
+}
+
 #[test]
-fn each_case_applies_itself(rt: HostRuntime) -> Result<(), Fail> {
-    let alloc = rt.alloc();
-    let keep = Decision::KeepPublisher;
-    // Nothing, Take, Merge and Conflict, by the tops of two cells on both sides.
-    let cases: [([Dot; 2], [Dot; 2], &[(Dot, i64)]); 4] = [
-        ([OURS, OLD], [OLD, OLD], &[(OURS, 0), (OLD, 0)]),
-        ([OLD, OLD], [OLD, THEIRS], &[(OLD, 1), (THEIRS, 1)]),
-        ([OURS, OLD], [OLD, THEIRS], &[(OURS, 0), (THEIRS, 1)]),
-        ([OURS, OLD], [THEIRS, OLD], &[(OURS, 0), (OLD, 0)]),
-    ];
-    for ([a, b], [c, d], want) in cases {
-        let publisher = ours(&rt, alloc, live(alloc, &[(a, 0), (b, 0)])?)?;
-        let incoming = theirs(&rt, alloc, live(alloc, &[(c, 1), (d, 1)])?)?;
-        let version = settle(&rt, alloc, &publisher, &incoming, &keep)?;
-        expect_cells(&rt, alloc, &version, &[OURS, THEIRS], want)?;
+fn each_merge_has_its_cells(rt: HostRuntime) -> Result<(), Fail> {
+    for merge in MERGES {
+        let shows = merge.shows;
+        assert!(rt; is_merged(rt.alloc(), merge)?, "{shows}");
     }
-    // Unite and LifeConflict.
-    let our_delete = ours(&rt, alloc, Body::Dead(OURS))?;
-    let their_delete = theirs(&rt, alloc, Body::Dead(THEIRS))?;
-    let united = settle(&rt, alloc, &our_delete, &their_delete, &keep)?;
-    assert!(rt; matches!(united.body, Body::Dead(OURS)));
-    assert_eq!(rt; united.lineage.dots(), [OURS, THEIRS].as_slice());
-    let publisher = ours(&rt, alloc, live(alloc, &[(OURS, 0)])?)?;
-    let kept = settle(&rt, alloc, &publisher, &their_delete, &keep.clone()?)?;
-    expect_cells(&rt, alloc, &kept, &[OURS, THEIRS], &[(OURS, 0)])?;
-    let taken = settle(
-        &rt,
-        alloc,
-        &publisher,
-        &their_delete,
-        &Decision::TakeSubscriber,
-    )?;
-    assert!(rt; matches!(taken.body, Body::Dead(THEIRS)));
     Ok(())
+}
+
+fn pair(alloc: Global, first: i64, second: Value) -> Result<Values, Fail> {
+    let mut values = one_value(alloc, Value::Int(first))?;
+    values.push(second)?;
+    Ok(values)
+}
+
+// Whether a version has one cell with two numbers, which this change set last.
+fn is_row(version: &Version, top: Dot, numbers: (i64, i64)) -> bool {
+    match &version.body {
+        Body::Live(cells) => match cells.as_slice() {
+            [cell] => cell.top == top && are_pair(cell.values.as_slice(), numbers),
+            _ => false,
+        },
+        Body::Dead(_) => false,
+    }
+}
+
+fn are_pair(values: &[Value], numbers: (i64, i64)) -> bool {
+    match values {
+        [Value::Int(first), Value::Int(second)] => (*first, *second) == numbers,
+        _ => false,
+    }
 }
 
 #[test]
 fn an_insert_has_its_change_as_top(rt: HostRuntime) -> Result<(), Fail> {
     let alloc = rt.alloc();
-    let mut values = Values::empty(alloc);
-    values.push(Value::Int(4))?;
-    values.push(Value::Int(5))?;
+    let values = pair(alloc, 4, Value::Int(5))?;
     let columns = insert(alloc, NEXT, values.clone()?, Tracking::ByColumn)?;
-    expect_cells(&rt, alloc, &columns, &[NEXT], &[(NEXT, 4), (NEXT, 5)])?;
-    let row = insert(alloc, NEXT, values.clone()?, Tracking::Row)?;
-    match &row.body {
-        Body::Live(cells) => {
-            assert_eq!(rt; cells.as_slice(), [Cell { top: NEXT, values }].as_slice());
-        }
-        Body::Dead(_) => assert!(rt; false, "not live"),
-    }
+    let wanted = Given::Live(&[(NEXT, 4), (NEXT, 5)]);
+    assert!(rt; is_version(&columns, &[NEXT], wanted));
+    let row = insert(alloc, NEXT, values, Tracking::Row)?;
+    assert!(rt; is_row(&row, NEXT, (4, 5)));
     Ok(())
-}
-
-fn update(
-    rt: &impl Abort,
-    alloc: Global,
-    cells: Cells,
-    edits: &[Setting],
-    tracking: Tracking,
-) -> Result<Version, Fail> {
-    assert!(rt; can_change(cells.as_slice(), edits, tracking));
-    let lineage = lineage(rt, alloc, &[OURS])?;
-    assert!(rt; !lineage.knows(NEXT));
-    let body = Body::Live(cells);
-    let version = Version { lineage, body };
-    Ok(change(alloc, &version, NEXT, edits, tracking)?)
 }
 
 fn setting(column: u8, number: i64) -> Setting {
@@ -317,52 +444,56 @@ fn setting(column: u8, number: i64) -> Setting {
     }
 }
 
+// What becomes of a row with these cells, at the publisher, by the next change.
+fn update(
+    alloc: Global,
+    cells: Cells,
+    edits: &[Setting],
+    tracking: Tracking,
+) -> Result<Version, Fail> {
+    let lineage = lineage(alloc, &[OURS])?;
+    if !can_change(cells.as_slice(), edits, tracking) || lineage.knows(NEXT) {
+        return Err(Fail::from("the edits cannot come"));
+    }
+    let body = Body::Live(cells);
+    let version = Version { lineage, body };
+    Ok(change(alloc, &version, NEXT, edits, tracking)?)
+}
+
 #[test]
 fn an_update_sets_its_columns(rt: HostRuntime) -> Result<(), Fail> {
     let alloc = rt.alloc();
-    let mut cells = Cells::empty(alloc);
-    for top in [OURS, OLD, OLD] {
-        cells.push(cell(alloc, top, 4)?)?;
-    }
+    let cells = numbers(alloc, &[(OURS, 4), (OLD, 4), (OLD, 4)])?;
     let edits = [setting(0, 4), setting(2, 5)];
-    let after = update(&rt, alloc, cells, &edits, Tracking::ByColumn)?;
-    expect_cells(
-        &rt,
-        alloc,
-        &after,
-        &[NEXT],
-        &[(NEXT, 4), (OLD, 4), (NEXT, 5)],
-    )?;
+    let after = update(alloc, cells, &edits, Tracking::ByColumn)?;
+    let wanted = Given::Live(&[(NEXT, 4), (OLD, 4), (NEXT, 5)]);
+    assert!(rt; is_version(&after, &[NEXT], wanted));
     Ok(())
+}
+
+// A row with a number, which has 9 bytes, and a Null, which has 1.
+fn row_cells(alloc: Global) -> Result<Cells, Fail> {
+    let values = pair(alloc, 4, Value::Null)?;
+    let mut cells = Cells::empty(alloc);
+    cells.push(Cell { top: OLD, values })?;
+    Ok(cells)
 }
 
 #[test]
 fn with_row_tracking_one_cell_has_all(rt: HostRuntime) -> Result<(), Fail> {
-    let alloc = rt.alloc();
-    let mut row = cell(alloc, OLD, 4)?;
-    row.values.push(Value::Null)?;
-    let mut cells = Cells::empty(alloc);
-    cells.push(row)?;
-    // A number has 9 bytes, and a Null has 1.
+    let cells = row_cells(rt.alloc())?;
     assert_eq!(rt; stored_length(cells.as_slice()), 10);
-    let after = update(&rt, alloc, cells, &[setting(1, 7)], Tracking::Row)?;
-    let mut want = cell(alloc, NEXT, 4)?;
-    want.values.push(Value::Int(7))?;
-    match &after.body {
-        Body::Live(cells) => assert_eq!(rt; cells.as_slice(), [want].as_slice()),
-        Body::Dead(_) => assert!(rt; false, "not live"),
-    }
+    let after = update(rt.alloc(), cells, &[setting(1, 7)], Tracking::Row)?;
+    assert!(rt; is_row(&after, NEXT, (4, 7)));
     Ok(())
 }
 
 #[test]
 fn a_delete_leaves_its_change(rt: HostRuntime) -> Result<(), Fail> {
-    let alloc = rt.alloc();
-    let version = ours(&rt, alloc, live(alloc, &[(OURS, 0)])?)?;
+    let version = ours(rt.alloc(), Given::Live(&[(OURS, 0)]))?;
     assert!(rt; version.is_live());
     assert!(rt; !version.lineage.knows(NEXT));
     let after = remove(&version, NEXT)?;
-    assert!(rt; matches!(after.body, Body::Dead(NEXT)));
-    assert_eq!(rt; after.lineage.dots(), [NEXT].as_slice());
+    assert!(rt; is_version(&after, &[NEXT], Given::Dead(NEXT)));
     Ok(())
 }
