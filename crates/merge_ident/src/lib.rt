@@ -22,3 +22,4 @@ pub use grants::{
     Answer, Ask, Grant, GrantAnswer, GrantPlan, GrantPlans, Grants, IdentFault, Range, Rule, Rules,
 };
 pub use ranges::{Holding, IdentityUsedUp, RangeEvent, Ranges};
+pub use seen_grants::{End, LastGrant, SeenGrants, Taker};

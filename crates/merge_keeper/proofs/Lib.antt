@@ -9,13 +9,13 @@ pub mod First
 pub mod Follow
 pub mod FollowAll
 pub mod Fronts
+pub mod Granted
 pub mod HeldBack
 pub mod HeldLists
 pub mod KeptLemmas
 pub mod Lists
 pub mod Loads
 pub mod Parts
-pub mod Places
 pub mod PublisherBack
 pub mod PublisherLoad
 pub mod PublisherReads

@@ -3,6 +3,7 @@ pub mod Edits
 pub mod Encoded
 pub mod Entries
 pub mod Given
+pub mod Grants
 pub mod Kept
 pub mod Orders
 pub mod PublisherRules

@@ -29,6 +29,7 @@ use Rattle.merge_keeper.specs.declared.publisher_record.PublisherRecord.{Publish
 use Rattle.merge_keeper.specs.declared.publisher_record.PublisherRecord.TheVariants.{State, Row, Mapped, Closed, Lost, Held, Granted, Subscribed}
 use Rattle.merge_keeper.specs.declared.counts.Counts.{Counts}
 use Rattle.merge_keeper.specs.Counts.{count_at}
+use Rattle.merge_keeper.specs.Grants.{grants_in, IsIndex}
 use Rattle.merge_keeper.specs.declared.publisher_start.PublisherSoFar.{PublisherSoFar}
 use Rattle.merge_keeper.specs.declared.states.Front.{Front}
 use Rattle.merge_keeper.specs.declared.states.PublisherState.{PublisherState}
@@ -156,20 +157,27 @@ with_record publication t (Subscribed site state) = record t { sites = t.sites +
 
 -- ---- what a start that goes through the records keeps of them
 
--- what adding a record asks of it: its ranges can be held
-abbrev pub CanAdd : PublisherRecord → Type 0
-CanAdd (Held article held) = AreKept held.ranges held.next
-CanAdd r = Unit {0}
+-- the tables so far: their grants are those of the index
+abbrev pub tables_of : PublisherSoFar → PublisherStored
+tables_of so_far = record so_far.tables { grants = grants_in so_far.grants }
 
--- a record that counts in a generation
-abbrev pub counts_in_one : PublisherRecord → Bool
-counts_in_one (Row key row) = true
-counts_in_one (Mapped place move) = true
-counts_in_one r = false
+-- what adding a record asks of it: its ranges can be held, and its grant can follow
+abbrev pub CanAdd : PublisherStored → PublisherRecord → Type 0
+CanAdd t (Held article held) = AreKept held.ranges held.next
+CanAdd t (Granted grant) = can_follow t.grants grant ≡ true
+CanAdd t r = Unit {0}
 
--- the index counts the entries of the tables so far, and what the state's rules gave
+-- a record that an index takes up beside the tables
+abbrev pub is_indexed : PublisherRecord → Bool
+is_indexed (Row key row) = true
+is_indexed (Mapped place move) = true
+is_indexed (Granted grant) = true
+is_indexed r = false
+
+-- the indexes are those of the entries and the grants so far, and what the state's rules gave
 pub record GoesOn (so_far : PublisherSoFar) : Type 0 where
   pub counted : IsCounted so_far.counts so_far.tables
+  pub granted : IsIndex so_far.grants
   pub small : so_far.tables.changes < 2 ^ 62
 
 -- ---- the pass

@@ -3,6 +3,7 @@
 
 mod counts;
 mod edits;
+mod grants;
 mod laws;
 mod memory;
 mod publisher_record;

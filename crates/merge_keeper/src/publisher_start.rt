@@ -1,20 +1,23 @@
 //! A start of the publisher: one pass over the entries of its store.
 ghost use Rattle.std.specs.Prelude.{◌≡◌, ◌<◌, ◌^◌, ◌++◌, ◌∷◌, [], true, false, IfOk, OnOk};
 ghost use Rattle.merge_ident.specs.Holders.{AreKept};
+ghost use Rattle.merge_ident.specs.Stored.{can_follow};
+ghost use Rattle.merge_keeper.specs.Grants.{grants_in};
 ghost use Rattle.merge_keeper.specs.Start.{Gives, last_conflict, loaded_behind, own_grants, taken};
-ghost use Rattle.merge_keeper.specs.PublisherStart.{begun, closing_is_sound, grant_is_sound, has_space, is_held, is_sound, limit_of, loading, move_is_sound, no_state, own_is_sound, publisher_loaded, reading_of, row_is_sound, site_is_sound, state_is_sound, tables_with, with_record, CanAdd, GoesOn, counts_in_one};
+ghost use Rattle.merge_keeper.specs.PublisherStart.{begun, closing_is_sound, grant_is_sound, has_space, is_held, is_sound, limit_of, loading, move_is_sound, no_state, own_is_sound, publisher_loaded, reading_of, row_is_sound, site_is_sound, state_is_sound, tables_of, tables_with, with_record, CanAdd, GoesOn, is_indexed};
 
 use crate::counts::Counts;
+use crate::grants::GrantsSoFar;
 use crate::publisher_record::record_in;
 use crate::start::{
     StartFault, are_kept, conflict_is_sound, holds_last, identity_at, is_counter, last_conflict,
-    last_own, own_count, own_grants, row_was_made, version_is_sound, with_grant, with_held,
+    last_own, own_count, own_grants, row_was_made, version_is_sound, with_held,
 };
 use crate::{Front, PublisherRecord, PublisherStored};
 use merge_batch::{has_article, is_site};
 use merge_conflict::ConflictRows;
 use merge_gens::{Closing, Closings, Filling, Mapping, RowSite, SiteState};
-use merge_ident::{Grant, Grants, Range, Ranges, can_follow};
+use merge_ident::{Grant, Grants, Range, Ranges};
 use merge_ports::{Entries, EntryKey};
 use merge_record::HeldRanges;
 use merge_schema::Publication;
@@ -35,11 +38,12 @@ const NO_STATE: Front = Front {
     latest: 0,
 };
 
-// The tables so far, and how many entries stand in each generation of them.
+// The tables so far, how many entries stand in each generation of them, and their grants.
 #[derive(Debug, Drop)]
 pub struct PublisherSoFar {
     tables: PublisherStored,
     counts: Counts,
+    grants: GrantsSoFar,
 }
 
 #[tactic(auto, unfolding(crate::specs::PublisherStart::state_is_sound))]
@@ -66,7 +70,7 @@ fn limit_of(tables: &PublisherStored, generation: u64) -> u64
 
 fn has_space(so_far: &PublisherSoFar, generation: u64) -> bool
     requires { GoesOn so_far.now }
-    ensures { result ≡ has_space so_far.now.tables generation }
+    ensures { result ≡ has_space (tables_of so_far.now) generation }
 {
     generation.saturating_sub(1) <= so_far.tables.filling.last_closed
         && so_far.counts.of(generation) < limit_of(&so_far.tables, generation)
@@ -97,13 +101,15 @@ fn is_held(held: &[(u8, Ranges)], article: u8) -> bool
 }
 
 #[tactic(auto, unfolding(crate::specs::PublisherStart::grant_is_sound))]
-fn grant_is_sound(publication: &Publication, tables: &PublisherStored, grant: Grant) -> bool
-    ensures { result ≡ grant_is_sound publication.now tables.now grant }
+fn grant_is_sound(publication: &Publication, so_far: &PublisherSoFar, grant: Grant) -> bool
+    requires { GoesOn so_far.now }
+    ensures test { result ≡ grant_is_sound publication.now (tables_of so_far.now) grant }
+    ensures follows { result ≡ true → can_follow (grants_in so_far.now.grants) grant ≡ true }
 {
     identity_at(publication, grant.article).is_some()
         && is_site(publication, grant.site)
-        && can_follow(tables.grants.as_slice(), grant)
-        && (grant.site.0 != 0 || is_held(tables.held.as_slice(), grant.article))
+        && so_far.grants.can_follow(grant)
+        && (grant.site.0 != 0 || is_held(so_far.tables.held.as_slice(), grant.article))
 }
 
 #[tactic(auto, unfolding(crate::specs::PublisherStart::site_is_sound))]
@@ -126,7 +132,7 @@ fn row_is_sound(
     row: &PublisherRow,
 ) -> bool
     requires { GoesOn so_far.now }
-    ensures { result ≡ row_is_sound publication.now so_far.now.tables key row.now }
+    ensures { result ≡ row_is_sound publication.now (tables_of so_far.now) key row.now }
 {
     version_is_sound(publication, key.article, &row.version)
         && row_was_made(PUBLISHER, so_far.tables.changes, key, &row.version)
@@ -141,7 +147,7 @@ fn move_is_sound(
     mapping: Mapping,
 ) -> bool
     requires { GoesOn so_far.now }
-    ensures { result ≡ move_is_sound publication.now so_far.now.tables place mapping }
+    ensures { result ≡ move_is_sound publication.now (tables_of so_far.now) place mapping }
 {
     has_article(publication, place.key.article)
         && publication.is_subscription(SiteId(place.site))
@@ -163,8 +169,8 @@ fn is_sound(
     read: &PublisherRecord,
 ) -> bool
     requires { GoesOn so_far.now }
-    ensures test { result ≡ is_sound publication.now owns.now so_far.now.tables read.now }
-    ensures room { result ≡ true → CanAdd read.now }
+    ensures test { result ≡ is_sound publication.now owns.now (tables_of so_far.now) read.now }
+    ensures room { result ≡ true → CanAdd (tables_of so_far.now) read.now }
 {
     let tables = &so_far.tables;
     match read {
@@ -179,7 +185,7 @@ fn is_sound(
             conflict_is_sound(publication, before, tables.conflict_count, row)
         }
         PublisherRecord::Held(article, held) => own_is_sound(publication, owns, *article, held),
-        PublisherRecord::Granted(grant) => grant_is_sound(publication, tables, *grant),
+        PublisherRecord::Granted(grant) => grant_is_sound(publication, so_far, *grant),
         PublisherRecord::Subscribed(site, state) => {
             site_is_sound(publication, tables.filling.last_closed, *site, *state)
         }
@@ -190,7 +196,7 @@ fn is_sound(
 #[tactic(auto, using(crate::proofs::Counted::row_counted))]
 fn add_row(so_far: &mut PublisherSoFar, key: RowKey, row: PublisherRow) -> Result<(), NoMemory>
     requires on { GoesOn so_far.old }
-    ensures tables { OnOk result (so_far.new.tables ≡ record so_far.old.tables { rows = so_far.old.tables.rows ++ (key, row) ∷ [] }) }
+    ensures tables { OnOk result (tables_of so_far.new ≡ record (tables_of so_far.old) { rows = so_far.old.tables.rows ++ (key, row) ∷ [] }) }
     ensures on { OnOk result (GoesOn so_far.new) }
 {
     so_far.counts.add(row.changed)?;
@@ -201,22 +207,22 @@ fn add_row(so_far: &mut PublisherSoFar, key: RowKey, row: PublisherRow) -> Resul
 #[tactic(auto, using(crate::proofs::Counted::move_counted))]
 fn add_move(so_far: &mut PublisherSoFar, place: RowSite, mapping: Mapping) -> Result<(), NoMemory>
     requires on { GoesOn so_far.old }
-    ensures tables { OnOk result (so_far.new.tables ≡ record so_far.old.tables { mappings = so_far.old.tables.mappings ++ (place, mapping) ∷ [] }) }
+    ensures tables { OnOk result (tables_of so_far.new ≡ record (tables_of so_far.old) { mappings = so_far.old.tables.mappings ++ (place, mapping) ∷ [] }) }
     ensures on { OnOk result (GoesOn so_far.new) }
 {
     so_far.counts.add(mapping.generation)?;
     so_far.tables.mappings.push((place, mapping))
 }
 
-// Takes in a record that counts in no generation.
-fn add_uncounted(
+// Takes in a record that no index takes up.
+fn add_unindexed(
     alloc: Global,
     publication: &Publication,
     tables: &mut PublisherStored,
     read: PublisherRecord,
 ) -> Result<(), NoMemory>
-    requires room { CanAdd read }
-    requires uncounted { counts_in_one read ≡ false }
+    requires room { CanAdd tables.old read }
+    requires unindexed { is_indexed read ≡ false }
     ensures { OnOk result (tables.new ≡ with_record publication.now tables.old read) }
 {
     match read {
@@ -226,14 +232,11 @@ fn add_uncounted(
             tables.held = with_held(alloc, publication, tables.held.as_slice(), article, &held)?;
             Ok(())
         }
-        PublisherRecord::Granted(grant) => {
-            tables.grants = Listing::new(with_grant(alloc, tables.grants.as_slice(), grant)?);
-            Ok(())
-        }
         PublisherRecord::Subscribed(site, state) => tables.sites.push((site, state)),
-        PublisherRecord::State(_) | PublisherRecord::Row(..) | PublisherRecord::Mapped(..) => Ok(
-            (),
-        ),
+        PublisherRecord::State(_)
+        | PublisherRecord::Row(..)
+        | PublisherRecord::Mapped(..)
+        | PublisherRecord::Granted(_) => Ok(()),
     }
 }
 
@@ -245,14 +248,15 @@ fn add(
     read: PublisherRecord,
 ) -> Result<(), NoMemory>
     requires on { GoesOn so_far.old }
-    requires room { CanAdd read }
-    ensures tables { OnOk result (so_far.new.tables ≡ with_record publication.now so_far.old.tables read) }
+    requires room { CanAdd (tables_of so_far.old) read }
+    ensures tables { OnOk result (tables_of so_far.new ≡ with_record publication.now (tables_of so_far.old) read) }
     ensures on { OnOk result (GoesOn so_far.new) }
 {
     match read {
         PublisherRecord::Row(key, row) => add_row(so_far, key, row),
         PublisherRecord::Mapped(place, mapping) => add_move(so_far, place, mapping),
-        read => add_uncounted(alloc, publication, &mut so_far.tables, read),
+        PublisherRecord::Granted(grant) => so_far.grants.add(grant),
+        read => add_unindexed(alloc, publication, &mut so_far.tables, read),
     }
 }
 
@@ -266,7 +270,7 @@ fn take_in(
     value: &Octets,
 ) -> Result<(), StartFault>
     requires on { GoesOn so_far.old }
-    ensures given { Gives (λ u. so_far.new.tables) result (taken (loading publication.now owns.now) so_far.old.tables (key.now, value.now)) }
+    ensures given { Gives (λ u. tables_of so_far.new) result (taken (loading publication.now owns.now) (tables_of so_far.old) (key.now, value.now)) }
     ensures on { OnOk result (GoesOn so_far.new) }
 {
     match record_in(alloc, key, value.as_slice())? {
@@ -290,7 +294,7 @@ fn take_all(
     entries: Rows<'_, EntryKey, Octets>,
 ) -> Result<(), StartFault>
     requires on { GoesOn so_far.old }
-    ensures given { Gives (λ u. so_far.new.tables) result (loaded_behind (loading publication.now owns.now) so_far.old.tables entries.entry) }
+    ensures given { Gives (λ u. tables_of so_far.new) result (loaded_behind (loading publication.now owns.now) (tables_of so_far.old) entries.entry) }
 {
     for (key, value) in entries {
         take_in(alloc, publication, owns, so_far, key, value)?;
@@ -336,6 +340,19 @@ fn first_state(
     }
 }
 
+// The tables with the grants of their index.
+fn all_tables(alloc: Global, so_far: PublisherSoFar) -> Result<PublisherStored, NoMemory>
+    ensures { IfOk result (λ tables. tables ≡ tables_of so_far) }
+{
+    let PublisherSoFar {
+        mut tables,
+        grants,
+        ..
+    } = so_far;
+    tables.grants = grants.list(alloc)?;
+    Ok(tables)
+}
+
 // The tables of the entries behind a state.
 fn start_behind(
     alloc: Global,
@@ -346,18 +363,22 @@ fn start_behind(
 ) -> Result<PublisherStored, StartFault>
     requires rows { tables.rows ≡ [] }
     requires mappings { tables.mappings ≡ [] }
+    requires grants { tables.grants ≡ [] }
     requires small { tables.changes < 2 ^ 62 }
     ensures { Gives (λ t. t) result (loaded_behind (loading publication.now owns.now) tables entries.entry) }
 {
-    let counts = Counts::new(alloc);
-    let mut so_far = PublisherSoFar { tables, counts };
+    let mut so_far = PublisherSoFar {
+        tables,
+        counts: Counts::new(alloc),
+        grants: GrantsSoFar::new(alloc),
+    };
     take_all(alloc, publication, owns, &mut so_far, entries)?;
-    Ok(so_far.tables)
+    Ok(all_tables(alloc, so_far)?)
 }
 
 /// The tables of the publisher's store, or the first entry that breaks a rule. `held` is what the
 /// publisher holds of the ranges of all identity articles before any was received. The work grows
-/// with the entries and the logarithm of the generations, and with the square of the grants.
+/// with the entries, and the logarithm of the generations and of the grants.
 pub fn start_publisher(
     alloc: Global,
     publication: &Publication,

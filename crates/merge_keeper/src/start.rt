@@ -1,14 +1,14 @@
 //! What a start makes of a store: what both kinds of site have in common.
-ghost use Rattle.std.specs.Prelude.{◌≡◌, ◌↔◌, ◌<◌, ◌^◌, All, IsTrue, true, IfOk, position, ◌++◌, ◌∷◌, ◌≤◌, length};
+ghost use Rattle.std.specs.Prelude.{◌≡◌, ◌↔◌, ◌<◌, ◌^◌, All, IsTrue, true, IfOk};
 ghost use Rattle.std.specs.List.{list_all};
 ghost use Rattle.merge_ident.specs.Holders.{AreKept, HasValues, IsNextIn};
 ghost use Rattle.merge_batch.specs.Lineages.{knows_tops as body_knows_tops};
-ghost use Rattle.merge_keeper.specs.Start.{are_kept, begins_before, cell_site_is_known, conflict_is_sound, conflict_reading, conflict_row, dot_site_is_known, has_values, holds_last, identity_at, insert_by_begin, is_counter, is_next_in, last_conflict, last_own, number_in, own_count, own_grant, own_grants, pair_reading, place_by_begin, replaced, row_was_made, same_range, top_sites_are_known, version_is_sound, was_made, with_held};
+ghost use Rattle.merge_keeper.specs.Start.{are_kept, cell_site_is_known, conflict_is_sound, conflict_reading, conflict_row, dot_site_is_known, has_values, holds_last, identity_at, is_counter, is_next_in, last_conflict, last_own, number_in, own_count, own_grant, own_grants, pair_reading, replaced, row_was_made, same_range, top_sites_are_known, version_is_sound, was_made, with_held};
 
 use crate::ConflictValue;
 use merge_batch::{fits_article, is_site, knows_tops, maker_of};
 use merge_conflict::{ConflictKind, ConflictRow};
-use merge_ident::{Grant, Range, Ranges};
+use merge_ident::{Range, Ranges};
 use merge_lineage::Lineage;
 use merge_ports::{Entries, EntryKey};
 use merge_record::{Field, GrantKey, HeldRanges};
@@ -364,51 +364,4 @@ pub(crate) fn with_held(
         held.next,
     );
     Ok(Listing::new(replaced(alloc, all, article, ranges)?))
-}
-
-fn begins_before(grant: Grant, other: Grant) -> bool
-    ensures { result ≡ begins_before grant other }
-{
-    grant.article < other.article
-        || grant.article == other.article && grant.range.begin < other.range.begin
-}
-
-fn first_behind(grants: &[Grant], new: Grant) -> Option<usize>
-    ensures { result ≡ position (begins_before new) grants.now }
-{
-    grants.iter().position(|grant| begins_before(new, *grant))
-}
-
-// Where a grant stands by article and begin.
-fn place_of(grants: &[Grant], new: Grant) -> usize
-    ensures place { result ≡ place_by_begin grants.now new }
-    ensures within { result ≤ length grants.now }
-{
-    first_behind(grants, new).unwrap_or(grants.len())
-}
-
-fn joined(
-    alloc: Global,
-    before: &[Grant],
-    new: Grant,
-    behind: &[Grant],
-) -> Result<Vec<Grant>, NoMemory>
-    ensures { IfOk result (λ all. all.items ≡ before.now ++ new ∷ behind.now) }
-{
-    let mut all = before.to_vec(alloc)?;
-    all.push(new)?;
-    all.extend_from_slice(behind)?;
-    Ok(all)
-}
-
-/// The grants with one more, by article and begin.
-pub(crate) fn with_grant(
-    alloc: Global,
-    grants: &[Grant],
-    new: Grant,
-) -> Result<Vec<Grant>, NoMemory>
-    ensures { IfOk result (λ all. all.items ≡ insert_by_begin grants.now new) }
-{
-    let (before, behind) = grants.split_at(place_of(grants, new));
-    joined(alloc, before, new, behind)
 }
