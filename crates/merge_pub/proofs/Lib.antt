@@ -26,6 +26,8 @@ pub mod Due
 pub mod BatchCounts
 pub mod Asked
 pub mod Replies
+pub mod GrantOrder
+pub mod Restored
 pub mod Looking
 pub mod PartitionRows
 pub mod Forgotten
@@ -41,6 +43,7 @@ pub mod OldMappings
 pub mod Purged
 pub mod PurgeMade
 pub mod UploadPass
+pub mod UploadDecided
 pub mod ColumnsFit
 pub mod DecidedRows
 pub mod UploadRules
@@ -51,3 +54,4 @@ pub mod Meetings
 pub mod Passing
 pub mod SiteEdits
 pub mod UploadKept
+pub mod Costs

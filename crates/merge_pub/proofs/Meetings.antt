@@ -170,8 +170,8 @@ result-number held incoming changes (Custom values) dot ours theirs number here 
 
 -- What is there after the meeting.
 
-pub grown : (old new : Acting) (key : Key) (version : Option (Key × Version)) (lost : List ConflictRow) (made : ℕ) → new ≡ with_parts old key version lost made → made ≤ 1 → length lost ≤ 2 → Grows old new
-grown old new key version lost made is one two = subst (Grows old) (sym is) (record { changes = omega arith; one = omega arith; conflicts = omega arith; two = omega arith })
+pub grown : (old new : Acting) (key : Key) (version : Option (Key × Version)) (lost : List ConflictRow) (decided : Option Decision) (made : ℕ) → new ≡ with_parts old key version lost decided made → made ≤ 1 → length lost ≤ 2 → Grows old new
+grown old new key version lost decided made is one two = subst (Grows old) (sym is) (record { changes = omega arith; one = omega arith; conflicts = omega arith; two = omega arith })
 
 raise-fits : (publication : Publication) (low high : ℕ) (row : Key × Version) → low ≤ high → FitsHere publication low row → FitsHere publication high row
 raise-fits publication low high row below fits = record { fits = fits.fits; known = omega (arith, fits.known) }
@@ -184,15 +184,15 @@ all-pushed : (publication : Publication) (changes : ℕ) (versions : List (Key �
 all-pushed publication changes [] row all fits = (fits, tt)
 all-pushed publication changes (one ∷ versions) row all fits = (all.0, all-pushed publication changes versions row all.1 fits)
 
-pub kept-with : (publication : Publication) (old new : Acting) (key : Key) (version : Version) (lost : List ConflictRow) (made : ℕ) → new ≡ with_parts old key (Some (key, version)) lost made → FitsHere publication (old.changes + made) (key, version) → KeepsFits publication old new
-kept-with publication old new key version lost made is fits =
+pub kept-with : (publication : Publication) (old new : Acting) (key : Key) (version : Version) (lost : List ConflictRow) (decided : Option Decision) (made : ℕ) → new ≡ with_parts old key (Some (key, version)) lost decided made → FitsHere publication (old.changes + made) (key, version) → KeepsFits publication old new
+kept-with publication old new key version lost decided made is fits =
     subst (KeepsFits publication old) (sym is) (λ all. all-pushed publication (old.changes + made) old.versions (key, version) (all-raised publication old.changes (old.changes + made) old.versions (omega arith) all) fits)
 
 append-none : {X : Type 0} (xs : List X) → xs ++ [] ≡ xs
 append-none [] = refl
 append-none {X} (x ∷ xs) = ap (λ (ys : List X). x ∷ ys) (append-none xs)
 
-pub kept-without : (publication : Publication) (old new : Acting) (key : Key) (lost : List ConflictRow) → new ≡ with_parts old key None lost 0 → KeepsFits publication old new
+pub kept-without : (publication : Publication) (old new : Acting) (key : Key) (lost : List ConflictRow) → new ≡ with_parts old key None lost None 0 → KeepsFits publication old new
 kept-without publication old new key lost is =
     let count : old.changes ≡ old.changes + 0 = omega arith in
     subst (KeepsFits publication old) (sym is) (λ all. subst (λ (vs : List (Key × Version)). AllByRecursion (FitsHere publication (old.changes + 0)) vs) (sym (append-none old.versions)) (subst (λ (n : ℕ). AllByRecursion (FitsHere publication n) old.versions) count all))
@@ -219,23 +219,27 @@ conflict_with arrival item tracking old = record { number = old.conflict_count +
 abbrev lost_with : Case → Version → UploadItem → Decision → Conflict → List ConflictRow
 lost_with case held item d conflict = if is_conflict case then losing_rows conflict held item.version d else []
 
-pub met-added : (publication : Publication) (arrival : Arrival) (item : UploadItem) (held version : Version) (case : Case) (d : Decision) (tracking : Tracking) (key : Key) (lost : List ConflictRow) (made : ℕ) (old new : Acting)
-    → tracking ≡ tracking_at publication item.article → key ≡ key_of_item item → version ≡ result_by case held item.version d (own_dot old)
-    → lost ≡ lost_with case held item d (conflict_with arrival item tracking old) → made ≡ decided_changes d → new ≡ with_parts old key (Some (key, version)) lost made
-    → new ≡ with_act publication arrival (met_act (old.changes + 1) item held case d) old
-met-added publication arrival item held version case d tracking key lost made old new tracked keyed is loses makes added =
-    added
-    ∙ ap (λ (k : Key). with_parts old k (Some (k, version)) lost made) keyed
-    ∙ ap (λ (v : Version). with_parts old (key_of_item item) (Some (key_of_item item, v)) lost made) is
-    ∙ ap (λ (rows : List ConflictRow). with_parts old (key_of_item item) (Some (key_of_item item, result_by case held item.version d (own_dot old))) rows made) (loses ∙ ap (λ (t : Tracking). lost_with case held item d (conflict_with arrival item t old)) tracked)
-    ∙ ap (λ (n : ℕ). with_parts old (key_of_item item) (Some (key_of_item item, result_by case held item.version d (own_dot old))) (lost_with case held item d (conflict_with arrival item (tracking_at publication item.article) old)) n) makes
+abbrev decided_with : Case → Decision → Option Decision
+decided_with case d = if is_conflict case then Some d else None
 
-pub met-kept : (publication : Publication) (item : UploadItem) (held version : Version) (case : Case) (d : Decision) (key : Key) (lost : List ConflictRow) (made : ℕ) (old new : Acting) → key ≡ key_of_item item → made ≡ decided_changes d
+pub met-added : (publication : Publication) (arrival : Arrival) (item : UploadItem) (held version : Version) (case : Case) (d : Decision) (tracking : Tracking) (key : Key) (lost : List ConflictRow) (decided : Option Decision) (made : ℕ) (old new : Acting)
+    → tracking ≡ tracking_at publication item.article → key ≡ key_of_item item → version ≡ result_by case held item.version d (own_dot old)
+    → lost ≡ lost_with case held item d (conflict_with arrival item tracking old) → decided ≡ decided_with case d → made ≡ decided_changes d → new ≡ with_parts old key (Some (key, version)) lost decided made
+    → new ≡ with_act publication arrival (met_act (old.changes + 1) item held case d) old
+met-added publication arrival item held version case d tracking key lost decided made old new tracked keyed is loses keeps makes added =
+    added
+    ∙ ap (λ (k : Key). with_parts old k (Some (k, version)) lost decided made) keyed
+    ∙ ap (λ (v : Version). with_parts old (key_of_item item) (Some (key_of_item item, v)) lost decided made) is
+    ∙ ap (λ (rows : List ConflictRow). with_parts old (key_of_item item) (Some (key_of_item item, result_by case held item.version d (own_dot old))) rows decided made) (loses ∙ ap (λ (t : Tracking). lost_with case held item d (conflict_with arrival item t old)) tracked)
+    ∙ ap (λ (o : Option Decision). with_parts old (key_of_item item) (Some (key_of_item item, result_by case held item.version d (own_dot old))) (lost_with case held item d (conflict_with arrival item (tracking_at publication item.article) old)) o made) keeps
+    ∙ ap (λ (n : ℕ). with_parts old (key_of_item item) (Some (key_of_item item, result_by case held item.version d (own_dot old))) (lost_with case held item d (conflict_with arrival item (tracking_at publication item.article) old)) (decided_with case d) n) makes
+
+pub met-kept : (publication : Publication) (item : UploadItem) (held version : Version) (case : Case) (d : Decision) (key : Key) (lost : List ConflictRow) (decided : Option Decision) (made : ℕ) (old new : Acting) → key ≡ key_of_item item → made ≡ decided_changes d
     → FitsHere publication old.changes (key_of_item item, held) → ItemFits publication old.changes item → IsAscending held.lineage → IsAscending item.version.lineage → case ≡ case_of held item.version → MayDecide publication item.article held item.version d
-    → version ≡ result_by case held item.version d (own_dot old) → new ≡ with_parts old key (Some (key, version)) lost made → KeepsFits publication old new
-met-kept publication item held version case d key lost made old new keyed makes ours theirs here there is may result added =
+    → version ≡ result_by case held item.version d (own_dot old) → new ≡ with_parts old key (Some (key, version)) lost decided made → KeepsFits publication old new
+met-kept publication item held version case d key lost decided made old new keyed makes ours theirs here there is may result added =
     let fits : FitsHere publication (old.changes + decided_changes d) (key_of_item item, version) = result-fits publication old.changes item held version case d (own_dot old) ours theirs here there is may refl result in
-    kept-with publication old new key version lost made added
+    kept-with publication old new key version lost decided made added
     (subst (λ (k : Key). FitsHere publication (old.changes + made) (k, version)) (sym keyed) (subst (λ (n : ℕ). FitsHere publication (old.changes + n) (key_of_item item, version)) (sym makes) fits))
 
 pub meet-passed : (publication : Publication) (arrival : Arrival) (item : UploadItem) (held : Version) (case : Case) (d : Decision) (says : Saying) (tallies after : List ℕ) (old new : Acting) → case ≡ case_of held item.version
@@ -253,16 +257,16 @@ abbrev with_fate : Publication → Arrival → UploadItem → Acting → List �
 with_fate publication arrival item old tallies fate = pass_at (with_act publication arrival (record { key = key_of_item item; incoming = item.version; fate = fate }) old) tallies
 
 pub passed-new : (publication : Publication) (arrival : Arrival) (says : Saying) (tallies : List ℕ) (item : UploadItem) (old new : Acting) (version : Version) (lost : List ConflictRow) → is_made_by arrival (key_of_item item) ≡ true → lost ≡ [] → version ≡ item.version
-    → new ≡ with_parts old (key_of_item item) (Some (key_of_item item, version)) lost 0 → pass_at new tallies ≡ after_act publication arrival says (pass_at old tallies) item None
+    → new ≡ with_parts old (key_of_item item) (Some (key_of_item item, version)) lost None 0 → pass_at new tallies ≡ after_act publication arrival says (pass_at old tallies) item None
 passed-new publication arrival says tallies item old new version lost made none copied added =
-    ap (λ (a : Acting). pass_at a tallies) (added ∙ ap (λ (v : Version). with_parts old (key_of_item item) (Some (key_of_item item, v)) lost 0) copied ∙ ap (λ (rows : List ConflictRow). with_parts old (key_of_item item) (Some (key_of_item item, item.version)) rows 0) none)
+    ap (λ (a : Acting). pass_at a tallies) (added ∙ ap (λ (v : Version). with_parts old (key_of_item item) (Some (key_of_item item, v)) lost None 0) copied ∙ ap (λ (rows : List ConflictRow). with_parts old (key_of_item item) (Some (key_of_item item, item.version)) rows None 0) none)
     ∙ ap (λ (b : Bool). with_fate publication arrival item old tallies (let f : Fate = if b then New else Unknown in f)) (sym made)
 
 pub passed-late : (publication : Publication) (arrival : Arrival) (says : Saying) (tallies : List ℕ) (item : UploadItem) (old new : Acting) (lost : List ConflictRow) → is_made_by arrival (key_of_item item) ≡ false
     → lost ≡ purged_row (old.conflict_count + 1) arrival.site arrival.moment (record { key = key_of_item item; incoming = item.version; fate = Unknown }) ∷ []
-    → new ≡ with_parts old (key_of_item item) None lost 0 → pass_at new tallies ≡ after_act publication arrival says (pass_at old tallies) item None
+    → new ≡ with_parts old (key_of_item item) None lost None 0 → pass_at new tallies ≡ after_act publication arrival says (pass_at old tallies) item None
 passed-late publication arrival says tallies item old new lost made purged added =
-    ap (λ (a : Acting). pass_at a tallies) (added ∙ ap (λ (rows : List ConflictRow). with_parts old (key_of_item item) None rows 0) purged)
+    ap (λ (a : Acting). pass_at a tallies) (added ∙ ap (λ (rows : List ConflictRow). with_parts old (key_of_item item) None rows None 0) purged)
     ∙ ap (λ (b : Bool). with_fate publication arrival item old tallies (let f : Fate = if b then New else Unknown in f)) (sym made)
 
 -- where nothing conflicts

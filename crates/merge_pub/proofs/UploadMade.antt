@@ -26,7 +26,7 @@ use Rattle.merge_model.specs.Refusals.{unless}
 use Rattle.merge_model.specs.Steps.{kept_decisions, upload_questions}
 use Rattle.merge_model.specs.Tables.{PublisherTables}
 use Rattle.merge_model.specs.World.{Saying}
-use Rattle.merge_pub.specs.Uploaded.{acted_tables, arrival_of, asked_on, none_acted, taken_tables, upload_by}
+use Rattle.merge_pub.specs.Uploaded.{acted_tables, arrival_of, asked_on, decided_on, none_acted, taken_tables, upload_by}
 use Rattle.merge_pub.specs.Uploading.{AskedSome, Pass, acts_in, after_items, pass_at, questions_in, seen_by, seen_with, sites_with, state_with}
 use Rattle.merge_pub.specs.declared.acting.Acting.{Acting}
 use Rattle.merge_pub.specs.declared.acting.Arrival.{Arrival}
@@ -133,17 +133,28 @@ pub upload-refused : (publication : Publication) (now : Moment) (m : Upload) (p 
 upload-refused publication now m p says tallies why some =
     refused-unless (upload_refusal publication (by_numbers p) now m p) (uploaded publication (by_numbers p) m (kept_decisions says tallies (upload_questions publication (by_numbers p) now m p)) (at_moment now p), record { seq = m.seq; received = max m.to (arrival_of now m p).received }) why some
 
+ok-not-err : {A : Type 0} (done : A) (why : Refusal) → Ok done ≡ Err why → ⊥
+ok-not-err done why is = cc
+
 -- one that nothing refuses is not
 pub upload-allowed : (publication : Publication) (now : Moment) (m : Upload) (p : PublisherTables) (says : Saying) (tallies : List ℕ) (why : Refusal) → None ≡ upload_refusal publication (by_numbers p) now m p → upload_by publication says tallies now m p ≡ Err why → ⊥
 upload-allowed publication now m p says tallies why none refused =
     let made = made-unless {A = PublisherTables × Uploaded} (upload_refusal publication (by_numbers p) now m p) (uploaded publication (by_numbers p) m (kept_decisions says tallies (upload_questions publication (by_numbers p) now m p)) (at_moment now p), record { seq = m.seq; received = max m.to (arrival_of now m p).received }) none in
-    cc (made, refused)
+    ok-not-err _ why (sym made ∙ refused)
 
 -- how often resolvers were asked
 pub upload-asked : (publication : Publication) (now : Moment) (m : Upload) (p : PublisherTables) (says : Saying) (tallies after : List ℕ) (arrival : Arrival) (acting : Acting) → arrival ≡ arrival_of now m p
     → pass_at acting after ≡ after_items publication p.rows arrival says (pass_at (none_acted p) tallies) m.items → after ≡ tallies_after tallies (asked_on publication now m p)
 upload-asked publication now m p says tallies after arrival acting is pass =
     tallies-whole publication now m p says tallies acting after (subst (λ (a : Arrival). pass_at acting after ≡ after_items publication p.rows a says (pass_at (none_acted p) tallies) m.items) is pass)
+
+-- what was decided
+pub upload-decided : (publication : Publication) (now : Moment) (m : Upload) (p : PublisherTables) (says : Saying) (tallies : List ℕ) (arrival : Arrival) (ds acted : List Decision) → arrival ≡ arrival_of now m p
+    → ds ≡ acted → acted ≡ kept_decisions says tallies (questions_in publication p.rows arrival m.items) → ds ≡ decided_on publication says tallies now m p
+upload-decided publication now m p says tallies arrival ds acted is same decided =
+    same ∙ decided
+    ∙ ap (λ (a : Arrival). kept_decisions says tallies (questions_in publication p.rows a m.items)) is
+    ∙ ap (λ (questions : List Question). kept_decisions says tallies questions) (asked-same publication now m p says tallies)
 
 pub upload-some : (publication : Publication) (now : Moment) (m : Upload) (p : PublisherTables) (says : Saying) (tallies after : List ℕ) (arrival : Arrival) → arrival ≡ arrival_of now m p
     → AskedSome tallies after (questions_in publication p.rows arrival m.items) → (n : ℕ) × (after ≡ tallies_after tallies (take n (asked_on publication now m p)))

@@ -28,7 +28,7 @@ use Rattle.merge_model.specs.Steps.{kept_decisions}
 use Rattle.merge_model.specs.Tables.{PublisherTables}
 use Rattle.merge_model.specs.World.{Saying}
 use Rattle.merge_pub.specs.Uploaded.{arrival_of}
-use Rattle.merge_pub.specs.Uploading.{Pass, act_at, acts_in, after_act, after_item, after_items, decision_on, fate_at, is_made_by, pass_at, question_at, question_in, questions_in, tallies_on, with_act}
+use Rattle.merge_pub.specs.Uploading.{Pass, act_at, acts_in, after_act, after_item, after_items, decided_by, decision_on, fate_at, is_made_by, pass_at, question_at, question_in, questions_in, tallies_on, with_act}
 use Rattle.merge_pub.specs.declared.acting.Acting.{Acting}
 use Rattle.merge_pub.specs.declared.acting.Arrival.{Arrival}
 
@@ -102,11 +102,15 @@ module _ (publication : Publication) (now : Moment) (m : Upload) (p : PublisherT
 
   -- What acts leave behind what is there.
 
+  abbrev pub decisions_of : List Act → List Decision
+  decisions_of acts = filter_map (λ (act : Act). decided_by act.fate) acts
+
   abbrev pub with_acts_from : Acting → List Act → Acting
   with_acts_from s acts = let lost = lost_from publication m.site (later now p.latest) (s.conflict_count + 1) acts in record {
     versions = s.versions ++ versions_of acts;
     acted = s.acted ++ map (λ (act : Act). act.key) acts;
     lost = s.lost ++ lost;
+    decisions = s.decisions ++ decisions_of acts;
     changes = s.changes + changes_by acts;
     conflict_count = s.conflict_count + length lost;
   }
@@ -121,9 +125,9 @@ module _ (publication : Publication) (now : Moment) (m : Upload) (p : PublisherT
           by None = refl
           by (Some y) = refl
 
-  acting-same : (a b c : List (Key × Version)) (ka kb : List Key) (la lb : List ConflictRow) (na nb ca cb : ℕ) → a ≡ b → ka ≡ kb → la ≡ lb → na ≡ nb → ca ≡ cb
-      → (let one : Acting = record { versions = a; acted = ka; lost = la; changes = na; conflict_count = ca } in let other : Acting = record { versions = b; acted = kb; lost = lb; changes = nb; conflict_count = cb } in one ≡ other)
-  acting-same a b c ka kb la lb na nb ca cb versions acted lost changes count = cc
+  acting-same : (a b c : List (Key × Version)) (ka kb : List Key) (la lb : List ConflictRow) (da db : List Decision) (na nb ca cb : ℕ) → a ≡ b → ka ≡ kb → la ≡ lb → da ≡ db → na ≡ nb → ca ≡ cb
+      → (let one : Acting = record { versions = a; acted = ka; lost = la; decisions = da; changes = na; conflict_count = ca } in let other : Acting = record { versions = b; acted = kb; lost = lb; decisions = db; changes = nb; conflict_count = cb } in one ≡ other)
+  acting-same a b c ka kb la lb da db na nb ca cb versions acted lost decisions changes count = cc
 
   acts-onto : (s : Acting) (act : Act) (acts : List Act) → with_acts_from (with_act publication arrival act s) acts ≡ with_acts_from s (act ∷ acts)
   acts-onto s act acts =
@@ -131,15 +135,16 @@ module _ (publication : Publication) (now : Moment) (m : Upload) (p : PublisherT
       let rest : List ConflictRow = lost_from publication m.site (later now p.latest) (s.conflict_count + 1 + length rows) acts in
       let place : s.conflict_count + length rows + 1 ≡ s.conflict_count + 1 + length rows = omega arith in
       let same : lost_from publication m.site (later now p.latest) (s.conflict_count + length rows + 1) acts ≡ rest = ap (λ (n : ℕ). lost_from publication m.site (later now p.latest) n acts) place in
-      acting-same _ _ [] _ _ _ _ _ _ _ _
+      acting-same _ _ [] _ _ _ _ _ _ _ _ _ _
       (append_assoc s.versions (option_to_list (version_of_act act)) (versions_of acts) ∙ ap (λ (vs : List (Key × Version)). s.versions ++ vs) (sym (onto-cons version_of_act act acts)))
       (append_assoc s.acted (act.key ∷ []) (map (λ (a : Act). a.key) acts))
       (ap (λ (more : List ConflictRow). (s.lost ++ rows) ++ more) same ∙ append_assoc s.lost rows rest)
+      (append_assoc s.decisions (option_to_list (decided_by act.fate)) (decisions_of acts) ∙ ap (λ (ds : List Decision). s.decisions ++ ds) (sym (onto-cons (λ (a : Act). decided_by a.fate) act acts)))
       (omega arith)
       (ap (λ (more : List ConflictRow). s.conflict_count + length rows + length more) same ∙ omega (arith, length-append rows rest))
 
   acts-none : (s : Acting) → s ≡ with_acts_from s []
-  acts-none s = acting-same _ _ [] _ _ _ _ _ _ _ _ (sym (append-nil s.versions)) (sym (append-nil s.acted)) (sym (append-nil s.lost)) (omega arith) (omega arith)
+  acts-none s = acting-same _ _ [] _ _ _ _ _ _ _ _ _ _ (sym (append-nil s.versions)) (sym (append-nil s.acted)) (sym (append-nil s.lost)) (sym (append-nil s.decisions)) (omega arith) (omega arith)
 
   asked-onto : (tallies : List ℕ) (q : Option Question) (questions : List Question) → tallies_after (tallies_on tallies q) (map asked_of questions) ≡ tallies_after tallies (map asked_of (option_to_list q ++ questions))
   asked-onto tallies None questions = refl

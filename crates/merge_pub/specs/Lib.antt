@@ -6,6 +6,7 @@ pub mod After
 pub mod Held
 pub mod Tie
 pub mod Rows
+pub mod Restoring
 pub mod Working
 pub mod Step
 pub mod Making

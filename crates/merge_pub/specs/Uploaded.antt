@@ -6,6 +6,7 @@ use Rattle.merge_conflict.specs.Rising.{RiseAbove}
 use Rattle.merge_conflict.specs.declared.row.ConflictRow.{ConflictRow}
 use Rattle.merge_resolve.specs.Questions.{question_of as asked_of}
 use Rattle.merge_resolve.specs.declared.case.ConflictCase.{ConflictCase}
+use Rattle.merge_units.specs.declared.result.Decision.{Decision}
 use Rattle.merge_schema.specs.declared.publication.Publication.{Publication}
 use Rattle.merge_part.specs.Taking.{EachRowOnce}
 use Rattle.merge_batch.specs.Known.{Known}
@@ -27,9 +28,13 @@ use Rattle.merge_pub.specs.Working.{row_change}
 use Rattle.merge_pub.specs.declared.acting.Acting.{Acting}
 use Rattle.merge_pub.specs.declared.acting.Arrival.{Arrival}
 
--- what an upload does where each resolver says what it says and was asked so often before, and the questions of one that is not refused
+-- the decisions on an upload's conflicts as they count, where each resolver says what it says and was asked so often before
+abbrev pub decided_on : Publication → Saying → List ℕ → Moment → Upload → PublisherTables → List Decision
+decided_on publication says tallies now m p = kept_decisions says tallies (upload_questions publication (by_numbers p) now m p)
+
+-- what an upload does with these, and the questions of one that is not refused
 abbrev pub upload_by : Publication → Saying → List ℕ → Moment → Upload → PublisherTables → Result (PublisherTables × Uploaded) Refusal
-upload_by publication says tallies now m p = upload publication (by_numbers p) now m (kept_decisions says tallies (upload_questions publication (by_numbers p) now m p)) p
+upload_by publication says tallies now m p = upload publication (by_numbers p) now m (decided_on publication says tallies now m p) p
 
 abbrev pub asked_on : Publication → Moment → Upload → PublisherTables → List (ℕ × ConflictCase)
 asked_on publication now m p = map asked_of (upload_questions publication (by_numbers p) now m p)
@@ -47,7 +52,7 @@ arrival_of now m p = record {
 
 -- no item has acted yet
 abbrev pub none_acted : PublisherTables → Acting
-none_acted p = record { versions = []; acted = []; lost = []; changes = p.changes; conflict_count = p.conflict_count }
+none_acted p = record { versions = []; acted = []; lost = []; decisions = []; changes = p.changes; conflict_count = p.conflict_count }
 
 -- what holds of all that the items did
 pub record IsActed (publication : Publication) (p : PublisherTables) (acting : Acting) : Type 0 where

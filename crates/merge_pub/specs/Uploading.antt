@@ -126,19 +126,26 @@ act_at publication arrival says tallies number item held = record {
 
 -- All items.
 
+-- what was decided on an act, where it met a conflict
+abbrev pub decided_by : Fate → Option Decision
+decided_by New = None
+decided_by Unknown = None
+decided_by (Met held case decision dot) = if is_conflict case then Some decision else None
+
 -- what is there after an act
-abbrev pub with_parts : Acting → Key → Option (Key × Version) → List ConflictRow → ℕ → Acting
-with_parts acting key version lost made = record {
+abbrev pub with_parts : Acting → Key → Option (Key × Version) → List ConflictRow → Option Decision → ℕ → Acting
+with_parts acting key version lost decided made = record {
   versions = acting.versions ++ option_to_list version;
   acted = acting.acted ++ key ∷ [];
   lost = acting.lost ++ lost;
+  decisions = acting.decisions ++ option_to_list decided;
   changes = acting.changes + made;
   conflict_count = acting.conflict_count + length lost;
 }
 
 abbrev pub with_act : Publication → Arrival → Act → Acting → Acting
 with_act publication arrival act acting =
-    with_parts acting act.key (version_of_act act) (lost_by publication arrival.site arrival.moment (acting.conflict_count + 1) act act.fate) (made_by act.fate)
+    with_parts acting act.key (version_of_act act) (lost_by publication arrival.site arrival.moment (acting.conflict_count + 1) act act.fate) (decided_by act.fate) (made_by act.fate)
 
 -- an act makes one change of the publisher at most, and adds two losing versions at most
 pub record Grows (old new : Acting) : Type 0 where

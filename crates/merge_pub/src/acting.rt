@@ -12,6 +12,7 @@ ghost use Rattle.merge_pub.specs.Fits.{ItemFits};
 ghost use Rattle.merge_pub.specs.Keeps.{RowFits};
 ghost use Rattle.merge_pub.specs.Uploading.{AskedSome, Grows, KeepsFits, acts_in, after_act, after_item, after_items, is_made_by, pass_at, question_at, question_in, questions_in, with_parts};
 
+use crate::lists::push_some;
 use crate::meeting::meet;
 use merge_batch::{UploadItem, maker_of};
 use merge_conflict::{ConflictKind, ConflictRow, ConflictRows, Verdict};
@@ -19,7 +20,7 @@ use merge_resolve::Handed;
 use merge_schema::Publication;
 use merge_table::Table;
 use merge_types::{Listing, Moment, NoMemory, RowKey, SiteId};
-use merge_units::{PublisherRow, Version};
+use merge_units::{Decision, PublisherRow, Version};
 use std::alloc::Global;
 
 /// Whose upload comes in, how far that site's changes were taken, and the moment.
@@ -40,6 +41,8 @@ pub struct Acting {
     pub acted: Listing<RowKey>,
     /// The versions that lost.
     pub lost: ConflictRows,
+    /// What was decided on the conflicts, as it counts.
+    pub decisions: Listing<Decision>,
     /// How many changes the publisher has made.
     pub changes: u64,
     /// How many rows were added to the conflict table.
@@ -76,45 +79,38 @@ pub fn is_made_by(arrival: Arrival, key: RowKey) -> bool
 impl Acting {
     /// Nothing yet.
     pub fn new(alloc: Global, changes: u64, conflict_count: u64) -> Acting
-        ensures { result ≡ record { versions = []; acted = []; lost = []; changes = changes; conflict_count = conflict_count } }
+        ensures { result ≡ record { versions = []; acted = []; lost = []; decisions = []; changes = changes; conflict_count = conflict_count } }
     {
         Acting {
             versions: Listing::empty(alloc),
             acted: Listing::empty(alloc),
             lost: Listing::empty(alloc),
+            decisions: Listing::empty(alloc),
             changes,
             conflict_count,
         }
     }
 
-    /// Adds what an item did: the version that its row gets, what lost, and how many changes the
-    /// publisher made.
+    /// Adds what an item did: the version that its row gets, what lost, what was decided, and how
+    /// many changes the publisher made.
     pub fn add(
         &mut self,
         key: RowKey,
         version: Option<(RowKey, Version)>,
         lost: ConflictRows,
+        decided: Option<Decision>,
         made: u64,
     ) -> Result<(), NoMemory>
         requires changes { self.old.changes + made < 2 ^ 64 }
         requires lost { self.old.conflict_count + length lost < 2 ^ 64 }
-        ensures { OnOk result (self.new ≡ with_parts self.old key version lost made) }
+        ensures { OnOk result (self.new ≡ with_parts self.old key version lost decided made) }
     {
         push_some(&mut self.versions, version)?;
+        push_some(&mut self.decisions, decided)?;
         self.acted.push(key)?;
         self.changes += made;
         self.conflict_count += lost.len() as u64;
         append(&mut self.lost, lost)
-    }
-}
-
-// Adds what there is behind a list.
-fn push_some<T: Drop>(items: &mut Listing<T>, item: Option<T>) -> Result<(), NoMemory>
-    ensures { OnOk result (items.new ≡ items.old ++ option_to_list item) }
-{
-    match item {
-        Some(item) => items.push(item),
-        None => Ok(()),
     }
 }
 
@@ -170,7 +166,7 @@ fn come_new(
 {
     let key = key_of_item(item);
     let version = item.version.clone()?;
-    acting.add(key, Some((key, version)), lost, 0)?;
+    acting.add(key, Some((key, version)), lost, None, 0)?;
     Ok(())
 }
 
@@ -189,7 +185,7 @@ fn come_late(
     ensures fits { OnOk result ((publication : OnePublication) → KeepsFits publication acting.old acting.new) }
 {
     let lost = purged_rows(alloc, arrival, acting.conflict_count + 1, item)?;
-    acting.add(key_of_item(item), None, lost, 0)?;
+    acting.add(key_of_item(item), None, lost, None, 0)?;
     Ok(())
 }
 

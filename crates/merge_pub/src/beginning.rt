@@ -35,7 +35,7 @@ fn push_rule(place: u8, article: &Article, rules: &mut Rules) -> Result<(), NoMe
 }
 
 // The rules by which ranges are granted.
-fn rules_of(alloc: Global, publication: &Publication) -> Result<Rules, NoMemory>
+pub(crate) fn rules_of(alloc: Global, publication: &Publication) -> Result<Rules, NoMemory>
     requires { (resolvers : ℕ) × IsValid resolvers publication.now }
     ensures are { IfOk result (λ rules. rules ≡ rules_of publication.now) }
     ensures fit { IfOk result (λ rules. All IsRule rules) }

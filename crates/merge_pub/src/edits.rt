@@ -126,7 +126,7 @@ fn moved_edit(
 }
 
 // The entry of a mapping.
-fn move_entry(place: RowSite, generation: u64) -> MoveEntry
+pub(crate) fn move_entry(place: RowSite, generation: u64) -> MoveEntry
     ensures { result ≡ move_entry place generation }
 {
     MoveEntry {

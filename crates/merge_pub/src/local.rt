@@ -1,5 +1,5 @@
 //! A change at the publisher itself.
-ghost use Rattle.std.specs.Prelude.{◌≡◌, ◌⊎◌, ◌≤◌, ◌<◌, [], true, None, Ok, Err, Some, IfOk, IfErr, OnOk};
+ghost use Rattle.std.specs.Prelude.{◌≡◌, ◌⊎◌, ◌≤◌, ◌<◌, ◌+◌, [], true, None, Ok, Err, Some, IfOk, IfErr, OnOk, length};
 ghost use Rattle.std.specs.Option.{option_copied};
 ghost use Rattle.merge_types.specs.Limits.{number_limit};
 ghost use Rattle.merge_units.specs.Changes.{ColumnsAscend};
@@ -156,7 +156,7 @@ fn besides_of(
 
 impl Publisher {
     /// Works out a change of a row, and gives its row. The change's article exists, and its
-    /// columns ascend.
+    /// columns ascend. The filter of each subscription is evaluated once, at most.
     pub fn draft_local<L: Ledger>(
         &mut self,
         now: Moment,
@@ -170,6 +170,7 @@ impl Publisher {
         ensures refused { (refusal : OneRefusal) → result ≡ Err refusal → (refusal ≡ no_memory) ⊎ (local (publication_of self.old) (by_numbers (tables_of self.old)) now change.now (tables_of self.old) ≡ Err refusal) }
         ensures same { tables_of self.new ≡ tables_of self.old }
         ensures publication { publication_of self.new ≡ publication_of self.old }
+        ensures cost { steps.new ≤ steps.old + length (publication_of self.old).subscriptions }
     {
         counters_go_on(self.changes, self.gens.last_closed(), self.conflict_count)?;
         let dot = Dot {

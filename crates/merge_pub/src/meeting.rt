@@ -1,5 +1,5 @@
 //! An item of an upload meets the version that the publisher holds.
-ghost use Rattle.std.specs.Prelude.{◌≡◌, ◌≤◌, ◌<◌, ◌+◌, ◌^◌, ℕ, true, false, [], if◌then◌else◌, Some, IfOk, OnOk, length, map};
+ghost use Rattle.std.specs.Prelude.{◌≡◌, ◌≤◌, ◌<◌, ◌+◌, ◌^◌, ℕ, true, false, [], if◌then◌else◌, None, Some, IfOk, OnOk, length, map};
 ghost use Rattle.std.specs.Option.{option_to_list};
 ghost use Rattle.merge_units.specs.Cases.{case_of, is_conflict};
 ghost use Rattle.merge_units.specs.Results.{result_by};
@@ -161,6 +161,17 @@ fn losing(
     Ok(rows)
 }
 
+// What is kept of a decision: that on a conflict, and nothing where none was asked for.
+fn kept(case: &Case, decision: Decision) -> Option<Decision>
+    ensures { result ≡ (if is_conflict case.now then Some decision else None) }
+{
+    if is_conflict(case) {
+        Some(decision)
+    } else {
+        None
+    }
+}
+
 // How many changes of the publisher a decision makes.
 fn decided_changes(decision: &Decision) -> u64
     ensures changes { result ≡ decided_changes decision.now }
@@ -180,17 +191,17 @@ fn take_met(
     held: &Version,
     item: &UploadItem,
     case: &Case,
-    decision: &Decision,
+    decision: Decision,
     acting: &mut Acting,
 ) -> Result<(), NoMemory>
     requires held { FitsHere publication.now acting.old.changes (key_of_item item.now, held.now) }
     requires item { ItemFits publication.now acting.old.changes item.now }
     requires case { case.now ≡ case_of held.now item.now.version }
     requires counts { HaveEqualCounts held.now.body item.now.version.body }
-    requires decision { MayDecide publication.now item.now.article held.now item.now.version decision.now }
+    requires decision { MayDecide publication.now item.now.article held.now item.now.version decision }
     requires changes { acting.old.changes < 2 ^ 62 }
     requires conflicts { acting.old.conflict_count < 2 ^ 62 }
-    ensures passed { OnOk result (acting.new ≡ with_act publication.now arrival (met_act (acting.old.changes + 1) item.now held.now case.now decision.now) acting.old) }
+    ensures passed { OnOk result (acting.new ≡ with_act publication.now arrival (met_act (acting.old.changes + 1) item.now held.now case.now decision) acting.old) }
     ensures grows { OnOk result (Grows acting.old acting.new) }
     ensures fits { OnOk result (KeepsFits publication.now acting.old acting.new) }
 {
@@ -209,10 +220,11 @@ fn take_met(
         moment: arrival.moment,
     };
     let key = key_of_item(item);
-    let made = decided_changes(decision);
-    let version = case.apply(alloc, held, &item.version, decision, dot)?;
-    let lost = losing(alloc, &conflict, held, &item.version, case, decision)?;
-    acting.add(key, Some((key, version)), lost, made)?;
+    let made = decided_changes(&decision);
+    let version = case.apply(alloc, held, &item.version, &decision, dot)?;
+    let lost = losing(alloc, &conflict, held, &item.version, case, &decision)?;
+    let decided = kept(case, decision);
+    acting.add(key, Some((key, version)), lost, decided, made)?;
     Ok(())
 }
 
@@ -247,7 +259,7 @@ pub fn meet(
         held,
         item,
         &case,
-        &decision,
+        decision,
         acting,
     )?;
     Ok(())

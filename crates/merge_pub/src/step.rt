@@ -1,5 +1,5 @@
 //! A step that gives rows versions, as edits of what a publisher holds.
-ghost use Rattle.std.specs.Prelude.{◌≡◌, ◌<◌, ◌+◌, ◌^◌, ℕ, map, length, drop, take, All, IfOk};
+ghost use Rattle.std.specs.Prelude.{◌≡◌, ◌≤◌, ◌<◌, ◌+◌, ◌*◌, ◌^◌, ℕ, map, length, drop, take, All, IfOk};
 ghost use Rattle.std.specs.List.{zip as zipped};
 ghost use Rattle.merge_gens.specs.Book.{entered};
 ghost use Rattle.merge_gens.specs.Filling.{generations_of};
@@ -7,7 +7,7 @@ ghost use Rattle.merge_gens.specs.Plan as gens_plan;
 ghost use Rattle.merge_table.specs.Edits.{rows_after_all};
 ghost use Rattle.merge_part.specs.Live.{live_after_all, live_rows as listed};
 ghost use Rattle.merge_part.specs.Moves.{AreMoves};
-ghost use Rattle.merge_part.specs.Taking.{EachRowOnce, FitsArticle};
+ghost use Rattle.merge_part.specs.Taking.{EachRowOnce, FitsArticle, living};
 ghost use Rattle.merge_part.specs.View.{IsPrepared, live_after_plan, live_in};
 ghost use Rattle.merge_schema.specs.Valid.{IsValid};
 ghost use Rattle.merge_types.specs.RowKeys.{key_cmp};
@@ -73,6 +73,7 @@ pub fn find_entries<L: Ledger>(
     ensures ready { IfOk result (λ f. IsPrepared membership.new f.plan) }
     ensures publication { membership.new.publication ≡ membership.old.publication }
     ensures live { live_in membership.new ≡ live_in membership.old }
+    ensures cost { steps.new ≤ steps.old + length membership.old.publication.subscriptions * living (map work.row_change versions.now) }
 {
     let changed = keys_in(alloc, versions)?;
     let changes = row_changes(alloc, versions)?;
@@ -189,6 +190,7 @@ pub fn draft_step<L: Ledger>(
     ensures prepared { IfOk result (λ w. gens_plan.IsPrepared gens.new w.gens) }
     ensures publication { membership.new.publication ≡ membership.old.publication }
     ensures live { live_in membership.new ≡ live_in membership.old }
+    ensures cost { steps.new ≤ steps.old + length membership.old.publication.subscriptions * living (map work.row_change versions.items) }
     ensures same { gens.new.book ≡ gens.old.book }
 {
     let _ = rows.iter();

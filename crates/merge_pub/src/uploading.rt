@@ -1,12 +1,11 @@
 //! A site uploads rows.
-ghost use Rattle.std.specs.Prelude.{◌≡◌, ◌⊎◌, ◌≤◌, ◌<◌, ◌+◌, ◌&&◌, ◌++◌, ◌^◌, ℕ, [], true, None, Some, Ok, Err, IfOk, OnOk, count_by, length, map, nat_lt, take};
+ghost use Rattle.std.specs.Prelude.{◌≡◌, ◌⊎◌, ◌≤◌, ◌<◌, ◌+◌, ◌*◌, ◌&&◌, ◌++◌, ◌^◌, ℕ, [], true, None, Some, Ok, Err, IfOk, OnOk, count_by, length, map, nat_lt, take};
 ghost use Rattle.merge_types.specs.Limits.{rows_limit};
 ghost use Rattle.merge_types.specs.declared.identifiers.Moment.{Moment as OneMoment};
 ghost use Rattle.merge_conflict.specs.Rising.{AreRising};
 ghost use Rattle.merge_conflict.specs.Table as losing;
 ghost use Rattle.merge_resolve.specs.Asked.{says_at, tallies_after};
 ghost use Rattle.merge_schema.specs.Places.{is_subscription};
-ghost use Rattle.merge_schema.specs.Valid.{IsValid};
 ghost use Rattle.merge_batch.specs.Laws.{IsValidUpload};
 ghost use Rattle.merge_batch.specs.LocalChanges.{refused_if};
 ghost use Rattle.merge_batch.specs.declared.refusal.Refusal.{Refusal as OneRefusal};
@@ -16,11 +15,11 @@ ghost use Rattle.merge_model.specs.ByNumbers.{by_numbers};
 ghost use Rattle.merge_model.specs.Faults.{upload_fault};
 ghost use Rattle.merge_model.specs.Keys.{at_number};
 ghost use Rattle.merge_model.specs.PublisherUpload.{too_many_new, upload_refusal};
+ghost use Rattle.merge_model.specs.Steps.{kept_decisions};
 ghost use Rattle.merge_pub.specs.After.{after};
 ghost use Rattle.merge_pub.specs.Held.{IsDrafted, publication_of, tables_of};
-ghost use Rattle.merge_pub.specs.Keeps.{KeepsRules};
 ghost use Rattle.merge_pub.specs.Refused.{refusal_of};
-ghost use Rattle.merge_pub.specs.Uploaded.{IsActed, acted_tables, arrival_of, asked_on, known_in, none_acted, taken_tables, upload_by};
+ghost use Rattle.merge_pub.specs.Uploaded.{IsActed, acted_tables, arrival_of, asked_on, decided_on, known_in, none_acted, taken_tables, upload_by};
 ghost use Rattle.merge_pub.specs.Uploading.{AskedSome, after_items, known_of, makes_row_in, pass_at, questions_in};
 
 use crate::acting::{Acting, Arrival, act_on_all, acts_in, is_made_by, key_of_item};
@@ -37,9 +36,19 @@ use merge_resolve::Handed;
 use merge_table::{Edit, Table};
 use merge_types::limits::ROWS_LIMIT;
 use merge_types::{Listing, Moment, NoMemory, RowKey, Steps};
-use merge_units::PublisherRow;
+use merge_units::{Decision, PublisherRow};
 use std::alloc::Global;
 use std::sync::ledger::Ledger;
+
+/// An upload that was worked out, and is not put in place.
+#[derive(Drop)]
+pub struct UploadDraft {
+    pub draft: Draft,
+    /// What is told to the site.
+    pub told: Uploaded,
+    /// What was decided on each conflict, as it counts, in the order in which the items act.
+    pub decisions: Listing<Decision>,
+}
 
 // Refuses an upload that begins above the generation that was taken last.
 fn check_gap(from: u64, received: u64) -> Result<(), Refusal>
@@ -115,14 +124,6 @@ impl Publisher {
         ensures { refusal_of result ≡ refused_if ((by_numbers (tables_of self.now)).is_gap upload.now.site.0 upload.now.from) (Gap upload.now.from ((by_numbers (tables_of self.now)).received upload.now.site.0)) }
     {
         check_gap(upload.from, state.received)
-    }
-
-    // What holds of all that is held.
-    fn keeps_rules(&self)
-        ensures valid { (count : ℕ) × IsValid count (publication_of self.now) }
-        ensures rules { KeepsRules (publication_of self.now) (tables_of self.now) }
-    {
-        let _ = self.rows.len();
     }
 
     fn held_rows(&self) -> &Table<RowKey, PublisherRow>
@@ -214,7 +215,7 @@ impl Publisher {
         Ok(arrival)
     }
 
-    // What the items do that act.
+    // What the items do that act, and what was decided on them.
     fn act_on_upload(
         &self,
         resolvers: &mut Vec<Handed>,
@@ -228,6 +229,8 @@ impl Publisher {
         ensures passed { IfOk result (λ acting. pass_at acting (map (λ r. tally_of r) resolvers.new.items)
             ≡ after_items (publication_of self.now) (tables_of self.now).rows arrival (says_at (λ r. says r) resolvers.old.items) (pass_at (none_acted (tables_of self.now)) (map (λ r. tally_of r) resolvers.old.items)) upload.now.items) }
         ensures acted { IfOk result (λ acting. IsActed (publication_of self.now) (tables_of self.now) acting) }
+        ensures decided { IfOk result (λ acting. acting.decisions ≡ kept_decisions (says_at (λ r. says r) resolvers.old.items) (map (λ r. tally_of r) resolvers.old.items) (questions_in (publication_of self.now) (tables_of self.now).rows arrival upload.now.items)) }
+        ensures few { IfOk result (λ acting. length acting.versions ≤ length upload.now.items) }
         ensures asked { AskedSome (map (λ r. tally_of r) resolvers.old.items) (map (λ r. tally_of r) resolvers.new.items) (questions_in (publication_of self.now) (tables_of self.now).rows arrival upload.now.items) }
         ensures steady { (k n : ℕ) (asked : _) → says_at (λ r. says r) resolvers.new.items k n asked ≡ says_at (λ r. says r) resolvers.old.items k n asked }
     {
@@ -260,26 +263,29 @@ impl Publisher {
         Ok(plan)
     }
 
-    // A draft of what the items did.
+    // A draft of what the items did, and what was decided.
     fn draft_acted<L: Ledger>(
         &mut self,
         arrival: Arrival,
         upload: &Upload,
         acting: Acting,
         steps: &mut Steps<L>,
-    ) -> Result<Draft, NoMemory>
+    ) -> Result<(Draft, Listing<Decision>), NoMemory>
         requires acted { IsActed (publication_of self.old) (tables_of self.old) acting }
         requires subscribes { is_subscription (publication_of self.old) upload.now.site.0 ≡ true }
         requires low { (tables_of self.old).gens.filling.last_closed < 2 ^ 61 }
-        ensures made { IfOk result (λ d. after d.changes (tables_of self.old) ≡ acted_tables (publication_of self.old) (by_numbers (tables_of self.old)) arrival upload.now acting (tables_of self.old)) }
-        ensures ready { IfOk result (λ d. IsDrafted self.new d) }
+        ensures made { IfOk result (λ d. after d.0.changes (tables_of self.old) ≡ acted_tables (publication_of self.old) (by_numbers (tables_of self.old)) arrival upload.now acting (tables_of self.old)) }
+        ensures ready { IfOk result (λ d. IsDrafted self.new d.0) }
+        ensures decided { IfOk result (λ d. d.1 ≡ acting.decisions) }
         ensures same { tables_of self.new ≡ tables_of self.old }
         ensures publication { publication_of self.new ≡ publication_of self.old }
+        ensures cost { steps.new ≤ steps.old + length (publication_of self.old).subscriptions * length acting.versions }
     {
         let Acting {
             versions,
             acted,
             lost,
+            decisions,
             changes,
             conflict_count,
         } = acting;
@@ -301,35 +307,37 @@ impl Publisher {
             besides,
             steps,
         )?;
-        Ok(draft)
+        Ok((draft, decisions))
     }
 
-    // A draft of an upload. One that brings no news has no item that acts.
+    // A draft of an upload, and what was decided. One that brings no news has no item that acts.
     fn draft_taken<L: Ledger>(
         &mut self,
         arrival: Arrival,
         upload: &Upload,
         acting: Acting,
         steps: &mut Steps<L>,
-    ) -> Result<Draft, NoMemory>
+    ) -> Result<(Draft, Listing<Decision>), NoMemory>
         requires acted { IsActed (publication_of self.old) (tables_of self.old) acting }
         requires subscribes { is_subscription (publication_of self.old) upload.now.site.0 ≡ true }
         requires low { (tables_of self.old).gens.filling.last_closed < 2 ^ 61 }
-        ensures made { IfOk result (λ d. after d.changes (tables_of self.old) ≡ taken_tables (publication_of self.old) (by_numbers (tables_of self.old)) arrival upload.now acting (tables_of self.old)) }
-        ensures ready { IfOk result (λ d. IsDrafted self.new d) }
+        ensures made { IfOk result (λ d. after d.0.changes (tables_of self.old) ≡ taken_tables (publication_of self.old) (by_numbers (tables_of self.old)) arrival upload.now acting (tables_of self.old)) }
+        ensures ready { IfOk result (λ d. IsDrafted self.new d.0) }
+        ensures decided { IfOk result (λ d. d.1 ≡ acting.decisions) }
         ensures same { tables_of self.new ≡ tables_of self.old }
         ensures publication { publication_of self.new ≡ publication_of self.old }
+        ensures cost { steps.new ≤ steps.old + length (publication_of self.old).subscriptions * length acting.versions }
     {
         if arrival.received < upload.to {
-            let draft = self.draft_acted(arrival, upload, acting, steps)?;
-            return Ok(draft);
+            let acted = self.draft_acted(arrival, upload, acting, steps)?;
+            return Ok(acted);
         }
         let draft = self.draft_moment(arrival.moment)?;
-        Ok(draft)
+        Ok((draft, acting.decisions))
     }
 
-    /// Works out an upload, and tells up to which generation the site's changes are taken. Each
-    /// resolver is asked about its conflicts, once each. It is refused where the site does not
+    /// Works out an upload, and tells up to which generation the site's changes are taken and what
+    /// was decided. Each resolver is asked about its conflicts, once each. It is refused where the site does not
     /// subscribe, has not joined, is expired or made the message before it joined, where the upload
     /// leaves a gap or breaks a rule, where new rows are too many, and where a counter has come to
     /// its end. Then no resolver is asked. Where memory is wanting, the first few questions may have
@@ -340,9 +348,10 @@ impl Publisher {
         now: Moment,
         upload: &Upload,
         steps: &mut Steps<L>,
-    ) -> Result<(Draft, Uploaded), Refusal>
-        ensures made { IfOk result (λ d. upload_by (publication_of self.old) (says_at (λ r. says r) resolvers.old.items) (map (λ r. tally_of r) resolvers.old.items) now upload.now (tables_of self.old) ≡ Ok (after d.0.changes (tables_of self.old), d.1)) }
-        ensures ready { IfOk result (λ d. IsDrafted self.new d.0) }
+    ) -> Result<UploadDraft, Refusal>
+        ensures made { IfOk result (λ d. upload_by (publication_of self.old) (says_at (λ r. says r) resolvers.old.items) (map (λ r. tally_of r) resolvers.old.items) now upload.now (tables_of self.old) ≡ Ok (after d.draft.changes (tables_of self.old), d.told)) }
+        ensures decided { IfOk result (λ d. d.decisions ≡ decided_on (publication_of self.old) (says_at (λ r. says r) resolvers.old.items) (map (λ r. tally_of r) resolvers.old.items) now upload.now (tables_of self.old)) }
+        ensures ready { IfOk result (λ d. IsDrafted self.new d.draft) }
         ensures refused { (refusal : OneRefusal) → result ≡ Err refusal → (refusal ≡ no_memory) ⊎ (upload_by (publication_of self.old) (says_at (λ r. says r) resolvers.old.items) (map (λ r. tally_of r) resolvers.old.items) now upload.now (tables_of self.old) ≡ Err refusal) }
 
         // Each resolver is asked all its questions where the upload is made, none where it is
@@ -354,16 +363,20 @@ impl Publisher {
         ensures steady { (k n : ℕ) (asked : _) → says_at (λ r. says r) resolvers.new.items k n asked ≡ says_at (λ r. says r) resolvers.old.items k n asked }
         ensures same { tables_of self.new ≡ tables_of self.old }
         ensures publication { publication_of self.new ≡ publication_of self.old }
+
+        // Filters are evaluated once for each subscription and item, at most.
+        ensures cost { steps.new ≤ steps.old + length (publication_of self.old).subscriptions * length upload.now.items }
     {
         let arrival = self.check_upload(now, upload)?;
         let acting = self.act_on_upload(resolvers, arrival, upload)?;
-        let draft = self.draft_taken(arrival, upload, acting, steps)?;
-        Ok((
+        let (draft, decisions) = self.draft_taken(arrival, upload, acting, steps)?;
+        Ok(UploadDraft {
             draft,
-            Uploaded {
+            told: Uploaded {
                 seq: upload.seq,
                 received: upload.to.max(arrival.received),
             },
-        ))
+            decisions,
+        })
     }
 }

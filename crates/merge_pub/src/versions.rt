@@ -1,5 +1,5 @@
 //! Rows get versions.
-ghost use Rattle.std.specs.Prelude.{◌≡◌, ◌<◌, ◌^◌, map, length, IfOk};
+ghost use Rattle.std.specs.Prelude.{◌≡◌, ◌≤◌, ◌<◌, ◌+◌, ◌*◌, ◌^◌, map, length, IfOk};
 ghost use Rattle.std.specs.Ordering.{nat_cmp};
 ghost use Rattle.merge_types.specs.RowKeys.{key_cmp};
 ghost use Rattle.merge_table.specs.Edits.{IsReady};
@@ -7,7 +7,7 @@ ghost use Rattle.merge_gens.specs.Moves.{row_site_cmp};
 ghost use Rattle.merge_ident.specs.Books as granting;
 ghost use Rattle.merge_conflict.specs.Table as losing;
 ghost use Rattle.std.specs.List.{AllByRecursion};
-ghost use Rattle.merge_part.specs.Taking.{EachRowOnce};
+ghost use Rattle.merge_part.specs.Taking.{EachRowOnce, living};
 ghost use Rattle.merge_pub.specs.Held.{IsDrafted, publication_of, tables_of};
 ghost use Rattle.merge_pub.specs.Making.{IsMade, counted};
 ghost use Rattle.merge_pub.specs.Keeps.{FitsHere, KeepsRules};
@@ -92,6 +92,7 @@ impl Publisher {
         ensures ready { IfOk result (λ d. IsDrafted self.new d) }
         ensures same { tables_of self.new ≡ tables_of self.old }
         ensures publication { publication_of self.new ≡ publication_of self.old }
+        ensures cost { steps.new ≤ steps.old + length (publication_of self.old).subscriptions * living (map work.row_change versions.items) }
     {
         self.moved.is_ordered();
         let worked = draft_step(

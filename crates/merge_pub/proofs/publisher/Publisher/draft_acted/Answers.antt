@@ -2,6 +2,7 @@ use Rattle.std.proofs.Common.{◌≡◌, ◌∙◌, ap, arith, rules, subst, sym
 use Rattle.merge_model.specs.Tables.{PublisherTables}
 use Rattle.merge_pub.specs.Held.{publication_of, tables_of}
 use Rattle.merge_pub.specs.declared.changes.Besides.{Besides}
+use Rattle.merge_pub.proofs.Costs.{versions-cost}
 use Rattle.merge_pub.proofs.UploadKept.{acted-made, besides_with, fits-at, keeps-at, kept-acted, made-at, rising-on, subscribes-at}
 use Rattle.merge_pub.proofs.publisher.Publisher.draft_acted.Goals as goal
 
@@ -32,3 +33,9 @@ returns-clause-made g c =
     acted-made (publication_of c.args.self.now) (tables_of c.args.self.now) c.args.upload.now c.args.arrival c.args.acting c.in_ok-sites.sites c.in_ok-plan.plan _ there.plan (rw c.held_sites.ensures at c.in_ok-sites.ensures)
     (made-at (publication_of c.prepare_lost.new.self) (publication_of c.args.self.now) besides.result (besides_with c.args.arrival c.args.acting c.in_ok-sites.sites c.in_ok-plan.plan) (tables_of c.prepare_lost.new.self) (tables_of c.args.self.now)
     _ c.args.acting.versions _ c.args.acting.acted c.args.upload.now.site.0 _ there.publication besides.ensures there.same c.into_vec.ensures c.as_slice.ensures c.in_ok-draft.ensures.made)
+
+pub returns-clause-cost : goal.returns-clause-cost
+returns-clause-cost g c = versions-cost (publication_of c.prepare_lost.new.self) (publication_of c.args.self.now) c.in_ok-plan.ensures.publication _ c.args.acting.versions c.into_vec.ensures _ _ c.draft_versions.ensures.cost
+
+pub returns-in_err-draft-clause-cost : goal.returns-in_err-draft-clause-cost
+returns-in_err-draft-clause-cost g c = versions-cost (publication_of c.prepare_lost.new.self) (publication_of c.args.self.now) c.in_ok-plan.ensures.publication _ c.args.acting.versions c.into_vec.ensures _ _ c.draft_versions.ensures.cost

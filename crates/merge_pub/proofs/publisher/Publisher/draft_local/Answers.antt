@@ -1,4 +1,5 @@
 use Rattle.std.proofs.Common.{refl, rules}
+use Rattle.merge_pub.proofs.Costs.{local-cost}
 use Rattle.merge_pub.proofs.LocalMade.{asked-here, dot_after, fit-here, keeps-here, made-here, new-here, refused-here}
 use Rattle.merge_pub.proofs.publisher.Publisher.draft_local.Goals as goal
 
@@ -28,3 +29,7 @@ returns-clause-made g c =
     made-here _ _ c.self.view_is c.publication.result.now _ c.args.now (dot_after c.self.inside.changes) c.args.change.now c.in_ok-versions.drawn c.in_ok-versions.versions.items _ _ _ _ c.key_of.result.row
     c.in_ok-versions.ensures.draws c.in_ok-versions.ensures.allowed c.in_ok-versions.ensures.versions c.in_ok-draft.ensures.made
     c.publication.ensures.publication (search rules) (search rules) (search rules) (search rules) refl c.last_closed.result (search rules) c.in_ok-counters_go_on.ensures.ok (search rules)
+
+pub returns-clause-cost : goal.returns-clause-cost
+returns-clause-cost g c =
+    local-cost _ _ c.self.view_is c.publication.result.now (dot_after c.self.inside.changes) c.in_ok-versions.drawn.value c.args.change.now c.self.inside.rows.rows _ c.in_ok-versions.ensures.versions _ _ c.draft_versions.ensures.cost
