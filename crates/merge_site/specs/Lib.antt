@@ -1,5 +1,6 @@
 pub mod Beginning
 pub mod Calls
+pub mod Drafting
 pub mod Grants
 pub mod Kept
 pub mod Lists

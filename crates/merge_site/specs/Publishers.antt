@@ -1,8 +1,10 @@
 -- A publisher with a keeper of its records.
 use Rattle.std.specs.List.{AllByRecursion}
-use Rattle.std.specs.Prelude.{List, Option, map, true, ◌<◌, ◌^◌, ◌≡◌}
+use Rattle.std.specs.Prelude.{Err, List, Ok, Option, Result, map, true, ◌<◌, ◌^◌, ◌≡◌}
 use Rattle.merge_units.specs.declared.site_row.PublisherRow.{PublisherRow}
 use Rattle.merge_gens.specs.declared.closings.Closing.{Closing}
+use Rattle.merge_batch.specs.declared.refusal.Refusal.{Refusal}
+use Rattle.merge_batch.specs.declared.reply.Uploaded.{Uploaded}
 use Rattle.merge_model.specs.Tables.{PublisherTables}
 use Rattle.merge_ports.specs.Entries.{Map}
 use Rattle.merge_record.specs.Tables.{IsRowKey, IsRowSite}
@@ -14,6 +16,7 @@ use Rattle.merge_keeper.specs.declared.stored.PublisherStored.{PublisherStored}
 use Rattle.merge_pub.specs.After.{after}
 use Rattle.merge_pub.specs.declared.changes.Changes.{Changes}
 use Rattle.merge_pub.specs.declared.changes.Draft.{Draft}
+use Rattle.merge_pub.specs.declared.uploading.UploadDraft.{UploadDraft}
 use Rattle.merge_world.specs.Printable.{AreLostPrintable, ArePrintable}
 use Rattle.merge_site.specs.Grants.{granted_by}
 use Rattle.merge_site.specs.Kept.{IsKept}
@@ -34,6 +37,21 @@ publisher_stored p = record {
   grants = p.grants;
   held = p.held;
   sites = p.sites;
+}
+
+-- tables that are stored, as a publisher holds them
+abbrev pub stored_tables : PublisherStored → PublisherTables
+stored_tables t = record {
+  changes = t.changes;
+  gens = record { filling = t.filling; closings = t.closings };
+  conflict_count = t.conflict_count;
+  latest = t.latest;
+  rows = t.rows;
+  mappings = t.mappings;
+  conflicts = t.conflicts;
+  grants = t.grants;
+  held = t.held;
+  sites = t.sites;
 }
 
 -- the records of the tables
@@ -79,6 +97,11 @@ pub record FitFields (c : PublisherChanges) : Type 0 where
   pub grants : AllByRecursion HasGrantKey c.grants
   pub held : AllByRecursion (λ p. (p.0 < 2 ^ 8) × (was_received p ≡ true)) c.held
   pub sites : AllEditKeys (λ n. n < 2 ^ 16) c.sites
+
+-- an upload that was worked out, with what is told to the site
+abbrev pub told_alone : Result UploadDraft Refusal → Result (Draft × Uploaded) Refusal
+told_alone (Ok drafted) = Ok (drafted.draft, drafted.told)
+told_alone (Err why) = Err why
 
 -- the tables after a draft, and what the call answers
 abbrev pub drafted : {A : Type 0} → PublisherTables → Draft × A → PublisherTables × A

@@ -10,6 +10,7 @@ ghost use Rattle.merge_model.specs.PublisherRanges.{ranges};
 ghost use Rattle.merge_pub.specs.Held.{tables_of};
 ghost use Rattle.merge_pub.specs.Uploaded.{asked_on, upload_by};
 ghost use Rattle.merge_resolve.specs.Asked.{says_at};
+ghost use Rattle.merge_site.specs.Publishers.{told_alone};
 ghost use Rattle.merge_world.specs.Views.{PublisherCall};
 
 use crate::publisher::KeptPublisher;
@@ -18,14 +19,14 @@ use merge_batch::{
     Download, Downloaded, Join, Joined, RangeAsk, Ranged, Refusal, Reply, Request, Upload, Uploaded,
 };
 use merge_ports::Keeper;
-use merge_pub::{Draft, Publisher};
+use merge_pub::{Draft, Publisher, UploadDraft};
 use merge_resolve::Handed;
 use merge_types::{Moment, Steps};
 use std::marker::Brand;
 use std::sync::ledger::{Blank, Ledger};
 
-// Whether a request for ranges changes a record, where it was worked out.
-fn ranges_commit(
+/// Whether a request for ranges changes a record, where it was worked out.
+pub(crate) fn ranges_commit(
     publisher: &Publisher,
     now: Moment,
     worked: &Result<(Draft, Ranged), Refusal>,
@@ -35,6 +36,16 @@ fn ranges_commit(
     match worked {
         Ok((draft, _)) => publisher.commits_ranges(now, draft),
         Err(_) => false,
+    }
+}
+
+// An upload that was worked out, with what is told to the site. What was decided is not needed.
+fn told_alone(drafted: Result<UploadDraft, Refusal>) -> Result<(Draft, Uploaded), Refusal>
+    ensures { result ≡ told_alone drafted }
+{
+    match drafted {
+        Ok(drafted) => Ok((drafted.draft, drafted.told)),
+        Err(why) => Err(why),
     }
 }
 
@@ -111,7 +122,8 @@ impl<K: Keeper> KeptPublisher<K> {
         self.publisher.sorted();
         let commits = self.publisher.commits_upload(now, m);
         let mut steps = Steps::<L>::new(blank);
-        let worked = self.publisher.draft_upload(resolvers, now, m, &mut steps);
+        let drafted = self.publisher.draft_upload(resolvers, now, m, &mut steps);
+        let worked = told_alone(drafted);
         finish(
             self.alloc,
             &mut self.keeper,

@@ -1,0 +1,5 @@
+pub mod Entries
+pub mod Lines
+pub mod Matching
+pub mod Numbers
+pub mod Sums

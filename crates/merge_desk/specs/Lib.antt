@@ -1,0 +1,7 @@
+pub mod Marks
+pub mod Replay
+pub mod Views
+pub mod Comparing
+pub mod Working
+pub mod Ending
+pub mod Summary

@@ -1,0 +1,87 @@
+//! The end of a desk.
+ghost use Rattle.std.specs.List.{sum_by};
+ghost use Rattle.std.specs.Prelude.{◌≡◌, ◌+◌, ◌≤◌, IfErr, IfOk, List, length};
+ghost use Rattle.merge_desk.specs.Comparing.{AllToldAsKept};
+ghost use Rattle.merge_desk.specs.Ending.{IsDiffering};
+ghost use Rattle.merge_desk.specs.Views.{IsJournal, seat_call_parts, seat_calls, seat_fault_parts, seat_faults};
+
+use crate::comparing::{SeatDifference, compare_all};
+use crate::entry::Entry;
+use crate::mark::Mark;
+use crate::opening::Opening;
+use crate::seat::Seat;
+use crate::state::DeskState;
+use merge_draft::DraftingPublisher;
+use std::sync::ledger::{Ledger, Share};
+
+/// What a desk leaves whose seats were told what the journal has of them.
+#[derive(Drop)]
+pub struct Closed<P: DraftingPublisher> {
+    pub journal: Vec<Entry>,
+    pub publisher: P,
+}
+
+/// What a desk leaves whose journal has something else than a seat was told: the first such seat,
+/// and the first two marks that differ. In place of one that there is not stands one with place 0.
+#[derive(Drop)]
+pub struct Differs<P: DraftingPublisher> {
+    pub seat: u16,
+    pub told: Mark,
+    pub kept: Mark,
+    pub publisher: P,
+}
+
+// Gathers the shares of all seats.
+fn gather<L: Ledger, M: Ledger>(all: &mut Share<L>, broken: &mut Share<M>, seats: Vec<Seat<L, M>>)
+    ensures calls { (all.new.parts ≡ all.old.parts + sum_by seat_call_parts seats.items) × (all.new.amount ≡ all.old.amount + sum_by seat_calls seats.items) }
+    ensures faults { (broken.new.parts ≡ broken.old.parts + sum_by seat_fault_parts seats.items) × (broken.new.amount ≡ broken.old.amount + sum_by seat_faults seats.items) }
+{
+    for seat in seats {
+        let Seat {
+            number: _,
+            told: _,
+            calls,
+            faults,
+        } = seat;
+        all.merge(calls);
+        broken.merge(faults);
+    }
+}
+
+impl<P: DraftingPublisher, L: Ledger, M: Ledger, O: Opening> DeskState<P, L, M, O> {
+    // The journal and the publisher, where all seats are back.
+    pub(crate) fn end(self, seats: Vec<Seat<L, M>>) -> Result<Closed<P>, Differs<P>>
+        requires calls { sum_by seat_call_parts seats.items ≡ L.parts }
+        requires faults { sum_by seat_fault_parts seats.items ≡ M.parts }
+        ensures journal { IfOk result (λ closed. IsJournal O.publication O.tables closed.journal.items (P.view closed.publisher).tables) }
+        ensures told { IfOk result (λ closed. AllToldAsKept closed.journal.items seats.items) }
+        ensures calls { IfOk result (λ closed. length closed.journal.items ≡ sum_by seat_calls seats.items) }
+        ensures faults { IfOk result (λ closed. O.count + sum_by seat_faults seats.items ≤ (P.view closed.publisher).faults) }
+        ensures differs { IfErr result (λ d. IsDiffering O.publication O.tables (P.view d.publisher).tables seats.items d.seat d.told d.kept) }
+        ensures broken { IfErr result (λ d. O.count + sum_by seat_faults seats.items ≤ (P.view d.publisher).faults) }
+    {
+        let DeskState {
+            alloc: _,
+            publisher,
+            journal,
+            mut calls,
+            mut faults,
+            no_calls: mut all,
+            no_faults: mut broken,
+            of: _,
+        } = self;
+        let compared = compare_all(&seats, &journal);
+        gather(&mut all, &mut broken, seats);
+        calls.audit(&mut all);
+        faults.audit(&mut broken);
+        match compared {
+            Ok(()) => Ok(Closed { journal, publisher }),
+            Err(SeatDifference { seat, told, kept }) => Err(Differs {
+                seat,
+                told,
+                kept,
+                publisher,
+            }),
+        }
+    }
+}

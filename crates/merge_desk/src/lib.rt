@@ -1,0 +1,26 @@
+//! A publisher that callers share: one lock, one journal, and a seat for each caller.
+#![tactic(auto)]
+
+mod comparing;
+mod desk;
+mod ending;
+mod entry;
+mod fault;
+mod mark;
+mod opening;
+mod seat;
+mod state;
+mod telling;
+#[cfg(test)]
+mod tests;
+mod working;
+
+pub use desk::{Desk, DeskStart};
+pub use ending::{Closed, Differs};
+pub use entry::{Entry, Receipt};
+pub use fault::DeskFault;
+pub use mark::Mark;
+pub use opening::Opening;
+pub use seat::Seat;
+pub use state::DeskState;
+pub use telling::summary;

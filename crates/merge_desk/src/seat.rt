@@ -1,0 +1,42 @@
+//! A caller's place at a desk.
+ghost use Rattle.std.specs.Prelude.{◌≡◌};
+
+use crate::mark::Mark;
+use std::marker::Model;
+use std::sync::ledger::{Ledger, Share};
+
+/// A caller's place at the desk: its number, and the marks of the calls that were answered. It holds
+/// a share of the ledger of calls and one of the ledger of store faults.
+#[derive(Drop)]
+pub struct Seat<L: Ledger, M: Ledger> {
+    pub(crate) number: u16,
+    pub(crate) told: Vec<Mark>,
+    pub(crate) calls: Share<L>,
+    pub(crate) faults: Share<M>,
+}
+
+impl<L: Ledger, M: Ledger> Model for Seat<L, M> {
+    ghost use Rattle.std.specs.Prelude.{◌≤◌, length};
+    ghost use Rattle.merge_desk.specs.Views.{SeatView};
+
+    ghost Value = { SeatView };
+
+    ghost view = { λ s. record { number = s.number; told = s.told.items; calls = s.calls.amount; faults = s.faults.amount; call_parts = s.calls.parts; fault_parts = s.faults.parts } };
+
+    ghost invariant = { λ s. (1 ≤ s.calls.parts) × (1 ≤ s.faults.parts) × (length s.told.items ≤ s.calls.amount) };
+}
+
+impl<L: Ledger, M: Ledger> Seat<L, M> {
+    pub fn number(&self) -> u16
+        ensures { result ≡ self.now.number }
+    {
+        self.number
+    }
+
+    /// The marks of the calls that were answered, in order.
+    pub fn told(&self) -> &[Mark]
+        ensures { result.now ≡ self.now.told }
+    {
+        &self.told
+    }
+}

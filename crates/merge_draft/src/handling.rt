@@ -1,0 +1,33 @@
+//! A request in one call.
+ghost use Rattle.std.specs.Prelude.{◌≡◌, ℕ};
+ghost use Rattle.merge_model.specs.Calls.{Called, Counted, handled, questions_on, request_commits};
+
+use crate::drafting::{Drafted, DraftingPublisher};
+use merge_batch::{Refusal, Reply, Request};
+use merge_ports::KeepFault;
+use merge_types::Moment;
+
+/// Works a request out and puts it in place.
+pub fn handle<P: DraftingPublisher>(
+    publisher: &mut P,
+    now: Moment,
+    request: &Request,
+) -> Result<Reply, Refusal>
+    ensures called { Called (handled (P.view publisher.old).publication (P.view publisher.old).says (P.view publisher.old).tallies now request.now (P.view publisher.old).tables)
+        (request_commits (P.view publisher.old).publication now request.now (P.view publisher.old).tables) (P.view publisher.old).tables (P.view publisher.new).tables (P.view publisher.old).faults (P.view publisher.new).faults result }
+    ensures counted { Counted (handled (P.view publisher.old).publication (P.view publisher.old).says (P.view publisher.old).tallies now request.now (P.view publisher.old).tables)
+        (questions_on (P.view publisher.old).publication now request.now (P.view publisher.old).tables) (P.view publisher.old).tallies (P.view publisher.new).tallies result }
+    ensures steady { (k n : ℕ) (asked : _) → (P.view publisher.new).says k n asked ≡ (P.view publisher.old).says k n asked }
+    ensures publication { (P.view publisher.new).publication ≡ (P.view publisher.old).publication }
+{
+    let Drafted {
+        work,
+        reply,
+        decisions: _,
+    } = publisher.draft(now, request)?;
+    match publisher.settle(work) {
+        Ok(()) => Ok(reply),
+        Err(KeepFault::Failed) => Err(Refusal::StoreFault),
+        Err(KeepFault::NoMemory) => Err(Refusal::NoMemory),
+    }
+}

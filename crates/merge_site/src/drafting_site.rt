@@ -1,0 +1,64 @@
+//! A publisher that holds its resolvers, and answers a request in two calls.
+use crate::held_publisher::HeldPublisher;
+use crate::publisher::KeptPublisher;
+use crate::request_draft::RequestDraft;
+use merge_batch::{Refusal, Request};
+use merge_draft::{Drafted, DraftingPublisher};
+use merge_ports::{KeepFault, Keeper};
+use merge_resolve::{Handed, Resolver};
+use merge_types::Moment;
+
+/// A kept publisher with its resolvers.
+#[derive(Drop)]
+pub struct DraftingSite<K: Keeper> {
+    site: HeldPublisher<K>,
+    resolvers: Vec<Handed>,
+}
+
+impl<K: Keeper> DraftingSite<K> {
+    ghost use Rattle.std.specs.Prelude.{◌≡◌};
+    ghost use Rattle.merge_pub.specs.Held.{publication_of, tables_of};
+
+    /// Of a kept publisher and the resolvers that decide its conflicts, by their places.
+    pub fn new(site: KeptPublisher<K>, resolvers: Vec<Handed>) -> DraftingSite<K>
+        ensures publication { publication_of result.site.held ≡ site.publication }
+        ensures tables { tables_of result.site.held ≡ site.tables }
+        ensures faults { result.site.faults ≡ site.faults }
+        ensures resolvers { result.resolvers ≡ resolvers }
+    {
+        DraftingSite {
+            site: HeldPublisher::of(site),
+            resolvers,
+        }
+    }
+}
+
+impl<K: Keeper> DraftingPublisher for DraftingSite<K> {
+    ghost use Rattle.std.specs.Prelude.{map};
+    ghost use Rattle.merge_pub.specs.After.{after};
+    ghost use Rattle.merge_pub.specs.Held.{publication_of, tables_of};
+    ghost use Rattle.merge_resolve.specs.Asked.{says_at};
+    ghost use Rattle.merge_site.specs.Drafting.{IsFit};
+
+    type Work = RequestDraft;
+
+    ghost view = { λ s. record { publication = publication_of s.site.held; tables = tables_of s.site.held; faults = s.site.faults; says = says_at (λ r. (Resolver-box r).says r.value) s.resolvers.items; tallies = map (λ r. (Resolver-box r).tally_of r.value) s.resolvers.items } };
+
+    ghost after = { λ work p. after work.draft.changes p };
+
+    ghost commits = { λ work. work.commits };
+
+    ghost IsReady = { λ s work. IsFit s.site.held work };
+
+    fn draft(&mut self, now: Moment, request: &Request) -> Result<Drafted<RequestDraft>, Refusal> {
+        self.site.draft(&mut self.resolvers, now, request)
+    }
+
+    fn settle(&mut self, work: RequestDraft) -> Result<(), KeepFault> {
+        self.site.settle(work)
+    }
+
+    fn faults(&self) -> u64 {
+        self.site.faults()
+    }
+}
