@@ -1,4 +1,6 @@
-//! The example of the format, cut, faulty and hostile inputs.
+//! The example of the format, cut and hostile inputs, and failing ports.
+mod faults;
+
 use crate::{Message, WireFault, is_visible, read_message, read_response, write_message};
 use merge_ports::{MemorySink, MemorySource, Short, Sink, Source};
 use merge_types::{Listing, Octets, Words};
@@ -104,7 +106,7 @@ fn write_join(
     alloc: Global,
     failing: &[u64],
     most: usize,
-) -> Result<(bool, Short<MemorySink>), Fail> {
+) -> Result<(Option<WireFault>, Short<MemorySink>), Fail> {
     let host = "127.0.0.1:7000";
     let path = "/merge/join";
     if !is_visible(host) || !is_visible(path) {
@@ -120,13 +122,13 @@ fn write_join(
     let port = MemorySink::new(alloc, Listing::new(failing.to_vec(alloc)?));
     let mut sink = Short { port, most };
     let result = write_message(&mut sink, &join);
-    Ok((result.is_ok(), sink))
+    Ok((result.err(), sink))
 }
 
 #[test]
 fn a_request_is_written_line_by_line(rt: HostRuntime) -> Result<(), Fail> {
-    let (done, sink) = write_join(rt.alloc(), &[], 1000)?;
-    assert!(rt; done);
+    let (fault, sink) = write_join(rt.alloc(), &[], 1000)?;
+    assert_eq!(rt; fault, None);
     assert_eq!(rt; sink.port.bytes.as_slice(), JOIN);
     Ok(())
 }
@@ -134,10 +136,16 @@ fn a_request_is_written_line_by_line(rt: HostRuntime) -> Result<(), Fail> {
 #[test]
 fn each_failing_write_leaves_a_front(rt: HostRuntime) -> Result<(), Fail> {
     for failing in 0..30 {
-        let (done, sink) = write_join(rt.alloc(), &[failing], 20)?;
-        assert_eq!(rt; done, sink.faults() == 0, "at {failing}");
+        let (fault, sink) = write_join(rt.alloc(), &[failing], 20)?;
+        let is_whole = sink.port.bytes.len() == JOIN.len();
+        let wanted = if is_whole {
+            None
+        } else {
+            Some(WireFault::WriteFault)
+        };
+        assert_eq!(rt; fault, wanted, "at {failing}");
+        assert_eq!(rt; sink.faults() == 0, is_whole, "at {failing}");
         assert!(rt; JOIN.starts_with(sink.port.bytes.as_slice()));
-        assert_eq!(rt; done, sink.port.bytes.len() == JOIN.len(), "at {failing}");
     }
     Ok(())
 }
@@ -159,125 +167,6 @@ fn responses_are_written_line_by_line(rt: HostRuntime) -> Result<(), Fail> {
     );
     let message = read_response(rt.alloc(), sink.bytes.as_slice())?;
     assert_eq!(rt; message.status, 405);
-    Ok(())
-}
-
-// A head with so many fields more, and a body of one byte.
-fn begun(alloc: Global, field: &str, times: u32) -> Result<String, Fail> {
-    let mut text = String::from_str(alloc, "POST / HTTP/1.1\r\nContent-Length: 1\r\n")?;
-    for _ in 0..times {
-        text.push_str(field)?;
-    }
-    Ok(text)
-}
-
-fn with_fields(alloc: Global, field: &str, times: u32) -> Result<String, Fail> {
-    let mut text = begun(alloc, field, times)?;
-    text.push_str("\r\nx")?;
-    Ok(text)
-}
-
-#[test]
-fn odd_heads(rt: HostRuntime) -> Result<(), Fail> {
-    let heads = [
-        (b"GET /x HTTP/1.0\ncontent-length:0\n\n".as_slice(), None),
-        (
-            b"\r\n\nPOST /x HTTP/1.1\r\nCONTENT-LENGTH: \t 0 \r\n\r\n",
-            None,
-        ),
-        (b"POST /x HTTP/1.1\r\n\r\n", Some(WireFault::BadLength)),
-        (
-            b"POST /x HTTP/1.1\r\nContent-Length: 1\r\nContent-Length: 1\r\n\r\nx",
-            Some(WireFault::BadLength),
-        ),
-        (
-            b"POST /x HTTP/1.1\r\nContent-Length: 1, 1\r\n\r\nx",
-            Some(WireFault::BadLength),
-        ),
-        (
-            b"POST /x HTTP/1.1\r\nContent-Length: +1\r\n\r\nx",
-            Some(WireFault::BadLength),
-        ),
-        (
-            b"POST /x HTTP/1.1\r\nContent-Length: -1\r\n\r\nx",
-            Some(WireFault::BadLength),
-        ),
-        (
-            b"POST /x HTTP/1.1\r\nContent-Length: 01\r\n\r\nx",
-            Some(WireFault::BadLength),
-        ),
-        (
-            b"POST /x HTTP/1.1\r\nContent-Length: 0x1\r\n\r\nx",
-            Some(WireFault::BadLength),
-        ),
-        (
-            b"POST /x HTTP/1.1\r\nContent-Length:\r\n\r\nx",
-            Some(WireFault::BadLength),
-        ),
-        (
-            b"POST /x HTTP/1.1\r\nContent-Length: 18446744073709551616\r\n\r\nx",
-            Some(WireFault::BadLength),
-        ),
-        (
-            b"POST /x HTTP/1.1\r\nContent-Length: 1\r\nTransfer-Encoding: chunked\r\n\r\nx",
-            Some(WireFault::BadLength),
-        ),
-        (
-            b"POST /x HTTP/1.1\r\nContent-Length: 134217729\r\n\r\nx",
-            Some(WireFault::TooLong {
-                length: 134_217_729,
-            }),
-        ),
-        (
-            b"POST /x HTTP/1.1\r\nContent-Length: 18446744073709551615\r\n\r\nx",
-            Some(WireFault::TooLong {
-                length: 18_446_744_073_709_551_615,
-            }),
-        ),
-        (
-            b"POST /x HTTP/1.1\r\nContent-Length: 134217728\r\n\r\n0123456789",
-            Some(WireFault::Ended),
-        ),
-        (
-            b"POST /x HTTP/2.0\r\nContent-Length: 0\r\n\r\n",
-            Some(WireFault::BadHead),
-        ),
-        (
-            b"POST  /x HTTP/1.1\r\nContent-Length: 0\r\n\r\n",
-            Some(WireFault::BadHead),
-        ),
-        (
-            b"POST /x HTTP/1.1\r\nContent Length: 0\r\n\r\n",
-            Some(WireFault::BadHead),
-        ),
-        (b"\x16\x03\x01\x02\x00", Some(WireFault::BadHead)),
-        (b"", Some(WireFault::Ended)),
-    ];
-    for (head, fault) in heads {
-        assert_eq!(rt; request_fault(rt.alloc(), head)?, fault, "{head:?}");
-    }
-    // at most 32 fields, and 8,192 bytes
-    let text = with_fields(rt.alloc(), "a:\r\n", 31)?;
-    assert_eq!(rt; request_fault(rt.alloc(), text.as_bytes())?, None);
-    let text = with_fields(rt.alloc(), "a:\r\n", 32)?;
-    assert_eq!(rt;
-        request_fault(rt.alloc(), text.as_bytes())?,
-        Some(WireFault::BadHead)
-    );
-    // 42 bytes of the head stand around the value
-    for (padding, fault) in [(8150, None), (8151, Some(WireFault::BadHead))] {
-        let mut field = String::from_str(rt.alloc(), "a:")?;
-        for _ in 0..padding {
-            field.push('b')?;
-        }
-        field.push_str("\r\n")?;
-        let text = with_fields(rt.alloc(), field.as_str(), 1)?;
-        assert_eq!(rt;
-            request_fault(rt.alloc(), text.as_bytes())?,
-            fault,
-            "{padding}"
-        );
-    }
     Ok(())
 }
 
@@ -306,70 +195,6 @@ fn reads_follow_the_bytes(rt: HostRuntime) -> Result<(), Fail> {
         let message = read_message(rt.alloc(), &mut source)?;
         assert_eq!(rt; message.body.len(), length);
         assert_eq!(rt; source.calls, (head.len() as u64).saturating_add(reads));
-    }
-    Ok(())
-}
-
-// What ends inside a head has ended where a head can still come of it.
-#[test]
-fn a_bad_front_has_not_ended(rt: HostRuntime) -> Result<(), Fail> {
-    for (bytes, fault) in [
-        (b"GET /".as_slice(), WireFault::Ended),
-        (b"G\x00", WireFault::BadHead),
-        (b"POST / HTTP/2", WireFault::BadHead),
-        (b"POST / HTTP/1.1\r\na b", WireFault::BadHead),
-        (b"POST / HTTP/1.1\na: b\n", WireFault::Ended),
-        (b"POST / HTTP/1.1\na: b\r", WireFault::Ended),
-        (b"POST / HTTP/1.1\na: b\rc", WireFault::BadHead),
-    ] {
-        assert_eq!(rt; request_fault(rt.alloc(), bytes)?, Some(fault), "{bytes:?}");
-    }
-    // a field too many
-    let mut text = begun(rt.alloc(), "a:\n", 31)?;
-    text.push_str("a:")?;
-    assert_eq!(rt;
-        request_fault(rt.alloc(), text.as_bytes())?,
-        Some(WireFault::Ended)
-    );
-    text.push('\n')?;
-    assert_eq!(rt;
-        request_fault(rt.alloc(), text.as_bytes())?,
-        Some(WireFault::BadHead)
-    );
-    Ok(())
-}
-
-#[test]
-fn odd_responses(rt: HostRuntime) -> Result<(), Fail> {
-    let responses = [
-        (
-            b"HTTP/1.1 404\r\nContent-Length: 0\r\n\r\n".as_slice(),
-            None,
-        ),
-        (b"HTTP/1.1 200 OK\r\nContent-Length: 3\r\n\r\nabcd", None),
-        (
-            b"HTTP/1.1 200 OK\r\nContent-Length: 5\r\n\r\nabcd",
-            Some(WireFault::Ended),
-        ),
-        (b"HTTP/1.1 200 OK\r\n\r\n", Some(WireFault::BadLength)),
-        (
-            b"HTTP/1.1 200 OK\r\nContent-Length: 134217729\r\n\r\n",
-            Some(WireFault::TooLong {
-                length: 134_217_729,
-            }),
-        ),
-        (
-            b"HTTP/1.1 20 OK\r\nContent-Length: 0\r\n\r\n",
-            Some(WireFault::BadHead),
-        ),
-        (b"HTTP/1.1 ", Some(WireFault::Ended)),
-        (
-            b"POST / HTTP/1.1\r\nContent-Length: 0\r\n\r\n",
-            Some(WireFault::BadHead),
-        ),
-    ];
-    for (bytes, fault) in responses {
-        assert_eq!(rt; response_fault(rt.alloc(), bytes)?, fault, "{bytes:?}");
     }
     Ok(())
 }
