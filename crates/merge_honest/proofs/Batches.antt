@@ -24,3 +24,19 @@ batch-holds P items from last base each =
     let within : min generation_limit (last - from) ≤ last - from = grind (arith, nat_tests) in
     last-holds P (λ (to : ℕ). nat_le (items to) item_limit) (min generation_limit (last - from)) (from + 1) from None
     (λ k low up is. each k (omega (arith, low)) (omega (arith, up, few)) (omega (arith, low, up, within)) is) base
+
+-- and behind where it begins, where the next generation is within the limits
+first-ends : (from d : ℕ) (b : Bool) (kept : List ℕ) → b ≡ true → from < unwrap_or (last_or (Some (from + 1)) kept) d → from < unwrap_or (last_or None (cond b ((from + 1) ∷ kept) kept)) d
+first-ends from d true kept is goes = goes
+first-ends from d false kept is goes = absurd cc
+
+some-ends : (items : ℕ → ℕ) (from last n : ℕ) → n ≡ min generation_limit (last - from) → from < last → nat_le (items (from + 1)) item_limit ≡ true
+    → from < unwrap_or (last_or None (filter (λ (to : ℕ). nat_le (items to) item_limit) (range_with_len (from + 1) n))) from
+some-ends items from last zero is more few = absurd (grind (arith, nat_tests, is, more))
+some-ends items from last (suc n) is more few =
+    let test : ℕ → Bool = λ (to : ℕ). nat_le (items to) item_limit in
+    first-ends from from (test (from + 1)) (filter test (range_with_len (from + 1 + 1) n)) few
+    (last-holds (λ (k : ℕ). from < k) test n (from + 1 + 1) from (Some (from + 1)) (λ k low up passes. omega (arith, low)) (omega arith))
+
+pub batch-goes : (items : ℕ → ℕ) (from last : ℕ) → from < last → items (from + 1) ≤ item_limit → from < batch_end items from last
+batch-goes items from last more few = some-ends items from last (min generation_limit (last - from)) refl more (grind (arith, nat_tests, few))

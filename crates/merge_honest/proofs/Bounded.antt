@@ -1,9 +1,9 @@
 -- Every step keeps counters below the limit, but for one step.
 use Rattle.std.specs.List.{fold}
-use Rattle.std.specs.Prelude.{Bool, Err, IfOk, List, None, Ok, Option, Result, Some, [], false, filter, if◌then◌else◌, length, map, max, nat_le, refl, true, ℕ, ◌%◌, ◌/◌, ◌+◌, ◌<◌, ◌==◌, ◌≡◌, ◌≤◌, ◌∷◌}
-use Rattle.std.proofs.Common.{ap, arith, subst, sym, ◌∙◌}
+use Rattle.std.specs.Prelude.{Bool, Err, IfOk, List, None, Ok, Option, Result, Some, [], false, if◌then◌else◌, map, max, nat_le, refl, true, ℕ, ◌%◌, ◌/◌, ◌+◌, ◌<◌, ◌==◌, ◌≡◌, ◌≤◌, ◌∷◌}
+use Rattle.std.proofs.Common.{arith}
 use Rattle.std.proofs.lemmas.Bool.Decides.{nat_tests}
-use Rattle.merge_types.specs.Limits.{counter_limit, entry_limit, item_limit}
+use Rattle.merge_types.specs.Limits.{counter_limit, entry_limit}
 use Rattle.merge_types.specs.declared.changes.Change.{Change}
 use Rattle.merge_types.specs.declared.identifiers.Moment.{Moment}
 use Rattle.merge_types.specs.declared.identifiers.RowId.{RowId}
@@ -17,7 +17,6 @@ use Rattle.merge_schema.specs.declared.publication.Publication.{Publication}
 use Rattle.merge_batch.specs.declared.refusal.Refusal.{Refusal}
 use Rattle.merge_batch.specs.declared.reply.Reply.{Reply}
 use Rattle.merge_batch.specs.declared.reply.Reply.TheVariants as reply
-use Rattle.merge_batch.specs.declared.request.Download.{Download}
 use Rattle.merge_batch.specs.declared.request.Join.{Join}
 use Rattle.merge_batch.specs.declared.request.Outstanding.{Outstanding}
 use Rattle.merge_batch.specs.declared.request.Outstanding.TheVariants as ask
@@ -26,11 +25,11 @@ use Rattle.merge_batch.specs.declared.request.Upload.{Upload}
 use Rattle.merge_model.specs.Changes.{key_of, version_after}
 use Rattle.merge_model.specs.Faults.{reply_fault}
 use Rattle.merge_model.specs.Judge.{SubscriberJudge}
-use Rattle.merge_model.specs.Publisher.{counters}
-use Rattle.merge_model.specs.Refusals.{counter_end, first_refusal, unless}
-use Rattle.merge_model.specs.Reinit.{reinitialise, reinitialised}
-use Rattle.merge_model.specs.Sending.{join_made, join_of, make_ask, make_join, make_ranges, make_upload, ranges_made, sending_refusal, unsent_rows, upload_made, upload_sent, want_of, with_message}
-use Rattle.merge_model.specs.Subscriber.{close_sub_generation, is_joining, sub_at_moment, sub_closed, sub_counters, sub_drawn, sub_last_closed, sub_local, sub_local_refusal, sub_made_locally, sub_next_dot, sub_version_at, with_version_if}
+use Rattle.merge_model.specs.Publisher.{counters, last_closed}
+use Rattle.merge_model.specs.Refusals.{counter_end, unless}
+use Rattle.merge_model.specs.Reinit.{reinitialised}
+use Rattle.merge_model.specs.Sending.{join_made, join_of, ranges_made, sending_refusal, unsent_rows, upload_made, upload_sent, want_of, with_message}
+use Rattle.merge_model.specs.Subscriber.{is_joining, sub_at_moment, sub_closed, sub_counters, sub_drawn, sub_last_closed, sub_local_refusal, sub_made_locally, sub_next_dot, sub_version_at, with_version_if}
 use Rattle.merge_model.specs.Tables.{PublisherTables, SubscriberTables}
 use Rattle.merge_model.specs.Taking.{met_by, seq_of, take_reply, taken}
 use Rattle.merge_model.specs.declared.outcome.Taken.{Taken}
@@ -73,15 +72,15 @@ pub record AreLow (s : SubscriberTables) : Type 0 where
 pub sub-low : (s : SubscriberTables) → counter_end (sub_counters s) ≡ None → AreLow s
 sub-low s none = let low = counters-low (sub_counters s) none in record { changes = low.0; closed = low.1.0; seq = low.1.1.0 }
 
-pub publisher-low : (p : PublisherTables) → counter_end (counters p) ≡ None → p.changes < counter_limit
-publisher-low p none = (counters-low (counters p) none).0
+pub publisher-low : (p : PublisherTables) → counter_end (counters p) ≡ None → (p.changes < counter_limit) × (last_closed p < counter_limit)
+publisher-low p none = let low = counters-low (counters p) none in (low.0, low.1.0)
 
 -- Closing, and entries.
 
-closed-up : (filling : Filling) → (fill.closed filling).last_closed ≤ filling.last_closed + 1
+pub closed-up : (filling : Filling) → (fill.closed filling).last_closed ≤ filling.last_closed + 1
 closed-up filling = grind (arith, nat_tests)
 
-closed-unfilled : (filling : Filling) → (fill.closed filling).filled < entry_limit
+pub closed-unfilled : (filling : Filling) → (fill.closed filling).filled < entry_limit
 closed-unfilled filling = grind (arith, nat_tests)
 
 entered-up : (last filled : ℕ) → filled < entry_limit → last + (filled + 1) / entry_limit ≤ last + 1

@@ -1,6 +1,5 @@
 -- What each call of a subscriber keeps that is not refused, every step of the world keeps of all subscribers.
-use Rattle.std.specs.Prelude.{Bool, Err, IfOk, List, None, Ok, Option, Result, Some, false, refl, if◌then◌else◌, true, ℕ, ◌==◌, ◌≡◌}
-use Rattle.std.proofs.Common.{ap, subst, sym, ◌∙◌}
+use Rattle.std.specs.Prelude.{Bool, Err, IfOk, None, Ok, Option, Result, Some, false, refl, if◌then◌else◌, true, ℕ, ◌==◌, ◌≡◌}
 use Rattle.merge_types.specs.declared.changes.Change.{Change}
 use Rattle.merge_types.specs.declared.identifiers.Moment.{Moment}
 use Rattle.merge_types.specs.declared.identifiers.RowId.{RowId}
@@ -21,7 +20,7 @@ use Rattle.merge_batch.specs.declared.request.Request.{Request}
 use Rattle.merge_batch.specs.declared.request.Request.TheVariants as request
 use Rattle.merge_batch.specs.declared.request.Upload.{Upload}
 use Rattle.merge_model.specs.Judge.{PublisherJudge, SubscriberJudge}
-use Rattle.merge_model.specs.Keys.{at_number, put_number}
+use Rattle.merge_model.specs.Keys.{at_number}
 use Rattle.merge_model.specs.Publisher.{close_generation}
 use Rattle.merge_model.specs.PublisherDownload.{download}
 use Rattle.merge_model.specs.PublisherJoin.{join}
@@ -41,8 +40,7 @@ use Rattle.merge_model.specs.declared.letter.Message.TheVariants.{Asks, Replies}
 use Rattle.merge_model.specs.declared.outcome.Outcome.{Outcome}
 use Rattle.merge_model.specs.declared.outcome.Outcome.TheVariants.{Closes, Discards, Made, NoLetter, Refuses, Took}
 use Rattle.merge_model.specs.declared.outcome.Taken.{Taken}
-use Rattle.merge_model.proofs.Finding.{at_put_other, at_put_same, some_same}
-use Rattle.merge_laws.proofs.Subscribing.{number-decided, same_number}
+use Rattle.merge_honest.proofs.PutFound.{put-each}
 
 -- of a message that was made, where one was
 abbrev pub OfMade : {A : Type 0} → (SubscriberTables → Type 0) → Option (SubscriberTables × A) → Type 0
@@ -64,14 +62,8 @@ module _ (publication : Publication) (S : SubscriberTables → Type 0) where
   abbrev pub Holds : World → Type 0
   Holds w = (n : ℕ) (s : SubscriberTables) → at_number w.subscribers n ≡ Some s → S s
 
-  put-at : (subscribers : List (ℕ × SubscriberTables)) (site n : ℕ) (t v : SubscriberTables) (b : Bool) → same_number n site b → S t → ((k : ℕ) (s : SubscriberTables) → at_number subscribers k ≡ Some s → S s) → at_number (put_number subscribers site t) n ≡ Some v → S v
-  put-at subscribers site n t v true same new all found =
-      let put : at_number (put_number subscribers site t) n ≡ Some t = ap (λ (k : ℕ). at_number (put_number subscribers site t) k) same ∙ at_put_same site t subscribers in
-      subst S (some_same t v (sym put ∙ found)) new
-  put-at subscribers site n t v false differs new all found = all n v (sym (at_put_other site n t subscribers differs) ∙ found)
-
   with-holds : (t : SubscriberTables) (w : World) → S t → Holds w → Holds (with_subscriber t w)
-  with-holds t w new h n v found = put-at w.subscribers t.site.0 n t v (n == t.site.0) (number-decided n t.site.0) new h found
+  with-holds t w new h = put-each (λ (n : ℕ) (s : SubscriberTables). S s) w.subscribers t t refl new h
 
   if-holds : (b : Bool) (x y : World × Outcome) → Holds x.0 → Holds y.0 → Holds (if b then x else y).0
   if-holds true x y one other = one

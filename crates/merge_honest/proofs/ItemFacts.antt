@@ -106,7 +106,7 @@ module _ (publication : Publication) (m : Model) (k : Known publication m) where
     pub low : dot.site.0 ≤ 63
     pub numbered : 1 ≤ dot.number
 
-  was-made : (key : Key) (dot : Dot) → is_made h.made key dot ≡ true → WasMade dot
+  pub was-made : (key : Key) (dot : Dot) → is_made h.made key dot ≡ true → WasMade dot
   was-made key dot is = any-out (WasMade dot) (λ (change : MadeChange). same_dot change.dot dot && same_key key change.key) h.made is (λ c inside passes. (
       let same : c.dot ≡ dot = dots-same c.dot dot (let both : same_dot c.dot dot ≡ true = grind (arith, passes) in both) in
       let numbered : 1 ≤ c.dot.number = (all-in (IsKnownLater h.made (counts_in m)) h.made c k.kept.own.making inside).numbered in

@@ -46,7 +46,7 @@ all-true test (x ∷ xs) all = let first = all.0 in let rest = all-true test xs 
 
 -- Rule 9.
 
-none-new : (there : Dot → Bool) (tops : List Dot) → AllByRecursion (λ (top : Dot). there top ≡ true) tops → list_any (is_new there) tops ≡ false
+pub none-new : (there : Dot → Bool) (tops : List Dot) → AllByRecursion (λ (top : Dot). there top ≡ true) tops → list_any (is_new there) tops ≡ false
 none-new there [] all = refl
 none-new there (top ∷ tops) all = let first = all.0 in let rest = none-new there tops all.1 in grind (arith, first, rest)
 
@@ -54,7 +54,7 @@ cells-topped : (publication : Publication) (cells : List Cell) → AllByRecursio
 cells-topped publication [] all = refl
 cells-topped publication (cell ∷ cells) all = let first = all.0 in let rest = cells-topped publication cells all.1 in grind (arith, first, rest)
 
-body-topped : (publication : Publication) (body : Body) → AllByRecursion (λ (top : Dot). is_top publication top ≡ true) (tops_of body) → has_tops publication body ≡ true
+pub body-topped : (publication : Publication) (body : Body) → AllByRecursion (λ (top : Dot). is_top publication top ≡ true) (tops_of body) → has_tops publication body ≡ true
 body-topped publication (Live cells) all = cells-topped publication cells all
 body-topped publication (Dead top) all = all.0
 
@@ -85,7 +85,7 @@ fold-member dot most [] is = absurd cc
 fold-member dot most (other ∷ dots) is = member-by dot other most dots ((other.site.0 == dot.site.0) && (other.number == dot.number)) refl is (λ more later. fold-member dot more dots later)
 
 module _ (publication : Publication) (m : Model) (k : Known publication m) where
-  made-top : (dot : Dot) → WasMade publication m k dot → is_top publication dot ≡ true
+  pub made-top : (dot : Dot) → WasMade publication m k dot → is_top publication dot ≡ true
   made-top dot was = let site = was.site in let number = was.numbered in grind (arith, nat_tests, site, number)
 
   module _ (number : ℕ) (site : SiteId) (u : Upload) (at : IsRequest m number site (request.Upload u)) where

@@ -1,7 +1,6 @@
--- The rules that an upload keeps by how it is made: 2, 3, 5 and 8.
-use Rattle.std.specs.List.{AllByRecursion}
+-- The rules that an upload keeps by how it is made: 1, 2, 3, 5 and 8.
 use Rattle.std.specs.List.Sorted.{IsStrictlySortedBy}
-use Rattle.std.specs.Prelude.{Bool, List, None, Option, Some, [], false, length, map, nat_le, refl, true, ℕ, ◌+◌, ◌-◌, ◌≡◌, ◌≤◌, ◌∷◌}
+use Rattle.std.specs.Prelude.{List, None, Option, Some, [], length, map, nat_le, refl, true, ℕ, ◌+◌, ◌-◌, ◌≡◌, ◌≤◌, ◌∷◌}
 use Rattle.std.specs.declared.cmp.Ordering.TheVariants.{Less}
 use Rattle.std.proofs.Common.{arith}
 use Rattle.std.proofs.lemmas.Bool.Decides.{nat_tests}
@@ -9,17 +8,20 @@ use Rattle.merge_table.proofs.Room.{AreAbove}
 use Rattle.merge_types.specs.Limits.{generation_limit, item_limit}
 use Rattle.merge_types.specs.RowKeys.{key_cmp}
 use Rattle.merge_types.specs.declared.identifiers.SiteId.{SiteId}
-use Rattle.merge_types.specs.declared.row_key.RowKey.{RowKey as Key}
 use Rattle.merge_schema.specs.declared.publication.Publication.{Publication}
-use Rattle.merge_batch.specs.Uploads.{has_few_generations, has_few_items, is_in_interval, row_rises}
+use Rattle.merge_batch.specs.Uploads.{has_few_generations, has_few_items, has_generations, is_in_interval, row_rises}
 use Rattle.merge_batch.specs.declared.request.Request.TheVariants as request
 use Rattle.merge_batch.specs.declared.request.Upload.{Upload}
 use Rattle.merge_batch.specs.declared.request.UploadItem.{UploadItem}
 use Rattle.merge_model.specs.Acts.{key_of_item}
 use Rattle.merge_model.specs.Model.{Model}
+use Rattle.merge_model.specs.declared.letter.Letter.{Letter}
+use Rattle.merge_model.specs.declared.letter.Message.TheVariants.{Asks}
+use Rattle.merge_model.proofs.Finding.{pool-at}
 use Rattle.merge_model.proofs.Lists.{all-unit}
 use Rattle.merge_laws.specs.Laws.{OfEveryValidRun}
 use Rattle.merge_honest.specs.Delivered.{IsRequest, NoneIsRefusedFor, breaks}
+use Rattle.merge_honest.specs.Filled.{HasGeneration, OfUpload}
 use Rattle.merge_honest.specs.SentWell.{IsMadeWell, StandsIn}
 use Rattle.merge_honest.proofs.Breaking.{Follows, follows-all}
 use Rattle.merge_honest.proofs.Rules.{Known, ItemMeets, UploadsKeep, head-met, of-uploads}
@@ -27,6 +29,13 @@ use Rattle.merge_honest.proofs.KnownSenders.{request-well}
 
 made-well : (publication : Publication) (m : Model) (number : ℕ) (site : SiteId) (u : Upload) → Known publication m → IsRequest m number site (request.Upload u) → IsMadeWell u
 made-well publication m number site u k at = (request-well publication m number site (request.Upload u) k.whole at).made
+
+-- an upload that is made has a generation
+begun-meet : (publication : Publication) (m : Model) → Known publication m → UploadsKeep 1 publication m
+begun-meet publication m k number site u at fine =
+    let goes : HasGeneration u = pool-at (λ (letter : Letter). OfUpload HasGeneration letter.message) m.world number (record { site = site; message = Asks (request.Upload u) }) at k.begun in
+    let is : has_generations u ≡ true = grind (arith, nat_tests, goes) in
+    (head-met 1 publication m number u (grind (arith, is)), follows-all (λ (item : UploadItem). Unit {0}) (ItemMeets 1 publication m number u) (λ before item unit. refl) None u.items (all-unit u.items))
 
 few : (from to limit : ℕ) → to ≤ from + limit → nat_le (to - from) limit ≡ true
 few from to limit up = grind (arith, nat_tests, up)
@@ -75,6 +84,9 @@ stands-in u item stands = let low = stands.0 in let high = stands.1 in grind (ar
 intervals-meet : (publication : Publication) (m : Model) → Known publication m → UploadsKeep 8 publication m
 intervals-meet publication m k number site u at fine =
     (head-met 8 publication m number u refl, follows-all (StandsIn u) (ItemMeets 8 publication m number u) (λ before item stands. (let is : is_in_interval u item ≡ true = stands-in u item stands in grind (arith, is))) None u.items (made-well publication m number site u k at).stand)
+
+pub no-upload-without : OfEveryValidRun (NoneIsRefusedFor (breaks 1))
+no-upload-without = of-uploads 1 refl refl begun-meet
 
 pub no-many-generations : OfEveryValidRun (NoneIsRefusedFor (breaks 2))
 no-many-generations = of-uploads 2 refl refl generations-meet

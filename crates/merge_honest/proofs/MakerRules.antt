@@ -135,6 +135,15 @@ module _ (publication : Publication) (m : Model) (k : Known publication m) where
     rows-named : AllByRecursion (λ (item : UploadItem). IsNamed (key_of_item item) item.version (past_in (pasts_with h number) (key_of_item item))) u.items
     rows-named = letter-fits IsNamed m.world h number (record { site = site; message = Asks (request.Upload u) }) at k.named.letters
 
+    -- each row has a maker, and was made by it
+    pub items-named : AllByRecursion (λ (item : UploadItem). (is_some (maker_of item.row.0) ≡ true) × ((maker : Dot) → maker_of item.row.0 ≡ Some maker → is_made h.made (key_of_item item) maker ≡ true)) u.items
+    items-named = all-both (λ (item : UploadItem). ItemKnown publication m k number site u at item × IsOfMade (changes_of m.world) item.version.lineage)
+        (λ (item : UploadItem). KnowsMaker (key_of_item item) (known_to publication m k number site u at item) × IsNamed (key_of_item item) item.version (past_in (pasts_with h number) (key_of_item item)))
+        (λ (item : UploadItem). (is_some (maker_of item.row.0) ≡ true) × ((maker : Dot) → maker_of item.row.0 ≡ Some maker → is_made h.made (key_of_item item) maker ≡ true))
+        (λ item one other. (other.1 (dot-carried item one.0 one.1), λ maker is. one.0.knows.made_here maker (other.0 maker is))) u.items
+        (all-both (ItemKnown publication m k number site u at) (λ (item : UploadItem). IsOfMade (changes_of m.world) item.version.lineage) (λ (item : UploadItem). ItemKnown publication m k number site u at item × IsOfMade (changes_of m.world) item.version.lineage) (λ item one other. (one, other)) u.items (items-known publication m k number site u at) (lineages-made publication m k number site u at))
+        (all-both (λ (item : UploadItem). KnowsMaker (key_of_item item) (known_to publication m k number site u at item)) (λ (item : UploadItem). IsNamed (key_of_item item) item.version (past_in (pasts_with h number) (key_of_item item))) (λ (item : UploadItem). KnowsMaker (key_of_item item) (known_to publication m k number site u at item) × IsNamed (key_of_item item) item.version (past_in (pasts_with h number) (key_of_item item))) (λ item one other. (one, other)) u.items makers-known rows-named)
+
     pub items-made : AllByRecursion (λ (item : UploadItem). has_maker publication (held_against publication m number) u item ≡ true) u.items
     items-made = all-both (λ (item : UploadItem). ItemKnown publication m k number site u at item × IsOfMade (changes_of m.world) item.version.lineage)
         (λ (item : UploadItem). KnowsMaker (key_of_item item) (known_to publication m k number site u at item) × IsNamed (key_of_item item) item.version (past_in (pasts_with h number) (key_of_item item)))

@@ -88,7 +88,7 @@ known-before (other ∷ known) others dot is = before-by other known others dot 
 merged-named : (key : Key) (case : Case) (decision : Decision) (dot : Dot) (ours theirs : Version) (one other : Past) → IsNamed key ours one → IsNamed key (result_by case ours theirs decision dot) (past_by case decision dot one other)
 merged-named key case decision dot ours theirs one other named = λ carried. named (λ known is. carried known (known-before (decided_dots decision dot ++ one.known) other.known known (known-behind (decided_dots decision dot) one.known known is)))
 
-named-goes_on : (publication : Publication) → GoesOn publication IsNamed
+pub named-goes_on : (publication : Publication) → GoesOn publication IsNamed
 named-goes_on publication = record {
   changed = λ dot identity change held rows past fine fits. changed-named publication dot identity change held past fits;
   merged = λ key case decision dot ours theirs one other is counts own t u. merged-named key case decision dot ours theirs one other t;

@@ -1,10 +1,10 @@
 -- The rules that a request keeps by how far numbers go: 4 and 7.
 use Rattle.std.specs.List.{AllByRecursion, list_all}
 use Rattle.std.specs.Option.{option_map_or}
-use Rattle.std.specs.Prelude.{Bool, List, None, Option, Some, [], false, if◌then◌else◌, nat_le, nat_lt, option_map, refl, true, unwrap_or, ℕ, ◌+◌, ◌<◌, ◌==◌, ◌&&◌, ◌||◌, ◌≡◌, ◌≤◌, ◌∷◌}
+use Rattle.std.specs.Prelude.{Bool, None, Option, Some, [], false, if◌then◌else◌, nat_le, nat_lt, option_map, refl, true, unwrap_or, ℕ, ◌+◌, ◌<◌, ◌==◌, ◌||◌, ◌≡◌, ◌≤◌, ◌∷◌}
 use Rattle.std.proofs.Common.{ap, arith, subst, sym, ◌∙◌}
 use Rattle.std.proofs.lemmas.Bool.Decides.{nat_tests}
-use Rattle.merge_types.specs.Limits.{counter_limit, item_limit, number_limit}
+use Rattle.merge_types.specs.Limits.{counter_limit, number_limit}
 use Rattle.merge_types.specs.declared.identifiers.Dot.{Dot}
 use Rattle.merge_types.specs.declared.identifiers.SiteId.{SiteId}
 use Rattle.merge_lineage.specs.Lineage.{number_of}
@@ -12,7 +12,7 @@ use Rattle.merge_gens.specs.declared.sites.SiteState.{SiteState}
 use Rattle.merge_schema.specs.declared.publication.Publication.{Publication}
 use Rattle.merge_batch.specs.Asks.{broken_by_join, join_numbers_fit}
 use Rattle.merge_batch.specs.Known.{received_number_of, received_of}
-use Rattle.merge_batch.specs.Lineages.{has_pair_of, is_pair, is_well_formed, sites_ascend}
+use Rattle.merge_batch.specs.Lineages.{has_pair_of, is_pair, sites_ascend}
 use Rattle.merge_batch.specs.Search.{broken_by_message}
 use Rattle.merge_batch.specs.Uploads.{has_generations, lineage_fits, numbers_go_on, upload_rules}
 use Rattle.merge_batch.specs.declared.request.Join.{Join}
@@ -27,13 +27,12 @@ use Rattle.merge_model.specs.Faults.{join_fault, judged_state}
 use Rattle.merge_model.specs.History.{History, made_at}
 use Rattle.merge_model.specs.Keys.{at_number}
 use Rattle.merge_model.specs.Model.{Model}
-use Rattle.merge_model.specs.Publisher.{site_refusal}
 use Rattle.merge_model.specs.Subscriber.{sub_last_closed}
 use Rattle.merge_model.specs.Tables.{PublisherTables, SubscriberTables}
 use Rattle.merge_model.specs.declared.letter.Letter.{Letter}
 use Rattle.merge_model.specs.declared.letter.Message.TheVariants.{Asks}
-use Rattle.merge_model.proofs.Finding.{all-weaker, found-named, pool-at, some_same}
-use Rattle.merge_model.proofs.Lists.{all-both, all-three, all-unit}
+use Rattle.merge_model.proofs.Finding.{all-weaker, found-named, pool-at}
+use Rattle.merge_model.proofs.Lists.{all-three, all-unit}
 use Rattle.merge_laws.specs.Effects.{history_judge}
 use Rattle.merge_laws.specs.Knowledge.{changes_of}
 use Rattle.merge_laws.specs.Laws.{OfEveryValidRun}
@@ -45,11 +44,11 @@ use Rattle.merge_laws.proofs.Through.{last-rises, order-within}
 use Rattle.merge_honest.specs.Bounded.{IsBounded}
 use Rattle.merge_honest.specs.Delivered.{IsRequest, NoneIsRefusedFor, breaks}
 use Rattle.merge_honest.specs.OwnPairs.{MessageHasOwn}
-use Rattle.merge_honest.proofs.Breaking.{IsOther, fault-never, follows-all, message-other}
+use Rattle.merge_honest.proofs.Breaking.{fault-never, follows-all, message-other}
 use Rattle.merge_honest.proofs.ItemFacts.{IsNumbered, ItemKnown, items-known, lineage-numbered}
 use Rattle.merge_honest.proofs.KnownItems.{all-true, lineages-made}
 use Rattle.merge_honest.proofs.Refusing.{Never}
-use Rattle.merge_honest.proofs.Rules.{AsksKeep, HeadKeeps, ItemMeets, JoinsKeep, Known, RuleKept, UploadsKeep, head-met, held_against, none-breaks, of-uploads, ranges-other}
+use Rattle.merge_honest.proofs.Rules.{HeadKeeps, ItemMeets, JoinsKeep, Known, UploadsKeep, head-met, held_against, none-breaks, of-uploads, ranges-other}
 use Rattle.merge_honest.proofs.KnownSenders.{request-well}
 
 low-number : (n : ℕ) → n ≤ counter_limit → nat_lt n number_limit ≡ true
@@ -152,7 +151,7 @@ module _ (publication : Publication) (m : Model) (k : Known publication m) where
 
   -- a number that a site counts is one that a change can have
   counted-by : (n : ℕ) (b : Bool) (found : Option SubscriberTables) → (n == 0) ≡ b → at_number m.world.subscribers n ≡ found → (if b then p.changes else unwrap_or (option_map (λ (s : SubscriberTables). s.changes) found) 0) < number_limit
-  counted-by n true found own is = let low = k.bounded.publisher in omega (arith, low)
+  counted-by n true found own is = let low = k.bounded.publisher.changes in omega (arith, low)
   counted-by n false None own is = omega arith
   counted-by n false (Some s) own is = let low = (k.bounded.subscribers n s is).changes in omega (arith, low)
 

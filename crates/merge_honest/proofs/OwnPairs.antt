@@ -1,8 +1,8 @@
 -- Every step keeps that what a site sends of its rows has its own number.
 use Rattle.std.specs.BTreeMap.{is_at}
-use Rattle.std.specs.List.{AllByRecursion, fold, last_or, list_any}
+use Rattle.std.specs.List.{AllByRecursion, fold}
 use Rattle.std.specs.Map.{remove_entry}
-use Rattle.std.specs.Prelude.{Bool, List, None, Option, Some, [], cond, false, filter, filter_map, if◌then◌else◌, is_some, map, nat_lt, option_map, refl, true, ℕ, ◌++◌, ◌+◌, ◌==◌, ◌≡◌, ◌≤◌, ◌∷◌}
+use Rattle.std.specs.Prelude.{Bool, List, None, Option, Some, [], cond, false, filter, filter_map, if◌then◌else◌, is_some, map, nat_lt, option_map, refl, true, ℕ, ◌++◌, ◌+◌, ◌≡◌, ◌∷◌}
 use Rattle.std.proofs.Common.{ap, arith, subst, sym, ◌∙◌}
 use Rattle.std.proofs.lemmas.Bool.Decides.{nat_tests}
 use Rattle.merge_types.specs.RowKeys.{key_cmp}
@@ -16,7 +16,6 @@ use Rattle.merge_types.specs.declared.values.Value.{Value}
 use Rattle.merge_lineage.specs.Lineage.{with_dot}
 use Rattle.merge_units.specs.declared.site_row.SubscriberRow.{SubscriberRow}
 use Rattle.merge_units.specs.declared.version.Version.{Version}
-use Rattle.merge_ident.specs.Holders.{Holder}
 use Rattle.merge_schema.specs.Valid.{IsValid}
 use Rattle.merge_schema.specs.declared.publication.Publication.{Publication}
 use Rattle.merge_units.specs.Changes.{changed, removed}
@@ -35,11 +34,10 @@ use Rattle.merge_model.specs.ByHistory.{by_made, changed_between_by_made}
 use Rattle.merge_model.specs.ByNumbers.{changed_between_by_rows, last_between}
 use Rattle.merge_model.specs.Changes.{key_of, version_after}
 use Rattle.merge_model.specs.Failing.{Slips}
-use Rattle.merge_model.specs.History.{History, no_history}
+use Rattle.merge_model.specs.History.{History}
 use Rattle.merge_model.specs.Judge.{SubscriberJudge}
-use Rattle.merge_model.specs.Keys.{at_number, drop_row, put_number, put_row, row_at}
+use Rattle.merge_model.specs.Keys.{drop_row, put_number, put_row, row_at}
 use Rattle.merge_model.specs.Laws.{AreSubSorted}
-use Rattle.merge_model.specs.Model.{Model}
 use Rattle.merge_model.specs.Reinit.{reinitialised}
 use Rattle.merge_model.specs.Runs.{model_behind}
 use Rattle.merge_model.specs.Sending.{upload_end, upload_item, upload_sent, with_message}
@@ -52,16 +50,15 @@ use Rattle.merge_model.specs.declared.letter.Letter.{Letter}
 use Rattle.merge_model.specs.declared.letter.Message.{Message}
 use Rattle.merge_model.specs.declared.letter.Message.TheVariants.{Asks, Replies}
 use Rattle.merge_model.proofs.EntryLists.{all-put}
-use Rattle.merge_model.proofs.Finding.{all-more, at_put_other, at_put_same, found-named, some_same}
+use Rattle.merge_model.proofs.Finding.{all-more, found-named}
 use Rattle.merge_model.proofs.Lists.{OfSome, all-filter_map, all-map}
-use Rattle.merge_laws.specs.Unsent.{gens_in}
 use Rattle.merge_laws.proofs.Changed.{gens_of, rows-changed}
 use Rattle.merge_laws.proofs.Ground.{Ground, grounded-always}
 use Rattle.merge_laws.proofs.Models.{begins-with}
-use Rattle.merge_laws.proofs.Subscribing.{number-decided, same_number}
 use Rattle.merge_laws.proofs.UnsentKept.{all-found, decides-alike, reply-site, version-site}
 use Rattle.merge_laws.proofs.Walking.{StepsKeep, step-keeps}
 use Rattle.merge_honest.specs.OwnPairs.{HasOwn, MessageHasOwn, OwnPairs, RowHasOwn}
+use Rattle.merge_honest.proofs.PutFound.{put-each}
 
 -- A change leaves its own pair.
 
@@ -185,15 +182,8 @@ module _ (publication : Publication) (says : Saying) where
   abbrev OwnPairsIn : World → History → Type 0
   OwnPairsIn w h = OwnPairs w.subscribers w.pool
 
-  rows-at : (subscribers : List (ℕ × SubscriberTables)) (site n : ℕ) (t v : SubscriberTables) (b : Bool) → same_number n site b → AllOwn site t.rows → ((k : ℕ) (x : SubscriberTables) → at_number subscribers k ≡ Some x → AllOwn k x.rows) → at_number (put_number subscribers site t) n ≡ Some v → AllOwn n v.rows
-  rows-at subscribers site n t v true same new all found =
-      let put : at_number (put_number subscribers site t) n ≡ Some t = ap (λ (k : ℕ). at_number (put_number subscribers site t) k) same ∙ at_put_same site t subscribers in
-      subst (λ (x : SubscriberTables). AllOwn n x.rows) (some_same t v (sym put ∙ found)) (subst (λ (k : ℕ). AllOwn k t.rows) (sym same) new)
-  rows-at subscribers site n t v false differs new all found = all n v (sym (at_put_other site n t subscribers differs) ∙ found)
-
   subscriber-on : (w : World) (h : History) (s t : SubscriberTables) → t.site.0 ≡ s.site.0 → AllOwn s.site.0 t.rows → OwnPairsIn w h → OwnPairs (put_number w.subscribers t.site.0 t) w.pool
-  subscriber-on w h s t site new i = subst (λ (k : ℕ). OwnPairs (put_number w.subscribers k t) w.pool) (sym site)
-      (record { rows = λ n v found. rows-at w.subscribers s.site.0 n t v (n == s.site.0) (number-decided n s.site.0) new i.rows found; letters = i.letters })
+  subscriber-on w h s t site new i = record { rows = put-each (λ (n : ℕ) (x : SubscriberTables). AllOwn n x.rows) w.subscribers s t site new i.rows; letters = i.letters }
 
   letter-on : (subscribers : List (ℕ × SubscriberTables)) (pool : List Letter) (site : SiteId) (message : Message) → MessageHasOwn message → OwnPairs subscribers pool → OwnPairs subscribers (pool ++ record { site = site; message = message } ∷ [])
   letter-on subscribers pool site message new i = record { rows = i.rows; letters = all-more (λ (letter : Letter). MessageHasOwn letter.message) pool (record { site = site; message = message }) i.letters new }

@@ -1,9 +1,10 @@
 -- That no request of the pool is refused for a rule of messages, from what each upload that may be taken keeps.
 use Rattle.std.specs.List.{AllByRecursion}
-use Rattle.std.specs.Prelude.{Bool, List, None, Option, Some, [], false, not, refl, true, ℕ, ◌==◌, ◌||◌, ◌≡◌, ◌∷◌}
+use Rattle.std.specs.Prelude.{List, None, Option, [], false, refl, true, ℕ, ◌==◌, ◌≡◌, ◌∷◌}
 use Rattle.std.proofs.Common.{arith}
-use Rattle.std.proofs.lemmas.Bool.Decides.{nat_tests}
 use Rattle.merge_types.specs.declared.identifiers.SiteId.{SiteId}
+use Rattle.merge_types.specs.declared.row_key.RowKey.{RowKey as Key}
+use Rattle.merge_units.specs.declared.version.Version.{Version}
 use Rattle.merge_schema.specs.Valid.{IsValid}
 use Rattle.merge_schema.specs.declared.publication.Publication.{Publication}
 use Rattle.merge_batch.specs.Asks.{broken_by_join, broken_by_ranges, join_numbers_fit, wants_fit}
@@ -18,6 +19,7 @@ use Rattle.merge_batch.specs.declared.request.Upload.{Upload}
 use Rattle.merge_batch.specs.declared.request.UploadItem.{UploadItem}
 use Rattle.merge_model.specs.Failing.{Slips}
 use Rattle.merge_model.specs.Faults.{join_fault, known_by, ranges_fault}
+use Rattle.merge_model.specs.History.{Past}
 use Rattle.merge_model.specs.Judge.{PublisherJudge}
 use Rattle.merge_model.specs.Model.{Model}
 use Rattle.merge_model.specs.Publisher.{site_refusal}
@@ -28,11 +30,20 @@ use Rattle.merge_model.specs.declared.event.Event.{Event}
 use Rattle.merge_laws.specs.Effects.{history_judge}
 use Rattle.merge_laws.specs.Laws.{OfEveryValidRun}
 use Rattle.merge_laws.proofs.LineagesAlways.{Kept, kept-always}
+use Rattle.merge_laws.specs.LineagesStand.{EveryVersion}
+use Rattle.merge_owed.specs.Identity.{TakenStands, ValueWasTaken}
+use Rattle.merge_owed.proofs.IdentityKept.{taken-stands, values-taken}
+use Rattle.merge_honest.specs.Answered.{Answered}
 use Rattle.merge_honest.specs.Bounded.{AreBounded}
+use Rattle.merge_honest.specs.Filled.{HasGeneration}
+use Rattle.merge_honest.specs.HeldRanges.{HeldRanges}
 use Rattle.merge_honest.specs.OwnPairs.{OwnPairs}
+use Rattle.merge_honest.proofs.AnsweredAlways.{answered-always}
 use Rattle.merge_honest.proofs.BoundedAlways.{bounded-always}
+use Rattle.merge_honest.proofs.HasGenerations.{begun-always}
 use Rattle.merge_honest.proofs.Named.{AllNamed, named-always}
 use Rattle.merge_honest.proofs.OwnPairs.{own-pairs-always}
+use Rattle.merge_honest.proofs.UploadWalk.{AllUploads}
 use Rattle.merge_honest.specs.Delivered.{IsRequest, NoneIsRefusedFor, breaks}
 use Rattle.merge_honest.proofs.Breaking.{Follows, IsOther, fault-never, meets, message-other, upload-other}
 use Rattle.merge_honest.proofs.Refusing.{Allows, Never, none-refused}
@@ -46,6 +57,12 @@ pub record Known (publication : Publication) (m : Model) : Type 0 where
   pub bounded : AreBounded m.world
   pub pairs : OwnPairs m.world.subscribers m.world.pool
   pub named : AllNamed m
+  pub begun : AllUploads HasGeneration m.world
+  pub held : HeldRanges publication m.world.publisher.grants m.world.subscribers m.world.pool
+  pub answered : Answered m.world.subscribers m.world.pool
+  -- identity values were taken, and stand
+  pub taken : EveryVersion (λ (key : Key) (version : Version) (past : Past). ValueWasTaken publication m.history.made key version.body) m
+  pub stands : AllByRecursion (TakenStands publication m) m.history.made
 
 pub known-always : (publication : Publication) (says : Saying) (tallies : List ℕ) (slips : Slips) (events : List Event) → (resolvers : ℕ) × IsValid resolvers publication → Known publication (model_behind publication says tallies slips events)
 known-always publication says tallies slips events valid = record {
@@ -54,6 +71,11 @@ known-always publication says tallies slips events valid = record {
   bounded = bounded-always publication says tallies slips events valid;
   pairs = own-pairs-always publication says tallies slips events valid;
   named = named-always publication says tallies slips events valid;
+  begun = (begun-always publication says tallies slips events valid).1;
+  held = (answered-always publication says tallies slips events valid).0;
+  answered = (answered-always publication says tallies slips events valid).1;
+  taken = values-taken valid.0 publication valid.1 says tallies slips events;
+  stands = taken-stands valid.0 publication valid.1 says tallies slips events [] [];
 }
 
 pub allows-breaks : (rule : ℕ) → Allows (breaks rule)
@@ -112,13 +134,23 @@ none-breaks rule kept resolvers publication valid says tallies slips events =
     let k : Known publication m = known-always publication says tallies slips events (resolvers, valid) in
     none-refused (breaks rule) (allows-breaks rule) publication says m (λ number site r at. request-passes publication m k.whole number site (breaks rule) (allows-breaks rule) r at (rules-of rule kept publication m k number site r at))
 
--- a rule of uploads alone
+-- a rule of uploads alone: of a model, and of every run
+rules-in : (rule : ℕ) → ((4 == rule) ≡ false) → ((13 == rule) ≡ false) → (publication : Publication) (m : Model) (k : Known publication m) → UploadsKeep rule publication m → (number : ℕ) (site : SiteId) (r : Request) → IsRequest m number site r
+    → RulesOf publication m k.whole number site (breaks rule) r
+rules-in rule no_join no_ask publication m k uploads number site (request.Join j) at = join-other rule j no_join
+rules-in rule no_join no_ask publication m k uploads number site (request.Upload u) at = λ fine. (let both = uploads number site u at fine in upload-other rule publication (held_against publication m number) u both.0 both.1)
+rules-in rule no_join no_ask publication m k uploads number site (request.Ranges a) at = λ fine. ranges-other rule publication (history_judge m number) a m.world.publisher no_ask
+rules-in rule no_join no_ask publication m k uploads number site (request.Download d) at = tt
+
+pub uploads-in : (rule : ℕ) → ((4 == rule) ≡ false) → ((13 == rule) ≡ false) → (publication : Publication) (says : Saying) (m : Model) → Known publication m → UploadsKeep rule publication m → NoneIsRefusedFor (breaks rule) publication says m
+uploads-in rule no_join no_ask publication says m k uploads =
+    none-refused (breaks rule) (allows-breaks rule) publication says m (λ number site r at. request-passes publication m k.whole number site (breaks rule) (allows-breaks rule) r at (rules-in rule no_join no_ask publication m k uploads number site r at))
+
 pub of-uploads : (rule : ℕ) → ((4 == rule) ≡ false) → ((13 == rule) ≡ false) → ((publication : Publication) (m : Model) → Known publication m → UploadsKeep rule publication m) → OfEveryValidRun (NoneIsRefusedFor (breaks rule))
-of-uploads rule no_join no_ask uploads = none-breaks rule (record {
-  joins = λ publication m k number site j at. join-other rule j no_join;
-  asks = λ publication m k number site a at fine. ranges-other rule publication (history_judge m number) a m.world.publisher no_ask;
-  uploads = uploads;
-})
+of-uploads rule no_join no_ask uploads resolvers publication valid says tallies slips events =
+    let m : Model = model_behind publication says tallies slips events in
+    let k : Known publication m = known-always publication says tallies slips events (resolvers, valid) in
+    uploads-in rule no_join no_ask publication says m k (uploads publication m k)
 
 -- a rule of the head that is met, or of each item
 pub head-met : (rule : ℕ) (publication : Publication) (m : Model) (number : ℕ) (u : Upload) → meets rule (upload_rules (held_against publication m number) u) ≡ true → HeadKeeps rule publication m number u

@@ -1,15 +1,12 @@
 -- Every step keeps that each request in the pool was made well.
-use Rattle.std.specs.List.{AllByRecursion, fold, list_any}
-use Rattle.std.specs.Prelude.{Bool, List, None, Option, Some, [], false, is_some, map, option_map, refl, true, ℕ, ◌++◌, ◌==◌, ◌||◌, ◌<◌, ◌≡◌, ◌≤◌, ◌∷◌}
-use Rattle.std.proofs.Common.{ap, arith, subst, sym, ◌∙◌}
+use Rattle.std.specs.List.{fold, list_any}
+use Rattle.std.specs.Prelude.{Bool, List, None, Option, Some, [], false, is_some, option_map, refl, true, ℕ, ◌++◌, ◌==◌, ◌||◌, ◌≡◌, ◌≤◌, ◌∷◌}
+use Rattle.std.proofs.Common.{ap, arith, sym, ◌∙◌}
 use Rattle.std.proofs.lemmas.Bool.Decides.{nat_tests}
-use Rattle.merge_types.specs.declared.changes.Change.{Change}
 use Rattle.merge_types.specs.declared.identifiers.Moment.{Moment}
 use Rattle.merge_types.specs.declared.identifiers.SiteId.{SiteId}
 use Rattle.merge_types.specs.declared.row_key.RowKey.{RowKey as Key}
-use Rattle.merge_types.specs.declared.values.Value.{Value}
 use Rattle.merge_units.specs.declared.version.Version.{Version}
-use Rattle.merge_ident.specs.Holders.{Holder}
 use Rattle.merge_schema.specs.Places.{is_subscription}
 use Rattle.merge_schema.specs.Valid.{IsValid}
 use Rattle.merge_schema.specs.declared.publication.Publication.{Publication}
@@ -17,10 +14,8 @@ use Rattle.merge_schema.specs.declared.publication.Subscription.{Subscription}
 use Rattle.merge_batch.specs.declared.reply.Reply.{Reply}
 use Rattle.merge_batch.specs.declared.reply.Reply.TheVariants as reply
 use Rattle.merge_batch.specs.declared.request.Join.{Join}
-use Rattle.merge_batch.specs.declared.request.Outstanding.{Outstanding}
 use Rattle.merge_batch.specs.declared.request.Outstanding.TheVariants as ask
 use Rattle.merge_batch.specs.declared.request.Request.TheVariants as request
-use Rattle.merge_batch.specs.declared.request.Upload.{Upload}
 use Rattle.merge_model.specs.ByHistory.{by_made, by_past}
 use Rattle.merge_model.specs.ByNumbers.{received_by_number}
 use Rattle.merge_model.specs.Failing.{Slips, faulty}
@@ -38,21 +33,20 @@ use Rattle.merge_model.specs.PublisherRanges.{plans, ranged, with_grants}
 use Rattle.merge_model.specs.PublisherUpload.{taken_in}
 use Rattle.merge_model.specs.Reinit.{reinitialised}
 use Rattle.merge_model.specs.Runs.{model_behind}
-use Rattle.merge_model.specs.Sending.{join_of, sending_refusal, upload_sent, want_of, with_message}
+use Rattle.merge_model.specs.Sending.{join_of, sending_refusal, upload_sent, with_message}
 use Rattle.merge_model.specs.Subscriber.{empty_subscriber, is_joining, sub_at_moment, sub_closed, sub_made_locally, with_version_if}
 use Rattle.merge_model.specs.Tables.{PublisherTables, SubscriberTables}
 use Rattle.merge_model.specs.Taking.{taken}
-use Rattle.merge_model.specs.World.{Saying, World, empty_world, letter_at, subscriber_at, with_publisher, with_subscriber}
+use Rattle.merge_model.specs.World.{Saying, World, empty_world, letter_at, subscriber_at}
 use Rattle.merge_model.specs.declared.event.Event.{Event}
 use Rattle.merge_model.specs.declared.letter.Letter.{Letter}
 use Rattle.merge_model.specs.declared.letter.Message.{Message}
 use Rattle.merge_model.specs.declared.letter.Message.TheVariants.{Asks, Replies}
-use Rattle.merge_model.proofs.Finding.{all-more, all-weaker, at_put_other, at_put_same, pool-at, some_same}
+use Rattle.merge_model.proofs.Finding.{all-more, all-weaker, at_put_other, pool-at, some_same}
 use Rattle.merge_model.proofs.KeptFailing.{runs-keep}
 use Rattle.merge_model.proofs.Refusals.{first-none}
-use Rattle.merge_laws.specs.Received.{MessageFits, Received, joined_at}
+use Rattle.merge_laws.specs.Received.{Received}
 use Rattle.merge_laws.specs.Settled.{Settled, SiteHolds, made_in, site_view}
-use Rattle.merge_laws.proofs.Arrivals.{upload-known}
 use Rattle.merge_laws.proofs.Deliveries.{news-above}
 use Rattle.merge_laws.proofs.Ground.{Ground, ground-step, ground-tallied}
 use Rattle.merge_laws.proofs.MessageFacts.{acts-later, join-up, letter-fits}
@@ -62,14 +56,18 @@ use Rattle.merge_laws.proofs.SettledWorlds.{if-found}
 use Rattle.merge_laws.proofs.Steps.{joined-flag}
 use Rattle.merge_laws.proofs.Subscribing.{filling-rises, number-decided, same_number}
 use Rattle.merge_laws.proofs.UnsentKept.{reply-site, version-site}
-use Rattle.merge_laws.proofs.Walking.{StepsKeep, step-keeps, acts_in, comes, here, told_by, uploaded_world}
-use Rattle.merge_honest.specs.SentWell.{AskIsWell, IsKnown, IsRemembered, IsSentBy, IsWell, SentWell, UploadIsWell}
+use Rattle.merge_laws.proofs.Walking.{StepsKeep, step-keeps, acts_in, comes, here, told_by}
+use Rattle.merge_honest.specs.Entered.{EntriesFill}
+use Rattle.merge_honest.specs.SentWell.{AskIsWell, IsKnown, IsSentBy, IsWell, SentWell}
+use Rattle.merge_honest.proofs.EntriesFill.{entries-begin, entries-keep}
+use Rattle.merge_honest.proofs.PutFound.{put-each}
 use Rattle.merge_honest.proofs.Rises.{Rises, again-remembered, asked-rises, join-remembers, join-rises, same-rises, upload-rises}
+use Rattle.merge_honest.proofs.SentReplies.{told-well}
 use Rattle.merge_honest.proofs.SentUploads.{sent-well}
 
 -- what is known besides
 abbrev pub Base : Publication → World → History → Type 0
-Base publication w h = Ground publication w h × Settled publication w h
+Base publication w h = Ground publication w h × Settled publication w h × EntriesFill w h
 
 abbrev pub SentWellIn : Publication → World → History → Type 0
 SentWellIn publication w h = SentWell publication w.publisher w.subscribers w.pool
@@ -92,7 +90,7 @@ well-rises publication p q site (Asks (request.Download m)) up well = ask-rises 
 well-rises publication p q site (Replies (reply.Joined m)) up well = up.states site.0 well
 well-rises publication p q site (Replies (reply.Uploaded m)) up well = tt
 well-rises publication p q site (Replies (reply.Ranged m)) up well = tt
-well-rises publication p q site (Replies (reply.Downloaded m)) up well = tt
+well-rises publication p q site (Replies (reply.Downloaded m)) up well = record { last = (let low = well.last in let rise = up.closed in omega (arith, low, rise)); made = well.made }
 well-rises publication p q site (Replies (reply.Refused number values)) up well = tt
 
 module _ (publication : Publication) where
@@ -111,17 +109,9 @@ module _ (publication : Publication) where
   letter-put p subscribers pool site message new i = record { known = i.known; letters = all-more (LetterIsWell p) pool (record { site = site; message = message }) i.letters new }
 
   -- A subscriber goes on.
-  known-at : (p : PublisherTables) (subscribers : List (ℕ × SubscriberTables)) (site n : ℕ) (t v : SubscriberTables) (b : Bool) → same_number n site b → IsKnown publication p site t → ((k : ℕ) (x : SubscriberTables) → at_number subscribers k ≡ Some x → IsKnown publication p k x)
-      → at_number (put_number subscribers site t) n ≡ Some v → IsKnown publication p n v
-  known-at p subscribers site n t v true same new all found =
-      let put : at_number (put_number subscribers site t) n ≡ Some t = ap (λ (k : ℕ). at_number (put_number subscribers site t) k) same ∙ at_put_same site t subscribers in
-      subst (λ (x : SubscriberTables). IsKnown publication p n x) (some_same t v (sym put ∙ found)) (subst (λ (k : ℕ). IsKnown publication p k t) (sym same) new)
-  known-at p subscribers site n t v false differs new all found = all n v (sym (at_put_other site n t subscribers differs) ∙ found)
-
   subscriber-on : (p : PublisherTables) (subscribers : List (ℕ × SubscriberTables)) (pool : List Letter) (s t : SubscriberTables) → t.site.0 ≡ s.site.0 → IsKnown publication p s.site.0 t → SentWell publication p subscribers pool
       → SentWell publication p (put_number subscribers t.site.0 t) pool
-  subscriber-on p subscribers pool s t site new i = subst (λ (k : ℕ). SentWell publication p (put_number subscribers k t) pool) (sym site)
-      (record { known = λ n v found. known-at p subscribers s.site.0 n t v (n == s.site.0) (number-decided n s.site.0) new i.known found; letters = i.letters })
+  subscriber-on p subscribers pool s t site new i = record { known = put-each (IsKnown publication p) subscribers s t site new i.known; letters = i.letters }
 
   -- one that is joined where it was
   stays-known : (p : PublisherTables) (n : ℕ) (s t : SubscriberTables) → t.is_joined ≡ s.is_joined → IsKnown publication p n s → IsKnown publication p n t
@@ -214,7 +204,7 @@ module _ (publication : Publication) where
       answers_ranges = λ w h site m b i. (let q : PublisherTables = with_grants (plans publication m w.publisher) (here w) in
           answer-put w q site (Replies (reply.Ranged (ranged m (plans publication m w.publisher)))) (same-rises w.publisher q refl (omega arith)) tt i);
       answers_ask = λ w h number site m b i at fine. (let q : PublisherTables = asked m (here w) in
-          answer-put w q site (Replies (reply.Downloaded (reply_to publication (by_past h (pasts_with h number)) m q))) (from-here w q (asked-rises (here w) m)) tt i);
+          answer-put w q site (Replies (reply.Downloaded (reply_to publication (by_past h (pasts_with h number)) m q))) (from-here w q (asked-rises (here w) m)) (told-well publication w h (pasts_with h number) m b.0.sorted.rows_ascend b.2 fine) i);
       replies = λ w h s number m sent b i at there out none. (let t : SubscriberTables = taken (by_made h s.site) w.moment m s in
           subscriber-on w.publisher w.subscribers w.pool s t (reply-site (by_made h s.site) w.moment m s)
           (taken-known w.publisher (by_made h s.site) w.moment m s (letter-well w h number (record { site = s.site; message = Replies m }) i there) (here-known w h s i at)) i);
@@ -252,8 +242,12 @@ Whole publication m = Base publication m.world m.history × SentWellIn publicati
 pub sent-well-always : (publication : Publication) (says : Saying) (tallies : List ℕ) (slips : Slips) (events : List Event) → (resolvers : ℕ) × IsValid resolvers publication → Whole publication (model_behind publication says tallies slips events)
 sent-well-always publication says tallies slips events valid = runs-keep publication (model publication says) (Whole publication)
     (λ m action k. (
-      (ground-step publication says m action k.0.0, settled-step publication says m action k.0.0 k.0.1),
+      (
+        ground-step publication says m action k.0.0,
+        settled-step publication says m action k.0.0 k.0.1,
+        step-keeps publication says (Ground publication) EntriesFill (λ w h g. g.received) (entries-keep publication says) m action k.0.0 k.0.2,
+      ),
       step-keeps publication says (Base publication) (SentWellIn publication) (λ w h b. b.0.received) (sent-well-keeps publication says) m action k.0 k.1,
     ))
-    (λ m others k. ((ground-tallied publication m.world m.history others k.0.0, record { sites = k.0.1.sites; publisher = k.0.1.publisher }), k.1)) events (faulty (empty_model publication tallies) slips)
-    (settled-always publication says tallies [] [] valid, sent-well-begins publication tallies)
+    (λ m others k. ((ground-tallied publication m.world m.history others k.0.0, record { sites = k.0.1.sites; publisher = k.0.1.publisher }, k.0.2), k.1)) events (faulty (empty_model publication tallies) slips)
+    (let settled = settled-always publication says tallies [] [] valid in ((settled.0, settled.1, entries-begin publication tallies), sent-well-begins publication tallies))

@@ -1,6 +1,5 @@
 -- Requests of the pool as they come to the publisher, and what they are refused for.
-use Rattle.std.specs.List.{list_any}
-use Rattle.std.specs.Prelude.{Bool, List, Option, Some, [], false, true, ◌==◌, ◌≡◌, ◌∷◌, ℕ}
+use Rattle.std.specs.Prelude.{Bool, Option, Some, false, true, ◌==◌, ◌≡◌, ℕ}
 use Rattle.merge_types.specs.declared.identifiers.Moment.{Moment}
 use Rattle.merge_types.specs.declared.identifiers.SiteId.{SiteId}
 use Rattle.merge_schema.specs.declared.publication.Publication.{Publication}
@@ -59,17 +58,12 @@ abbrev pub breaks : ℕ → Refusal → Bool
 breaks rule (BadBatch item broken) = broken == rule
 breaks rule other = false
 
--- The rules of messages that are proved to be kept; 1, 6, 12 and 13 are open.
-abbrev pub kept_rules : List ℕ
-kept_rules = 2 ∷ 3 ∷ 4 ∷ 5 ∷ 7 ∷ 8 ∷ 9 ∷ 10 ∷ 11 ∷ []
-
--- What a request may not be refused for: anything but expiry, a join behind it, too many rows, a counter's end, and an open rule.
+-- What a request may not be refused for: anything but expiry, a join behind it, too many rows, and a counter's end.
 abbrev pub is_unexpected : Refusal → Bool
 is_unexpected (Expired last_sync now) = false
 is_unexpected (Stale seq joined_at) = false
 is_unexpected (TooManyRows count) = false
 is_unexpected (CounterEnd value) = false
-is_unexpected (BadBatch item broken) = list_any (λ (rule : ℕ). broken == rule) kept_rules
 is_unexpected other = true
 
 -- A delivery that is refused tells the first of the publisher's reasons.

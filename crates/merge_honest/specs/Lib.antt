@@ -1,4 +1,11 @@
 pub mod Delivered
+pub mod Replied
 pub mod SentWell
 pub mod Bounded
 pub mod OwnPairs
+pub mod Filled
+pub mod Entered
+pub mod HeldRanges
+pub mod Answered
+pub mod Taken
+pub mod Finished

@@ -7,6 +7,7 @@ use Rattle.merge_types.specs.RowKeys.{key_cmp}
 use Rattle.merge_types.specs.declared.identifiers.SiteId.{SiteId}
 use Rattle.merge_schema.specs.Places.{is_subscription}
 use Rattle.merge_schema.specs.declared.publication.Publication.{Publication}
+use Rattle.merge_batch.specs.declared.reply.Downloaded.{Downloaded}
 use Rattle.merge_batch.specs.declared.reply.Reply.TheVariants as reply
 use Rattle.merge_batch.specs.declared.request.Join.{Join}
 use Rattle.merge_batch.specs.declared.request.Request.TheVariants as request
@@ -17,6 +18,7 @@ use Rattle.merge_model.specs.ByNumbers.{received_by_number}
 use Rattle.merge_model.specs.Keys.{at_number}
 use Rattle.merge_model.specs.Publisher.{last_closed}
 use Rattle.merge_model.specs.Tables.{PublisherTables, SubscriberTables}
+use Rattle.merge_model.specs.Taking.{key_of_download}
 use Rattle.merge_model.specs.declared.letter.Letter.{Letter}
 use Rattle.merge_model.specs.declared.letter.Message.{Message}
 use Rattle.merge_model.specs.declared.letter.Message.TheVariants.{Asks, Replies}
@@ -59,6 +61,21 @@ pub record AskIsWell (publication : Publication) (p : PublisherTables) (site tol
   pub remembered : IsRemembered p site.0
   pub begins : from ≤ last_closed p
 
+-- how a reply to a download is made: it goes on to a closed generation where there is one behind, by few generations and few items, one
+-- for each row in order
+pub record ReplyIsMadeWell (d : Downloaded) : Type 0 where
+  pub onward : d.from ≤ d.to
+  pub closed : d.to ≤ d.last
+  pub goes : d.from < d.last → d.from < d.to
+  pub few_generations : d.to ≤ d.from + generation_limit
+  pub few_items : length d.items ≤ item_limit
+  pub ascend : IsStrictlySortedBy key_cmp (map key_of_download d.items)
+
+-- and the last generation that it tells has closed
+pub record ReplyIsWell (p : PublisherTables) (m : Downloaded) : Type 0 where
+  pub last : m.last ≤ last_closed p
+  pub made : ReplyIsMadeWell m
+
 -- a join may be the first that the publisher hears of a site; who hears of a join that acted is remembered
 abbrev pub IsWell : Publication → PublisherTables → SiteId → Message → Type 0
 IsWell publication p site (Asks (request.Join m)) = JoinIsWell publication site m
@@ -66,6 +83,7 @@ IsWell publication p site (Asks (request.Upload m)) = UploadIsWell publication p
 IsWell publication p site (Asks (request.Ranges m)) = AskIsWell publication p site m.site 0
 IsWell publication p site (Asks (request.Download m)) = AskIsWell publication p site m.site m.from
 IsWell publication p site (Replies (reply.Joined m)) = IsRemembered p site.0
+IsWell publication p site (Replies (reply.Downloaded m)) = ReplyIsWell p m
 IsWell publication p site (Replies m) = Unit {0}
 
 -- a subscriber subscribes, and where it has joined the publisher remembers it

@@ -2,9 +2,12 @@
 ghost use Rattle.merge_honest.specs.Delivered.{NoneIsRefusedFor, breaks};
 ghost use Rattle.merge_laws.specs.Laws.{OfEveryValidRun};
 
-/// No upload is refused for how it is made: it has at most 100 generations and 2,000 items, each row
-/// once and in order, each item in a generation of the upload.
+use merge_laws::identity_values_are_taken_once;
+
+/// No upload is refused for how it is made: it has a generation, at most 100, and at most 2,000 items,
+/// each row once and in order, each item in a generation of the upload.
 pub fn uploads_are_made_well()
+    ensures some { OfEveryValidRun (NoneIsRefusedFor (breaks 1)) }
     ensures generations { OfEveryValidRun (NoneIsRefusedFor (breaks 2)) }
     ensures items { OfEveryValidRun (NoneIsRefusedFor (breaks 3)) }
     ensures order { OfEveryValidRun (NoneIsRefusedFor (breaks 5)) }
@@ -33,4 +36,19 @@ pub fn numbers_and_lineages_fit()
 /// publisher that it made, of the uploader, or of another site that subscribes and was taken.
 pub fn makers_are_heard_of()
     ensures { OfEveryValidRun (NoneIsRefusedFor (breaks 10)) }
+{}
+
+/// No upload is refused for the identity value of a row: it was granted to the site that made the row,
+/// and is that of the live row that the publisher holds.
+pub fn identity_values_are_right()
+    ensures { OfEveryValidRun (NoneIsRefusedFor (breaks 12)) }
+{
+    identity_values_are_taken_once();
+}
+
+/// No upload is refused for what its rows hold: its article exists, and a live row has as many cells as
+/// its article tells, with values of the columns' types, each within its length and the row within its
+/// limit, and a whole number where there is an identity column.
+pub fn rows_fit_their_articles()
+    ensures { OfEveryValidRun (NoneIsRefusedFor (breaks 6)) }
 {}

@@ -1,5 +1,5 @@
 //! Laws on who sends a request, and where it begins.
-ghost use Rattle.merge_honest.specs.Delivered.{NoneIsRefusedFor, is_gap, is_not_joined, is_unknown_site, is_wrong_watermark};
+ghost use Rattle.merge_honest.specs.Delivered.{NoneIsRefusedFor, breaks, is_gap, is_not_joined, is_unknown_site, is_wrong_watermark};
 ghost use Rattle.merge_laws.specs.Laws.{OfEveryValidRun};
 
 /// No delivery of an upload leaves a gap, whatever happened before and however late it comes: where
@@ -11,6 +11,12 @@ pub fn uploads_are_never_gaps()
 /// No ask tells a generation that the publisher has not closed.
 pub fn asks_tell_held_watermarks()
     ensures { OfEveryValidRun (NoneIsRefusedFor is_wrong_watermark) }
+{}
+
+/// No ask for ranges is refused for what it names: it names articles with an identity column, each
+/// once, and tells of each no more ranges than were granted to the site.
+pub fn asks_name_granted_ranges()
+    ensures { OfEveryValidRun (NoneIsRefusedFor (breaks 13)) }
 {}
 
 /// Every request is of a site that subscribes; and every request but a join is of a site that the

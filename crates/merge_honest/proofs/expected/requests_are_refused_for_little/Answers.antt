@@ -3,6 +3,6 @@ use Rattle.merge_honest.proofs.expected.requests_are_refused_for_little.Goals as
 
 pub returns : goal.returns
 returns c = record {
-  few = none-unexpected;
+  few = none-unexpected c.identity_values_are_right.ensures;
   first = first-reason;
 }
