@@ -1,0 +1,50 @@
+-- What the publisher accepted of a row and no longer has, a purge of the run took.
+use Rattle.std.specs.Prelude.{List, None, Some, [], true, ◌++◌, ◌↔◌, ◌≡◌, ◌⊎◌, ◌∷◌, ℕ}
+use Rattle.merge_types.specs.declared.identifiers.Dot.{Dot}
+use Rattle.merge_types.specs.declared.row_key.RowKey.{RowKey as Key}
+use Rattle.merge_units.specs.declared.site_row.PublisherRow.{PublisherRow}
+use Rattle.merge_schema.specs.Valid.{IsValid}
+use Rattle.merge_schema.specs.declared.publication.Publication.{Publication}
+use Rattle.merge_model.specs.Events.{after}
+use Rattle.merge_model.specs.Failing.{Faulty, Slips, failing, faulty}
+use Rattle.merge_model.specs.History.{has, is_accepted, past_at}
+use Rattle.merge_model.specs.Keys.{has_key, row_at}
+use Rattle.merge_model.specs.Model.{Model, empty_model, model}
+use Rattle.merge_model.specs.PublisherPurge.{is_old_tombstone}
+use Rattle.merge_model.specs.World.{Saying}
+use Rattle.merge_model.specs.declared.event.Event.{Event}
+use Rattle.merge_model.specs.declared.event.Event.TheVariants as event
+use Rattle.merge_laws.specs.Knowledge.{is_made}
+use Rattle.merge_owed.specs.Forgotten.{going_over}
+
+-- behind some events, with the slips that are left
+abbrev pub behind : Publication → Saying → Faulty Model → List Event → Faulty Model
+behind publication says f events = after publication (failing publication (model publication says)) f events
+
+-- One of the events is a purge. As it comes the row is deleted, and its last change stands in a generation that closed longer ago
+-- than the retention and one day more; behind it the row is gone.
+pub record WasPurged (publication : Publication) (says : Saying) (f : Faulty Model) (events : List Event) (key : Key) : Type 0 where
+  pub before : List Event
+  pub later : List Event
+  pub parts : events ≡ before ++ event.Purge ∷ later
+  pub row : PublisherRow
+  pub held : row_at (behind publication says f before).world.world.publisher.rows key ≡ Some row
+  pub old : is_old_tombstone publication (going_over (behind publication says f before).world) (key, row) ≡ true
+  pub gone : row_at (behind publication says (behind publication says f before) (event.Purge ∷ [])).world.world.publisher.rows key ≡ None
+
+-- of a valid publication, with the model behind a run, and whether a purge of the run took a row
+abbrev pub OfEveryPurgingRun : ((Key → Type 0) → Model → Type 0) → Type 0
+OfEveryPurgingRun Holds = (resolvers : ℕ) (publication : Publication) → IsValid resolvers publication → (says : Saying) (tallies : List ℕ) (slips : Slips) (events : List Event)
+    → (let start : Faulty Model = faulty (empty_model publication tallies) slips in Holds (WasPurged publication says start events) (behind publication says start events).world)
+
+-- A row that the publisher lacks, and of which it accepted a change, was purged.
+abbrev pub LackedWerePurged : (Key → Type 0) → Model → Type 0
+LackedWerePurged Purged m = (key : Key) (dot : Dot) → row_at m.world.publisher.rows key ≡ None → is_made m.history.made key dot ≡ true → is_accepted m.history dot ≡ true → Purged key
+
+-- So what a site knows of a row, but for own changes that are not accepted, the publisher knows, or the row was purged.
+abbrev pub KnownIsWithin : (Key → Type 0) → Model → Type 0
+KnownIsWithin Purged m = (site : ℕ) (key : Key) (dot : Dot) → has (past_at m.history site key).known dot ≡ true → (dot.site.0 ≡ site → is_accepted m.history dot ≡ true) → (has (past_at m.history 0 key).known dot ≡ true) ⊎ Purged key
+
+-- The history has just those rows as purged that a purge took.
+abbrev pub PurgedWereTaken : (Key → Type 0) → Model → Type 0
+PurgedWereTaken Purged m = (key : Key) → (has_key m.history.purged key ≡ true) ↔ Purged key
