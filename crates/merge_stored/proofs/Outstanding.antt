@@ -1,0 +1,115 @@
+-- The message that is outstanding at a subscriber.
+use Rattle.std.specs.Prelude.{List, None, Option, Some, length, refl, ℕ, ◌+◌, ◌≡◌, ◌≤◌}
+use Rattle.std.proofs.Common.{arith, subst, sym}
+use Rattle.std.proofs.lemmas.Bool.Decides.{nat_tests}
+use Rattle.merge_types.specs.declared.identifiers.Moment.{Moment}
+use Rattle.merge_types.specs.declared.row_key.RowKey.{RowKey as Key}
+use Rattle.merge_units.specs.declared.version.Version.{Version}
+use Rattle.merge_gens.specs.Filling as fill
+use Rattle.merge_gens.specs.declared.filling.Filling.{Filling}
+use Rattle.merge_ident.specs.Holders.{Holder}
+use Rattle.merge_schema.specs.Valid.{IsValid}
+use Rattle.merge_schema.specs.declared.publication.Publication.{Publication}
+use Rattle.merge_batch.specs.declared.reply.Reply.{Reply}
+use Rattle.merge_batch.specs.declared.reply.Reply.TheVariants as reply
+use Rattle.merge_batch.specs.declared.request.Outstanding.{Outstanding}
+use Rattle.merge_batch.specs.declared.request.Outstanding.TheVariants as ask
+use Rattle.merge_model.specs.ByHistory.{by_made}
+use Rattle.merge_model.specs.Changes.{key_of, version_after}
+use Rattle.merge_model.specs.Failing.{Slips}
+use Rattle.merge_model.specs.History.{History}
+use Rattle.merge_model.specs.Judge.{SubscriberJudge}
+use Rattle.merge_model.specs.Keys.{at_number, put_number}
+use Rattle.merge_model.specs.Reinit.{reinitialised}
+use Rattle.merge_model.specs.Runs.{model_behind}
+use Rattle.merge_model.specs.Sending.{upload_end, upload_sent, with_message}
+use Rattle.merge_model.specs.Subscriber.{sub_at_moment, sub_closed, sub_last_closed, sub_next_dot, sub_version_at, with_version_if}
+use Rattle.merge_model.specs.Tables.{SubscriberTables}
+use Rattle.merge_model.specs.Taking.{taken}
+use Rattle.merge_model.specs.World.{Saying, World}
+use Rattle.merge_model.specs.declared.event.Event.{Event}
+use Rattle.merge_laws.proofs.Ground.{Ground, grounded-always}
+use Rattle.merge_laws.proofs.Models.{begins-with}
+use Rattle.merge_laws.proofs.UnsentKept.{reply-site, version-site}
+use Rattle.merge_laws.proofs.Walking.{StepsKeep, step-keeps}
+use Rattle.merge_honest.proofs.Batches.{batch-holds}
+use Rattle.merge_honest.proofs.PutFound.{put-each}
+use Rattle.merge_stored.specs.States.{EndsBy, OutstandingFits, SentFits}
+
+ends-later : (last later : ℕ) (sent : Outstanding) → last ≤ later → EndsBy last sent → EndsBy later sent
+ends-later last later (ask.Upload from to) up ends = ((let low = ends.0 in omega (arith, low, up)), (let low = ends.1 in omega (arith, low, up)))
+ends-later last later ask.Join up ends = tt
+ends-later last later ask.Ranges up ends = tt
+ends-later last later (ask.Download from) up ends = tt
+
+sent-later : (last later : ℕ) (found : Option (ℕ × Outstanding)) → last ≤ later → SentFits last found → SentFits later found
+sent-later last later None up fits = tt
+sent-later last later (Some p) up fits = (fits.0, ends-later last later p.1 up fits.1)
+
+-- the same message, and more closed generations
+later-fits : (s t : SubscriberTables) → t.outstanding ≡ s.outstanding → sub_last_closed s ≤ sub_last_closed t → OutstandingFits s → OutstandingFits t
+later-fits s t same up fits = subst (λ (found : Option (ℕ × Outstanding)). SentFits (sub_last_closed t) found) (sym same) (sent-later (sub_last_closed s) (sub_last_closed t) s.outstanding up fits)
+
+pub closed-up : (filling : Filling) → filling.last_closed ≤ (fill.closed filling).last_closed
+closed-up filling = grind (arith, nat_tests)
+
+new-fits : (s : SubscriberTables) (sent : Outstanding) → EndsBy (sub_last_closed s) sent → OutstandingFits (with_message sent s)
+new-fits s sent ends = (omega arith, ends)
+
+upload-fits : (judge : SubscriberJudge) (now : Moment) (s : SubscriberTables) → s.received ≤ sub_last_closed s → OutstandingFits (upload_sent judge (sub_closed (sub_at_moment now s))).0
+upload-fits judge now s own =
+    let c : SubscriberTables = sub_closed (sub_at_moment now s) in
+    let up : sub_last_closed s ≤ sub_last_closed c = closed-up s.gens.filling in
+    let begins : c.received ≤ sub_last_closed c = omega (arith, own, up) in
+    let ends : upload_end judge c ≤ sub_last_closed c = batch-holds (λ (k : ℕ). k ≤ sub_last_closed c) (λ (to : ℕ). length (judge.changed_between c.received to)) c.received (sub_last_closed c) begins (λ k above within low is. low) in
+    new-fits c (ask.Upload c.received (upload_end judge c)) (begins, ends)
+
+change-fits : (key : Key) (found : Option Version) (now : Moment) (held : List (ℕ × Holder)) (s : SubscriberTables) → OutstandingFits s → (let u : SubscriberTables = record (sub_at_moment now s) { changes = s.changes + 1; held = held } in OutstandingFits (with_version_if key found u))
+change-fits key None now held s fits = fits
+change-fits key (Some version) now held s fits = (let u : SubscriberTables = record (sub_at_moment now s) { changes = s.changes + 1; held = held } in later-fits s (with_version_if key (Some version) u) refl (omega arith) fits)
+
+taken-fits : (judge : SubscriberJudge) (now : Moment) (m : Reply) (s : SubscriberTables) → OutstandingFits (taken judge now m s)
+taken-fits judge now (reply.Joined m) s = tt
+taken-fits judge now (reply.Uploaded m) s = tt
+taken-fits judge now (reply.Ranged m) s = tt
+taken-fits judge now (reply.Downloaded m) s = tt
+taken-fits judge now (reply.Refused number values) s = tt
+
+abbrev OfSent : World → History → Type 0
+OfSent w h = (n : ℕ) (s : SubscriberTables) → at_number w.subscribers n ≡ Some s → OutstandingFits s
+
+module _ (publication : Publication) (says : Saying) where
+  on : (w : World) (s t : SubscriberTables) → t.site.0 ≡ s.site.0 → OutstandingFits t → ((n : ℕ) (x : SubscriberTables) → at_number w.subscribers n ≡ Some x → OutstandingFits x) → (n : ℕ) (x : SubscriberTables) → at_number (put_number w.subscribers t.site.0 t) n ≡ Some x → OutstandingFits x
+  on w s t same new all = put-each (λ (n : ℕ) (x : SubscriberTables). OutstandingFits x) w.subscribers s t same new all
+
+  sent-keep : StepsKeep publication says (Ground publication) OfSent
+  sent-keep = record {
+    moment = λ w h now g p. p;
+    own_change = λ w h change d g p fine is. p;
+    own_closing = λ w h g p. p;
+    forgetting = λ w h g p. p;
+    same = λ w h s g p at. on w s s refl (p s.site.0 s at) p;
+    sub_change = λ w h s change d g p at named fine is. (
+        let key : Key = key_of (sub_next_dot s) change in
+        let found : Option Version = version_after publication (sub_next_dot s) d.0 change (sub_version_at s key) in
+        let u : SubscriberTables = record (sub_at_moment w.moment s) { changes = s.changes + 1; held = d.1 } in
+        on w s (with_version_if key found u) (version-site key found u) (change-fits key found w.moment d.1 s (p s.site.0 s at)) p);
+    sub_closing = λ w h s g p at. on w s (sub_closed (sub_at_moment w.moment s)) refl (later-fits s (sub_closed (sub_at_moment w.moment s)) refl (closed-up s.gens.filling) (p s.site.0 s at)) p;
+    anew = λ w h s g p at. on w s (reinitialised (by_made h s.site) (sub_at_moment w.moment s)).0 refl tt p;
+    sends_join = λ w h s g p at joining. on w s (with_message ask.Join s) refl (new-fits s ask.Join tt) p;
+    sends_upload = λ w h s g p at fine. on w s (upload_sent (by_made h s.site) (sub_closed (sub_at_moment w.moment s))).0 refl (upload-fits (by_made h s.site) w.moment s (g.received.subscribers s.site.0 s at).own) p;
+    sends_ranges = λ w h s g p at fine. on w s (with_message ask.Ranges s) refl (new-fits s ask.Ranges tt) p;
+    sends_ask = λ w h s g p at fine. on w s (with_message (ask.Download s.watermark) s) refl (new-fits s (ask.Download s.watermark) tt) p;
+    joins = λ w h number m g p at fine acts. p;
+    joins_again = λ w h number m g p at acts. p;
+    uploads = λ w h number m g p at fine news. p;
+    uploads_again = λ w h number m g p at none. p;
+    answers_ranges = λ w h site m g p. p;
+    answers_ask = λ w h number site m g p at fine. p;
+    replies = λ w h s number m sent g p at there out none. on w s (taken (by_made h s.site) w.moment m s) (reply-site (by_made h s.site) w.moment m s) (taken-fits (by_made h s.site) w.moment m s) p;
+  }
+
+  pub outstanding-fits : (tallies : List ℕ) (slips : Slips) (events : List Event) → (resolvers : ℕ) × IsValid resolvers publication → OfSent (model_behind publication says tallies slips events).world (model_behind publication says tallies slips events).history
+  outstanding-fits tallies slips events valid = (grounded-always publication says tallies slips events valid OfSent
+      (λ m action g p. step-keeps publication says (Ground publication) OfSent (λ w h ground. ground.received) sent-keep m action g p)
+      (λ w h others p. p) (λ n s at. begins-with publication (λ (k : ℕ) (t : SubscriberTables). OutstandingFits t) (λ k site keyed. tt) n s at)).1

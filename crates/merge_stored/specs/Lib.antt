@@ -1,0 +1,13 @@
+pub mod Stored
+pub mod Typed
+pub mod Versions
+pub mod Conflicts
+pub mod Entries
+pub mod States
+pub mod Closings
+pub mod Ranges
+pub mod Own
+pub mod Lost
+pub mod Subscriptions
+pub mod Loading
+pub mod PublisherLoading
