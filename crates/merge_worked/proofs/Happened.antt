@@ -30,7 +30,7 @@ passes-head a b both = grind (arith, nat_tests, both)
 passes-tail : (a b : Bool) → (a && b) ≡ true → b ≡ true
 passes-tail a b both = grind (arith, nat_tests, both)
 
-all-pass : {X : Type 0} (p : X → Bool) (xs : List X) → list_all p xs ≡ true → All (λ (x : X). p x ≡ true) xs
+pub all-pass : {X : Type 0} (p : X → Bool) (xs : List X) → list_all p xs ≡ true → All (λ (x : X). p x ≡ true) xs
 all-pass p [] pass i d lt = absurd (omega arith)
 all-pass p (x ∷ xs) pass zero d lt = passes-head (p x) (list_all p xs) pass
 all-pass p (x ∷ xs) pass (suc i) d lt = all-pass p xs (passes-tail (p x) (list_all p xs) pass) i d (omega arith)

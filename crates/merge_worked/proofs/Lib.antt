@@ -1,1 +1,2 @@
 mod Happened
+mod Valid

@@ -5,37 +5,45 @@ use Rattle.merge_types.specs.declared.changes.Tracking.TheVariants as tracking
 use Rattle.merge_filter.specs.Syntax.{Compare}
 use Rattle.merge_filter.specs.declared.tree.Operand.TheVariants as operand
 use Rattle.merge_filter.specs.declared.word.Sign.TheVariants as sign
+use Rattle.merge_schema.specs.declared.publication.Article.{Article}
 use Rattle.merge_schema.specs.declared.publication.Publication.{Publication}
 use Rattle.merge_schema.specs.declared.publication.SubKind.TheVariants as kind
 use Rattle.merge_model.specs.Model.{Model}
 use Rattle.merge_worked.specs.Happened.{model_after}
 use Rattle.merge_worked.specs.Worked.{Worked}
 
--- Two articles. The resolver of the first adds up column n, and conflicts of the second go by priority.
+-- Conflicts of stock are decided by the resolver that adds up column n.
+abbrev pub stock : Article
+stock = record {
+  name = codes "stock";
+  columns = (record { name = codes "id"; ty = ty.Int } ∷ record { name = codes "n"; ty = ty.Int } ∷ []);
+  tracking = tracking.Row;
+  filter = None;
+  joins = [];
+  identity = (Some (record { column = 0; seed = pos 1; range = 10; pub_range = 10; threshold = 80; greatest = pos 1000 }));
+  resolver = 3;
+  resolver_column = (Some 1);
+}
+
+-- Those of clients go by priority.
+abbrev pub client : Article
+client = record {
+  name = codes "client";
+  columns = (record { name = codes "region"; ty = ty.Text } ∷ record { name = codes "credit"; ty = ty.Int } ∷ []);
+  tracking = tracking.ByColumn;
+  filter = (Some (Compare (operand.Column 0) sign.Equal 7 operand.Host));
+  joins = [];
+  identity = None;
+  resolver = 0;
+  resolver_column = None;
+}
+
 abbrev pub publication : Publication
 publication = record {
   name = codes "everything";
   retention_days = 14;
   conflict_retention_days = 14;
-  articles = (record {
-    name = codes "stock";
-    columns = (record { name = codes "id"; ty = ty.Int } ∷ record { name = codes "n"; ty = ty.Int } ∷ []);
-    tracking = tracking.Row;
-    filter = None;
-    joins = [];
-    identity = (Some (record { column = 0; seed = pos 1; range = 10; pub_range = 10; threshold = 80; greatest = pos 1000 }));
-    resolver = 3;
-    resolver_column = (Some 1);
-  } ∷ record {
-    name = codes "client";
-    columns = (record { name = codes "region"; ty = ty.Text } ∷ record { name = codes "credit"; ty = ty.Int } ∷ []);
-    tracking = tracking.ByColumn;
-    filter = (Some (Compare (operand.Column 0) sign.Equal 7 operand.Host));
-    joins = [];
-    identity = None;
-    resolver = 0;
-    resolver_column = None;
-  } ∷ []);
+  articles = (stock ∷ client ∷ []);
   subscriptions = (record { site = record { 0 = 1 }; host = record { 0 = codes "north" }; kind = kind.Server; priority = 7500 } ∷ record { site = record { 0 = 2 }; host = record { 0 = codes "north" }; kind = kind.Server; priority = 2500 } ∷ record { site = record { 0 = 3 }; host = record { 0 = codes "south" }; kind = kind.Client; priority = 0 } ∷ []);
 }
 

@@ -2,6 +2,7 @@
 use Rattle.std.specs.Prelude.{◌≡◌, ◌∷◌, ◌++◌, [], Option, Some, None, true, false, codes}
 use Rattle.merge_types.specs.declared.changes.Tracking.TheVariants as tracking
 use Rattle.merge_types.specs.declared.values.ColType.TheVariants as ty
+use Rattle.merge_schema.specs.declared.publication.Article.{Article}
 use Rattle.merge_schema.specs.declared.publication.Publication.{Publication}
 use Rattle.merge_schema.specs.declared.publication.SubKind.TheVariants as kind
 use Rattle.merge_script.specs.Input.{script_of}
@@ -57,21 +58,24 @@ coming_again = made ∷ made ∷ store_fails ∷ made ∷ made ∷ made ∷ made
 abbrev pub slips : Slips
 slips = inserting ++ joining ++ joined ++ uploading ++ coming_again
 
-abbrev publication : Publication
+abbrev pub item : Article
+item = record {
+  name = codes "item";
+  columns = (record { name = codes "qty"; ty = ty.Int } ∷ []);
+  tracking = tracking.Row;
+  filter = None;
+  joins = [];
+  identity = None;
+  resolver = 0;
+  resolver_column = None;
+}
+
+abbrev pub publication : Publication
 publication = record {
   name = codes "failing";
   retention_days = 14;
   conflict_retention_days = 14;
-  articles = (record {
-    name = codes "item";
-    columns = (record { name = codes "qty"; ty = ty.Int } ∷ []);
-    tracking = tracking.Row;
-    filter = None;
-    joins = [];
-    identity = None;
-    resolver = 0;
-    resolver_column = None;
-  } ∷ []);
+  articles = (item ∷ []);
   subscriptions = (record { site = record { 0 = 1 }; host = record { 0 = codes "h1" }; kind = kind.Client; priority = 0 } ∷ []);
 }
 

@@ -1,5 +1,6 @@
 //! One function for each script. They do nothing: their contracts say what is computed.
 ghost use Rattle.std.specs.Prelude.{◌≡◌, ◌∷◌, [], pos, true};
+ghost use Rattle.merge_schema.specs.Valid.{IsValid};
 ghost use Rattle.merge_model.specs.Promises.{AllAccounted, AllStand, SettledHoldsPartition};
 ghost use Rattle.merge_worked.specs.Worked.{IsPlayed, IsPlayedBy, IsTold, IsToldBy, tallies_by};
 ghost use Rattle.merge_worked.specs.ARowGoesOver.{a_row_goes_over as a_row_goes_over_worked};
@@ -170,8 +171,10 @@ pub fn column_update_stays()
 
 /// In one script rows conflict in each way, a site is made anew and joins again, rows leave partitions
 /// and come into others, an old message comes late, and tombstones are purged. Afterwards each
-/// promise speaks of something, and holds; so does what is promised of a purge as it comes.
+/// promise speaks of something, and holds; so does what is promised of a purge as it comes. The
+/// publication is valid with the program's five resolvers.
 pub fn everything_happens()
+    ensures valid { IsValid 5 publication }
     ensures machine { IsPlayed everything_happens_worked }
     ensures model { IsTold everything_happens_worked }
     ensures made { changes_made everything_happened ≡ 28 }

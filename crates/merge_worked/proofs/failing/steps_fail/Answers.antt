@@ -1,6 +1,10 @@
 use Rattle.std.specs.Prelude.{refl}
 use Rattle.merge_model.specs.Play.{opened_play}
+use Rattle.merge_worked.proofs.Valid.{failing-valid}
 use Rattle.merge_worked.proofs.failing.steps_fail.Goals as goal
+
+pub returns-clause-valid : goal.returns-clause-valid
+returns-clause-valid c = failing-valid
 
 pub returns-clause-machine : goal.returns-clause-machine
 unfolding opened_play

@@ -6,6 +6,7 @@ use Rattle.merge_model.specs.Play.{opened_play}
 use Rattle.merge_worked.specs.EverythingHappens.{everything_happened, publication, purge_comes}
 use Rattle.merge_worked.specs.Happened.{all_are_accounted, all_letters_stand, all_rows_stand, all_sessions_settle, all_stay_inside, all_tables_stand, changes_given_up, changes_lost, changes_made, changes_purged, changes_unsent, generations_done, held_at_settled, old_are_past, old_generations, owed_to_settled, ranges_granted, rows_held, rows_put, rows_removed, settled_sites, values_taken, versions_lost}
 use Rattle.merge_worked.proofs.Happened.{accounted, all-stand, settled-hold}
+use Rattle.merge_worked.proofs.Valid.{everything-valid}
 use Rattle.merge_worked.proofs.rows.everything_happens.Goals as goal
 
 record Happened : Type 0 where
@@ -94,6 +95,9 @@ coming_in m = record {
 coming : coming_in purge_comes ≡ record { unsent = 1; accounted = true; sessions = true; old = 1 ∷ 2 ∷ 3 ∷ 4 ∷ []; past = true }
 unfolding opened_play purge_comes
 coming = refl
+
+pub returns-clause-valid : goal.returns-clause-valid
+returns-clause-valid c = everything-valid
 
 pub returns-clause-machine : goal.returns-clause-machine
 unfolding opened_play
