@@ -1,0 +1,4 @@
+pub mod Clocks
+pub mod Idle
+pub mod SoFar
+pub mod Showings

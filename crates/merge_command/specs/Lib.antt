@@ -1,0 +1,5 @@
+pub mod Alone
+pub mod Clocked
+pub mod Changed
+pub mod Shown
+pub mod Taken
