@@ -1,4 +1,4 @@
--- The delivery of an upload, taken apart: it is refused, or it is taken. Rows whose items have all acted stay, and an upload whose generations have all acted is only answered.
+-- The delivery of an upload, taken apart: it is refused, or it is taken. Rows whose items have all acted stay, and an upload whose generations have all acted is only answered, or refused.
 use Rattle.std.specs.Prelude.{All, cond, ◌≡◌, ◌≤◌, ◌<◌, ◌+◌, ◌++◌, ℕ, List, [], ◌∷◌, Bool, true, false, not, Option, Some, None, refl, if◌then◌else◌, filter, filter_map, length, map, max}
 use Rattle.std.specs.List.{AllByRecursion}
 use Rattle.std.proofs.Common.{arith, sym, subst, ap, ◌∙◌}

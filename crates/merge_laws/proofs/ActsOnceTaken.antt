@@ -1,4 +1,4 @@
--- What has acted stays so and letters stay in the pool, so that an upload that was taken once is only answered afterwards.
+-- What has acted stays so and letters stay in the pool, so that an upload that was taken once is only answered afterwards, or refused.
 use Rattle.std.specs.Prelude.{◌≡◌, ◌<◌, ◌==◌, ◌+◌, ◌++◌, ◌&&◌, ◌||◌, ℕ, zero, suc, List, [], ◌∷◌, Bool, true, false, Option, Some, None, refl, if◌then◌else◌, map}
 use Rattle.std.specs.List.{fold, list_any}
 use Rattle.std.proofs.Common.{arith, sym, subst, ap, ◌∙◌}
@@ -152,7 +152,7 @@ module _ (publication : Publication) (says : Saying) where
   delivered-acted m r number site u at = subst (λ (done : Model × Outcome). did_something done.1 ≡ true → AllActed done.0.history u) (sym (delivered-by publication says m number site u at))
       (taken-acted m number site u r (refusal publication says m number site u) refl)
 
-  -- So another delivery is only answered.
+  -- So another delivery is only answered, or refused.
 
   again-answers : (m : Model) → Received m.world m.history → TakenOnlyAnswer publication says m
   again-answers m r number site u at did slips more =

@@ -95,7 +95,7 @@ with_answer site u m = record {
 abbrev pub OnlyAnswers : SiteId → Upload → Model → Model × Outcome → Type 0
 OnlyAnswers site u m done = done.0 ≡ (if did_something done.1 then with_answer site u m else m)
 
--- An upload whose generations have all acted is only answered.
+-- An upload whose generations have all acted is only answered, or refused.
 abbrev pub ActedUploadsOnlyAnswer : Type 0
 ActedUploadsOnlyAnswer = (publication : Publication) (says : Saying) (m : Model) (number : ℕ) (site : SiteId) (u : Upload) → IsUpload m number site u → AllActed m.history u
     → OnlyAnswers site u m (delivered publication says m number)
@@ -113,7 +113,7 @@ DoneStays publication says m = (site generation : ℕ) → is_done m.history sit
 abbrev pub LettersStay : Publication → Saying → Model → Type 0
 LettersStay publication says m = (number : ℕ) (letter : Letter) → letter_at m.world number ≡ Some letter → (slips : Slips) (more : List Event) → letter_at (model_after publication says m slips more).world number ≡ Some letter
 
--- so that another delivery, at once or after whatever events, is only answered.
+-- so that another delivery, at once or after whatever events, is only answered, or refused.
 abbrev pub TakenOnlyAnswer : Publication → Saying → Model → Type 0
 TakenOnlyAnswer publication says m = (number : ℕ) (site : SiteId) (u : Upload) → IsUpload m number site u
     → (let done : Model × Outcome = delivered publication says m number in did_something done.1 ≡ true → (slips : Slips) (more : List Event)

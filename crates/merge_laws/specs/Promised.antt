@@ -33,7 +33,7 @@ pub record Promised (publication : Publication) (says : Saying) (m : Model) : Ty
   -- a settled site holds its partition, and a session that nothing refused settles its site
   pub partition : SettledHoldsPartition publication m
   pub sessions : SessionSettles publication says m
-  -- no generation of a site acts twice: what has acted stays so, and an upload that was taken once is only answered
+  -- no generation of a site acts twice: what has acted stays so, and an upload that was taken once is only answered, or refused
   pub once : NoneActsTwice m
   pub taken : TakenHaveActed publication says m
   pub stays : DoneStays publication says m
@@ -51,7 +51,7 @@ pub record Promised (publication : Publication) (says : Saying) (m : Model) : Ty
   pub ranges : RangesApart m
   pub identities : IdentitiesApart m
   pub granted : TakenWereGranted m
-  -- a purge takes nothing that a live site still needs, and what the publisher takes a joined site to hold, it asked for
+  -- a purge takes nothing that a live site still needs, and a joined site's watermark at the publisher is no more than its own
   pub old : OldIsPast publication m
   pub watermarks : WatermarksAreHeld m
   -- a download puts what is in its site's partition, and removes what left it
@@ -72,7 +72,7 @@ pub record Promised (publication : Publication) (says : Saying) (m : Model) : Ty
   pub numbered : MadeAreNumbered m
   pub known : KnownWereMade m
   pub lineages_known : KnowsOnlyMade m
-  -- the lists of tables ascend
+  -- rows and closed generations ascend, at the publisher mappings and sites too
   pub sorted : AreSorted m.world.publisher
   pub sub_sorted : AllByRecursion (λ (entry : ℕ × SubscriberTables). AreSubSorted entry.1) m.world.subscribers
 

@@ -1,4 +1,4 @@
--- What the publisher takes a site to hold, the site holds.
+-- A joined site's watermark at the publisher is no more than its own.
 use Rattle.std.specs.Prelude.{◌≡◌, ◌≤◌, ◌<◌, ℕ, List, Option, Some, true, IfSome, unwrap_or}
 use Rattle.std.specs.List.{AllByRecursion}
 use Rattle.merge_types.specs.declared.identifiers.SiteId.{SiteId}
@@ -16,7 +16,7 @@ use Rattle.merge_model.specs.declared.letter.Letter.{Letter}
 use Rattle.merge_model.specs.declared.letter.Message.{Message}
 use Rattle.merge_model.specs.declared.letter.Message.TheVariants.{Asks, Replies}
 
--- A joined site holds all that its watermark at the publisher says.
+-- Of a joined site, the publisher's watermark is no more than the site's.
 abbrev pub WatermarksAreHeld : Model → Type 0
 WatermarksAreHeld m = (n : ℕ) (s : SubscriberTables) → at_number m.world.subscribers n ≡ Some s → s.is_joined ≡ true → watermark_of m.world s.site ≤ s.watermark
 

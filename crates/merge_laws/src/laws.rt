@@ -83,8 +83,8 @@ pub fn downloads_stay_in_the_partition()
     ensures { OfEach RepliesStayInside }
 {}
 
-/// The publisher keeps of each site how far the site holds its generations, and purges by it. Whatever
-/// happened, a site that has joined holds that much: no ask that comes late, twice, or after the site
+/// The publisher keeps a watermark of each site, and purges by it. Whatever happened, that of a site
+/// that has joined is no more than the site's own: no ask that comes late, twice, or after the site
 /// was made anew says more.
 pub fn watermarks_are_held()
     ensures { OfEveryModel WatermarksAreHeld }
