@@ -20,13 +20,13 @@ use Rattle.merge_model.specs.Subscriber.{sub_last_closed}
 use Rattle.merge_model.specs.Tables.{PublisherTables, SubscriberTables}
 use Rattle.merge_model.proofs.Finding.{found-named}
 use Rattle.merge_model.proofs.Lists.{all-three}
+use Rattle.merge_typed.specs.Typed.{MomentFits}
 use Rattle.merge_laws.specs.Laws.{OfEveryValidRun}
 use Rattle.merge_laws.specs.Numbered.{last_of}
 use Rattle.merge_laws.proofs.Through.{last-rises, order-within}
 use Rattle.merge_honest.proofs.Rules.{Known, known-always}
 use Rattle.merge_stored.specs.Closings.{ClosingsLoad, PublisherClosingLoads, SubscriberClosingLoads, SubscriberClosingsLoad}
 use Rattle.merge_stored.specs.Stored.{subscriber_stored}
-use Rattle.merge_stored.specs.Typed.{MomentFits}
 use Rattle.merge_stored.proofs.ClosingLists.{IsFromOne, last-of-more, run-keeps}
 use Rattle.merge_stored.proofs.PublisherClosings.{closings-from}
 use Rattle.merge_stored.proofs.States.{closed-low}

@@ -36,6 +36,7 @@ use Rattle.merge_model.specs.Runs.{model_behind}
 use Rattle.merge_model.specs.Tables.{PublisherTables}
 use Rattle.merge_model.proofs.KeyLookUps.{keys-same}
 use Rattle.merge_model.proofs.Lists.{all-filter}
+use Rattle.merge_typed.specs.Typed.{BodyIsTyped, LostIsTyped}
 use Rattle.merge_laws.specs.Knowledge.{Knows, RowKnows, changes_of, same_dot}
 use Rattle.merge_laws.specs.KnownMakers.{KnowsMaker}
 use Rattle.merge_laws.specs.Laws.{OfEveryValidRun}
@@ -55,7 +56,6 @@ use Rattle.merge_honest.proofs.Rules.{Known, known-always}
 use Rattle.merge_honest.proofs.TookValues.{took-always}
 use Rattle.merge_stored.specs.Conflicts.{AllConflictsAreKept, ConflictsAreKept, LostAt}
 use Rattle.merge_stored.specs.Lost.{AllLostLoad, LostLoads, LostRowsLoad}
-use Rattle.merge_stored.specs.Typed.{BodyIsTyped, LostIsTyped}
 use Rattle.merge_stored.specs.Versions.{VersionLoads}
 use Rattle.merge_stored.proofs.Conflicts.{conflicts-kept}
 use Rattle.merge_stored.proofs.Sites.{site-low}

@@ -27,13 +27,13 @@ use Rattle.merge_model.specs.World.{Saying}
 use Rattle.merge_model.specs.declared.event.Event.{Event}
 use Rattle.merge_model.proofs.Finding.{all-weaker}
 use Rattle.merge_model.proofs.Lists.{all-both, all-filter, all-three}
+use Rattle.merge_typed.specs.Typed.{GrantIsTyped, HolderIsTyped, PublisherIsTyped}
 use Rattle.merge_laws.proofs.ValidRules.{valid-rules}
 use Rattle.merge_honest.proofs.HeldRanges.{new-well}
 use Rattle.merge_stored.specs.Own.{OwnIsHeld}
 use Rattle.merge_stored.specs.PublisherLoading.{RangeRuleHolds}
 use Rattle.merge_stored.specs.Ranges.{HeldLoads}
 use Rattle.merge_stored.specs.Stored.{publisher_stored}
-use Rattle.merge_stored.specs.Typed.{GrantIsTyped, HolderIsTyped, PublisherIsTyped}
 use Rattle.merge_stored.proofs.GrantRule.{GrantOk, Related}
 use Rattle.merge_stored.proofs.GrantsKnown.{GrantIsKnown, grants-known}
 use Rattle.merge_stored.proofs.HeldKeys.{keys-same}

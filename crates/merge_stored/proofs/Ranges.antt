@@ -24,12 +24,12 @@ use Rattle.merge_model.specs.Publisher.{new_holders}
 use Rattle.merge_model.specs.Runs.{model_behind}
 use Rattle.merge_model.proofs.Finding.{all-weaker}
 use Rattle.merge_model.proofs.Lists.{all-both, all-kept}
+use Rattle.merge_typed.specs.Typed.{GrantIsTyped}
 use Rattle.merge_laws.specs.Laws.{OfEveryValidRun}
 use Rattle.merge_laws.proofs.ValidRules.{valid-rules}
 use Rattle.merge_honest.proofs.HeldRanges.{new-well}
 use Rattle.merge_honest.proofs.Rules.{Known, known-always}
 use Rattle.merge_stored.specs.Ranges.{AllHeldLoad, GrantsLoad, HeldLoads, RangesLoad}
-use Rattle.merge_stored.specs.Typed.{GrantIsTyped}
 use Rattle.merge_stored.proofs.GrantsKnown.{GrantIsKnown, grants-known}
 use Rattle.merge_stored.proofs.HeldKeys.{HasKeys, IsFresh, IsOfIdentity, all-held, each-identity, identities-at, keys-same}
 use Rattle.merge_stored.proofs.HeldWalk.{own-keys, sub-keys}

@@ -12,8 +12,8 @@ use Rattle.merge_batch.proofs.Makers.{made-maker_of}
 use Rattle.merge_batch.specs.Makers.{maker_of}
 use Rattle.merge_record.specs.Codec.{AreCounted}
 use Rattle.merge_record.specs.Versions.{IsCell, IsDot}
+use Rattle.merge_typed.specs.Typed.{CellIsTyped}
 use Rattle.merge_owed.proofs.CellValues.{HasColumns, HaveOne}
-use Rattle.merge_stored.specs.Typed.{CellIsTyped}
 
 -- A lineage has each site once, and sites are at most 63.
 pub rising-short : (low : ℕ) (lineage : List Dot) → RisesFrom low lineage → AllByRecursion (λ (dot : Dot). dot.site.0 ≤ 63) lineage → low ≤ 64 → length lineage + low ≤ 64

@@ -17,6 +17,7 @@ use Rattle.merge_model.specs.Model.{Model}
 use Rattle.merge_model.specs.Runs.{model_behind}
 use Rattle.merge_model.specs.Subscriber.{sub_last_closed}
 use Rattle.merge_model.specs.Tables.{PublisherTables, SubscriberTables}
+use Rattle.merge_typed.specs.Typed.{MomentFits}
 use Rattle.merge_laws.specs.Laws.{OfEveryValidRun}
 use Rattle.merge_laws.specs.Settled.{SiteHolds, made_in, site_view}
 use Rattle.merge_laws.specs.Watermarks.{StateHolds, state_in}
@@ -26,7 +27,6 @@ use Rattle.merge_honest.proofs.Rules.{Known, known-always}
 use Rattle.merge_stored.specs.Conflicts.{AllConflictsAreKept}
 use Rattle.merge_stored.specs.States.{OutstandingFits, SentFits, StatesLoad, SubscriberStateLoads}
 use Rattle.merge_stored.specs.Stored.{publisher_stored, subscriber_stored}
-use Rattle.merge_stored.specs.Typed.{MomentFits}
 use Rattle.merge_stored.proofs.Conflicts.{conflicts-kept}
 use Rattle.merge_stored.proofs.Outstanding.{outstanding-fits}
 

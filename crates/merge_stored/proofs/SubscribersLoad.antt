@@ -2,10 +2,10 @@
 use Rattle.std.specs.Prelude.{filter}
 use Rattle.merge_keeper.specs.Entries.{was_received}
 use Rattle.merge_model.proofs.Lists.{all-both, all-filter}
+use Rattle.merge_typed.specs.Typed.{HolderIsTyped}
 use Rattle.merge_laws.specs.Laws.{OfEveryValidRun}
 use Rattle.merge_stored.specs.Loading.{HeldEntryLoads, SubscribersLoad}
 use Rattle.merge_stored.specs.Ranges.{HeldLoads}
-use Rattle.merge_stored.specs.Typed.{HolderIsTyped}
 use Rattle.merge_stored.proofs.Closings.{closings-load}
 use Rattle.merge_stored.proofs.Conflicts.{conflicts-load}
 use Rattle.merge_stored.proofs.Lost.{lost-rows-load}

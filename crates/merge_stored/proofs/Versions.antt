@@ -37,6 +37,7 @@ use Rattle.merge_model.proofs.Finding.{all-weaker}
 use Rattle.merge_model.proofs.KeyLists.{some-head}
 use Rattle.merge_model.proofs.KeyLookUps.{key-itself, key-test}
 use Rattle.merge_model.proofs.Lists.{all-both, all-three}
+use Rattle.merge_typed.specs.Typed.{BodyIsTyped}
 use Rattle.merge_laws.specs.Knowledge.{Knows, changes_of}
 use Rattle.merge_laws.specs.KnownMakers.{HeldKnow, KnowsMaker}
 use Rattle.merge_laws.specs.Laws.{OfEveryValidRun}
@@ -56,7 +57,6 @@ use Rattle.merge_honest.proofs.RowRules.{found-exists}
 use Rattle.merge_honest.proofs.RowsFit.{AllTook, IsRight, IsSet, few, right-goes_on}
 use Rattle.merge_honest.proofs.Rules.{Known, known-always}
 use Rattle.merge_honest.proofs.TookValues.{took-always}
-use Rattle.merge_stored.specs.Typed.{BodyIsTyped}
 use Rattle.merge_stored.specs.Versions.{VersionIsStored, VersionLoads, VersionsAreStored, VersionsLoad}
 use Rattle.merge_stored.proofs.Records.{cells-fit, rising-short, row-fits}
 

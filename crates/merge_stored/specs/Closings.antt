@@ -13,8 +13,8 @@ use Rattle.merge_model.specs.Publisher.{new_holders}
 use Rattle.merge_model.specs.Subscriber.{sub_last_closed}
 use Rattle.merge_model.specs.Tables.{PublisherTables, SubscriberTables}
 use Rattle.merge_model.specs.World.{Saying}
+use Rattle.merge_typed.specs.Typed.{MomentFits}
 use Rattle.merge_stored.specs.Stored.{subscriber_stored}
-use Rattle.merge_stored.specs.Typed.{MomentFits}
 
 abbrev pub PublisherClosingLoads : PublisherTables → Closing → Type 0
 PublisherClosingLoads p closing = (closing.generation < 2 ^ 64) × (closing.moment.0 < 2 ^ 64) × (start_publisher.closing_is_sound p.gens.filling.last_closed closing ≡ true)

@@ -1,5 +1,4 @@
 pub mod Stored
-pub mod Typed
 pub mod Versions
 pub mod Conflicts
 pub mod Entries

@@ -17,8 +17,8 @@ use Rattle.merge_model.specs.Model.{Model}
 use Rattle.merge_model.specs.Publisher.{new_holders}
 use Rattle.merge_model.specs.Tables.{SubscriberTables}
 use Rattle.merge_model.specs.World.{Saying}
+use Rattle.merge_typed.specs.Typed.{SubscriberIsTyped}
 use Rattle.merge_stored.specs.Stored.{subscriber_stored}
-use Rattle.merge_stored.specs.Typed.{SubscriberIsTyped}
 
 -- a row of a subscriber, behind those in front of it
 abbrev pub SubscriberRowLoads : Publication → SubscriberTables → List (Key × SubscriberRow) → Key × SubscriberRow → Type 0

@@ -9,7 +9,7 @@ use Rattle.merge_model.specs.Keys.{at_number}
 use Rattle.merge_model.specs.Model.{Model}
 use Rattle.merge_model.specs.Tables.{SubscriberTables}
 use Rattle.merge_model.specs.World.{Saying}
-use Rattle.merge_stored.specs.Typed.{PublisherIsTyped, SubscriberIsTyped}
+use Rattle.merge_typed.specs.Typed.{PublisherIsTyped, SubscriberIsTyped}
 
 -- a record can have the row, and a start takes it behind those in front of it
 abbrev pub LostLoads : Publication → ℕ → List ConflictRow → ConflictRow → Type 0

@@ -17,8 +17,8 @@ use Rattle.merge_model.specs.Model.{Model}
 use Rattle.merge_model.specs.Publisher.{new_holders}
 use Rattle.merge_model.specs.Tables.{PublisherTables}
 use Rattle.merge_model.specs.World.{Saying}
+use Rattle.merge_typed.specs.Typed.{PublisherIsTyped}
 use Rattle.merge_stored.specs.Stored.{publisher_stored}
-use Rattle.merge_stored.specs.Typed.{PublisherIsTyped}
 
 -- a row and a mapping, behind those in front of it
 abbrev pub PublisherRowLoads : Publication → PublisherTables → List (Key × PublisherRow) → Key × PublisherRow → Type 0

@@ -16,7 +16,7 @@ use Rattle.merge_model.specs.Model.{Model}
 use Rattle.merge_model.specs.Publisher.{new_holders}
 use Rattle.merge_model.specs.Tables.{SubscriberTables}
 use Rattle.merge_model.specs.World.{Saying}
-use Rattle.merge_stored.specs.Typed.{GrantIsTyped}
+use Rattle.merge_typed.specs.Typed.{GrantIsTyped}
 
 -- what was received of an article reads back, where it is one that a record can have
 pub record HeldLoads (publication : Publication) (entry : ℕ × Holder) : Type 0 where

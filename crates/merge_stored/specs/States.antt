@@ -13,8 +13,8 @@ use Rattle.merge_model.specs.Model.{Model}
 use Rattle.merge_model.specs.Subscriber.{sub_last_closed}
 use Rattle.merge_model.specs.Tables.{PublisherTables, SubscriberTables}
 use Rattle.merge_model.specs.World.{Saying}
+use Rattle.merge_typed.specs.Typed.{MomentFits}
 use Rattle.merge_stored.specs.Stored.{publisher_stored, subscriber_stored}
-use Rattle.merge_stored.specs.Typed.{MomentFits}
 
 -- A message that is outstanding has a number from 1 on, and an upload goes from and to what the site has closed.
 abbrev pub EndsBy : ℕ → Outstanding → Type 0

@@ -8,7 +8,7 @@ use Rattle.merge_keeper.specs.PublisherStart.{site_is_sound}
 use Rattle.merge_model.specs.Model.{Model}
 use Rattle.merge_model.specs.Tables.{PublisherTables}
 use Rattle.merge_model.specs.World.{Saying}
-use Rattle.merge_stored.specs.Typed.{PublisherIsTyped}
+use Rattle.merge_typed.specs.Typed.{PublisherIsTyped}
 
 abbrev pub SiteLoads : Publication → PublisherTables → ℕ × SiteState → Type 0
 SiteLoads publication p site = (site.0 < 2 ^ 16) × IsSiteState site.1 × (site_is_sound publication p.gens.filling.last_closed site.0 site.1 ≡ true)

@@ -13,7 +13,7 @@ use Rattle.merge_model.specs.Keys.{at_number}
 use Rattle.merge_model.specs.Model.{Model}
 use Rattle.merge_model.specs.Tables.{SubscriberTables}
 use Rattle.merge_model.specs.World.{Saying}
-use Rattle.merge_stored.specs.Typed.{PublisherIsTyped, SubscriberIsTyped}
+use Rattle.merge_typed.specs.Typed.{PublisherIsTyped, SubscriberIsTyped}
 
 -- A record can have the row, and a start takes its version: it fits the publication, and its tops are known.
 pub record VersionLoads (publication : Publication) (key : Key) (version : Version) : Type 0 where

@@ -1,0 +1,4 @@
+pub mod Typed
+pub mod Outside
+pub mod Messages
+pub mod Laws

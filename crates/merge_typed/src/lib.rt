@@ -1,0 +1,7 @@
+//! Values and moments are those of their types: what comes from outside is, and so are the tables of
+//! every run. These functions do nothing: their contracts are the laws.
+#![tactic(auto)]
+
+mod typed;
+
+pub use typed::{messages_are_typed, own_resolvers_are_typed, tables_are_typed};

@@ -1,0 +1,19 @@
+//! Laws on values and moments.
+ghost use Rattle.merge_model.specs.Resolvers.{rules_say};
+ghost use Rattle.merge_typed.specs.Laws.{MessagesAreTyped, OfEveryTypedRun, TablesAreTyped};
+ghost use Rattle.merge_typed.specs.Outside.{SayingIsTyped};
+
+/// The values, moments and ranges in the tables of each site are those of their types.
+pub fn tables_are_typed()
+    ensures { OfEveryTypedRun TablesAreTyped }
+{}
+
+/// And so are those in each message, on its way or delivered.
+pub fn messages_are_typed()
+    ensures { OfEveryTypedRun MessagesAreTyped }
+{}
+
+/// The resolvers that the program hands in decide typed values, where they are asked of typed versions.
+pub fn own_resolvers_are_typed()
+    ensures { SayingIsTyped rules_say }
+{}
