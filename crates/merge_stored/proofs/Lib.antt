@@ -35,3 +35,4 @@ pub mod SubscribersLoad
 pub mod PublisherEntries
 pub mod PublisherRowsLoad
 pub mod PublisherLoads
+pub mod TypedRuns

@@ -10,3 +10,4 @@ pub mod Lost
 pub mod Subscriptions
 pub mod Loading
 pub mod PublisherLoading
+pub mod TypedRuns

@@ -5,7 +5,7 @@
 mod loading;
 mod stored;
 
-pub use loading::{publisher_loads, subscribers_load};
+pub use loading::{publisher_loads, subscribers_load, typed_runs_load};
 pub use stored::{
     closings_have_records, conflicts_are_numbered, conflicts_have_records, own_ranges_are_held,
     publisher_rows_load, ranges_have_records, rows_have_records, sites_have_records,

@@ -2,6 +2,7 @@
 ghost use Rattle.merge_laws.specs.Laws.{OfEveryValidRun};
 ghost use Rattle.merge_stored.specs.Loading.{SubscribersLoad, SubscriberStoresLoad};
 ghost use Rattle.merge_stored.specs.PublisherLoading.{PublisherLoads, PublisherStoreLoads};
+ghost use Rattle.merge_stored.specs.TypedRuns.{OfEveryValidTypedRun, RulesHold, StoresLoad};
 
 use merge_keeper::{publisher_stored_tables_load, stored_tables_load};
 
@@ -21,4 +22,14 @@ pub fn publisher_loads()
     ensures loads { OfEveryValidRun PublisherStoreLoads }
 {
     publisher_stored_tables_load();
+}
+
+/// Where values and moments that come from outside are those of their types, so are those in the
+/// tables, and the stores of all sites load.
+pub fn typed_runs_load()
+    ensures rules { OfEveryValidTypedRun RulesHold }
+    ensures loads { OfEveryValidTypedRun StoresLoad }
+{
+    publisher_stored_tables_load();
+    stored_tables_load();
 }
