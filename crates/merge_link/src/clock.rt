@@ -1,5 +1,5 @@
 //! What tells the moment.
-ghost use Rattle.std.specs.Prelude.{◌≡◌, Some, IfSome, drop, option_map};
+ghost use Rattle.std.specs.Prelude.{◌≡◌, ◌+◌, ◌<◌, ◌≤◌, Some, IfSome, drop, length, option_map};
 ghost use Rattle.std.specs.declared.option.Option.{Option};
 ghost use Rattle.merge_link.specs.Moments.{Moments, later_moments, next_moment};
 
@@ -43,7 +43,13 @@ impl MemoryClock {
 impl Clock for MemoryClock {
     ghost told = { λ c. Some (record { coming = drop c.given c.moments; last = c.last }) };
 
-    fn now(&mut self) -> Moment {
+    fn now(&mut self) -> Moment
+        ensures moment { IfSome (Some (record { coming = drop self.old.given self.old.moments; last = self.old.last })) (λ moments. result ≡ next_moment moments) }
+        ensures later { Some (record { coming = drop self.new.given self.new.moments; last = self.new.last }) ≡ option_map later_moments (Some (record { coming = drop self.old.given self.old.moments; last = self.old.last })) }
+        ensures next { self.old.given < length self.old.moments → self.new ≡ record self.old { given = self.old.given + 1; last = result } }
+        ensures end { length self.old.moments ≤ self.old.given → self.new ≡ self.old }
+        ensures again { length self.old.moments ≤ self.old.given → result ≡ self.old.last }
+    {
         if let Some(moment) = self.moments.as_slice().get(self.given) {
             self.last = *moment;
             self.given += 1;
