@@ -1,12 +1,17 @@
 //! A keeper over a SQLite file: one table, three statements that are prepared once, and one
 //! transaction for each commit.
-ghost use Rattle.std.specs.Prelude.{◌≡◌, false, IfOk};
+ghost use Rattle.std.specs.Prelude.{◌≡◌, codes, false, IfOk, IsErrOf, IsTrue, OnErr, OnOk};
+ghost use Rattle.sqlite.specs.Held.{state};
+ghost use Rattle.sqlite.specs.State.{HasCleanDisk, KeepsCommit, Survives};
 ghost use Rattle.merge_ports.specs.Keeping.{HasKeepCause};
 ghost use Rattle.merge_sqlite.specs.Causes.{fault_of, count_after};
+ghost use Rattle.merge_sqlite.specs.Reading.{IsEntry, IsNoEntry, Loads, with_row};
+ghost use Rattle.merge_sqlite.specs.Writing.{Commits, MayLeave, Writes};
+ghost use Rattle.merge_sqlite.specs.declared.keeper.Stop.TheVariants.{Refused as refused};
 
 use merge_ports::{Entries, EntryEdit, EntryKey, KeepFault, Keeper};
 use merge_types::{Listing, NoMemory};
-use sqlite::{Alter, Connection, Error, ErrorCode, FileStore, Row, Statement, params};
+use sqlite::{Alter, Connection, Error, ErrorCode, FileStore, Row, Statement, Transaction, params};
 use sqlite_std_file::File;
 use std::alloc::Global;
 
@@ -45,6 +50,11 @@ pub struct SqliteKeeper<S: Alter> {
 }
 
 impl From<Error> for Stop {
+    ghost use Rattle.std.specs.Prelude.{◌≡◌};
+    ghost use Rattle.merge_sqlite.specs.Causes.{stop_of};
+
+    ghost from_gives = { λ error stop. stop ≡ stop_of error };
+
     fn from(error: Error) -> Stop {
         match error {
             Error::SqliteFailure(ErrorCode::OutOfMemory) => Stop::NoMemory,
@@ -54,6 +64,11 @@ impl From<Error> for Stop {
 }
 
 impl From<NoMemory> for Stop {
+    ghost use Rattle.std.specs.Prelude.{◌≡◌};
+    ghost use Rattle.merge_sqlite.specs.declared.keeper.Stop.TheVariants.{NoMemory as no_memory};
+
+    ghost from_gives = { λ _ stop. stop ≡ no_memory };
+
     fn from(_: NoMemory) -> Stop {
         Stop::NoMemory
     }
@@ -66,7 +81,8 @@ impl SqliteKeeper<FileStore<File>> {
     /// for one that another keeper or process holds, and for a folder in which no file can be made.
     /// The file is left as it is; a log without a commit may be left beside it.
     pub fn open(rt: &HostRuntime, path: &str) -> Result<Self, KeepFault>
-        ensures { IfOk result (λ keeper. keeper.count ≡ 0) }
+        ensures fresh { IfOk result (λ keeper. keeper.count ≡ 0) }
+        ensures memory { path.now ≡ codes ":memory:" → result ≡ Err KeepFault.Failed }
     {
         match opened(rt, path) {
             Ok(keeper) => Ok(keeper),
@@ -77,7 +93,8 @@ impl SqliteKeeper<FileStore<File>> {
 }
 
 fn opened(rt: &HostRuntime, path: &str) -> Result<SqliteKeeper<FileStore<File>>, Stop>
-    ensures { IfOk result (λ keeper. keeper.count ≡ 0) }
+    ensures fresh { IfOk result (λ keeper. keeper.count ≡ 0) }
+    ensures memory { path.now ≡ codes ":memory:" → result ≡ Err Stop.Refused }
 {
     let mut conn = Connection::open(rt, path)?;
     make_table(&mut conn)?;
@@ -114,7 +131,12 @@ fn make_table<S: Alter>(conn: &mut Connection<S>) -> Result<(), Stop> {
     }
 }
 
-fn add_entry(entries: &mut Entries, row: &Row) -> Result<(), Stop> {
+fn add_entry(entries: &mut Entries, row: &Row) -> Result<(), Stop>
+    ensures entry { OnOk result (IsEntry row.now) }
+    ensures ok { OnOk result (entries.new ≡ with_row entries.old row.now) }
+    ensures same { OnErr result (entries.new ≡ entries.old) }
+    ensures refused { IsErrOf result refused → IsNoEntry row.now }
+{
     let table: i64 = row.get(0)?;
     let key: Vec<u8> = row.get(1)?;
     let value: Vec<u8> = row.get(2)?;
@@ -133,13 +155,41 @@ fn read_all<S: Alter>(
     alloc: Global,
     conn: &mut Connection<S>,
     all: &Statement,
-) -> Result<Entries, Stop> {
+) -> Result<Entries, Stop>
+    ensures read { HasCleanDisk (state S.Store conn.new) → IfOk result (Loads all.now.text (state S.Store conn.old) (state S.Store conn.new)) }
+{
     let mut entries = Entries::empty(alloc);
     let rows = all.query_all(conn, &[])?;
     for row in &rows {
         add_entry(&mut entries, row)?;
     }
     Ok(entries)
+}
+
+// Writes one edit within a transaction: it is put where it has a value, and else taken.
+fn write_edit<S: Alter>(
+    transaction: &mut Transaction<'_, S>,
+    put: &Statement,
+    take: &Statement,
+    edit: &EntryEdit,
+) -> Result<(), Error>
+    ensures same_reference { transaction.new.conn.ghost_name ≡ transaction.old.conn.ghost_name }
+    ensures written { HasCleanDisk (state S.Store transaction.new.conn.now) → IsTrue transaction.old.conn.now.in_transaction → OnOk result (Writes S.Store put.now.text take.now.text edit.now transaction.old.conn.now transaction.new.conn.now) }
+    ensures kept { HasCleanDisk (state S.Store transaction.new.conn.now) → IsTrue transaction.old.conn.now.in_transaction → KeepsCommit (state S.Store transaction.old.conn.now) (state S.Store transaction.new.conn.now) }
+    ensures survives { Survives (state S.Store transaction.old.conn.now) (state S.Store transaction.new.conn.now) (λ _. ⊥) }
+{
+    let table = i64::from(edit.table);
+    let key = edit.key.as_slice();
+    match &edit.value {
+        Some(value) => {
+            transaction.execute_prepared(put, params![table, key, value.as_slice()])?;
+            Ok(())
+        }
+        None => {
+            transaction.execute_prepared(take, params![table, key])?;
+            Ok(())
+        }
+    }
 }
 
 // A transaction that is given up is rolled back.
@@ -150,19 +200,13 @@ fn write_all<S: Alter>(
     edits: &[EntryEdit],
 ) -> Result<(), Error>
     requires { conn.old.in_transaction ≡ false }
+    ensures done { HasCleanDisk (state S.Store conn.new) → OnOk result (Commits S.Store put.now.text take.now.text edits.now conn.old conn.new) }
+    ensures undone { HasCleanDisk (state S.Store conn.new) → OnErr result (KeepsCommit (state S.Store conn.old) (state S.Store conn.new)) }
+    ensures crash { Survives (state S.Store conn.old) (state S.Store conn.new) (MayLeave S.Store put.now.text take.now.text edits.now conn.old) }
 {
     let mut transaction = conn.transaction();
     for edit in edits {
-        let table = i64::from(edit.table);
-        let key = edit.key.as_slice();
-        match &edit.value {
-            Some(value) => {
-                transaction.execute_prepared(put, params![table, key, value.as_slice()])?;
-            }
-            None => {
-                transaction.execute_prepared(take, params![table, key])?;
-            }
-        }
+        write_edit(&mut transaction, put, take, edit)?;
     }
     transaction.commit()
 }
@@ -189,14 +233,24 @@ impl<S: Alter + Drop> Keeper for SqliteKeeper<S> {
 
     ghost count = { λ k. k.count };
 
-    fn load(&mut self) -> Result<Entries, KeepFault> {
+    fn load(&mut self) -> Result<Entries, KeepFault>
+        ensures cause { HasKeepCause self.old.count self.new.count result }
+        ensures read { HasCleanDisk (state S.Store self.new.conn) → IfOk result (Loads self.old.all.text (state S.Store self.old.conn) (state S.Store self.new.conn)) }
+        ensures kept { self.new ≡ record self.old { conn = self.new.conn; count = self.new.count } }
+    {
         match read_all(self.alloc, &mut self.conn, &self.all) {
             Ok(entries) => Ok(entries),
             Err(stop) => noted(&mut self.count, stop),
         }
     }
 
-    fn commit(&mut self, edits: &[EntryEdit]) -> Result<(), KeepFault> {
+    fn commit(&mut self, edits: &[EntryEdit]) -> Result<(), KeepFault>
+        ensures cause { HasKeepCause self.old.count self.new.count result }
+        ensures done { HasCleanDisk (state S.Store self.new.conn) → OnOk result (Commits S.Store self.old.put.text self.old.take.text edits.now self.old.conn self.new.conn) }
+        ensures undone { HasCleanDisk (state S.Store self.new.conn) → OnErr result (KeepsCommit (state S.Store self.old.conn) (state S.Store self.new.conn)) }
+        ensures crash { Survives (state S.Store self.old.conn) (state S.Store self.new.conn) (MayLeave S.Store self.old.put.text self.old.take.text edits.now self.old.conn) }
+        ensures kept { self.new ≡ record self.old { conn = self.new.conn; count = self.new.count } }
+    {
         if !self.conn.is_autocommit() {
             return noted(&mut self.count, Stop::Refused);
         }
