@@ -15,7 +15,9 @@ pub struct SystemClock {
 
 impl SystemClock {
     /// A clock that gave no moment yet.
-    pub fn new(rt: HostRuntime) -> Self {
+    pub fn new(rt: HostRuntime) -> Self
+        ensures { result ≡ record { rt = rt; last = record { 0 = 0 } } }
+    {
         SystemClock {
             rt,
             last: Moment(0),
@@ -29,7 +31,9 @@ impl Clock for SystemClock {
     ghost told = { λ c. None };
 
     // Where the system has no time to give, the last moment is given again.
-    fn now(&mut self) -> Moment {
+    fn now(&mut self) -> Moment
+        ensures kept { self.new ≡ record self.old { last = result } }
+    {
         if let Ok(since) = self.rt.since_1970() {
             self.last = Moment(since.as_secs());
         }

@@ -1,5 +1,6 @@
 //! A connection over TCP whose reads and writes end in time.
-ghost use Rattle.std.specs.Prelude.{◌≡◌};
+ghost use Rattle.std.specs.Prelude.{◌≡◌, ◌<◌, ◌≤◌, IfOk};
+ghost use Rattle.std.specs.Duration.{as_nanos};
 ghost use Rattle.std.specs.Io.{ReadsAtMost, WritesAtMost};
 
 use merge_ports::{Failed, Sink, Source};
@@ -9,7 +10,10 @@ use std::net::{TcpStream, ToSocketAddrs};
 use std::time::{Duration, Instant};
 
 // How much of a time is left, and an error where none is.
-fn left_of(rt: &HostRuntime, started: &Instant, whole: Duration) -> io::Result<Duration> {
+fn left_of(rt: &HostRuntime, started: &Instant, whole: Duration) -> io::Result<Duration>
+    ensures some { IfOk result (λ left. 0 < as_nanos left) }
+    ensures within { IfOk result (λ left. as_nanos left ≤ as_nanos whole) }
+{
     let passed = started.elapsed(rt)?;
     match whole.checked_sub(passed) {
         Some(left) if !left.is_zero() => Ok(left),
@@ -49,7 +53,10 @@ impl Connection {
         address: &str,
         to_connect: Duration,
         to_answer: Duration,
-    ) -> io::Result<Connection> {
+    ) -> io::Result<Connection>
+        ensures fresh { IfOk result (λ connection. connection.faults ≡ 0) }
+        ensures within { IfOk result (λ connection. connection.within ≡ to_answer) }
+    {
         let stream = connect(rt, address, to_connect)?;
         Ok(Connection {
             rt: *rt,

@@ -1,6 +1,9 @@
 //! An outside in memory, for tests of commands.
-ghost use Rattle.std.specs.Prelude.{◌≡◌, [], IfOk, IfSome, option_copied};
-ghost use Rattle.merge_outside.specs.Texts.{bytes_at, text_at};
+ghost use Rattle.std.specs.Prelude.{◌≡◌, [], Some, true, false, IfOk, IfSome, IsErrOf, IsOk, OnErr, OnOk, is_none, option_copied, option_map};
+ghost use Rattle.merge_ports.specs.Faults.{one_more};
+ghost use Rattle.merge_ports.specs.declared.outside.OpenFault.TheVariants.{Failed as failed, NoMemory as no_memory};
+ghost use Rattle.merge_outside.specs.Offers.{with_link_faults, with_text_faults};
+ghost use Rattle.merge_outside.specs.Texts.{bytes_at, source_of, text_at, text_fails};
 
 use crate::commands::CommandOutside;
 use merge_link::{Exchange, Link, MemoryClock, MemoryLink};
@@ -67,6 +70,8 @@ fn text_at<'a>(texts: &'a [MemoryText], path: &Words) -> Option<&'a MemoryText>
 fn source_at(texts: &[MemoryText], path: &Words) -> Result<Option<MemorySource>, NoMemory>
     ensures left { IfOk result (λ found. IfSome found (λ source. ⟦<MemorySource as Source>⟧.left source ≡ bytes_at texts.now path.now)) }
     ensures fresh { IfOk result (λ found. IfSome found (λ source. source.faults ≡ 0)) }
+    ensures found { IfOk result (λ found. found ≡ option_map source_of (text_at texts.now path.now)) }
+    ensures lacking { OnErr result (is_none (text_at texts.now path.now) ≡ false) }
 {
     match text_at(texts, path) {
         Some(text) => {
@@ -110,7 +115,15 @@ impl<K: Keeper> CommandOutside for MemoryCommands<K> {
 
     ghost offers = { λ o. record { texts = bytes_at o.texts; responses = Some o.responses; exchanges = Some o.exchanges; moments = Some (record { coming = o.moments; last = record { 0 = 0 } }) } };
 
-    fn text(&mut self, path: &Words) -> Result<MemorySource, OpenFault> {
+    fn text(&mut self, path: &Words) -> Result<MemorySource, OpenFault>
+        ensures tried { OnOk result (text_fails self.old.failing_texts self.old.opened_texts self.old.texts path.now ≡ false) }
+        ensures opened { IfOk result (λ source. option_map source_of (text_at self.old.texts path.now) ≡ Some source) }
+        ensures kept { OnOk result (self.new ≡ record self.old { opened_texts = one_more self.old.opened_texts }) }
+        ensures failed { IsErrOf result failed → text_fails self.old.failing_texts self.old.opened_texts self.old.texts path.now ≡ true }
+        ensures counted { IsErrOf result failed → self.new ≡ record self.old { opened_texts = one_more self.old.opened_texts; stores = record self.old.stores { counts = with_text_faults 1 self.old.stores.counts } } }
+        ensures lacking { IsErrOf result no_memory → text_fails self.old.failing_texts self.old.opened_texts self.old.texts path.now ≡ false }
+        ensures starved { IsErrOf result no_memory → self.new ≡ record self.old { opened_texts = one_more self.old.opened_texts } }
+    {
         let call = self.opened_texts;
         self.opened_texts = self.opened_texts.saturating_add(1);
         if !self.failing_texts.as_slice().contains(&call) {
@@ -122,22 +135,33 @@ impl<K: Keeper> CommandOutside for MemoryCommands<K> {
         Err(OpenFault::Failed)
     }
 
-    fn text_back(&mut self, text: MemorySource) {
+    fn text_back(&mut self, text: MemorySource)
+        ensures kept { self.new ≡ record self.old { stores = record self.old.stores { counts = with_text_faults text.faults self.old.stores.counts } } }
+    {
         self.stores.counts.texts = self.stores.counts.texts.saturating_add(text.faults());
     }
 
-    fn link(&mut self, _address: &Words) -> Result<MemoryLink, NoMemory> {
+    fn link(&mut self, _address: &Words) -> Result<MemoryLink, NoMemory>
+        ensures ok { IsOk result }
+        ensures made { IfOk result (λ link. link ≡ record { responses = self.old.responses; given = 0; exchanges = []; failing = self.old.failing_asks; calls = 0; faults = 0; alloc = self.old.alloc }) }
+        ensures kept { self.new ≡ record self.old { responses = []; failing_asks = [] } }
+    {
         let responses = mem::replace(&mut self.responses, Listing::empty(self.alloc));
         let failing = mem::replace(&mut self.failing_asks, Listing::empty(self.alloc));
         Ok(MemoryLink::new(self.alloc, responses, failing))
     }
 
-    fn link_back(&mut self, link: MemoryLink) {
+    fn link_back(&mut self, link: MemoryLink)
+        ensures kept { self.new ≡ record self.old { exchanges = link.exchanges; stores = record self.old.stores { counts = with_link_faults link.faults self.old.stores.counts } } }
+    {
         self.stores.counts.links = self.stores.counts.links.saturating_add(link.faults());
         self.exchanges = link.exchanges;
     }
 
-    fn clock(&mut self) -> MemoryClock {
+    fn clock(&mut self) -> MemoryClock
+        ensures made { result ≡ record { moments = self.old.moments; given = 0; last = record { 0 = 0 } } }
+        ensures kept { self.new ≡ record self.old { moments = [] } }
+    {
         MemoryClock::new(mem::replace(&mut self.moments, Listing::empty(self.alloc)))
     }
 }

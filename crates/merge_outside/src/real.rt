@@ -31,7 +31,8 @@ pub struct RealOutside {
 impl RealOutside {
     /// An outside that opened nothing yet.
     pub fn new(rt: HostRuntime) -> Self
-        ensures { result.counts ≡ record { texts = 0; stores = 0; links = 0 } }
+        ensures counts { result.counts ≡ record { texts = 0; stores = 0; links = 0 } }
+        ensures none { result.slots.items ≡ [] }
     {
         RealOutside {
             rt,

@@ -23,6 +23,7 @@ pub fn read_response<S: Source>(
     ensures taken { ConsumesFront (S.left source.old) (S.left source.new) }
     ensures later { S.count source.old ≤ S.count source.new }
     ensures kept { OnOk result (S.count source.new ≡ S.count source.old) }
+    ensures starved { result ≡ Err LinkFault.NoMemory → S.count source.new ≡ S.count source.old }
 {
     let mut bytes = Octets::empty(alloc);
     let mut piece = [0; 4096];

@@ -1,5 +1,9 @@
 //! A link over TCP.
-ghost use Rattle.std.specs.Prelude.{◌≡◌};
+ghost use Rattle.std.specs.Prelude.{◌≡◌, ◌≤◌, ◌*◌, length, IfOk, IsErrOf};
+ghost use Rattle.std.specs.Duration.{as_nanos};
+ghost use Rattle.merge_ports.specs.Faults.{one_more};
+ghost use Rattle.merge_link.specs.Carried.{HasLinkCause};
+ghost use Rattle.merge_link.specs.declared.link.LinkFault.TheVariants.{Failed as failed};
 
 use crate::connection::Connection;
 use crate::response::read_response;
@@ -22,7 +26,10 @@ pub struct Waits {
 
 impl Waits {
     /// 30 seconds to connect, and 300 to be answered.
-    pub fn usual() -> Self {
+    pub fn usual() -> Self
+        ensures connect { as_nanos result.to_connect ≡ 30 * 1_000_000_000 }
+        ensures answer { as_nanos result.to_answer ≡ 300 * 1_000_000_000 }
+    {
         Waits {
             to_connect: Duration::from_secs(30),
             to_answer: Duration::from_secs(300),
@@ -46,7 +53,7 @@ pub struct TcpLink {
 impl TcpLink {
     /// A link to `HOST:PORT`, which was asked nothing yet. No connection is made before it is asked.
     pub fn new(rt: HostRuntime, address: Words, waits: Waits) -> Self
-        ensures { result.faults ≡ 0 }
+        ensures { result ≡ record { rt = rt; address = address; waits = waits; faults = 0 } }
     {
         TcpLink {
             rt,
@@ -57,7 +64,9 @@ impl TcpLink {
     }
 
     // One request over a connection of its own.
-    fn exchange(&self, request: &[u8]) -> Result<Octets, LinkFault> {
+    fn exchange(&self, request: &[u8]) -> Result<Octets, LinkFault>
+        ensures { IfOk result (λ response. length response ≤ 134_234_113) }
+    {
         let address = self.address.as_str();
         let waits = self.waits;
         let opened = Connection::open(&self.rt, address, waits.to_connect, waits.to_answer);
@@ -80,7 +89,12 @@ impl Link for TcpLink {
 
     ghost count = { λ l. l.faults };
 
-    fn ask(&mut self, request: &[u8]) -> Result<Octets, LinkFault> {
+    fn ask(&mut self, request: &[u8]) -> Result<Octets, LinkFault>
+        ensures cause { HasLinkCause self.old.faults self.new.faults result }
+        ensures fits { IfOk result (λ response. length response ≤ 134_234_113) }
+        ensures counted { IsErrOf result failed → self.new.faults ≡ one_more self.old.faults }
+        ensures kept { self.new ≡ record self.old { faults = self.new.faults } }
+    {
         match self.exchange(request) {
             Ok(response) => Ok(response),
             Err(LinkFault::NoMemory) => Err(LinkFault::NoMemory),

@@ -1,12 +1,23 @@
 //! Texts in files.
-ghost use Rattle.std.specs.Prelude.{◌≡◌, IfOk};
+ghost use Rattle.std.specs.Prelude.{◌≡◌, ◌≢◌, IfOk};
+ghost use Rattle.std.specs.IoError.{error_kind};
 
 use merge_ports::{OpenFault, Reading};
 use std::fs::File;
-use std::io::ErrorKind;
+use std::io::{Error, ErrorKind};
 
 /// A text in a file. It counts each read that fails, and tells nothing of its bytes.
 pub type FileText = Reading<File>;
+
+fn fault_of(error: &Error) -> OpenFault
+    ensures starved { error_kind error.now ≡ ErrorKind.OutOfMemory → result ≡ OpenFault.NoMemory }
+    ensures failed { error_kind error.now ≢ ErrorKind.OutOfMemory → result ≡ OpenFault.Failed }
+{
+    match error.kind() {
+        ErrorKind::OutOfMemory => OpenFault::NoMemory,
+        _ => OpenFault::Failed,
+    }
+}
 
 /// Opens the text in a file.
 pub(crate) fn open_text(rt: &HostRuntime, path: &str) -> Result<FileText, OpenFault>
@@ -14,7 +25,6 @@ pub(crate) fn open_text(rt: &HostRuntime, path: &str) -> Result<FileText, OpenFa
 {
     match File::open(rt, path) {
         Ok(file) => Ok(Reading::new(file)),
-        Err(fault) if fault.kind() == ErrorKind::OutOfMemory => Err(OpenFault::NoMemory),
-        Err(_) => Err(OpenFault::Failed),
+        Err(error) => Err(fault_of(&error)),
     }
 }
