@@ -16,3 +16,4 @@ pub mod OwnRanges
 pub mod SubRanges
 pub mod Always
 pub mod Rules
+pub mod Scripts

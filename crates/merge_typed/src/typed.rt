@@ -2,6 +2,7 @@
 ghost use Rattle.merge_model.specs.Resolvers.{rules_say};
 ghost use Rattle.merge_typed.specs.Laws.{MessagesAreTyped, OfEveryTypedRun, TablesAreTyped};
 ghost use Rattle.merge_typed.specs.Outside.{SayingIsTyped};
+ghost use Rattle.merge_typed.specs.Scripts.{ScriptsAreTyped};
 
 /// The values, moments and ranges in the tables of each site are those of their types.
 pub fn tables_are_typed()
@@ -16,4 +17,9 @@ pub fn messages_are_typed()
 /// The resolvers that the program hands in decide typed values, where they are asked of typed versions.
 pub fn own_resolvers_are_typed()
     ensures { SayingIsTyped rules_say }
+{}
+
+/// The events of a script are typed, where it has at most 2^32 lines.
+pub fn script_events_are_typed()
+    ensures { ScriptsAreTyped }
 {}
