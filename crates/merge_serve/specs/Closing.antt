@@ -1,0 +1,28 @@
+-- How a connection begins, and how it ends.
+use Rattle.std.specs.Prelude.{IfSome, List, [], ℕ, ◌+◌, ◌++◌, ◌≡◌, ◌≤◌}
+use Rattle.merge_desk.specs.Views.{SeatView}
+use Rattle.merge_desk.specs.declared.mark.Mark.{Mark}
+use Rattle.merge_serve.specs.Attending.{Answers, Traffic}
+use Rattle.merge_serve.specs.declared.answer.Answer.{Answer}
+
+-- nothing was read or written since it began, and nothing failed
+pub record IsFresh (first now : Traffic) : Type 0 where
+  pub same : now ≡ first
+  pub unread : now.read_faults ≡ 0
+  pub unfailed : now.write_faults ≡ 0
+  pub unwritten : IfSome now.written (λ bytes. bytes ≡ [])
+
+-- Since a connection began, its whole response was written to the bytes that were taken, unless a read or a write failed. The seat is
+-- what this made of it as it was when its last connection was closed.
+abbrev pub IsServed : Traffic → Traffic → SeatView → SeatView → Type 0
+IsServed first now s t = now.read_faults ≡ first.read_faults → now.write_faults ≡ first.write_faults → (answer : Answer) × Answers first now s t answer
+
+-- the same seat, with more calls
+pub record IsLater (s t : SeatView) : Type 0 where
+  pub number : t.number ≡ s.number
+  pub call_parts : t.call_parts ≡ s.call_parts
+  pub fault_parts : t.fault_parts ≡ s.fault_parts
+  pub more : List Mark
+  pub told : t.told ≡ s.told ++ more
+  pub calls : s.calls ≤ t.calls
+  pub faults : s.faults ≤ t.faults

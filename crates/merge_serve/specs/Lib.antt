@@ -1,0 +1,5 @@
+pub mod Asking
+pub mod Answers
+pub mod Attending
+pub mod Closing
+pub mod Entering

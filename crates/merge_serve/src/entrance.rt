@@ -1,0 +1,84 @@
+//! What workers take connections from.
+ghost use Rattle.std.specs.Prelude.{◌≡◌, ◌<◌, ◌≤◌, ◌+◌, IfSome, IfNone, OnSome, option_map};
+ghost use Rattle.merge_serve.specs.Attending.{traffic};
+ghost use Rattle.merge_serve.specs.Closing.{IsFresh};
+
+use crate::connection::Connection;
+use crate::door::Door;
+use merge_link::Clock;
+use merge_types::Moment;
+use std::marker::{Brand, Model, PhantomData};
+
+/// Names how many connections are taken at most. Contracts alone see it, and no code stores it.
+pub trait Quota {
+    ghost use Rattle.std.specs.Prelude.{ℕ};
+
+    ghost requests: { ℕ };
+}
+
+impl Quota for Brand {
+    ghost requests = { 0 };
+}
+
+/// A connection that was taken, its number, counted from 1, and the moment.
+pub(crate) struct Taken<I, O> {
+    pub connection: Connection<I, O>,
+    pub number: u64,
+    pub now: Moment,
+}
+
+/// A door and a clock, behind the one lock of the workers.
+pub(crate) struct Entrance<D: Door, C: Clock, Q: Quota> {
+    pub door: D,
+    pub clock: C,
+    pub accepted: u64,
+    pub of: PhantomData<Q>,
+}
+
+impl<D: Door, C: Clock, Q: Quota> Model for Entrance<D, C, Q> {
+    ghost use Rattle.merge_serve.specs.Entering.{EntranceView, IsCounted};
+
+    ghost Value = { EntranceView };
+
+    ghost view = { λ e. record { handed = D.handed e.door; faults = D.count e.door; accepted = e.accepted } };
+
+    ghost invariant = { λ e. IsCounted Q.requests (D.handed e.door) e.accepted };
+}
+
+impl<D: Door, C: Clock, Q: Quota> Entrance<D, C, Q> {
+    pub(crate) fn new(door: D, clock: C) -> Self
+        requires { IfSome (D.handed door) (λ n. n ≡ 0) }
+        ensures { result ≡ record { handed = D.handed door; faults = D.count door; accepted = 0 } }
+    {
+        Entrance {
+            door,
+            clock,
+            accepted: 0,
+            of: PhantomData,
+        }
+    }
+
+    // The next connection. None once enough were taken, or where the door has failed.
+    pub(crate) fn next(&mut self, requests: u64) -> Option<Taken<D::Input, D::Output>>
+        requires { requests ≡ Q.requests }
+        ensures fresh { IfSome result (λ taken. IsFresh
+            (traffic (D.Input.left taken.connection.first_input.value) (D.Output.written taken.connection.first_output.value) (D.Input.count taken.connection.first_input.value) (D.Output.count taken.connection.first_output.value))
+            (traffic (D.Input.left taken.connection.input) (D.Output.written taken.connection.output) (D.Input.count taken.connection.input) (D.Output.count taken.connection.output))) }
+        ensures some { OnSome result (self.new.accepted ≡ self.old.accepted + 1) }
+        ensures none { IfNone result (self.new.accepted < requests → 0 < self.new.faults) }
+    {
+        if self.accepted >= requests || self.door.faults() > 0 {
+            return None;
+        }
+        let Ok(connection) = self.door.accept() else {
+            return None;
+        };
+        self.accepted += 1;
+        let now = self.clock.now();
+        Some(Taken {
+            connection,
+            number: self.accepted,
+            now,
+        })
+    }
+}

@@ -1,0 +1,25 @@
+//! A desk serves subscribers over connections: each brings one request and takes one response.
+#![tactic(auto)]
+
+mod answer;
+mod asking;
+mod attending;
+mod connection;
+mod door;
+mod entrance;
+mod gate;
+mod last;
+mod memory;
+mod replying;
+mod sendable;
+mod serving;
+
+pub use answer::{Answer, Bare};
+pub use attending::{Attended, attend};
+pub use connection::Connection;
+pub use door::Door;
+pub use entrance::Quota;
+pub use gate::{Gate, OpenGate};
+pub use last::LastClosed;
+pub use memory::{Caller, MemoryDoor};
+pub use serving::{Served, serve};

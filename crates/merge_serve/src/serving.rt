@@ -1,0 +1,299 @@
+//! A desk is open for so many connections.
+ghost use Rattle.std.specs.List.{sum_by};
+ghost use Rattle.std.specs.Prelude.{◌≡◌, ◌<◌, ◌≤◌, ℕ, IfSome, length, slice_index_or};
+ghost use Rattle.merge_desk.specs.Views.{SeatView, seat_call_parts, seat_fault_parts};
+ghost use Rattle.merge_serve.specs.Attending.{traffic};
+ghost use Rattle.merge_serve.specs.Closing.{IsFresh, IsLater};
+
+use crate::attending::attend;
+use crate::door::Door;
+use crate::entrance::{Entrance, Quota, Taken};
+use crate::gate::Gate;
+use crate::last::LastClosed;
+use merge_desk::{Desk, Opening, Seat};
+use merge_draft::DraftingPublisher;
+use merge_link::Clock;
+use std::alloc::Global;
+use std::marker::Brand;
+use std::sync::ledger::Ledger;
+use std::sync::{Mutex, Wait};
+use std::thread;
+use std::thread::Threads;
+
+/// What serving leaves: the seats, how many connections were accepted, and the door.
+pub struct Served<D: Door, L: Ledger, M: Ledger> {
+    pub seats: Vec<Seat<L, M>>,
+    pub accepted: u64,
+    pub door: D,
+}
+
+// Serves a connection and closes it.
+fn serve_one<R: Wait, P: DraftingPublisher, L: Ledger, M: Ledger, O: Opening, D: Door, G: Gate>(
+    rt: &R,
+    alloc: Global,
+    desk: &Desk<P, L, M, O>,
+    seat: &mut Seat<L, M>,
+    last: &mut LastClosed<L, M>,
+    taken: Taken<D::Input, D::Output>,
+    gate: &G,
+)
+    requires fresh { IsFresh
+        (traffic (D.Input.left taken.connection.first_input.value) (D.Output.written taken.connection.first_output.value) (D.Input.count taken.connection.first_input.value) (D.Output.count taken.connection.first_output.value))
+        (traffic (D.Input.left taken.connection.input) (D.Output.written taken.connection.output) (D.Input.count taken.connection.input) (D.Output.count taken.connection.output)) }
+    requires noted { last.old.seat.value ≡ seat.old }
+    ensures noted { last.new.seat.value ≡ seat.new }
+    ensures grown { IsLater seat.old seat.new }
+{
+    let Taken {
+        mut connection,
+        number,
+        now,
+    } = taken;
+    attend(
+        rt,
+        alloc,
+        desk,
+        seat,
+        number,
+        &mut connection.input,
+        &mut connection.output,
+        now,
+        gate,
+    );
+    D::close(connection, seat, last);
+}
+
+// The next connection, which is waited for under the lock of the entrance.
+fn take<R: Wait, D: Door, C: Clock, Q: Quota>(
+    rt: &R,
+    entrance: &Mutex<Entrance<D, C, Q>>,
+    requests: u64,
+) -> Option<Taken<D::Input, D::Output>>
+    requires { requests ≡ Q.requests }
+    ensures fresh { IfSome result (λ taken. IsFresh
+        (traffic (D.Input.left taken.connection.first_input.value) (D.Output.written taken.connection.first_output.value) (D.Input.count taken.connection.first_input.value) (D.Output.count taken.connection.first_output.value))
+        (traffic (D.Input.left taken.connection.input) (D.Output.written taken.connection.output) (D.Input.count taken.connection.input) (D.Output.count taken.connection.output))) }
+{
+    entrance.lock(rt).next(requests)
+}
+
+// A worker serves one connection after the other from its seat.
+#[tactic(auto, using(crate::proofs::Ends::later_then, crate::proofs::Replied::later_same))]
+fn work<
+    R: Wait,
+    P: DraftingPublisher,
+    L: Ledger,
+    M: Ledger,
+    O: Opening,
+    D: Door,
+    C: Clock,
+    Q: Quota,
+    G: Gate,
+>(
+    rt: &R,
+    alloc: Global,
+    desk: &Desk<P, L, M, O>,
+    seat: &mut Seat<L, M>,
+    entrance: &Mutex<Entrance<D, C, Q>>,
+    requests: u64,
+    gate: &G,
+)
+    requires { requests ≡ Q.requests }
+    ensures grown { IsLater seat.old seat.new }
+{
+    let mut last = LastClosed::of(seat);
+    for _ in 0..requests {
+        match take(rt, entrance, requests) {
+            Some(taken) => {
+                serve_one::<R, P, L, M, O, D, G>(rt, alloc, desk, seat, &mut last, taken, gate);
+            }
+            None => return,
+        }
+    }
+}
+
+// Serves what is still wanting.
+#[tactic(auto, using(crate::proofs::Ends::later_then, crate::proofs::Replied::later_same))]
+fn work_rest<
+    R: Wait,
+    P: DraftingPublisher,
+    L: Ledger,
+    M: Ledger,
+    O: Opening,
+    D: Door,
+    C: Clock,
+    Q: Quota,
+    G: Gate,
+>(
+    rt: &R,
+    alloc: Global,
+    desk: &Desk<P, L, M, O>,
+    seat: &mut Seat<L, M>,
+    entrance: &mut Entrance<D, C, Q>,
+    requests: u64,
+    gate: &G,
+)
+    requires { requests ≡ Q.requests }
+    ensures grown { IsLater seat.old seat.new }
+    ensures whole { entrance.new.accepted < requests → 0 < entrance.new.faults }
+{
+    let mut last = LastClosed::of(seat);
+    for _ in 0..requests {
+        match entrance.next(requests) {
+            Some(taken) => {
+                serve_one::<R, P, L, M, O, D, G>(rt, alloc, desk, seat, &mut last, taken, gate);
+            }
+            None => return,
+        }
+    }
+}
+
+// One worker for each seat, in threads of their own.
+fn work_all<
+    R: Threads + Wait + Sync,
+    P: DraftingPublisher + Send,
+    L: Ledger + Send + Sync,
+    M: Ledger + Send + Sync,
+    O: Opening + Send + Sync,
+    D: Door + Send,
+    C: Clock + Send,
+    Q: Quota + Send + Sync,
+    G: Gate + Sync,
+>(
+    rt: &R,
+    alloc: Global,
+    desk: &Desk<P, L, M, O>,
+    seats: &mut [Seat<L, M>],
+    entrance: &Mutex<Entrance<D, C, Q>>,
+    requests: u64,
+    gate: &G,
+)
+where
+    P::Work: Send,
+    D::Input: Send,
+    D::Output: Send,
+    requires some { 0 < length seats.old }
+    requires quota { requests ≡ Q.requests }
+    ensures length { length seats.new ≡ length seats.old }
+    ensures grown { (i : ℕ) (d : SeatView) → i < length seats.old → IsLater (slice_index_or seats.old i d) (slice_index_or seats.new i d) }
+{
+    thread::for_each_mut(
+        rt,
+        seats,
+        seats.len(),
+        &|_, seat: &mut Seat<L, M>|
+            requires { requests ≡ Q.requests }
+            ensures { IsLater seat.entry.now seat.exit.now }
+        { work(rt, alloc, desk, seat, entrance, requests, gate) },
+    );
+}
+
+// Serves by all seats, and then what is wanting by the first.
+fn serve_within<
+    R: Threads + Wait + Sync,
+    P: DraftingPublisher + Send,
+    L: Ledger + Send + Sync,
+    M: Ledger + Send + Sync,
+    O: Opening + Send + Sync,
+    D: Door + Send,
+    C: Clock + Send,
+    Q: Quota + Send + Sync,
+    G: Gate + Sync,
+>(
+    rt: &R,
+    alloc: Global,
+    desk: &Desk<P, L, M, O>,
+    seats: &mut [Seat<L, M>],
+    requests: u64,
+    door: D,
+    clock: C,
+    gate: &G,
+) -> (u64, D)
+where
+    P::Work: Send,
+    D::Input: Send,
+    D::Output: Send,
+    requires some { 0 < length seats.old }
+    requires quota { requests ≡ Q.requests }
+    requires unopened { IfSome (D.handed door) (λ n. n ≡ 0) }
+    ensures length { length seats.new ≡ length seats.old }
+    ensures grown { (i : ℕ) (d : SeatView) → i < length seats.old → IsLater (slice_index_or seats.old i d) (slice_index_or seats.new i d) }
+    ensures few { result.0 ≤ requests }
+    ensures handed { IfSome (D.handed result.1) (λ n. n ≡ result.0) }
+    ensures whole { result.0 < requests → 0 < D.count result.1 }
+{
+    let shared: Mutex<Entrance<D, C, Q>> = Mutex::new(Entrance::new(door, clock));
+    work_all(rt, alloc, desk, seats, &shared, requests, gate);
+    let mut entrance = shared.into_inner();
+    work_rest(
+        rt,
+        alloc,
+        desk,
+        &mut seats[0],
+        &mut entrance,
+        requests,
+        gate,
+    );
+    let Entrance {
+        door,
+        clock: _,
+        accepted,
+        of: _,
+    } = entrance;
+    (accepted, door)
+}
+
+/// Serves connections of a door until so many were accepted or the door failed: a worker for each
+/// seat, and then the caller what is still wanting. Each connection is served and closed by one
+/// worker, at the moment at which it was accepted. It may wait.
+pub fn serve<
+    R: Threads + Wait + Sync,
+    P: DraftingPublisher + Send,
+    L: Ledger + Send + Sync,
+    M: Ledger + Send + Sync,
+    O: Opening + Send + Sync,
+    D: Door + Send,
+    C: Clock + Send,
+    G: Gate + Sync,
+>(
+    rt: &R,
+    alloc: Global,
+    desk: &Desk<P, L, M, O>,
+    seats: Vec<Seat<L, M>>,
+    requests: u64,
+    door: D,
+    clock: C,
+    gate: &G,
+) -> Served<D, L, M>
+where
+    P::Work: Send,
+    D::Input: Send,
+    D::Output: Send,
+    requires some { 0 < length seats.items }
+    requires unopened { IfSome (D.handed door) (λ n. n ≡ 0) }
+    requires unfailed { D.count door ≡ 0 }
+    ensures few { result.accepted ≤ requests }
+    ensures handed { IfSome (D.handed result.door) (λ n. n ≡ result.accepted) }
+    ensures whole { result.accepted < requests → 0 < D.count result.door }
+    ensures length { length result.seats.items ≡ length seats.items }
+    ensures seats { (i : ℕ) (d : SeatView) → i < length seats.items → IsLater (slice_index_or seats.items i d) (slice_index_or result.seats.items i d) }
+    ensures calls { sum_by seat_call_parts result.seats.items ≡ sum_by seat_call_parts seats.items }
+    ensures faults { sum_by seat_fault_parts result.seats.items ≡ sum_by seat_fault_parts seats.items }
+{
+    let mut seats = seats;
+    let (accepted, door) = serve_within::<R, P, L, M, O, D, C, Brand, G>(
+        rt,
+        alloc,
+        desk,
+        seats.as_mut_slice(),
+        requests,
+        door,
+        clock,
+        gate,
+    );
+    Served {
+        seats,
+        accepted,
+        door,
+    }
+}
