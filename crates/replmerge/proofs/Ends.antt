@@ -14,7 +14,7 @@ use Rattle.merge_script.specs.Lines.{lines_of}
 use Rattle.merge_script.proofs.Cuts.{IsCut-input}
 use Rattle.merge_world.specs.Views.{HandedView}
 use Rattle.replmerge.specs.declared.ending.Ending.{Ending}
-use Rattle.replmerge.specs.declared.ending.Ending.TheVariants.{Damaged, Done, NoEvent, NoMemory, ReadFault, Refused, StoreFault, TooLong, Usage, WriteFault}
+use Rattle.replmerge.specs.declared.ending.Ending.TheVariants.{Damaged, Done, NoEvent, NoMemory, NotTaken, ReadFault, Refused, StoreFault, TooLong, UnknownArticle, UnknownSite, Usage, WriteFault}
 use Rattle.replmerge.specs.Endings.{refused_for, unread}
 use Rattle.replmerge.specs.Headline.{AnsweredInPart, InputEnds, IsTaken, IsTakenInput, PlayEnds, PlayRunEnds, Sides, WrittenInPart, lines_of_input}
 
@@ -35,6 +35,9 @@ module _ (handed : HandedView) (input : List ℕ) (sides : Sides) (writes refuse
     input-ends (Refused fault) p = absurd p
     input-ends ReadFault p = absurd p
     input-ends TooLong p = absurd p
+    input-ends (NotTaken line) p = absurd p
+    input-ends UnknownSite p = absurd p
+    input-ends UnknownArticle p = absurd p
 
   module _ (fits : length input ≤ 67108864) where
     -- the text before the script is no publication
@@ -83,11 +86,11 @@ short-script input script is limit fits = let same = ap (λ (l : List ℕ). leng
     behind front rest (inr (whole, none, more)) = let empty : length rest ≡ 0 = ap (λ (l : List ℕ). length l) none in omega (arith, empty)
 
 -- what holds of the input that was read holds of what was left
-some-of : (P : List ℕ → Type 0) (left : Option (List ℕ)) (input : List ℕ) → IfSome left (λ (l : List ℕ). input ≡ l) → P input → IfSome left P
+pub some-of : (P : List ℕ → Type 0) (left : Option (List ℕ)) (input : List ℕ) → IfSome left (λ (l : List ℕ). input ≡ l) → P input → IfSome left P
 some-of P None input same holds = tt
 some-of P (Some l) input same holds = subst P same holds
 
-any-of : (left : Option (List ℕ)) → IfSome left (λ (l : List ℕ). Unit {0})
+pub any-of : (left : Option (List ℕ)) → IfSome left (λ (l : List ℕ). Unit {0})
 any-of None = tt
 any-of (Some l) = tt
 
@@ -109,6 +112,9 @@ module _ (left : Option (List ℕ)) (handed : HandedView) (sides : Sides) (write
   read-ends input same Usage p = absurd p
   read-ends input same ReadFault p = absurd p
   read-ends input same TooLong p = absurd p
+  read-ends input same (NotTaken line) p = absurd p
+  read-ends input same UnknownSite p = absurd p
+  read-ends input same UnknownArticle p = absurd p
 
   pub ends-by-slice : (input slice : List ℕ) → slice ≡ input → IfSome left (λ (l : List ℕ). input ≡ l) → (ending : Ending) → InputEnds ending handed slice sides writes refused → Ends ending
   ends-by-slice input slice is same ending p = read-ends input same ending (subst (λ (l : List ℕ). InputEnds ending handed l sides writes refused) is p)

@@ -1,9 +1,14 @@
+pub mod Changes
 pub mod Commands
 pub mod Ends
 pub mod Fresh
 pub mod Makes
+pub mod Openings
 pub mod Plays
+pub mod Readings
 pub mod Rises
 pub mod Rooms
+pub mod Shows
+pub mod Sites
 pub mod Statuses
 pub mod Tellings

@@ -7,7 +7,7 @@ use Rattle.merge_make.specs.Runs.{Summed}
 use Rattle.merge_make.specs.Script.{script}
 use Rattle.merge_make.proofs.Published.{made-valid}
 use Rattle.replmerge.specs.declared.ending.Ending.{Ending}
-use Rattle.replmerge.specs.declared.ending.Ending.TheVariants.{Damaged, Done, NoEvent, NoMemory, ReadFault, Refused, StoreFault, TooLong, Usage, WriteFault}
+use Rattle.replmerge.specs.declared.ending.Ending.TheVariants.{Damaged, Done, NoEvent, NoMemory, NotTaken, ReadFault, Refused, StoreFault, TooLong, UnknownArticle, UnknownSite, Usage, WriteFault}
 use Rattle.replmerge.specs.Fresh.{fresh_view}
 use Rattle.replmerge.specs.Making.{IsSummary, IsUnmade, MakeEnds, WriteEnds}
 use Rattle.replmerge.specs.Runs.{Sides}
@@ -36,6 +36,9 @@ unmade (Refused fault) before after rose = rose
 unmade (NoEvent line word) before after rose = rose
 unmade ReadFault before after rose = rose
 unmade TooLong before after rose = rose
+unmade (NotTaken line) before after rose = rose
+unmade UnknownSite before after rose = rose
+unmade UnknownArticle before after rose = rose
 
 module _ (customers : ℕ) (handed : HandedView) (sides : Sides) (writes refused : ℕ) where
   abbrev Ends : Ending → Type 0
@@ -52,6 +55,9 @@ module _ (customers : ℕ) (handed : HandedView) (sides : Sides) (writes refused
   written-ends text summary (NoEvent line word) p = absurd p
   written-ends text summary ReadFault p = absurd p
   written-ends text summary TooLong p = absurd p
+  written-ends text summary (NotTaken line) p = absurd p
+  written-ends text summary UnknownSite p = absurd p
+  written-ends text summary UnknownArticle p = absurd p
 
   -- the text that was written is a slice of it
   pub written-by-slice : (text slice : List ℕ) → slice ≡ text → IsSummary customers handed sides.before sides.after text → (ending : Ending) → WriteEnds ending slice sides.was sides.written writes refused → Ends ending
@@ -68,3 +74,6 @@ module _ (customers : ℕ) (handed : HandedView) (sides : Sides) (writes refused
   unmade-ends (NoEvent line word) p same = absurd p
   unmade-ends ReadFault p same = absurd p
   unmade-ends TooLong p same = absurd p
+  unmade-ends (NotTaken line) p same = absurd p
+  unmade-ends UnknownSite p same = absurd p
+  unmade-ends UnknownArticle p same = absurd p

@@ -1,5 +1,5 @@
--- What a run of the program may write, and the cause of each of its statuses.
-use Rattle.std.specs.Prelude.{Bool, Err, List, None, Ok, Option, Some, length, nat_lt, take, IfSome, ℕ, ◌++◌, ◌==◌, ◌||◌, ◌<◌, ◌≡◌, ◌≢◌, ◌≤◌, ◌⊎◌}
+-- What a run of `play` may write, and why it ends.
+use Rattle.std.specs.Prelude.{Err, List, None, Ok, Option, Some, length, take, IfSome, ℕ, ◌++◌, ◌<◌, ◌≡◌, ◌≢◌, ◌≤◌, ◌⊎◌}
 use Rattle.std.specs.Io.KnownBytes.{Appends}
 use Rattle.merge_ports.specs.Faults.{Rose}
 use Rattle.merge_schema.specs.Answers.{IsAnswer}
@@ -15,14 +15,8 @@ use Rattle.merge_model.specs.declared.answer.Answer.{Answer}
 use Rattle.merge_model.specs.declared.event.Event.{Event}
 use Rattle.merge_world.specs.Views.{HandedView}
 use Rattle.replmerge.specs.declared.ending.Ending.{Ending}
-use Rattle.replmerge.specs.declared.ending.Ending.TheVariants.{Damaged, Done, NoEvent, NoMemory, ReadFault, Refused, StoreFault, TooLong, Usage, WriteFault}
-use Rattle.replmerge.specs.Commands.{command_of}
-use Rattle.replmerge.specs.Making.{MakeEnds}
+use Rattle.replmerge.specs.declared.ending.Ending.TheVariants.{Damaged, Done, NoEvent, NoMemory, NotTaken, ReadFault, Refused, StoreFault, TooLong, UnknownArticle, UnknownSite, Usage, WriteFault}
 pub use Rattle.replmerge.specs.Runs.{IsRun, Sides}
-use Rattle.replmerge.specs.declared.command.Command.{Command}
-use Rattle.replmerge.specs.declared.command.Command.TheVariants.{Make, Play}
-use Rattle.replmerge.specs.Endings.{status_of}
-use Rattle.replmerge.specs.Notes.{Told}
 
 -- the lines of an input's script
 abbrev pub lines_of_input : List ℕ → List (List ℕ)
@@ -107,31 +101,11 @@ InputEnds other handed input sides writes refused = ⊥
 -- why a run of `play` ended; reads failed from `reads` to `failed`
 abbrev pub PlayRunEnds : Ending → Option (List ℕ) → HandedView → Sides → (writes refused reads failed : ℕ) → Type 0
 PlayRunEnds Usage left handed sides writes refused reads failed = ⊥
+PlayRunEnds (NotTaken line) left handed sides writes refused reads failed = ⊥
+PlayRunEnds UnknownSite left handed sides writes refused reads failed = ⊥
+PlayRunEnds UnknownArticle left handed sides writes refused reads failed = ⊥
 PlayRunEnds ReadFault left handed sides writes refused reads failed = Rose reads failed
 PlayRunEnds TooLong left handed sides writes refused reads failed = IfSome left (λ (input : List ℕ). 67108864 < length input)
 PlayRunEnds WriteFault left handed sides writes refused reads failed = Rose writes refused × IfSome left (IsTakenInput (length handed.tallies))
 PlayRunEnds StoreFault left handed sides writes refused reads failed = Rose sides.before sides.after × IfSome left (IsTakenInput (length handed.tallies))
 PlayRunEnds other left handed sides writes refused reads failed = IfSome left (λ (input : List ℕ). InputEnds other handed input sides writes refused)
-
--- why a run of a command ended
-abbrev pub CommandEnds : Option Command → Ending → Option (List ℕ) → HandedView → Sides → (writes refused reads failed : ℕ) → Type 0
-CommandEnds None ending left handed sides writes refused reads failed = ending ≡ Usage
-CommandEnds (Some Play) ending left handed sides writes refused reads failed = PlayRunEnds ending left handed sides writes refused reads failed
-CommandEnds (Some (Make customers)) ending left handed sides writes refused reads failed = MakeEnds ending customers handed sides writes refused
-
-abbrev pub RunEnds : Ending → List (List ℕ) → Option (List ℕ) → HandedView → Sides → (writes refused reads failed : ℕ) → Type 0
-RunEnds ending words left handed sides writes refused reads failed = CommandEnds (command_of words) ending left handed sides writes refused reads failed
-
--- What the notes were told, and that it was why the run ended
-pub record IsNoted (status : ℕ) (words : List (List ℕ)) (left : Option (List ℕ)) (handed : HandedView) (sides : Sides) (writes refused reads failed : ℕ) (old new : Option (List ℕ)) (before after : ℕ) : Type 0 where
-  pub ending : Ending
-  pub status_is : status ≡ status_of ending
-  pub ends : RunEnds ending words left handed sides writes refused reads failed
-  pub told : Told ending old new before after
-
-abbrev pub is_status : ℕ → Bool
-is_status n = nat_lt n 7 || ((n == 10) || ((n == 11) || (n == 14)))
-
--- a status that comes before the script is looked at
-abbrev pub is_early : ℕ → Bool
-is_early n = (n == 1) || ((n == 2) || ((n == 4) || (n == 14)))

@@ -1,9 +1,16 @@
+pub mod Changing
 pub mod Commands
 pub mod Endings
+pub mod Files
 pub mod Fresh
 pub mod Headline
 pub mod Making
 pub mod Notes
+pub mod Opening
 pub mod Runs
+pub mod Showing
+pub mod Sited
+pub mod Statuses
 pub mod Stopping
 pub mod Stores
+pub mod Visits

@@ -7,7 +7,7 @@ use Rattle.merge_ports.specs.Faults.{Rose}
 use Rattle.merge_ports.specs.Parts.{AppendsFront}
 use Rattle.merge_schema.specs.Faults.{number_of, words_of}
 use Rattle.replmerge.specs.declared.ending.Ending.{Ending}
-use Rattle.replmerge.specs.declared.ending.Ending.TheVariants.{Damaged, Done, NoEvent, NoMemory, ReadFault, Refused, StoreFault, TooLong, Usage, WriteFault}
+use Rattle.replmerge.specs.declared.ending.Ending.TheVariants.{Damaged, Done, NoEvent, NoMemory, NotTaken, ReadFault, Refused, StoreFault, TooLong, UnknownArticle, UnknownSite, Usage, WriteFault}
 
 -- a key in hexadecimal, and `-` where it is empty
 abbrev pub key_text : List ℕ → List ℕ
@@ -18,6 +18,7 @@ key_text (byte ∷ key) = encode_lower (byte ∷ key)
 abbrev pub note_of : (help : List ℕ) → Ending → List ℕ
 note_of help Done = []
 note_of help Usage = codes "usage\n" ++ help
+note_of help (NotTaken line) = codes "usage\n" ++ help
 note_of help (Refused fault) = codes "publication refused: " ++ decimal (unwrap_or (number_of fault) 0) ++ 32 ∷ words_of fault ++ 10 ∷ []
 note_of help (NoEvent line word) = codes "line " ++ decimal line ++ codes " word " ++ decimal word ++ codes ": no event\n"
 note_of help ReadFault = codes "read fault\n"
@@ -25,6 +26,8 @@ note_of help WriteFault = codes "write fault\n"
 note_of help StoreFault = codes "store fault\n"
 note_of help (Damaged table key) = codes "damaged " ++ decimal table ++ 32 ∷ key_text key ++ 10 ∷ []
 note_of help NoMemory = codes "no memory\n"
+note_of help UnknownSite = codes "refused 1\n"
+note_of help UnknownArticle = codes "refused 18\n"
 note_of help TooLong = codes "input too long\n"
 
 -- The notes got the whole of a text; or a front of it, since a write failed; or nothing, since memory was wanting.

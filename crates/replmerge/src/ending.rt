@@ -1,6 +1,6 @@
 //! Why a run of the program ended.
 ghost use Rattle.std.specs.Prelude.{◌≡◌};
-ghost use Rattle.replmerge.specs.Endings.{refused_for, status_of, stopped_by, unopened, unread};
+ghost use Rattle.replmerge.specs.Endings.{refused_for, status_of, stopped_by, unopened, unopened_text, unread};
 
 use merge_batch::Refusal;
 use merge_ports::{OpenFault, ReadFault};
@@ -23,6 +23,9 @@ pub enum Ending {
     /// A line of the script is no event. `word` is the number of its first wrong word, and 0 where
     /// the line is no text.
     NoEvent { line: u64, word: u64 },
+    /// The event of a line is none of the site that the script changes.
+    NotTaken { line: u64 },
+    /// The input or a file could not be read.
     ReadFault,
     WriteFault,
     /// A store could not be opened or read.
@@ -30,7 +33,11 @@ pub enum Ending {
     /// A stored record has no reading, or breaks the rules of its site.
     Damaged { table: u8, key: Octets },
     NoMemory,
-    /// The input has more bytes than the limit.
+    /// The site is none of the publication.
+    UnknownSite,
+    /// The article is none of the publication.
+    UnknownArticle,
+    /// The input or a file has more bytes than the limit.
     TooLong,
 }
 
@@ -43,12 +50,15 @@ impl Ending {
             Ending::Done => 0,
             Ending::Usage => 1,
             Ending::Refused(_) => 2,
+            Ending::NotTaken { .. } => 1,
             Ending::NoEvent { .. } => 3,
             Ending::ReadFault => 4,
             Ending::WriteFault => 5,
             Ending::StoreFault => 6,
             Ending::Damaged { .. } => 10,
             Ending::NoMemory => 11,
+            Ending::UnknownSite => 12,
+            Ending::UnknownArticle => 12,
             Ending::TooLong => 14,
         })
     }
@@ -75,7 +85,17 @@ pub fn unopened(fault: OpenFault) -> Ending
     }
 }
 
-/// How a run ends by an input that was not read whole.
+/// How a run ends by a file that cannot be opened.
+pub fn unopened_text(fault: OpenFault) -> Ending
+    ensures { result ≡ unopened_text fault }
+{
+    match fault {
+        OpenFault::Failed => Ending::ReadFault,
+        OpenFault::NoMemory => Ending::NoMemory,
+    }
+}
+
+/// How a run ends by an input or a file that was not read whole.
 pub fn unread(fault: ReadFault) -> Ending
     ensures { result ≡ unread fault }
 {

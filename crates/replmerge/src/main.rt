@@ -1,25 +1,27 @@
 //! Merge replication between a publisher and its subscribers: the program.
 #![tactic(auto)]
 
+mod alone;
+mod change;
 mod command;
 mod ending;
+mod files;
 mod make;
 mod notes;
 mod play;
 mod run;
 mod script;
+mod show;
 mod stores;
 #[cfg(test)]
 mod tests;
 
 use ending::Status;
-use merge_keeper::MemoryKeeper;
-use merge_ports::{Entries, MemoryOutside, Reading, Writing};
+use merge_outside::RealOutside;
+use merge_ports::{Reading, Writing};
 use merge_resolve::{Additive, Handed, Maximum, Minimum, Priority, SubscriberWins};
-use merge_table::Table;
-use merge_types::{Listing, NoMemory, Words};
+use merge_types::{NoMemory, Words};
 use run::{Host, run};
-use std::alloc::Global;
 use std::env;
 use std::io::ErrorKind;
 use std::process::ExitCode;
@@ -39,17 +41,6 @@ fn words(rt: &HostRuntime) -> Result<Vec<Words>, NoMemory> {
     Ok(words)
 }
 
-// Stores in memory that start empty, one for each site that a publication may have.
-fn memory_stores(alloc: Global) -> Result<MemoryOutside<MemoryKeeper>, NoMemory> {
-    let mut stores = Table::new(alloc);
-    for site in 0..64u16 {
-        let none = Listing::empty(alloc);
-        let keeper = MemoryKeeper::new(alloc, Entries::empty(alloc), none, Listing::empty(alloc));
-        stores.insert(site, keeper)?;
-    }
-    Ok(MemoryOutside::new(stores, Listing::empty(alloc)))
-}
-
 fn program(rt: &HostRuntime) -> Result<Status, NoMemory> {
     let alloc = rt.alloc();
     let words = words(rt)?;
@@ -64,7 +55,7 @@ fn program(rt: &HostRuntime) -> Result<Status, NoMemory> {
         input: Reading::new(rt.stdin()),
         output: Writing::new(rt.stdout()),
         notes: Writing::new(rt.stderr()),
-        outside: memory_stores(alloc)?,
+        outside: RealOutside::new(*rt),
     };
     Ok(run(alloc, words.as_slice(), &mut host, &mut resolvers))
 }

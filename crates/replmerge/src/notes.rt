@@ -77,6 +77,7 @@ pub fn tell<N: Sink>(alloc: Global, ending: &Ending, notes: &mut N)
     match ending {
         Ending::Done => {}
         Ending::Usage => write_made(notes, usage_note(alloc)),
+        Ending::NotTaken { .. } => write_made(notes, usage_note(alloc)),
         Ending::Refused(fault) => write_made(notes, refused_note(alloc, fault)),
         Ending::NoEvent { line, word } => write_made(notes, line_note(alloc, *line, *word)),
         Ending::ReadFault => write_note(notes, "read fault\n"),
@@ -84,6 +85,8 @@ pub fn tell<N: Sink>(alloc: Global, ending: &Ending, notes: &mut N)
         Ending::StoreFault => write_note(notes, "store fault\n"),
         Ending::Damaged { table, key } => write_made(notes, damaged_note(alloc, *table, key)),
         Ending::NoMemory => write_note(notes, "no memory\n"),
+        Ending::UnknownSite => write_note(notes, "refused 1\n"),
+        Ending::UnknownArticle => write_note(notes, "refused 18\n"),
         Ending::TooLong => write_note(notes, "input too long\n"),
     }
 }

@@ -4,7 +4,8 @@ ghost use Rattle.merge_script.specs.Lines.{lines_of};
 ghost use Rattle.merge_schema.specs.Valid.{IsValid};
 ghost use Rattle.merge_world.specs.Views.{handed_view, site_of};
 ghost use Rattle.replmerge.specs.Endings.{status_of};
-ghost use Rattle.replmerge.specs.Headline.{AnsweredInPart, InputEnds, PlayEnds, WrittenInPart, is_early};
+ghost use Rattle.replmerge.specs.Headline.{AnsweredInPart, InputEnds, PlayEnds, WrittenInPart};
+ghost use Rattle.replmerge.specs.Statuses.{is_early};
 ghost use Rattle.replmerge.specs.Stores.{AreRooms, fresh_publisher, fresh_subscribers};
 
 use crate::ending::{Ending, refused};

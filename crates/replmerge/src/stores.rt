@@ -84,8 +84,8 @@ fn start_subscriber<E: Outside>(
     }
 }
 
-// Room for one more.
-fn make_room<T: Drop>(list: &mut Vec<T>) -> Result<(), NoMemory>
+/// Makes room for one more.
+pub fn make_room<T: Drop>(list: &mut Vec<T>) -> Result<(), NoMemory>
     ensures items { list.new.items ≡ list.old.items }
     ensures room { OnOk result (vec_len list.new < vec_capacity list.new) }
 {
@@ -93,8 +93,8 @@ fn make_room<T: Drop>(list: &mut Vec<T>) -> Result<(), NoMemory>
     Ok(())
 }
 
-// One more, for which there is room.
-fn put<T: Drop>(list: &mut Vec<T>, item: T)
+/// Puts one more, for which there is room.
+pub fn put<T: Drop>(list: &mut Vec<T>, item: T)
     requires { vec_len list.old < vec_capacity list.old }
     ensures { list.new.items ≡ list.old.items ++ item ∷ [] }
 {

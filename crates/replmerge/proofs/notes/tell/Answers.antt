@@ -17,3 +17,6 @@ returns-in-StoreFault g c = told _ _ _ _ _ _ c.in-StoreFault.is c.write_note-in-
 
 pub returns-in-TooLong : goal.returns-in-TooLong
 returns-in-TooLong g c = told _ _ _ _ _ _ c.in-TooLong.is c.write_note-in-TooLong.ensures
+
+pub returns-in-UnknownArticle : goal.returns-in-UnknownArticle
+returns-in-UnknownArticle g c = told _ _ _ _ _ _ c.in-UnknownArticle.is c.write_note-in-UnknownArticle.ensures

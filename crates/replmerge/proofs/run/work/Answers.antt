@@ -1,19 +1,26 @@
 -- The words say a command, or none.
 use Rattle.std.proofs.Common.{refl, sym}
-use Rattle.replmerge.proofs.Commands.{by-words, same-command}
+use Rattle.replmerge.proofs.Commands.{by-none, by-words, lacking, same-command}
+use Rattle.replmerge.proofs.Ends.{nothing-written}
 use Rattle.replmerge.proofs.run.work.Goals as goal
 
-pub returns-in-None-clause-ends : goal.returns-in-None-clause-ends
-returns-in-None-clause-ends g c = let is = c.in-None.ensures in rw (sym is) refl
+pub returns-in-Ok-None-clause-ends : goal.returns-in-Ok-None-clause-ends
+returns-in-Ok-None-clause-ends g c = let said = rw c.in-Ok-None.field-0-is at c.in-Ok-None.ensures.ok in by-none _ _ _ _ (sym said) refl refl
 
-pub returns-in-None-clause-played : goal.returns-in-None-clause-played
-returns-in-None-clause-played g c = λ play. let is = c.in-None.ensures in absurd (cc (is, play))
+pub returns-in-Ok-None-clause-played : goal.returns-in-Ok-None-clause-played
+returns-in-Ok-None-clause-played g c = λ play. nothing-written _ _ _ refl
 
-pub returns-in-Some-clause-ends : goal.returns-in-Some-clause-ends
-returns-in-Some-clause-ends g c = by-words _ _ _ _ _ _ _ _ c.args.words.now _ c.in-Some.ensures c.obey.ensures.ends
+pub returns-in-Ok-Some-clause-ends : goal.returns-in-Ok-Some-clause-ends
+returns-in-Ok-Some-clause-ends g c = let said = rw c.in-Ok-Some.field-0-is at c.in-Ok-Some.ensures.ok in by-words _ _ _ _ _ said c.obey.ensures.ends
 
-pub returns-in-Some-clause-played : goal.returns-in-Some-clause-played
-returns-in-Some-clause-played g c = λ play. c.obey.ensures.played (same-command c.args.words.now _ _ c.in-Some.ensures play)
+pub returns-in-Ok-Some-clause-played : goal.returns-in-Ok-Some-clause-played
+returns-in-Ok-Some-clause-played g c = λ play. let said = rw c.in-Ok-Some.field-0-is at c.in-Ok-Some.ensures.ok in c.obey.ensures.played (same-command _ _ _ said play)
 
-pub returns-in-Some-clause-silent : goal.returns-in-Some-clause-silent
-returns-in-Some-clause-silent g c = c.obey.ensures.silent
+pub returns-in-Ok-Some-clause-silent : goal.returns-in-Ok-Some-clause-silent
+returns-in-Ok-Some-clause-silent g c = c.obey.ensures.silent
+
+pub returns-in-Err-clause-ends : goal.returns-in-Err-clause-ends
+returns-in-Err-clause-ends g c = lacking _ _ _ c.in-Err.ensures.err refl refl
+
+pub returns-in-Err-clause-played : goal.returns-in-Err-clause-played
+returns-in-Err-clause-played g c = λ play. nothing-written _ _ _ refl
