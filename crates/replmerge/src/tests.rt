@@ -10,6 +10,8 @@ use merge_types::{Listing, Moment, NoMemory, Octets, Words};
 use std::alloc::Global;
 use std::test::Fail;
 
+mod rows;
+
 type MemoryHost = Host<MemorySource, MemorySink, MemorySink, MemoryCommands<MemoryKeeper>>;
 
 // As cases/make-60.out has it.
