@@ -13,8 +13,6 @@ mod run;
 mod script;
 mod show;
 mod stores;
-#[cfg(test)]
-mod tests;
 
 use ending::Status;
 use merge_outside::RealOutside;
