@@ -1,25 +1,11 @@
 //! Merge replication between a publisher and its subscribers: the program.
 #![tactic(auto)]
 
-mod alone;
-mod change;
-mod command;
-mod ending;
-mod files;
-mod make;
-mod notes;
-mod play;
-mod run;
-mod script;
-mod show;
-mod stores;
-
-use ending::Status;
 use merge_outside::RealOutside;
 use merge_ports::{Reading, Writing};
+use merge_program::{Host, Status, run};
 use merge_resolve::{Additive, Handed, Maximum, Minimum, Priority, SubscriberWins};
 use merge_types::{NoMemory, Words};
-use run::{Host, run};
 use std::env;
 use std::io::ErrorKind;
 use std::process::ExitCode;

@@ -1,0 +1,18 @@
+-- The subscriber starts, and its keeper is given back.
+use Rattle.std.proofs.Common.{refl}
+use Rattle.merge_program.proofs.Changes.{site-ends, unopened-ends}
+use Rattle.merge_program.proofs.Sites.{damage-at, kept-at, read-at, subscriber-ordered, subscriber-sites}
+use Rattle.merge_program.proofs.change.change_subscriber.Goals as goal
+
+pub change_sites-ending-requires-clause-ordered : goal.change_sites-ending-requires-clause-ordered
+change_sites-ending-requires-clause-ordered g c = subscriber-ordered _ _ _ _ c.in-Ok.ensures.read
+
+pub close_subscriber-requires-clause-alone : goal.close_subscriber-requires-clause-alone
+close_subscriber-requires-clause-alone g c = subscriber-sites _ _ _ _ _ c.in-Ok.ensures.read c.change_sites-ending.ensures.part.happened.sites
+
+pub returns-in-Err : goal.returns-in-Err
+returns-in-Err g c = unopened-ends _ _ _ _ _ _ _ _ _ _ _ _ _ _ (λ table key u. damage-at _ c.requires.subscribes _ _ table key u.cause) c.in-Err.ensures.ends refl
+
+pub returns : goal.returns
+returns g c = let e = c.change_sites-ending.ensures in let closed = c.close_subscriber.ensures in
+    site-ends _ _ _ _ _ _ _ _ _ _ _ _ _ _ _ _ (read-at _ c.requires.subscribes _ _ _ c.in-Ok.ensures.read) e.ends e.part (kept-at _ c.requires.subscribes _ _ closed.kept) _ c.in-Ok.ensures.kept closed.few

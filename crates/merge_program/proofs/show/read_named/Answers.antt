@@ -1,0 +1,27 @@
+-- The file was read and has what is named, or not.
+use Rattle.std.proofs.lemmas.Result.{err_from_is_err_and}
+use Rattle.merge_program.proofs.Shows.{by-article, by-file, by-site, by-text, is-named}
+use Rattle.merge_program.proofs.show.read_named.Goals as goal
+
+pub returns-clause-named : goal.returns-clause-named
+returns-clause-named g c = is-named _ _ _ _ 0 0 _ c.in_ok-text.ensures.whole c.in_ok-text.ensures.fits _ c.as_slice.ensures _ c.in_ok-publication.ensures.answer c.in_ok-check_site.ensures.ok c.in_ok-check_article.ensures.ok
+
+pub returns-in_err-text-clause-ends : goal.returns-in_err-text-clause-ends
+returns-in_err-text-clause-ends g c =
+    let p = err_from_is_err_and c.from_residual.result c.from_residual.ensures.1 in
+    rw (p.1, p.2) (by-file ((g.E.CommandOutside.offers c.args.outside.now).texts c.args.place.now.publication) c.args.resolvers c.args.place.now.site c.args.article.now (g.E.Outside.counts c.args.outside.now).texts (g.E.Outside.counts c.read_file.new.outside).texts _ c.in_err-text.ensures.unread)
+
+pub returns-in_err-publication-clause-ends : goal.returns-in_err-publication-clause-ends
+returns-in_err-publication-clause-ends g c =
+    let p = err_from_is_err_and c.from_residual-in_err-publication.result c.from_residual-in_err-publication.ensures.1 in
+    rw (p.1, p.2) (by-text ((g.E.CommandOutside.offers c.args.outside.now).texts c.args.place.now.publication) c.args.resolvers c.args.place.now.site c.args.article.now (g.E.Outside.counts c.args.outside.now).texts (g.E.Outside.counts c.read_file.new.outside).texts _ c.in_ok-text.ensures.whole c.in_ok-text.ensures.fits _ c.as_slice.ensures _ c.in_err-publication.ensures.refused)
+
+pub returns-in_err-check_site-clause-ends : goal.returns-in_err-check_site-clause-ends
+returns-in_err-check_site-clause-ends g c =
+    let p = err_from_is_err_and c.from_residual-in_err-check_site.result c.from_residual-in_err-check_site.ensures.1 in
+    rw (p.1, p.2) (by-site ((g.E.CommandOutside.offers c.args.outside.now).texts c.args.place.now.publication) c.args.resolvers c.args.place.now.site c.args.article.now (g.E.Outside.counts c.args.outside.now).texts (g.E.Outside.counts c.read_file.new.outside).texts _ c.in_ok-text.ensures.whole c.in_ok-text.ensures.fits _ c.as_slice.ensures _ _ c.in_ok-publication.ensures.answer c.in_err-check_site.ensures.err)
+
+pub returns-in_err-check_article-clause-ends : goal.returns-in_err-check_article-clause-ends
+returns-in_err-check_article-clause-ends g c =
+    let p = err_from_is_err_and c.from_residual-in_err-check_article.result c.from_residual-in_err-check_article.ensures.1 in
+    rw (p.1, p.2) (by-article ((g.E.CommandOutside.offers c.args.outside.now).texts c.args.place.now.publication) c.args.resolvers c.args.place.now.site c.args.article.now (g.E.Outside.counts c.args.outside.now).texts (g.E.Outside.counts c.read_file.new.outside).texts _ c.in_ok-text.ensures.whole c.in_ok-text.ensures.fits _ c.as_slice.ensures _ _ c.in_ok-publication.ensures.answer c.in_ok-check_site.ensures.ok c.in_err-check_article.ensures.err)

@@ -1,0 +1,25 @@
+-- The keepers that are not given back yet, and the faults of the others.
+use Rattle.std.proofs.Common.{arith, length, rules, ◌+◌, ◌∙◌, ◌≡◌}
+use Rattle.std.specs.Prelude.{vec_len}
+use Rattle.std.specs.Vec.Iter.{into_iter_items, into_iter_len}
+use Rattle.merge_program.proofs.Rooms.{all-given, begins-giving, gives-back}
+use Rattle.merge_program.proofs.stores.give_back.Goals as goal
+
+pub loop-subscriber-init : goal.loop-subscriber-init
+loop-subscriber-init g c =
+    let same : into_iter_items c.into_iter-subscriber-iterator.result ≡ c.args.subscribers.items = search rules in
+    let left : into_iter_len c.into_iter-subscriber-iterator.result ≡ vec_len c.args.subscribers = search rules in
+    let many : vec_len c.args.subscribers ≡ length c.args.subscribers.items = search rules in
+    begins-giving (λ s p. g.E.Outside.HasRoom c.args.outside.now s p) (g.E.Outside.HasRoom c.keeper_back.new.self) _ c.keeper_back.ensures.still _ _ _ same _ (left ∙ many) _ _ _ c.keeper_back.ensures.counts c.into_keeper.ensures.faults c.requires.rooms
+
+pub loop-subscriber-preserved : goal.loop-subscriber-preserved
+loop-subscriber-preserved g c =
+    let step = rw c.in-Some.is at c.next.ensures.steps in
+    let fewer = step.1 in
+    let less : into_iter_len c.loop-subscriber.subscriber-iterator ≡ into_iter_len c.next.new.self + 1 = omega (arith, fewer) in
+    gives-back (g.E.Outside.HasRoom c.loop-subscriber.outside) (g.E.Outside.HasRoom c.keeper_back-in-loop-subscriber.new.self) _ c.keeper_back-in-loop-subscriber.ensures.still _ _ _ _ c.in-Some.subscriber step.0 _ _ _ _ c.keeper_back-in-loop-subscriber.ensures.counts c.into_keeper-in-loop-subscriber.ensures.faults _ _ less c.loop-subscriber.invariant
+
+pub returns : goal.returns
+returns g c =
+    let none = rw c.in-None.is at c.next.ensures.steps in
+    all-given (g.E.Outside.HasRoom c.loop-subscriber.outside) _ _ _ _ _ none.0 _ _ c.loop-subscriber.invariant

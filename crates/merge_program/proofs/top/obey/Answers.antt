@@ -1,0 +1,46 @@
+-- Each command ends as it does.
+use Rattle.std.proofs.Common.{length, rules, sym, ◌∙◌, ◌≡◌}
+use Rattle.std.proofs.lemmas.List.{length-map}
+use Rattle.merge_program.proofs.Commands.{by-change, by-make, by-play, by-show}
+use Rattle.merge_program.proofs.Statuses.{change-early, never-early, show-early}
+use Rattle.merge_program.proofs.top.obey.Goals as goal
+
+pub returns-in-Play-clause-ends : goal.returns-in-Play-clause-ends
+returns-in-Play-clause-ends g c = by-play _ _ _ _ c.in-Play.is c.read_and_play.ensures.ends
+
+pub returns-in-Play-clause-played : goal.returns-in-Play-clause-played
+returns-in-Play-clause-played g c = λ play. c.read_and_play.ensures.part
+
+pub returns-in-Play-clause-silent : goal.returns-in-Play-clause-silent
+returns-in-Play-clause-silent g c = c.read_and_play.ensures.silent
+
+pub returns-in-Make-clause-ends : goal.returns-in-Make-clause-ends
+returns-in-Make-clause-ends g c = by-make _ _ _ _ _ c.in-Make.is c.make.ensures
+
+pub returns-in-Make-clause-played : goal.returns-in-Make-clause-played
+returns-in-Make-clause-played g c = λ play. let is = c.in-Make.is in absurd (cc (is, play))
+
+pub returns-in-Make-clause-silent : goal.returns-in-Make-clause-silent
+returns-in-Make-clause-silent g c = λ early. absurd (never-early _ _ _ _ _ _ c.make.ensures early)
+
+pub returns-in-Change-clause-ends : goal.returns-in-Change-clause-ends
+returns-in-Change-clause-ends g c =
+    let counted : c.len-count.result ≡ length c.args.resolvers.now.items = search rules in
+    by-change _ _ _ _ _ c.in-Change.is _ (counted ∙ sym (length-map _ _)) c.change.ensures
+
+pub returns-in-Change-clause-played : goal.returns-in-Change-clause-played
+returns-in-Change-clause-played g c = λ play. let is = c.in-Change.is in absurd (cc (is, play))
+
+pub returns-in-Change-clause-silent : goal.returns-in-Change-clause-silent
+returns-in-Change-clause-silent g c = change-early _ _ _ _ c.change.ensures
+
+pub returns-in-Show-clause-ends : goal.returns-in-Show-clause-ends
+returns-in-Show-clause-ends g c =
+    let counted : c.len-count.result ≡ length c.args.resolvers.now.items = search rules in
+    by-show _ _ _ _ _ _ c.in-Show.is _ (counted ∙ sym (length-map _ _)) (c.show.ensures _ _ _)
+
+pub returns-in-Show-clause-played : goal.returns-in-Show-clause-played
+returns-in-Show-clause-played g c = λ play. let is = c.in-Show.is in absurd (cc (is, play))
+
+pub returns-in-Show-clause-silent : goal.returns-in-Show-clause-silent
+returns-in-Show-clause-silent g c = show-early _ _ _ _ _ (c.show.ensures (g.I.Source.left c.args.input.now) 0 0)

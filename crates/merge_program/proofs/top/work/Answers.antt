@@ -1,0 +1,26 @@
+-- The words say a command, or none.
+use Rattle.std.proofs.Common.{refl, sym}
+use Rattle.merge_program.proofs.Commands.{by-none, by-words, lacking, same-command}
+use Rattle.merge_program.proofs.Ends.{nothing-written}
+use Rattle.merge_program.proofs.top.work.Goals as goal
+
+pub returns-in-Ok-None-clause-ends : goal.returns-in-Ok-None-clause-ends
+returns-in-Ok-None-clause-ends g c = let said = rw c.in-Ok-None.field-0-is at c.in-Ok-None.ensures.ok in by-none _ _ _ _ (sym said) refl refl
+
+pub returns-in-Ok-None-clause-played : goal.returns-in-Ok-None-clause-played
+returns-in-Ok-None-clause-played g c = λ play. nothing-written _ _ _ refl
+
+pub returns-in-Ok-Some-clause-ends : goal.returns-in-Ok-Some-clause-ends
+returns-in-Ok-Some-clause-ends g c = let said = rw c.in-Ok-Some.field-0-is at c.in-Ok-Some.ensures.ok in by-words _ _ _ _ _ said c.obey.ensures.ends
+
+pub returns-in-Ok-Some-clause-played : goal.returns-in-Ok-Some-clause-played
+returns-in-Ok-Some-clause-played g c = λ play. let said = rw c.in-Ok-Some.field-0-is at c.in-Ok-Some.ensures.ok in c.obey.ensures.played (same-command _ _ _ said play)
+
+pub returns-in-Ok-Some-clause-silent : goal.returns-in-Ok-Some-clause-silent
+returns-in-Ok-Some-clause-silent g c = c.obey.ensures.silent
+
+pub returns-in-Err-clause-ends : goal.returns-in-Err-clause-ends
+returns-in-Err-clause-ends g c = lacking _ _ _ c.in-Err.ensures.err refl refl
+
+pub returns-in-Err-clause-played : goal.returns-in-Err-clause-played
+returns-in-Err-clause-played g c = λ play. nothing-written _ _ _ refl

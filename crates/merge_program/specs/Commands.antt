@@ -1,0 +1,48 @@
+-- The commands of the program.
+use Rattle.std.specs.Prelude.{Bool, List, None, Option, Some, [], codes, false, if◌then◌else◌, nat_eq, nat_le, not, option_and_then, option_map, ℕ, ◌&&◌, ◌==◌, ◌||◌, ◌∷◌}
+use Rattle.std.specs.Cmp.Lexicographic.{pointwise}
+use Rattle.merge_types.specs.declared.identifiers.SiteId.{SiteId}
+use Rattle.merge_script.specs.Names.{decimal_of}
+use Rattle.merge_program.specs.declared.command.Command.{Command}
+use Rattle.merge_program.specs.declared.command.Command.TheVariants.{Change, Make, Play, Show}
+use Rattle.merge_program.specs.declared.command.Place.{Place}
+
+-- how many customers a generated script has: a plain decimal from 1 to 20000
+abbrev pub customers_of : List ℕ → Option ℕ
+customers_of word = option_and_then (λ (n : ℕ). if nat_le 1 n && nat_le n 20000 then Some n else None) (decimal_of word)
+
+abbrev pub by_word : List ℕ → Option Command
+by_word word = if pointwise nat_eq word (codes "play") then Some Play else None
+
+abbrev pub by_word_and_number : List ℕ → List ℕ → Option Command
+by_word_and_number word number = if pointwise nat_eq word (codes "make") then option_map Make (customers_of number) else None
+
+-- a site's number: a plain decimal up to 65535
+abbrev pub site_in : List ℕ → Option SiteId
+site_in word = option_and_then (λ (n : ℕ). if nat_le n 65535 then Some (record { 0 = n }) else None) (decimal_of word)
+
+-- a word that begins with a dash stands for no path and no article
+abbrev pub is_dashed : List ℕ → Bool
+is_dashed [] = false
+is_dashed (byte ∷ word) = byte == 45
+
+abbrev pub place_by : (publication store site : List ℕ) → Option Place
+place_by publication store site =
+    if is_dashed publication || is_dashed store then None
+    else option_map (λ (s : SiteId). record { publication = publication; store = store; site = s }) (site_in site)
+
+abbrev pub by_change : (word publication store site : List ℕ) → Option Command
+by_change word publication store site = if pointwise nat_eq word (codes "change") then option_map Change (place_by publication store site) else None
+
+abbrev pub by_show : (word publication store site article : List ℕ) → Option Command
+by_show word publication store site article =
+    if pointwise nat_eq word (codes "show") && not (is_dashed article) then option_map (λ (place : Place). Show place article) (place_by publication store site) else None
+
+-- the command that words say: `play` alone; `make` and a number; `change`, a publication's path, a store's path and a site; or `show`, the
+-- same and an article
+abbrev pub command_of : List (List ℕ) → Option Command
+command_of (word ∷ []) = by_word word
+command_of (word ∷ number ∷ []) = by_word_and_number word number
+command_of (word ∷ publication ∷ store ∷ site ∷ []) = by_change word publication store site
+command_of (word ∷ publication ∷ store ∷ site ∷ article ∷ []) = by_show word publication store site article
+command_of other = None

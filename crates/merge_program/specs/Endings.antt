@@ -1,0 +1,50 @@
+-- The exit status of each ending, and how a run ends by what stops it.
+use Rattle.std.specs.Prelude.{ℕ}
+use Rattle.merge_batch.specs.declared.refusal.Refusal.{Refusal}
+use Rattle.merge_batch.specs.declared.refusal.Refusal.TheVariants as refusal
+use Rattle.merge_ports.specs.declared.outside.OpenFault.{OpenFault}
+use Rattle.merge_ports.specs.declared.outside.OpenFault.TheVariants as opening
+use Rattle.merge_ports.specs.declared.whole.ReadFault.{ReadFault as Unread}
+use Rattle.merge_ports.specs.declared.whole.ReadFault.TheVariants as reading
+use Rattle.merge_schema.specs.declared.fault.SchemaFault.{SchemaFault}
+use Rattle.merge_schema.specs.declared.fault.SchemaFault.TheVariants as schema
+use Rattle.merge_program.specs.declared.ending.Ending.{Ending}
+use Rattle.merge_program.specs.declared.ending.Ending.TheVariants.{Damaged, Done, NoEvent, NoMemory, NotTaken, ReadFault, Refused, StoreFault, TooLong, UnknownArticle, UnknownSite, Usage, WriteFault}
+
+abbrev pub status_of : Ending → ℕ
+status_of Done = 0
+status_of Usage = 1
+status_of (Refused fault) = 2
+status_of (NotTaken line) = 1
+status_of (NoEvent line word) = 3
+status_of ReadFault = 4
+status_of WriteFault = 5
+status_of StoreFault = 6
+status_of (Damaged table key) = 10
+status_of NoMemory = 11
+status_of UnknownSite = 12
+status_of UnknownArticle = 12
+status_of TooLong = 14
+
+abbrev pub unopened : OpenFault → Ending
+unopened opening.Failed = StoreFault
+unopened opening.NoMemory = NoMemory
+
+abbrev pub unopened_text : OpenFault → Ending
+unopened_text opening.Failed = ReadFault
+unopened_text opening.NoMemory = NoMemory
+
+abbrev pub unread : Unread → Ending
+unread reading.Failed = ReadFault
+unread reading.TooLong = TooLong
+unread reading.NoMemory = NoMemory
+
+abbrev pub refused_for : SchemaFault → Ending
+refused_for schema.NoMemory = NoMemory
+refused_for fault = Refused fault
+
+-- a site does not start for its store, or for want of memory
+abbrev pub stopped_by : Refusal → Ending
+stopped_by refusal.StoreFault = StoreFault
+stopped_by (refusal.Damaged table key) = Damaged table key
+stopped_by other = NoMemory

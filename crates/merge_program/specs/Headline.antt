@@ -1,0 +1,111 @@
+-- What a run of `play` may write, and why it ends.
+use Rattle.std.specs.Prelude.{Err, List, None, Ok, Option, Some, length, take, IfSome, ℕ, ◌++◌, ◌<◌, ◌≡◌, ◌≢◌, ◌≤◌, ◌⊎◌}
+use Rattle.std.specs.Io.KnownBytes.{Appends}
+use Rattle.merge_ports.specs.Faults.{Rose}
+use Rattle.merge_schema.specs.Answers.{IsAnswer}
+use Rattle.merge_schema.specs.declared.fault.SchemaFault.{SchemaFault}
+use Rattle.merge_schema.specs.declared.fault.SchemaFault.TheVariants.{NoMemory as Lacking}
+use Rattle.merge_schema.specs.declared.publication.Publication.{Publication}
+use Rattle.merge_script.specs.Input.{publication_of, script_of}
+use Rattle.merge_script.specs.Lines.{lines_of}
+use Rattle.merge_model.specs.Play.{names_of}
+use Rattle.merge_model.specs.Reading.{events_of, fault_of}
+use Rattle.merge_model.specs.Text.{texts_of}
+use Rattle.merge_model.specs.declared.answer.Answer.{Answer}
+use Rattle.merge_model.specs.declared.event.Event.{Event}
+use Rattle.merge_world.specs.Views.{HandedView}
+use Rattle.merge_program.specs.declared.ending.Ending.{Ending}
+use Rattle.merge_program.specs.declared.ending.Ending.TheVariants.{Damaged, Done, NoEvent, NoMemory, NotTaken, ReadFault, Refused, StoreFault, TooLong, UnknownArticle, UnknownSite, Usage, WriteFault}
+pub use Rattle.merge_program.specs.Runs.{IsRun, Sides}
+
+-- the lines of an input's script
+abbrev pub lines_of_input : List ℕ → List (List ℕ)
+lines_of_input input = lines_of (script_of input)
+
+-- What was written is the text of a run over the events of the lines before the first that is no event, or of all.
+pub record Answered (publication : Publication) (handed : HandedView) (lines : List (List ℕ)) (sides : Sides) : Type 0 where
+  pub answers : List Answer
+  pub run : IsRun publication handed (events_of lines) answers sides.before sides.after
+  pub bytes : Appends sides.was sides.written (texts_of (names_of publication) answers)
+
+-- What was written is a front of the text of a run over some of the first of these events.
+pub record AnsweredInPart (publication : Publication) (handed : HandedView) (lines : List (List ℕ)) (sides : Sides) : Type 0 where
+  pub events : List Event
+  pub more : List Event
+  pub split : events_of lines ≡ events ++ more
+  pub answers : List Answer
+  pub run : IsRun publication handed events answers sides.before sides.after
+  pub count : ℕ
+  pub bytes : Appends sides.was sides.written (take count (texts_of (names_of publication) answers))
+
+-- the input is not too long, and has this publication before its script, where so many resolvers are handed in
+pub record IsTaken (resolvers : ℕ) (input : List ℕ) (publication : Publication) : Type 0 where
+  pub fits : length input ≤ 67108864
+  pub read : IsAnswer resolvers (publication_of input) (Ok publication)
+
+-- the input is not too long, and the text before its script is no publication for this
+pub record IsRefusedFor (resolvers : ℕ) (input : List ℕ) (fault : SchemaFault) : Type 0 where
+  pub fits : length input ≤ 67108864
+  pub read : IsAnswer resolvers (publication_of input) (Err fault)
+  pub known : fault ≢ Lacking
+
+abbrev pub IsTakenInput : ℕ → List ℕ → Type 0
+IsTakenInput resolvers input = (publication : Publication) × IsTaken resolvers input publication
+
+abbrev pub IsRefused : ℕ → List ℕ → Type 0
+IsRefused resolvers input = (fault : SchemaFault) × IsRefusedFor resolvers input fault
+
+-- each line of the input's script is an event or quiet, and all events were answered
+pub record AnsweredWhole (handed : HandedView) (input : List ℕ) (sides : Sides) : Type 0 where
+  pub publication : Publication
+  pub taken : IsTaken (length handed.tallies) input publication
+  pub events : fault_of (lines_of_input input) ≡ None
+  pub answered : Answered publication handed (lines_of_input input) sides
+
+-- the first line of the input's script that is no event has this number and this first wrong word, and the events before it were answered
+pub record AnsweredUpTo (handed : HandedView) (input : List ℕ) (line word : ℕ) (sides : Sides) : Type 0 where
+  pub publication : Publication
+  pub taken : IsTaken (length handed.tallies) input publication
+  pub no_event : fault_of (lines_of_input input) ≡ Some (line, word)
+  pub answered : Answered publication handed (lines_of_input input) sides
+
+abbrev pub AnsweredBefore : HandedView → List ℕ → Sides → Type 0
+AnsweredBefore handed input sides = (line : ℕ) × (word : ℕ) × AnsweredUpTo handed input line word sides
+
+-- nothing was written, or a front of the answers to some of the first events of the input's script
+abbrev pub WrittenInPart : HandedView → List ℕ → Sides → Type 0
+WrittenInPart handed input sides = (sides.written ≡ sides.was)
+    ⊎ ((publication : Publication) × IsTaken (length handed.tallies) input publication × AnsweredInPart publication handed (lines_of_input input) sides)
+
+-- why a script's run ended; writes were refused from `writes` to `refused`
+abbrev pub PlayEnds : Ending → Publication → HandedView → List (List ℕ) → Sides → (writes refused : ℕ) → Type 0
+PlayEnds Done publication handed lines sides writes refused = (fault_of lines ≡ None) × Answered publication handed lines sides
+PlayEnds (NoEvent line word) publication handed lines sides writes refused = (fault_of lines ≡ Some (line, word)) × Answered publication handed lines sides
+PlayEnds WriteFault publication handed lines sides writes refused = Rose writes refused
+PlayEnds StoreFault publication handed lines sides writes refused = Rose sides.before sides.after
+PlayEnds (Damaged table key) publication handed lines sides writes refused = Unit {0}
+PlayEnds NoMemory publication handed lines sides writes refused = Unit {0}
+PlayEnds other publication handed lines sides writes refused = ⊥
+
+-- why a run ended whose input was read whole
+abbrev pub InputEnds : Ending → HandedView → List ℕ → Sides → (writes refused : ℕ) → Type 0
+InputEnds (Refused fault) handed input sides writes refused = IsRefusedFor (length handed.tallies) input fault
+InputEnds Done handed input sides writes refused = AnsweredWhole handed input sides
+InputEnds (NoEvent line word) handed input sides writes refused = AnsweredUpTo handed input line word sides
+InputEnds WriteFault handed input sides writes refused = IsTakenInput (length handed.tallies) input × Rose writes refused
+InputEnds StoreFault handed input sides writes refused = IsTakenInput (length handed.tallies) input × Rose sides.before sides.after
+InputEnds (Damaged table key) handed input sides writes refused = IsTakenInput (length handed.tallies) input
+InputEnds NoMemory handed input sides writes refused = Unit {0}
+InputEnds other handed input sides writes refused = ⊥
+
+-- why a run of `play` ended; reads failed from `reads` to `failed`
+abbrev pub PlayRunEnds : Ending → Option (List ℕ) → HandedView → Sides → (writes refused reads failed : ℕ) → Type 0
+PlayRunEnds Usage left handed sides writes refused reads failed = ⊥
+PlayRunEnds (NotTaken line) left handed sides writes refused reads failed = ⊥
+PlayRunEnds UnknownSite left handed sides writes refused reads failed = ⊥
+PlayRunEnds UnknownArticle left handed sides writes refused reads failed = ⊥
+PlayRunEnds ReadFault left handed sides writes refused reads failed = Rose reads failed
+PlayRunEnds TooLong left handed sides writes refused reads failed = IfSome left (λ (input : List ℕ). 67108864 < length input)
+PlayRunEnds WriteFault left handed sides writes refused reads failed = Rose writes refused × IfSome left (IsTakenInput (length handed.tallies))
+PlayRunEnds StoreFault left handed sides writes refused reads failed = Rose sides.before sides.after × IfSome left (IsTakenInput (length handed.tallies))
+PlayRunEnds other left handed sides writes refused reads failed = IfSome left (λ (input : List ℕ). InputEnds other handed input sides writes refused)

@@ -1,0 +1,40 @@
+-- What the notes are told of an ending.
+use Rattle.std.specs.Prelude.{◌≡◌, ◌⊎◌, ◌++◌, ◌∷◌, List, Option, [], codes, unwrap_or, ℕ}
+use Rattle.std.specs.Fmt.{decimal}
+use Rattle.std.specs.Io.KnownBytes.{Appends}
+use Rattle.hex.specs.Hex.{encode_lower}
+use Rattle.merge_ports.specs.Faults.{Rose}
+use Rattle.merge_ports.specs.Parts.{AppendsFront}
+use Rattle.merge_schema.specs.Faults.{number_of, words_of}
+use Rattle.merge_program.specs.declared.ending.Ending.{Ending}
+use Rattle.merge_program.specs.declared.ending.Ending.TheVariants.{Damaged, Done, NoEvent, NoMemory, NotTaken, ReadFault, Refused, StoreFault, TooLong, UnknownArticle, UnknownSite, Usage, WriteFault}
+
+-- a key in hexadecimal, and `-` where it is empty
+abbrev pub key_text : List ℕ → List ℕ
+key_text [] = codes "-"
+key_text (byte ∷ key) = encode_lower (byte ∷ key)
+
+-- One line for each ending but the good one, where `help` is the program's help. The help has lines of its own.
+abbrev pub note_of : (help : List ℕ) → Ending → List ℕ
+note_of help Done = []
+note_of help Usage = codes "usage\n" ++ help
+note_of help (NotTaken line) = codes "usage\n" ++ help
+note_of help (Refused fault) = codes "publication refused: " ++ decimal (unwrap_or (number_of fault) 0) ++ 32 ∷ words_of fault ++ 10 ∷ []
+note_of help (NoEvent line word) = codes "line " ++ decimal line ++ codes " word " ++ decimal word ++ codes ": no event\n"
+note_of help ReadFault = codes "read fault\n"
+note_of help WriteFault = codes "write fault\n"
+note_of help StoreFault = codes "store fault\n"
+note_of help (Damaged table key) = codes "damaged " ++ decimal table ++ 32 ∷ key_text key ++ 10 ∷ []
+note_of help NoMemory = codes "no memory\n"
+note_of help UnknownSite = codes "refused 1\n"
+note_of help UnknownArticle = codes "refused 18\n"
+note_of help TooLong = codes "input too long\n"
+
+-- The notes got the whole of a text; or a front of it, since a write failed; or nothing, since memory was wanting.
+abbrev pub IsTold : List ℕ → (old new : Option (List ℕ)) → (before after : ℕ) → Type 0
+IsTold note old new before after = Appends old new note ⊎ (AppendsFront old new note × Rose before after ⊎ (new ≡ old))
+
+-- What the notes got of an ending.
+pub record Told (ending : Ending) (old new : Option (List ℕ)) (before after : ℕ) : Type 0 where
+  pub help : List ℕ
+  pub told : IsTold (note_of help ending) old new before after

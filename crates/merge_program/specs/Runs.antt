@@ -1,0 +1,25 @@
+-- Runs of the sites of a publication, and what was written of them.
+use Rattle.std.specs.Prelude.{List, Option, count_by, ℕ, ◌≡◌}
+use Rattle.merge_schema.specs.declared.publication.Publication.{Publication}
+use Rattle.merge_model.specs.Failing.{Slips}
+use Rattle.merge_model.specs.Reach.{is_store_fault}
+use Rattle.merge_model.specs.Runs.{machine_says, world_behind}
+use Rattle.merge_model.specs.declared.answer.Answer.{Answer}
+use Rattle.merge_model.specs.declared.event.Event.{Event}
+use Rattle.merge_world.specs.Views.{HandedView}
+use Rattle.merge_laws.specs.Promised.{HasPromises}
+use Rattle.merge_program.specs.Stores.{RoseBy}
+
+-- what the output told of its bytes before and behind a run, and how often the stores of sites had failed by then
+pub record Sides : Type 0 where
+  pub was : Option (List ℕ)
+  pub written : Option (List ℕ)
+  pub before : ℕ
+  pub after : ℕ
+
+-- These answers are given in a run of the sites from nothing, each decision is what the resolvers say that were handed in, at their tallies, and no more steps fail by a store than stores failed. Behind it stand the tables of a model of which all is promised.
+pub record IsRun (publication : Publication) (handed : HandedView) (events : List Event) (answers : List Answer) (before after : ℕ) : Type 0 where
+  pub slips : Slips
+  pub said : machine_says publication handed.says handed.tallies slips events ≡ answers
+  pub few : RoseBy (count_by is_store_fault slips) before after
+  pub promised : HasPromises publication handed.says (world_behind publication handed.says handed.tallies slips events)

@@ -1,0 +1,54 @@
+-- The cause of each status of a run, and what was written and kept by then.
+use Rattle.std.specs.Prelude.{Bool, IsTrue, List, None, Option, Some, length, nat_lt, true, ℕ, ◌==◌, ◌||◌, ◌≡◌, ◌⊎◌}
+use Rattle.merge_ports.specs.Faults.{Rose}
+use Rattle.merge_schema.specs.declared.fault.SchemaFault.{SchemaFault}
+use Rattle.merge_world.specs.Views.{HandedView}
+use Rattle.merge_program.specs.declared.command.Command.{Command}
+use Rattle.merge_program.specs.declared.command.Command.TheVariants.{Change, Make, Play, Show}
+use Rattle.merge_program.specs.declared.ending.Ending.{Ending}
+use Rattle.merge_program.specs.declared.ending.Ending.TheVariants.{Damaged, Done, NoEvent, NotTaken, Refused, TooLong, UnknownArticle, UnknownSite, Usage}
+use Rattle.merge_program.specs.Changing.{ChangeEnds}
+use Rattle.merge_program.specs.Endings.{status_of}
+use Rattle.merge_program.specs.Headline.{PlayRunEnds}
+use Rattle.merge_program.specs.Making.{MakeEnds}
+use Rattle.merge_program.specs.Notes.{Told}
+use Rattle.merge_program.specs.Showing.{ShowEnds}
+use Rattle.merge_program.specs.Visits.{Visit, sides_of}
+
+-- why a run of a command ended
+abbrev pub CommandEnds : Option Command → Ending → HandedView → Visit → Type 0
+CommandEnds None ending handed v = (ending ≡ Usage) × (v.written ≡ v.was)
+CommandEnds (Some Play) ending handed v = PlayRunEnds ending v.input handed (sides_of v) v.writes v.refused v.reads v.failed
+CommandEnds (Some (Make customers)) ending handed v = MakeEnds ending customers handed (sides_of v) v.writes v.refused
+CommandEnds (Some (Change place)) ending handed v = ChangeEnds ending place (length handed.tallies) v
+CommandEnds (Some (Show place article)) ending handed v = ShowEnds ending place article (length handed.tallies) v
+
+abbrev pub is_status : ℕ → Bool
+is_status n = nat_lt n 7 || ((n == 10) || ((n == 11) || ((n == 12) || (n == 14))))
+
+-- a status that comes before a site is started
+abbrev pub is_early : ℕ → Bool
+is_early n = (n == 2) || ((n == 4) || ((n == 12) || (n == 14)))
+
+-- What each status tells of a run. Want of memory, 11, tells no more than what holds of every run.
+pub record Tells (status : ℕ) (command : Option Command) (handed : HandedView) (v : Visit) : Type 0 where
+  pub done : status ≡ 0 → CommandEnds command Done handed v
+  pub usage : status ≡ 1 → (command ≡ None) ⊎ ((line : ℕ) × CommandEnds command (NotTaken line) handed v)
+  pub refused : status ≡ 2 → (fault : SchemaFault) × CommandEnds command (Refused fault) handed v
+  pub no_event : status ≡ 3 → (line : ℕ) × (word : ℕ) × CommandEnds command (NoEvent line word) handed v
+  pub read : status ≡ 4 → Rose v.reads v.failed ⊎ Rose v.old.texts v.new.texts
+  pub write : status ≡ 5 → Rose v.writes v.refused
+  pub stores : status ≡ 6 → Rose v.old.stores v.new.stores
+  pub damaged : status ≡ 10 → (table : ℕ) × (key : List ℕ) × CommandEnds command (Damaged table key) handed v
+  pub unknown : status ≡ 12 → CommandEnds command UnknownSite handed v ⊎ CommandEnds command UnknownArticle handed v
+  pub long : status ≡ 14 → CommandEnds command TooLong handed v
+  pub no_command : command ≡ None → status ≡ 1
+  pub silent : is_early status ≡ true → v.written ≡ v.was
+  pub known : IsTrue (is_status status)
+
+-- What the notes were told, and that it was why the run ended.
+pub record IsNoted (status : ℕ) (command : Option Command) (handed : HandedView) (v : Visit) (old new : Option (List ℕ)) (before after : ℕ) : Type 0 where
+  pub ending : Ending
+  pub status_is : status ≡ status_of ending
+  pub ends : CommandEnds command ending handed v
+  pub told : Told ending old new before after

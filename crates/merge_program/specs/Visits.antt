@@ -1,0 +1,31 @@
+-- What a run meets outside of itself.
+use Rattle.std.specs.Prelude.{List, Option, ℕ}
+use Rattle.merge_types.specs.declared.identifiers.SiteId.{SiteId}
+use Rattle.merge_outside.specs.Offers.{Offers}
+use Rattle.merge_ports.specs.Entries.{Map}
+use Rattle.merge_ports.specs.declared.outside.Counts.{Counts}
+use Rattle.merge_program.specs.Runs.{Sides}
+
+-- What is told before a run and behind it, each part where it is told, and how many faults there were by then.
+pub record Visit : Type 0 where
+  -- the bytes of the input; and the texts at paths, and the moments of a clock
+  pub input : Option (List ℕ)
+  pub offers : Offers
+  -- the maps of the stores, before and behind
+  pub stored : SiteId → List ℕ → Option Map
+  pub kept : SiteId → List ℕ → Option Map
+  -- what the output told, before and behind
+  pub was : Option (List ℕ)
+  pub written : Option (List ℕ)
+  -- the faults of the outside, before and behind
+  pub old : Counts
+  pub new : Counts
+  -- the writes that failed, before and behind, and the reads of the input
+  pub writes : ℕ
+  pub refused : ℕ
+  pub reads : ℕ
+  pub failed : ℕ
+
+-- the output and the faults of stores
+abbrev pub sides_of : Visit → Sides
+sides_of v = record { was = v.was; written = v.written; before = v.old.stores; after = v.new.stores }

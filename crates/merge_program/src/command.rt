@@ -1,0 +1,204 @@
+//! What the words behind the program's name say.
+ghost use Rattle.std.specs.Prelude.{◌≡◌, ◌≢◌, IfOk, None, OnErr};
+ghost use Rattle.merge_program.specs.Commands.{by_change, by_show, by_word, by_word_and_number, command_of, customers_of, is_dashed, place_by, site_in};
+
+use clap::Arg;
+use merge_script::read_decimal;
+use merge_types::{NoMemory, SiteId, Words};
+use std::alloc::{AllocError, Global};
+
+/// The most customers that a generated script has.
+pub const MOST_CUSTOMERS: u64 = 20_000;
+
+/// The greatest number of a site.
+pub const GREATEST_SITE: u64 = 65_535;
+
+/// A site of the publication in a file, and the store that it has.
+#[derive(Debug, Drop)]
+pub struct Place {
+    /// The path of the publication's file.
+    pub publication: Words,
+    /// The path of the store.
+    pub store: Words,
+    /// 0 is the publisher.
+    pub site: SiteId,
+}
+
+/// What the program is told to do.
+#[derive(Debug, Drop)]
+pub enum Command {
+    /// A publication and a script are read and played.
+    Play,
+    /// The script that is made for so many customers is played, and summed up.
+    Make(u16),
+    /// A script is read that changes one site.
+    Change(Place),
+    /// The rows of an article at a site are shown.
+    Show { place: Place, article: Words },
+}
+
+// A number of customers: a plain decimal from 1 to the most.
+fn customers(word: &[u8]) -> Option<u16>
+    ensures { result ≡ customers_of word.now }
+{
+    match read_decimal(word) {
+        Some(number) if 1 <= number && number <= MOST_CUSTOMERS => Some(number as u16),
+        _ => None,
+    }
+}
+
+fn by_word(word: &Words) -> Option<Command>
+    ensures { result ≡ by_word word.now }
+{
+    if word.as_str() == "play" {
+        Some(Command::Play)
+    } else {
+        None
+    }
+}
+
+fn by_word_and_number(word: &Words, number: &Words) -> Option<Command>
+    ensures { result ≡ by_word_and_number word.now number.now }
+{
+    if word.as_str() == "make" {
+        customers(number.as_str().as_bytes()).map(Command::Make)
+    } else {
+        None
+    }
+}
+
+// A site's number: a plain decimal up to the greatest.
+fn site_in(word: &[u8]) -> Option<SiteId>
+    ensures { result ≡ site_in word.now }
+{
+    match read_decimal(word) {
+        Some(number) if number <= GREATEST_SITE => Some(SiteId(number as u16)),
+        _ => None,
+    }
+}
+
+// Whether a word begins as an option does.
+fn is_dashed(word: &Words) -> bool
+    ensures { result ≡ is_dashed word.now }
+{
+    match word.as_str().as_bytes() {
+        [first, ..] => *first == b'-',
+        [] => false,
+    }
+}
+
+fn place_by(publication: &Words, store: &Words, site: &Words) -> Result<Option<Place>, NoMemory>
+    ensures ok { IfOk result (λ place. place ≡ place_by publication.now store.now site.now) }
+    ensures err { OnErr result (place_by publication.now store.now site.now ≢ None) }
+{
+    if is_dashed(publication) || is_dashed(store) {
+        return Ok(None);
+    }
+    match site_in(site.as_str().as_bytes()) {
+        Some(site) => Ok(Some(Place {
+            publication: publication.clone()?,
+            store: store.clone()?,
+            site,
+        })),
+        None => Ok(None),
+    }
+}
+
+fn by_change(
+    word: &Words,
+    publication: &Words,
+    store: &Words,
+    site: &Words,
+) -> Result<Option<Command>, NoMemory>
+    ensures ok { IfOk result (λ command. command ≡ by_change word.now publication.now store.now site.now) }
+    ensures err { OnErr result (by_change word.now publication.now store.now site.now ≢ None) }
+{
+    if word.as_str() == "change" {
+        match place_by(publication, store, site)? {
+            Some(place) => Ok(Some(Command::Change(place))),
+            None => Ok(None),
+        }
+    } else {
+        Ok(None)
+    }
+}
+
+fn by_show(
+    word: &Words,
+    publication: &Words,
+    store: &Words,
+    site: &Words,
+    article: &Words,
+) -> Result<Option<Command>, NoMemory>
+    ensures ok { IfOk result (λ command. command ≡ by_show word.now publication.now store.now site.now article.now) }
+    ensures err { OnErr result (by_show word.now publication.now store.now site.now article.now ≢ None) }
+{
+    if word.as_str() == "show" && !is_dashed(article) {
+        match place_by(publication, store, site)? {
+            Some(place) => Ok(Some(Command::Show {
+                place,
+                article: article.clone()?,
+            })),
+            None => Ok(None),
+        }
+    } else {
+        Ok(None)
+    }
+}
+
+/// The command that the words say: `play`; `make` and a number of customers; `change`, a publication's
+/// path, a store's path and a site; or `show`, the same and an article. None where they say something
+/// else. Memory is only wanting for words that are a command.
+pub fn command_of(words: &[Words]) -> Result<Option<Command>, NoMemory>
+    ensures ok { IfOk result (λ command. command ≡ command_of words.now) }
+    ensures err { OnErr result (command_of words.now ≢ None) }
+{
+    match words {
+        [word] => Ok(by_word(word)),
+        [word, number] => Ok(by_word_and_number(word, number)),
+        [word, publication, store, site] => by_change(word, publication, store, site),
+        [word, publication, store, site, article] => {
+            by_show(word, publication, store, site, article)
+        }
+        _ => Ok(None),
+    }
+}
+
+// The program and its commands, as its help shows them.
+fn program(alloc: Global) -> Result<clap::Command<'static>, AllocError> {
+    let play = clap::Command::new(alloc, "play").about(
+        "Read a publication, a line --- and a script, and answer each event",
+    );
+    let make = clap::Command::new(alloc, "make")
+        .about("Play a script that is made for N customers, 1 to 20000, and sum up its answers")
+        .arg(Arg::new(alloc, "N").required(true))?;
+    let change = clap::Command::new(alloc, "change")
+        .about(
+            "Read a script that changes the site SITE of the publication in the file PUB, at the store STORE",
+        )
+        .arg(Arg::new(alloc, "PUB").required(true))?
+        .arg(Arg::new(alloc, "STORE").required(true))?
+        .arg(Arg::new(alloc, "SITE").required(true))?;
+    let show = clap::Command::new(alloc, "show")
+        .about("Show the rows of the article ARTICLE at that site")
+        .arg(Arg::new(alloc, "PUB").required(true))?
+        .arg(Arg::new(alloc, "STORE").required(true))?
+        .arg(Arg::new(alloc, "SITE").required(true))?
+        .arg(Arg::new(alloc, "ARTICLE").required(true))?;
+    let program = clap::Command::new(alloc, "replmerge")
+        .about("Merge replication between a publisher and its subscribers")
+        .after_help("The lines of a script and their answers: docs/script.md and docs/commands.md")
+        .disable_help_flag(true)
+        .disable_version_flag(true)
+        .disable_help_subcommand(true)
+        .subcommand(play)?
+        .subcommand(make)?
+        .subcommand(change)?
+        .subcommand(show)?;
+    Ok(program)
+}
+
+/// The program's help: each command with its words, and where the script's page is.
+pub fn help(alloc: Global) -> Result<String, NoMemory> {
+    Ok(program(alloc)?.render_help()?)
+}

@@ -1,0 +1,173 @@
+//! The sites of a publication, each at its store of an outside.
+ghost use Rattle.std.specs.Prelude.{◌≡◌, ◌+◌, ◌++◌, ◌∷◌, ◌<◌, [], IfErr, IfOk, List, OnOk, map, sum_by, vec_capacity, vec_len, ℕ};
+ghost use Rattle.merge_types.specs.declared.identifiers.SiteId.{SiteId as Site};
+ghost use Rattle.merge_schema.specs.Valid.{IsValid};
+ghost use Rattle.merge_model.specs.Publications.{by_site};
+ghost use Rattle.merge_world.specs.Views.{faults_of, site_of};
+ghost use Rattle.merge_program.specs.Stores.{AreRooms, IsUnstarted, RoseBy, fresh_publisher, fresh_subscriber, fresh_subscribers};
+
+use crate::ending::{Ending, stopped, unopened};
+use merge_ports::Outside;
+use merge_schema::{Publication, Subscription};
+use merge_site::{KeptPublisher, KeptSubscriber, NotStarted};
+use merge_table::Table;
+use merge_types::{NoMemory, SiteId, Words};
+use std::alloc::Global;
+
+/// The publisher.
+pub const PUBLISHER: SiteId = SiteId(0);
+
+// The subscriptions by their sites.
+fn by_site(alloc: Global, publication: &Publication) -> Result<Table<u16, Subscription>, NoMemory>
+    ensures { IfOk result (λ table. table.rows ≡ by_site publication.now) }
+{
+    let mut subscriptions = Table::new(alloc);
+    for subscription in publication.subscriptions.as_slice() {
+        subscriptions.insert(subscription.site.0, subscription.clone()?)?;
+    }
+    Ok(subscriptions)
+}
+
+// Starts the publisher. Where it does not start, its keeper is given back.
+fn start_publisher<E: Outside>(
+    alloc: Global,
+    outside: &mut E,
+    path: &Words,
+    publication: &Publication,
+) -> Result<KeptPublisher<E::Keep>, Ending>
+    requires { (resolvers : ℕ) × IsValid resolvers publication.now }
+    ensures fresh { IfOk result (λ publisher. publisher ≡ fresh_publisher publication.now) }
+    ensures room { OnOk result (E.HasRoom outside.new (record { 0 = 0 }) path.now) }
+    ensures still { (s : Site) (p : List ℕ) → E.HasRoom outside.old s p → E.HasRoom outside.new s p }
+    ensures kept { OnOk result ((E.counts outside.new).stores ≡ (E.counts outside.old).stores) }
+    ensures ends { IfErr result (λ ending. IsUnstarted ending (E.counts outside.old).stores (E.counts outside.new).stores) }
+{
+    let keeper = match outside.keeper(PUBLISHER, path) {
+        Ok(keeper) => keeper,
+        Err(fault) => return Err(unopened(fault)),
+    };
+    match KeptPublisher::new(alloc, keeper, publication) {
+        Ok(publisher) => Ok(publisher),
+        Err(NotStarted { keeper, why }) => {
+            outside.keeper_back(PUBLISHER, path, keeper);
+            Err(stopped(why))
+        }
+    }
+}
+
+// Starts a subscriber. Where it does not start, its keeper is given back.
+fn start_subscriber<E: Outside>(
+    alloc: Global,
+    outside: &mut E,
+    path: &Words,
+    publication: &Publication,
+    site: SiteId,
+) -> Result<KeptSubscriber<E::Keep>, Ending>
+    requires { (resolvers : ℕ) × IsValid resolvers publication.now }
+    ensures fresh { IfOk result (λ subscriber. subscriber ≡ fresh_subscriber publication.now site) }
+    ensures room { OnOk result (E.HasRoom outside.new site path.now) }
+    ensures still { (s : Site) (p : List ℕ) → E.HasRoom outside.old s p → E.HasRoom outside.new s p }
+    ensures kept { OnOk result ((E.counts outside.new).stores ≡ (E.counts outside.old).stores) }
+    ensures ends { IfErr result (λ ending. IsUnstarted ending (E.counts outside.old).stores (E.counts outside.new).stores) }
+{
+    let publication = publication.copy()?;
+    let keeper = match outside.keeper(site, path) {
+        Ok(keeper) => keeper,
+        Err(fault) => return Err(unopened(fault)),
+    };
+    match KeptSubscriber::new(alloc, keeper, publication, site) {
+        Ok(subscriber) => Ok(subscriber),
+        Err(NotStarted { keeper, why }) => {
+            outside.keeper_back(site, path, keeper);
+            Err(stopped(why))
+        }
+    }
+}
+
+/// Makes room for one more.
+pub fn make_room<T: Drop>(list: &mut Vec<T>) -> Result<(), NoMemory>
+    ensures items { list.new.items ≡ list.old.items }
+    ensures room { OnOk result (vec_len list.new < vec_capacity list.new) }
+{
+    list.reserve(1)?;
+    Ok(())
+}
+
+/// Puts one more, for which there is room.
+pub fn put<T: Drop>(list: &mut Vec<T>, item: T)
+    requires { vec_len list.old < vec_capacity list.old }
+    ensures { list.new.items ≡ list.old.items ++ item ∷ [] }
+{
+    if let Err(_) = list.push(item) {}
+}
+
+// Starts the subscribers by their sites, up to one that does not start.
+fn start_subscribers<E: Outside>(
+    alloc: Global,
+    outside: &mut E,
+    path: &Words,
+    publication: &Publication,
+    subscribers: &mut Vec<KeptSubscriber<E::Keep>>,
+) -> Result<(), Ending>
+    requires valid { (resolvers : ℕ) × IsValid resolvers publication.now }
+    requires none { subscribers.old.items ≡ [] }
+    ensures fresh { OnOk result (subscribers.new.items ≡ fresh_subscribers publication.now) }
+    ensures rooms { AreRooms (E.HasRoom outside.new) path.now (map site_of subscribers.new.items) }
+    ensures still { (s : Site) (p : List ℕ) → E.HasRoom outside.old s p → E.HasRoom outside.new s p }
+    ensures kept { OnOk result ((E.counts outside.new).stores ≡ (E.counts outside.old).stores) }
+    ensures ends { IfErr result (λ ending. IsUnstarted ending (E.counts outside.old).stores (E.counts outside.new).stores) }
+{
+    let subscriptions = by_site(alloc, publication)?;
+    for (_, subscription) in subscriptions.iter() {
+        make_room(subscribers)?;
+        let site = subscription.site;
+        let subscriber = start_subscriber(alloc, outside, path, publication, site)?;
+        put(subscribers, subscriber);
+    }
+    Ok(())
+}
+
+/// Gives the keepers of sites back.
+pub fn give_back<E: Outside>(
+    outside: &mut E,
+    path: &Words,
+    publisher: KeptPublisher<E::Keep>,
+    subscribers: Vec<KeptSubscriber<E::Keep>>,
+)
+    requires room { E.HasRoom outside.old (record { 0 = 0 }) path.now }
+    requires rooms { AreRooms (E.HasRoom outside.old) path.now (map site_of subscribers.items) }
+    ensures { RoseBy (publisher.faults + sum_by faults_of subscribers.items) (E.counts outside.old).stores (E.counts outside.new).stores }
+{
+    outside.keeper_back(PUBLISHER, path, publisher.into_keeper());
+    for subscriber in subscribers {
+        let site = subscriber.site();
+        outside.keeper_back(site, path, subscriber.into_keeper());
+    }
+}
+
+/// Starts the sites of a publication that have done nothing yet, the publisher first and then the
+/// subscribers by their sites. Where one does not start, all keepers are given back.
+pub fn start<E: Outside>(
+    alloc: Global,
+    outside: &mut E,
+    path: &Words,
+    publication: &Publication,
+) -> Result<(KeptPublisher<E::Keep>, Vec<KeptSubscriber<E::Keep>>), Ending>
+    requires { (resolvers : ℕ) × IsValid resolvers publication.now }
+    ensures publisher { IfOk result (λ sites. sites.0 ≡ fresh_publisher publication.now) }
+    ensures subscribers { IfOk result (λ sites. sites.1.items ≡ fresh_subscribers publication.now) }
+    ensures room { OnOk result (E.HasRoom outside.new (record { 0 = 0 }) path.now) }
+    ensures rooms { IfOk result (λ sites. AreRooms (E.HasRoom outside.new) path.now (map site_of sites.1.items)) }
+    ensures kept { OnOk result ((E.counts outside.new).stores ≡ (E.counts outside.old).stores) }
+    ensures ends { IfErr result (λ ending. IsUnstarted ending (E.counts outside.old).stores (E.counts outside.new).stores) }
+{
+    let publisher = start_publisher(alloc, outside, path, publication)?;
+    let mut subscribers = Vec::new(alloc);
+    match start_subscribers(alloc, outside, path, publication, &mut subscribers) {
+        Ok(()) => Ok((publisher, subscribers)),
+        Err(ending) => {
+            give_back(outside, path, publisher, subscribers);
+            Err(ending)
+        }
+    }
+}

@@ -1,6 +1,0 @@
--- Why a text is no publication.
-use Rattle.replmerge.proofs.Readings.{unpublished-so}
-use Rattle.replmerge.proofs.files.publication_in.Goals as goal
-
-pub returns-in-Err-clause-refused : goal.returns-in-Err-clause-refused
-returns-in-Err-clause-refused c = unpublished-so _ _ _ _ c.refused.ensures c.in-Err.ensures.answer

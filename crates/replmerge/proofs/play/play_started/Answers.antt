@@ -1,9 +1,0 @@
--- The faults of the sites are counted as their keepers are given back.
-use Rattle.replmerge.proofs.Rooms.{rose-all}
-use Rattle.replmerge.proofs.play.play_started.Goals as goal
-
-pub returns-clause-ends : goal.returns-clause-ends
-returns-clause-ends g c = c.play_on-ending.ensures.ends _ _ (rose-all _ c.play_on-ending.new.sites.subscribers.items _ _ c.give_back.ensures)
-
-pub returns-clause-part : goal.returns-clause-part
-returns-clause-part g c = c.play_on-ending.ensures.part _ _ (rose-all _ c.play_on-ending.new.sites.subscribers.items _ _ c.give_back.ensures)
