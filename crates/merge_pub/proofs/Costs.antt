@@ -19,10 +19,10 @@ use Rattle.merge_model.specs.Keys.{row_at}
 use Rattle.merge_model.specs.World.{Saying}
 use Rattle.merge_pub.specs.Held.{Held, publication_of}
 use Rattle.merge_pub.specs.Local.{changed_version, versions_after}
-use Rattle.merge_pub.specs.Uploading.{Pass, act_at, acts_in, after_act, after_item, after_items, pass_at}
-use Rattle.merge_pub.specs.Working.{row_change}
-use Rattle.merge_pub.specs.declared.acting.Acting.{Acting}
-use Rattle.merge_pub.specs.declared.acting.Arrival.{Arrival}
+use Rattle.merge_steps.specs.Uploading.{Pass, act_at, acts_in, after_act, after_item, after_items, pass_at}
+use Rattle.merge_steps.specs.Working.{row_change}
+use Rattle.merge_steps.specs.declared.acting.Acting.{Acting}
+use Rattle.merge_steps.specs.declared.acting.Arrival.{Arrival}
 
 one-lives : {X : Type 0} (new : Option X) → count_if_some new ≤ 1
 one-lives None = omega arith

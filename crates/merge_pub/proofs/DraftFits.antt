@@ -23,17 +23,17 @@ use Rattle.merge_model.specs.Tables.{PublisherTables}
 use Rattle.merge_pub.specs.After.{after}
 use Rattle.merge_pub.specs.Forgetting.{LeavesAll}
 use Rattle.merge_pub.specs.Held.{Held, IsSound, publication_of, tables_of}
-use Rattle.merge_pub.specs.Indexed.{AreIndexed, AreMoved}
-use Rattle.merge_pub.specs.Keeps.{KeepsRules}
-use Rattle.merge_pub.specs.LiveRows.{live_pairs}
-use Rattle.merge_pub.specs.MoveEntries.{move_entry_cmp}
+use Rattle.merge_steps.specs.Indexed.{AreIndexed, AreMoved}
+use Rattle.merge_steps.specs.Keeps.{KeepsRules}
+use Rattle.merge_steps.specs.LiveRows.{live_pairs}
+use Rattle.merge_steps.specs.MoveEntries.{move_entry_cmp}
 use Rattle.merge_pub.specs.Ranging.{AreRuled, IsForOthers}
-use Rattle.merge_pub.specs.Rows.{moved_edits}
-use Rattle.merge_pub.specs.Working.{AreApart, places_of}
-use Rattle.merge_pub.specs.declared.changes.Changes.{Changes}
+use Rattle.merge_steps.specs.Rows.{moved_edits}
+use Rattle.merge_steps.specs.Working.{AreApart, places_of}
+use Rattle.merge_steps.specs.declared.changes.Changes.{Changes}
 use Rattle.merge_pub.specs.declared.forgetting.Forgetting.{Forgetting}
-use Rattle.merge_pub.specs.declared.move_entry.MoveEntry.{MoveEntry}
-use Rattle.merge_pub.proofs.MoveFollows.{moves-follow}
+use Rattle.merge_steps.specs.declared.move_entry.MoveEntry.{MoveEntry}
+use Rattle.merge_steps.proofs.MoveFollows.{moves-follow}
 use Rattle.merge_pub.proofs.RangePlans.{all-ruled, grants-keep, subscriber-other}
 
 -- the index of mappings after edits of these

@@ -23,12 +23,12 @@ use Rattle.merge_part.specs.View.{live_in}
 use Rattle.merge_model.specs.Tables.{PublisherTables}
 use Rattle.merge_pub.specs.After.{after}
 use Rattle.merge_pub.specs.Held.{Held, IsDrafted, tables_of}
-use Rattle.merge_pub.specs.Indexed.{AreIndexed, AreMoved}
-use Rattle.merge_pub.specs.Keeps.{KeepsRules}
-use Rattle.merge_pub.specs.LiveRows.{live_pairs}
-use Rattle.merge_pub.specs.MoveEntries.{move_entry_cmp}
-use Rattle.merge_pub.specs.declared.changes.Changes.{Changes}
-use Rattle.merge_pub.specs.declared.changes.Draft.{Draft}
+use Rattle.merge_steps.specs.Indexed.{AreIndexed, AreMoved}
+use Rattle.merge_steps.specs.Keeps.{KeepsRules}
+use Rattle.merge_steps.specs.LiveRows.{live_pairs}
+use Rattle.merge_steps.specs.MoveEntries.{move_entry_cmp}
+use Rattle.merge_steps.specs.declared.changes.Changes.{Changes}
+use Rattle.merge_steps.specs.declared.changes.Draft.{Draft}
 
 ready-none : {K : Type 0} (V : Type 0) (cmp : K → K → Ordering) (slots : List K) → IsReady cmp slots (let none : List (Edit K V) = [] in none)
 unfolding IsReady

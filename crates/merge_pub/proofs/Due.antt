@@ -21,11 +21,11 @@ use Rattle.merge_model.specs.ByNumbers.{changed_in, mapping_at}
 use Rattle.merge_model.specs.Keys.{row_at}
 use Rattle.merge_model.specs.Tables.{PublisherTables}
 use Rattle.merge_model.proofs.Sorted.{key_total}
-use Rattle.merge_pub.specs.Indexed.{AreIndexed, AreMoved, has_entry, is_changed, is_moved}
-use Rattle.merge_pub.specs.MoveEntries.{move_entry, move_entry_cmp}
-use Rattle.merge_pub.specs.MoveWalks.{is_in_walk, is_within, key_of_move, keys_in_walk}
+use Rattle.merge_steps.specs.Indexed.{AreIndexed, AreMoved, has_entry, is_changed, is_moved}
+use Rattle.merge_steps.specs.MoveEntries.{move_entry, move_entry_cmp}
+use Rattle.merge_steps.specs.MoveWalks.{is_in_walk, is_within, key_of_move, keys_in_walk}
 use Rattle.merge_pub.specs.Touches.{AreDue, moved_in}
-use Rattle.merge_pub.specs.declared.move_entry.MoveEntry.{MoveEntry}
+use Rattle.merge_steps.specs.declared.move_entry.MoveEntry.{MoveEntry}
 
 key-itself : (key : Key) → is_at (key_cmp key) key ≡ true
 key-itself key = ap is_eq (tied_itself key_total key)

@@ -26,14 +26,14 @@ use Rattle.merge_model.proofs.KeyLookUps.{keys-exact}
 use Rattle.merge_model.proofs.PlaceLookUps.{places-exact}
 use Rattle.merge_model.proofs.Sorted.{row_site_total}
 use Rattle.merge_pub.specs.Forgetting.{is_left_at, place_at, take_at}
-use Rattle.merge_pub.specs.Indexed.{AreMoved, is_moved}
-use Rattle.merge_pub.specs.MoveWalks.{keys_in_walk}
-use Rattle.merge_pub.specs.Rows.{has_left_at}
-use Rattle.merge_pub.specs.Working.{AreApart, places_of}
-use Rattle.merge_pub.specs.declared.move_entry.MoveEntry.{MoveEntry}
+use Rattle.merge_steps.specs.Indexed.{AreMoved, is_moved}
+use Rattle.merge_steps.specs.MoveWalks.{keys_in_walk}
+use Rattle.merge_steps.specs.Rows.{has_left_at}
+use Rattle.merge_steps.specs.Working.{AreApart, places_of}
+use Rattle.merge_steps.specs.declared.move_entry.MoveEntry.{MoveEntry}
 use Rattle.merge_pub.proofs.Due.{walk-found}
-use Rattle.merge_pub.proofs.MovesApart.{sorted-apart}
-use Rattle.merge_pub.proofs.Told.{contains-from_map, contains-map, same-bool}
+use Rattle.merge_steps.proofs.MovesApart.{sorted-apart}
+use Rattle.merge_steps.proofs.Told.{contains-from_map, contains-map, same-bool}
 
 -- The edits take places.
 

@@ -12,7 +12,7 @@ use Rattle.std.proofs.Common.{sym, ap, ◌∙◌}
 use Rattle.std.proofs.lemmas.Cmp.{tied_itself}
 use Rattle.std.proofs.lemmas.Map.Made.{is_some-lookup}
 use Rattle.merge_table.proofs.Given.{same-given}
-use Rattle.merge_pub.specs.Given.{given_by}
+use Rattle.merge_steps.specs.Given.{given_by}
 
 module _ {K V Y : Type 0} (cmp : K → K → Ordering) (o : IsTotalOrder cmp) (exact : (x y : K) → cmp x y ≡ Equal → x ≡ y) (give : K × V → Option Y) where
   abbrev found_in : List (K × V) → K → Option V

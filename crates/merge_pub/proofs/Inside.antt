@@ -13,9 +13,9 @@ use Rattle.merge_model.specs.Entries.{live_rows, partition_keys}
 use Rattle.merge_model.specs.Keys.{has_key}
 use Rattle.merge_model.specs.PublisherDownload.{inside_keys}
 use Rattle.merge_model.specs.Tables.{PublisherTables}
-use Rattle.merge_pub.specs.LiveRows.{live_pairs}
-use Rattle.merge_pub.proofs.Follows.{pairs-listed}
-use Rattle.merge_pub.proofs.Told.{in-partition}
+use Rattle.merge_steps.specs.LiveRows.{live_pairs}
+use Rattle.merge_steps.proofs.Follows.{pairs-listed}
+use Rattle.merge_steps.proofs.Told.{in-partition}
 
 inside-found : (publication : Publication) (rows : List (Key × PublisherRow)) (key : Key) (found : Option Subscription)
     → is_in_where (option_map (λ (s : Subscription). s.host) found) publication (live_rows rows) key.article key.row

@@ -14,9 +14,9 @@ use Rattle.merge_gens.specs.declared.moves.RowSite.{RowSite}
 use Rattle.merge_model.specs.PublisherJoin.{without_left}
 use Rattle.merge_pub.specs.Forgetting.{is_left_at, take_at}
 use Rattle.merge_pub.specs.Held.{Held, tables_of}
-use Rattle.merge_pub.specs.Indexed.{AreMoved}
-use Rattle.merge_pub.specs.MoveWalks.{keys_in_walk}
-use Rattle.merge_pub.specs.Working.{AreApart, places_of}
+use Rattle.merge_steps.specs.Indexed.{AreMoved}
+use Rattle.merge_steps.specs.MoveWalks.{keys_in_walk}
+use Rattle.merge_steps.specs.Working.{AreApart, places_of}
 use Rattle.merge_pub.proofs.Forgotten.{left-forgotten, takes-apart}
 
 pub left-held : (h now : Held) → h ≡ now → (site : SiteId) (old more keys left : List Key) (edits : List (Edit RowSite Mapping)) → AreMoved h.mappings.rows h.moved.rows → IsStrictlySortedBy row_site_cmp (keys_of h.mappings.rows)

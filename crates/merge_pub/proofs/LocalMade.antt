@@ -37,15 +37,15 @@ use Rattle.merge_model.specs.Tables.{PublisherTables}
 use Rattle.merge_model.proofs.Finding.{some_same}
 use Rattle.merge_model.proofs.KeyLookUps.{keys-exact}
 use Rattle.merge_pub.specs.After.{after}
-use Rattle.merge_pub.specs.Drawing.{Draws, KeepsHeld, drawn_by}
-use Rattle.merge_pub.specs.Keeps.{FitsHere, KeepsRules, RowFits}
+use Rattle.merge_steps.specs.Drawing.{Draws, KeepsHeld, drawn_by}
+use Rattle.merge_steps.specs.Keeps.{FitsHere, KeepsRules, RowFits}
 use Rattle.merge_pub.specs.Local.{Refuses, changed_version, held_version, rows_refusal, versions_after}
 use Rattle.merge_pub.specs.Held.{Held, IsSound, publication_of, tables_of}
 use Rattle.merge_pub.specs.Making.{IsMade, counted}
-use Rattle.merge_pub.specs.Step.{changing}
-use Rattle.merge_pub.specs.declared.changes.Besides.{Besides}
-use Rattle.merge_pub.specs.declared.changes.Changes.{Changes}
-use Rattle.merge_pub.specs.declared.drawing.Draw.{Draw}
+use Rattle.merge_steps.specs.Step.{changing}
+use Rattle.merge_steps.specs.declared.changes.Besides.{Besides}
+use Rattle.merge_steps.specs.declared.changes.Changes.{Changes}
+use Rattle.merge_steps.specs.declared.drawing.Draw.{Draw}
 use Rattle.merge_pub.proofs.Drafted.{same-rules}
 
 -- what a local change does besides giving its row a version

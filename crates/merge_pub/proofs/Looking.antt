@@ -16,9 +16,9 @@ use Rattle.merge_model.specs.ByNumbers.{touch_by_mapping, touch_inside, touch_ou
 use Rattle.merge_model.specs.Keys.{at_row_site, has_key, row_at}
 use Rattle.merge_model.specs.PublisherDownload.{inside_keys}
 use Rattle.merge_pub.specs.Held.{Held, publication_of, tables_of}
-use Rattle.merge_pub.specs.Indexed.{AreIndexed, AreMoved}
-use Rattle.merge_pub.specs.LiveRows.{live_pairs}
-use Rattle.merge_pub.specs.MoveWalks.{keys_in_walk}
+use Rattle.merge_steps.specs.Indexed.{AreIndexed, AreMoved}
+use Rattle.merge_steps.specs.LiveRows.{live_pairs}
+use Rattle.merge_steps.specs.MoveWalks.{keys_in_walk}
 use Rattle.merge_pub.specs.Touches.{HasTouched}
 use Rattle.merge_pub.proofs.Due.{are-due}
 use Rattle.merge_pub.proofs.Inside.{inside-is}

@@ -25,17 +25,17 @@ use Rattle.std.specs.List.{AllByRecursion}
 use Rattle.merge_units.specs.declared.version.Version.{Version}
 use Rattle.merge_pub.specs.After.{after}
 use Rattle.merge_pub.specs.Held.{Held, tables_of}
-use Rattle.merge_pub.specs.Keeps.{FitsHere, KeepsRules}
-use Rattle.merge_pub.specs.Indexed.{AreIndexed, AreMoved}
+use Rattle.merge_steps.specs.Keeps.{FitsHere, KeepsRules}
+use Rattle.merge_steps.specs.Indexed.{AreIndexed, AreMoved}
 use Rattle.merge_pub.specs.Making.{IsMade, counted}
-use Rattle.merge_pub.specs.MoveEntries.{move_entry_cmp}
-use Rattle.merge_pub.specs.Step.{Indexes, IndexesMoves, IsStep, KeepsFitting}
-use Rattle.merge_pub.specs.declared.changes.Besides.{Besides}
-use Rattle.merge_pub.specs.declared.changes.Changes.{Changes}
-use Rattle.merge_pub.specs.declared.move_entry.MoveEntry.{MoveEntry}
-use Rattle.merge_pub.specs.Working.{row_change}
-use Rattle.merge_pub.specs.declared.step.Worked.{Worked}
-use Rattle.merge_pub.proofs.Fitting.{changes-fit}
+use Rattle.merge_steps.specs.MoveEntries.{move_entry_cmp}
+use Rattle.merge_steps.specs.Step.{Indexes, IndexesMoves, IsStep, KeepsFitting}
+use Rattle.merge_steps.specs.declared.changes.Besides.{Besides}
+use Rattle.merge_steps.specs.declared.changes.Changes.{Changes}
+use Rattle.merge_steps.specs.declared.move_entry.MoveEntry.{MoveEntry}
+use Rattle.merge_steps.specs.Working.{row_change}
+use Rattle.merge_steps.specs.declared.step.Worked.{Worked}
+use Rattle.merge_steps.proofs.Fitting.{changes-fit}
 
 -- the changes of what was worked out
 abbrev pub with_rows : Besides → Worked → Changes

@@ -30,18 +30,18 @@ use Rattle.merge_model.proofs.KeyLookUps.{keys-exact}
 use Rattle.merge_model.proofs.Sorted.{row_site_total}
 use Rattle.merge_pub.specs.Forgetting.{place_at}
 use Rattle.merge_pub.specs.Held.{Held, tables_of}
-use Rattle.merge_pub.specs.Indexed.{AreMoved, has_entry, is_moved}
-use Rattle.merge_pub.specs.MoveEntries.{move_entry, move_entry_cmp, move_entry_exact}
-use Rattle.merge_pub.specs.MoveWalks.{keys_in_walk}
-use Rattle.merge_pub.specs.OldSpans.{HasMapped, HasMoved, IsBefore, IsNextBehind, IsNextFrom, IsSpan, IsWithin, place_of}
-use Rattle.merge_pub.specs.Purging.{is_old_at, is_old_mapping, take_if, taken_at}
-use Rattle.merge_pub.specs.declared.move_entry.MoveEntry.{MoveEntry}
-use Rattle.merge_pub.specs.declared.old_spans.Span.{Span}
+use Rattle.merge_steps.specs.Indexed.{AreMoved, has_entry, is_moved}
+use Rattle.merge_steps.specs.MoveEntries.{move_entry, move_entry_cmp, move_entry_exact}
+use Rattle.merge_steps.specs.MoveWalks.{keys_in_walk}
+use Rattle.merge_steps.specs.OldSpans.{HasMapped, HasMoved, IsBefore, IsNextBehind, IsNextFrom, IsSpan, IsWithin, place_of}
+use Rattle.merge_steps.specs.Purging.{is_old_at, is_old_mapping, take_if, taken_at}
+use Rattle.merge_steps.specs.declared.move_entry.MoveEntry.{MoveEntry}
+use Rattle.merge_steps.specs.declared.old_spans.Span.{Span}
 use Rattle.merge_pub.proofs.Due.{walk-found}
 use Rattle.merge_pub.proofs.GivenRows.{rows-given}
-use Rattle.merge_pub.proofs.MoveFollows.{move_entry_total}
-use Rattle.merge_pub.proofs.MoveWalks.{from-is, is_from, keys-filter, not_below, start-behind, start_of}
-use Rattle.merge_pub.proofs.Told.{contains-map}
+use Rattle.merge_steps.proofs.MoveFollows.{move_entry_total}
+use Rattle.merge_steps.proofs.MoveWalks.{from-is, is_from, keys-filter, not_below, start-behind, start_of}
+use Rattle.merge_steps.proofs.Told.{contains-map}
 
 abbrev Entries : Type 0
 Entries = List (MoveEntry × Unit {0})

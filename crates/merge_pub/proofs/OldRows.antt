@@ -22,10 +22,10 @@ use Rattle.merge_model.specs.Keys.{row_at}
 use Rattle.merge_model.specs.Tables.{PublisherTables}
 use Rattle.merge_model.proofs.Sorted.{key_total}
 use Rattle.merge_pub.specs.Held.{Held, tables_of}
-use Rattle.merge_pub.specs.Indexed.{AreIndexed}
-use Rattle.merge_pub.specs.OldSpans.{HasChanged, IsSpan}
-use Rattle.merge_pub.specs.Purging.{gone_at, gone_entries, gone_entry, gone_if, is_old_at, is_old_row, take_entry, take_row}
-use Rattle.merge_pub.specs.declared.old_spans.Span.{Span}
+use Rattle.merge_steps.specs.Indexed.{AreIndexed}
+use Rattle.merge_steps.specs.OldSpans.{HasChanged, IsSpan}
+use Rattle.merge_steps.specs.Purging.{gone_at, gone_entries, gone_entry, gone_if, is_old_at, is_old_row, take_entry, take_row}
+use Rattle.merge_steps.specs.declared.old_spans.Span.{Span}
 use Rattle.merge_pub.proofs.Due.{changed-found}
 use Rattle.merge_pub.proofs.GivenRows.{rows-given}
 

@@ -29,8 +29,8 @@ use Rattle.merge_model.specs.Tables.{PublisherTables}
 use Rattle.merge_model.proofs.KeyLookUps.{key-itself}
 use Rattle.merge_model.proofs.Sorted.{key_total}
 use Rattle.merge_pub.specs.Held.{Held, publication_of, tables_of}
-use Rattle.merge_pub.proofs.Told.{in-partition, in-rows}
-use Rattle.merge_pub.proofs.Whole.{has-is}
+use Rattle.merge_steps.proofs.Told.{in-partition, in-rows}
+use Rattle.merge_steps.proofs.Whole.{has-is}
 
 -- The live rows ascend, as the rows do.
 

@@ -28,11 +28,11 @@ use Rattle.merge_model.specs.declared.outcome.Forgotten.{Forgotten}
 use Rattle.merge_model.proofs.Sorted.{key_total, row_site_total}
 use Rattle.merge_pub.specs.Forgetting.{LeavesAll}
 use Rattle.merge_pub.specs.Held.{Held, IsSound, publication_of, tables_of}
-use Rattle.merge_pub.specs.Indexed.{AreIndexed}
-use Rattle.merge_pub.specs.Keeps.{KeepsRules}
-use Rattle.merge_pub.specs.LiveRows.{live_pairs}
-use Rattle.merge_pub.specs.Purging.{gone_entries, is_old_at, is_old_mapping, is_old_row}
-use Rattle.merge_pub.specs.Working.{AreApart, places_of}
+use Rattle.merge_steps.specs.Indexed.{AreIndexed}
+use Rattle.merge_steps.specs.Keeps.{KeepsRules}
+use Rattle.merge_steps.specs.LiveRows.{live_pairs}
+use Rattle.merge_steps.specs.Purging.{gone_entries, is_old_at, is_old_mapping, is_old_row}
+use Rattle.merge_steps.specs.Working.{AreApart, places_of}
 use Rattle.merge_pub.specs.declared.forgetting.Forgetting.{Forgetting}
 use Rattle.merge_pub.proofs.Purged.{index-kept, live-kept, purge-keeps, takes-count, takes-of-apart}
 

@@ -33,13 +33,13 @@ use Rattle.merge_model.specs.Tables.{PublisherTables}
 use Rattle.merge_model.proofs.KeyLookUps.{key-test, none-behind}
 use Rattle.merge_model.proofs.Lists.{all-filter}
 use Rattle.merge_model.proofs.Sorted.{key_total}
-use Rattle.merge_pub.specs.Indexed.{AreIndexed, is_changed}
-use Rattle.merge_pub.specs.Keeps.{KeepsRules, RowFits}
-use Rattle.merge_pub.specs.LiveRows.{live_pair, live_pairs, values_in}
-use Rattle.merge_pub.specs.Purging.{gone_entries, gone_entry, take_entry}
-use Rattle.merge_pub.specs.Working.{AreApart, places_of}
+use Rattle.merge_steps.specs.Indexed.{AreIndexed, is_changed}
+use Rattle.merge_steps.specs.Keeps.{KeepsRules, RowFits}
+use Rattle.merge_steps.specs.LiveRows.{live_pair, live_pairs, values_in}
+use Rattle.merge_steps.specs.Purging.{gone_entries, gone_entry, take_entry}
+use Rattle.merge_steps.specs.Working.{AreApart, places_of}
 use Rattle.merge_pub.proofs.BatchCounts.{count-cons}
-use Rattle.merge_pub.proofs.MovesApart.{sorted-apart}
+use Rattle.merge_steps.proofs.MovesApart.{sorted-apart}
 
 -- How many go.
 

@@ -28,7 +28,7 @@ use Rattle.merge_model.specs.Publications as publications
 use Rattle.merge_model.specs.PublisherRanges.{ask_by, plans, with_grants}
 use Rattle.merge_model.specs.Tables.{PublisherTables}
 use Rattle.merge_model.proofs.Finding.{all-weaker}
-use Rattle.merge_pub.specs.Keeps.{KeepsRules}
+use Rattle.merge_steps.specs.Keeps.{KeepsRules}
 use Rattle.merge_pub.specs.Ranging.{AreRuled}
 
 -- Each article with an identity column has a rule.

@@ -38,19 +38,19 @@ use Rattle.merge_model.specs.Entries.{with_rows}
 use Rattle.merge_model.specs.Keys.{has_key, put_row, same_key}
 use Rattle.merge_model.specs.Publications.{rules_of}
 use Rattle.merge_model.specs.Tables.{PublisherTables}
-use Rattle.merge_pub.proofs.Fitting.{changes-fit}
-use Rattle.merge_pub.proofs.MoveFollows.{moves-follow}
-use Rattle.merge_pub.proofs.Sound.{index-many, live-many}
+use Rattle.merge_steps.proofs.Fitting.{changes-fit}
+use Rattle.merge_steps.proofs.MoveFollows.{moves-follow}
+use Rattle.merge_steps.proofs.Sound.{index-many, live-many}
 use Rattle.merge_pub.specs.Held.{IsSound}
-use Rattle.merge_pub.specs.Indexed.{AreIndexed, AreMoved}
-use Rattle.merge_pub.specs.Keeps.{FitsHere, KeepsRules, RowFits}
-use Rattle.merge_pub.specs.LiveRows.{live_pairs}
-use Rattle.merge_pub.specs.MoveEntries.{move_entry_cmp}
+use Rattle.merge_steps.specs.Indexed.{AreIndexed, AreMoved}
+use Rattle.merge_steps.specs.Keeps.{FitsHere, KeepsRules, RowFits}
+use Rattle.merge_steps.specs.LiveRows.{live_pairs}
+use Rattle.merge_steps.specs.MoveEntries.{move_entry_cmp}
 use Rattle.merge_pub.specs.Restoring.{AreIndexesOf, CanStand, changed_put, held_with, moved_put, tables_with, version_of, versions_of}
-use Rattle.merge_pub.specs.Rows.{moved_edits}
-use Rattle.merge_pub.specs.Working.{Apart, AreApart, all_indexing, places_of, row_change}
+use Rattle.merge_steps.specs.Rows.{moved_edits}
+use Rattle.merge_steps.specs.Working.{Apart, AreApart, all_indexing, places_of, row_change}
 use Rattle.merge_pub.specs.declared.indexes.Indexes.{Indexes}
-use Rattle.merge_pub.specs.declared.move_entry.MoveEntry.{MoveEntry}
+use Rattle.merge_steps.specs.declared.move_entry.MoveEntry.{MoveEntry}
 use Rattle.merge_pub.specs.declared.tables.Tables.{Tables}
 
 abbrev Rows : Type 0

@@ -24,7 +24,7 @@ use Rattle.merge_model.specs.Keys.{at_row_site, has_key, row_at}
 use Rattle.merge_model.specs.PublisherDownload.{TouchedRow, inside_keys, is_between, touched_row, touched_rows}
 use Rattle.merge_model.specs.Tables.{PublisherTables}
 use Rattle.merge_model.proofs.Sorted.{key_total}
-use Rattle.merge_pub.proofs.HeldKeys.{all-has, all-sorted}
+use Rattle.merge_steps.proofs.HeldKeys.{all-has, all-sorted}
 use Rattle.merge_pub.specs.Touches.{AreDue, IsDue, kept_if, touched_between}
 
 -- A filter of what is given gives what is kept.

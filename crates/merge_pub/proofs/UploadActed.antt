@@ -27,7 +27,7 @@ use Rattle.merge_batch.specs.declared.request.UploadItem.{UploadItem}
 use Rattle.merge_model.specs.Acts.{Act, Fate, Met, New, Unknown, act_of, acts_from, changes_by, conflict_of, key_of_item, left_by, lost_by, lost_from, made_by, version_by, version_of_act, versions_of}
 use Rattle.merge_model.specs.Judge.{PublisherJudge}
 use Rattle.merge_model.specs.Tables.{PublisherTables}
-use Rattle.merge_pub.specs.Working.{row_change}
+use Rattle.merge_steps.specs.Working.{row_change}
 
 pairs-head : {X : Type 0} (R : X → X → Type 0) (x : X) (xs : List X) → AllPairs R (x ∷ xs) → AllByRecursion (R x) xs
 pairs-head R x xs pairs = recursion_from_All (R x) xs (λ k d less. pairs zero (suc k) d (omega arith) (omega (arith, less)))

@@ -15,10 +15,10 @@ use Rattle.merge_model.specs.Acts.{Fate, New, Unknown, key_of_item}
 use Rattle.merge_model.specs.Keys.{row_at}
 use Rattle.merge_model.specs.Steps.{kept_decisions}
 use Rattle.merge_model.specs.World.{Saying}
-use Rattle.merge_pub.specs.Uploading.{Pass, acts_in, after_act, after_item, after_items, decided_by, decision_on, fate_at, is_made_by, pass_at, question_at, questions_in, tallies_on}
-use Rattle.merge_pub.specs.declared.acting.Acting.{Acting}
-use Rattle.merge_pub.specs.declared.acting.Arrival.{Arrival}
-use Rattle.merge_pub.proofs.Meetings.{the_question}
+use Rattle.merge_steps.specs.Uploading.{Pass, acts_in, after_act, after_item, after_items, decided_by, decision_on, fate_at, is_made_by, pass_at, question_at, questions_in, tallies_on}
+use Rattle.merge_steps.specs.declared.acting.Acting.{Acting}
+use Rattle.merge_steps.specs.declared.acting.Arrival.{Arrival}
+use Rattle.merge_steps.proofs.Meetings.{the_question}
 
 module _ (publication : Publication) (rows : List (Key × PublisherRow)) (arrival : Arrival) (says : Saying) where
   -- One question.

@@ -22,16 +22,16 @@ use Rattle.merge_model.specs.ByNumbers.{by_numbers}
 use Rattle.merge_model.specs.Publisher.{at_moment, later}
 use Rattle.merge_model.specs.Tables.{PublisherTables}
 use Rattle.merge_model.specs.World.{Saying}
-use Rattle.merge_pub.specs.Fits.{ItemFits}
+use Rattle.merge_steps.specs.Fits.{ItemFits}
 use Rattle.merge_types.specs.declared.row_key.RowKey.{RowKey as Key}
 use Rattle.merge_units.specs.declared.site_row.PublisherRow.{PublisherRow}
 use Rattle.merge_resolve.specs.declared.asking.Question.{Question}
 use Rattle.merge_schema.specs.Valid.{IsValid}
-use Rattle.merge_pub.specs.Keeps.{FitsHere, KeepsRules, RowFits}
+use Rattle.merge_steps.specs.Keeps.{FitsHere, KeepsRules, RowFits}
 use Rattle.merge_pub.specs.Uploaded.{IsActed, arrival_of, known_in, none_acted}
-use Rattle.merge_pub.specs.Uploading.{AskedSome, KeepsFits, acts_in, after_items, pass_at, questions_in}
-use Rattle.merge_pub.specs.declared.acting.Acting.{Acting}
-use Rattle.merge_pub.specs.declared.acting.Arrival.{Arrival}
+use Rattle.merge_steps.specs.Uploading.{AskedSome, KeepsFits, acts_in, after_items, pass_at, questions_in}
+use Rattle.merge_steps.specs.declared.acting.Acting.{Acting}
+use Rattle.merge_steps.specs.declared.acting.Arrival.{Arrival}
 use Rattle.merge_pub.proofs.UploadActed.{all-numbered, fewer, rises-from, rises-kept, rows-once, versions-few}
 use Rattle.merge_pub.proofs.UploadMade.{acting-whole, the_acts, the_decisions}
 use Rattle.merge_pub.proofs.UploadPass.{with_acts_from}

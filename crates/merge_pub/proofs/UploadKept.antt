@@ -23,16 +23,16 @@ use Rattle.merge_model.specs.Entries.{changed_by}
 use Rattle.merge_model.specs.Tables.{PublisherTables}
 use Rattle.merge_pub.specs.After.{after}
 use Rattle.merge_units.specs.declared.version.Version.{Version}
-use Rattle.merge_pub.specs.Keeps.{FitsHere, KeepsRules}
+use Rattle.merge_steps.specs.Keeps.{FitsHere, KeepsRules}
 use Rattle.merge_pub.specs.Making.{IsMade, counted}
-use Rattle.merge_pub.specs.Step.{Subscribes, changing}
+use Rattle.merge_steps.specs.Step.{Subscribes, changing}
 use Rattle.merge_pub.specs.Uploaded.{IsActed, acted_tables, taken_tables, with_acting}
-use Rattle.merge_pub.specs.Uploading.{sites_with}
-use Rattle.merge_pub.specs.declared.acting.Acting.{Acting}
-use Rattle.merge_pub.specs.declared.acting.Arrival.{Arrival}
-use Rattle.merge_pub.specs.declared.changes.Besides.{Besides}
-use Rattle.merge_pub.specs.declared.changes.Changes.{Changes}
-use Rattle.merge_pub.proofs.Passing.{rows-raised}
+use Rattle.merge_steps.specs.Uploading.{sites_with}
+use Rattle.merge_steps.specs.declared.acting.Acting.{Acting}
+use Rattle.merge_steps.specs.declared.acting.Arrival.{Arrival}
+use Rattle.merge_steps.specs.declared.changes.Besides.{Besides}
+use Rattle.merge_steps.specs.declared.changes.Changes.{Changes}
+use Rattle.merge_steps.proofs.Passing.{rows-raised}
 use Rattle.merge_pub.proofs.UploadActed.{UpTo, both-up, raise-most}
 
 found-head : {X : Type 0} (f : X → Bool) (x : X) (xs : List X) (b : Bool) → f x ≡ b → list_any f (x ∷ xs) ≡ true → (list_any f xs ≡ true → is_some (find f xs) ≡ true) → is_some (find f (x ∷ xs)) ≡ true

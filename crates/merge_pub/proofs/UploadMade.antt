@@ -27,9 +27,9 @@ use Rattle.merge_model.specs.Steps.{kept_decisions, upload_questions}
 use Rattle.merge_model.specs.Tables.{PublisherTables}
 use Rattle.merge_model.specs.World.{Saying}
 use Rattle.merge_pub.specs.Uploaded.{acted_tables, arrival_of, asked_on, decided_on, none_acted, taken_tables, upload_by}
-use Rattle.merge_pub.specs.Uploading.{AskedSome, Pass, acts_in, after_items, pass_at, questions_in, seen_by, seen_with, sites_with, state_with}
-use Rattle.merge_pub.specs.declared.acting.Acting.{Acting}
-use Rattle.merge_pub.specs.declared.acting.Arrival.{Arrival}
+use Rattle.merge_steps.specs.Uploading.{AskedSome, Pass, acts_in, after_items, pass_at, questions_in, seen_by, seen_with, sites_with, state_with}
+use Rattle.merge_steps.specs.declared.acting.Acting.{Acting}
+use Rattle.merge_steps.specs.declared.acting.Arrival.{Arrival}
 use Rattle.merge_pub.proofs.Asked.{made-unless, refused-unless}
 use Rattle.merge_pub.proofs.UploadPass.{passed, questions-same, with_acts_from}
 

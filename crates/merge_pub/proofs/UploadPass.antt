@@ -28,9 +28,9 @@ use Rattle.merge_model.specs.Steps.{kept_decisions}
 use Rattle.merge_model.specs.Tables.{PublisherTables}
 use Rattle.merge_model.specs.World.{Saying}
 use Rattle.merge_pub.specs.Uploaded.{arrival_of}
-use Rattle.merge_pub.specs.Uploading.{Pass, act_at, acts_in, after_act, after_item, after_items, decided_by, decision_on, fate_at, is_made_by, pass_at, question_at, question_in, questions_in, tallies_on, with_act}
-use Rattle.merge_pub.specs.declared.acting.Acting.{Acting}
-use Rattle.merge_pub.specs.declared.acting.Arrival.{Arrival}
+use Rattle.merge_steps.specs.Uploading.{Pass, act_at, acts_in, after_act, after_item, after_items, decided_by, decision_on, fate_at, is_made_by, pass_at, question_at, question_in, questions_in, tallies_on, with_act}
+use Rattle.merge_steps.specs.declared.acting.Acting.{Acting}
+use Rattle.merge_steps.specs.declared.acting.Arrival.{Arrival}
 
 -- One decision.
 

@@ -31,8 +31,8 @@ use Rattle.merge_model.specs.PublisherUpload.{is_new, too_many_new}
 use Rattle.merge_model.specs.Tables.{PublisherTables}
 use Rattle.merge_pub.specs.Refused.{refusal_of}
 use Rattle.merge_pub.specs.Uploaded.{arrival_of, known_in}
-use Rattle.merge_pub.specs.Uploading.{acts_in, is_made_by, makes_row, makes_row_in}
-use Rattle.merge_pub.specs.declared.acting.Arrival.{Arrival}
+use Rattle.merge_steps.specs.Uploading.{acts_in, is_made_by, makes_row, makes_row_in}
+use Rattle.merge_steps.specs.declared.acting.Arrival.{Arrival}
 
 -- What the rules ask for.
 

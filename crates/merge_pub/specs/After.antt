@@ -7,7 +7,7 @@ use Rattle.merge_gens.specs.Moves.{row_site_cmp}
 use Rattle.merge_gens.specs.Plan.{settled}
 use Rattle.merge_ident.specs.Answers.{grants_with_all}
 use Rattle.merge_model.specs.Tables.{PublisherTables}
-use Rattle.merge_pub.specs.declared.changes.Changes.{Changes}
+use Rattle.merge_steps.specs.declared.changes.Changes.{Changes}
 
 abbrev pub after : Changes → PublisherTables → PublisherTables
 after c p = record {

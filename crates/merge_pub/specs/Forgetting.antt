@@ -9,11 +9,11 @@ use Rattle.merge_gens.specs.declared.moves.Mapping.{Mapping}
 use Rattle.merge_gens.specs.declared.moves.RowSite.{RowSite}
 use Rattle.merge_gens.specs.Index.{entries_after_all}
 use Rattle.merge_pub.specs.Held.{Held, publication_of, tables_of}
-use Rattle.merge_pub.specs.Indexed.{AreIndexed}
-use Rattle.merge_pub.specs.Keeps.{KeepsRules}
-use Rattle.merge_pub.specs.LiveRows.{live_pairs}
-use Rattle.merge_pub.specs.Rows.{has_left_at}
-use Rattle.merge_pub.specs.Working.{AreApart, places_of}
+use Rattle.merge_steps.specs.Indexed.{AreIndexed}
+use Rattle.merge_steps.specs.Keeps.{KeepsRules}
+use Rattle.merge_steps.specs.LiveRows.{live_pairs}
+use Rattle.merge_steps.specs.Rows.{has_left_at}
+use Rattle.merge_steps.specs.Working.{AreApart, places_of}
 use Rattle.merge_pub.specs.declared.forgetting.Forgetting.{Forgetting}
 
 abbrev pub place_at : ℕ → Key → RowSite

@@ -27,12 +27,12 @@ use Rattle.merge_part.specs.View.{IsPrepared, Plan, View, live_after_plan, live_
 use Rattle.merge_model.specs.Publications.{rules_of}
 use Rattle.merge_model.specs.Tables.{PublisherTables}
 use Rattle.merge_pub.specs.After.{after}
-use Rattle.merge_pub.specs.Indexed.{AreIndexed, AreMoved}
-use Rattle.merge_pub.specs.Keeps.{KeepsRules}
-use Rattle.merge_pub.specs.LiveRows.{live_pairs}
-use Rattle.merge_pub.specs.MoveEntries.{move_entry_cmp}
-use Rattle.merge_pub.specs.declared.changes.Draft.{Draft}
-use Rattle.merge_pub.specs.declared.move_entry.MoveEntry.{MoveEntry}
+use Rattle.merge_steps.specs.Indexed.{AreIndexed, AreMoved}
+use Rattle.merge_steps.specs.Keeps.{KeepsRules}
+use Rattle.merge_steps.specs.LiveRows.{live_pairs}
+use Rattle.merge_steps.specs.MoveEntries.{move_entry_cmp}
+use Rattle.merge_steps.specs.declared.changes.Draft.{Draft}
+use Rattle.merge_steps.specs.declared.move_entry.MoveEntry.{MoveEntry}
 
 -- The parts as contracts of the crate see them. `tables_of` is what the contracts of calls speak of.
 pub record Held : Type 0 where

@@ -14,7 +14,7 @@ use Rattle.merge_batch.specs.declared.refusal.Refusal.TheVariants.{NoMemory}
 use Rattle.merge_ident.specs.Holders.{Holder}
 use Rattle.merge_ident.specs.declared.grants.Grant.{Grant}
 use Rattle.merge_model.specs.Keys.{row_at}
-use Rattle.merge_pub.specs.Drawing.{Draws}
+use Rattle.merge_steps.specs.Drawing.{Draws}
 
 -- the version of a row that is held
 abbrev pub held_version : List (Key × PublisherRow) → Key → Option Version

@@ -7,10 +7,10 @@ use Rattle.merge_schema.specs.declared.publication.Publication.{Publication}
 use Rattle.merge_model.specs.Entries.{Changing, changed_by}
 use Rattle.merge_model.specs.Judge.{PublisherJudge}
 use Rattle.merge_model.specs.Tables.{PublisherTables}
-use Rattle.merge_pub.specs.declared.changes.Besides.{Besides}
-use Rattle.merge_pub.specs.declared.changes.Changes.{Changes}
+use Rattle.merge_steps.specs.declared.changes.Besides.{Besides}
+use Rattle.merge_steps.specs.declared.changes.Changes.{Changes}
 use Rattle.merge_pub.specs.After.{after}
-use Rattle.merge_pub.specs.Step.{SeesLeft}
+use Rattle.merge_steps.specs.Step.{SeesLeft}
 
 -- the tables after what a step changes but for rows, mappings and generations
 abbrev pub counted : Besides → PublisherTables → PublisherTables

@@ -18,12 +18,12 @@ use Rattle.merge_part.specs.View.{live_in}
 use Rattle.merge_model.specs.Laws.{AreSorted}
 use Rattle.merge_model.specs.Tables.{PublisherTables}
 use Rattle.merge_pub.specs.Held.{Held}
-use Rattle.merge_pub.specs.Indexed.{AreIndexed, AreMoved}
-use Rattle.merge_pub.specs.Keeps.{KeepsRules}
-use Rattle.merge_pub.specs.LiveRows.{live_pairs}
-use Rattle.merge_pub.specs.MoveEntries.{move_entry}
+use Rattle.merge_steps.specs.Indexed.{AreIndexed, AreMoved}
+use Rattle.merge_steps.specs.Keeps.{KeepsRules}
+use Rattle.merge_steps.specs.LiveRows.{live_pairs}
+use Rattle.merge_steps.specs.MoveEntries.{move_entry}
 use Rattle.merge_pub.specs.declared.indexes.Indexes.{Indexes}
-use Rattle.merge_pub.specs.declared.move_entry.MoveEntry.{MoveEntry}
+use Rattle.merge_steps.specs.declared.move_entry.MoveEntry.{MoveEntry}
 use Rattle.merge_pub.specs.declared.starting.Kept.{Kept}
 use Rattle.merge_pub.specs.declared.tables.Tables.{Tables}
 

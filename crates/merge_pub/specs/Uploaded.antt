@@ -21,12 +21,12 @@ use Rattle.merge_model.specs.PublisherUpload.{upload}
 use Rattle.merge_model.specs.Steps.{kept_decisions, upload_questions}
 use Rattle.merge_model.specs.Tables.{PublisherTables}
 use Rattle.merge_model.specs.World.{Saying}
-use Rattle.merge_pub.specs.Keeps.{FitsHere}
-use Rattle.merge_pub.specs.Step.{changing}
-use Rattle.merge_pub.specs.Uploading.{known_of, sites_with}
-use Rattle.merge_pub.specs.Working.{row_change}
-use Rattle.merge_pub.specs.declared.acting.Acting.{Acting}
-use Rattle.merge_pub.specs.declared.acting.Arrival.{Arrival}
+use Rattle.merge_steps.specs.Keeps.{FitsHere}
+use Rattle.merge_steps.specs.Step.{changing}
+use Rattle.merge_steps.specs.Uploading.{known_of, sites_with}
+use Rattle.merge_steps.specs.Working.{row_change}
+use Rattle.merge_steps.specs.declared.acting.Acting.{Acting}
+use Rattle.merge_steps.specs.declared.acting.Arrival.{Arrival}
 
 -- the decisions on an upload's conflicts as they count, where each resolver says what it says and was asked so often before
 abbrev pub decided_on : Publication → Saying → List ℕ → Moment → Upload → PublisherTables → List Decision

@@ -8,12 +8,12 @@ ghost use Rattle.merge_pub.specs.After.{after};
 ghost use Rattle.merge_pub.specs.Held.{IsDrafted, publication_of, tables_of};
 ghost use Rattle.merge_pub.specs.Refused.{RefusesAs};
 
-use crate::changes::{Changes, Draft, IndexChanges};
 use crate::publisher::Publisher;
 use merge_batch::Refusal;
 use merge_change::check_counters;
 use merge_conflict::ConflictPlan;
 use merge_gens::{GenPlan, IndexPlan};
+use merge_steps::{Changes, Draft, IndexChanges};
 use merge_types::{Listing, Moment};
 use std::alloc::Global;
 

@@ -8,11 +8,11 @@ ghost use Rattle.merge_model.specs.PublisherJoin.{join_acts};
 ghost use Rattle.merge_model.specs.PublisherUpload.{brings_news};
 ghost use Rattle.merge_pub.specs.Held.{tables_of};
 
-use crate::changes::Draft;
 use crate::publisher::Publisher;
 use crate::site::state_of;
 use merge_batch::{Download, Join, Upload};
 use merge_ident::{GrantAnswer, GrantPlan};
+use merge_steps::Draft;
 use merge_types::{Moment, SiteId};
 
 // Whether a plan grants a range that was not granted before.

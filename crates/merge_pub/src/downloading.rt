@@ -10,11 +10,11 @@ ghost use Rattle.merge_pub.specs.After.{after};
 ghost use Rattle.merge_pub.specs.Held.{IsDrafted, publication_of, tables_of};
 ghost use Rattle.merge_pub.specs.Refused.{RefusesAs, refusal_of};
 
-use crate::changes::Draft;
 use crate::closing::counters_go_on;
 use crate::publisher::Publisher;
 use merge_batch::{Download, Downloaded, Refusal};
 use merge_gens::SiteState;
+use merge_steps::Draft;
 use merge_types::{Moment, NoMemory};
 
 impl Publisher {

@@ -6,15 +6,13 @@ ghost use Rattle.merge_table.specs.Edits.{IsReady, rows_after_all};
 ghost use Rattle.merge_gens.specs.Moves.{row_site_cmp};
 ghost use Rattle.merge_pub.specs.After.{after};
 ghost use Rattle.merge_pub.specs.Forgetting.{LeavesAll};
-ghost use Rattle.merge_pub.specs.MoveEntries.{move_entry_cmp};
+ghost use Rattle.merge_steps.specs.MoveEntries.{move_entry_cmp};
 ghost use Rattle.merge_pub.specs.Held.{IsDrafted, publication_of, tables_of};
 
-use crate::changes::{Draft, IndexChanges};
 use crate::closing::still;
-use crate::edits::moved_edits;
-use crate::move_entry::MoveEntry;
 use crate::publisher::Publisher;
 use merge_gens::{GenPlan, IndexChange, Mapping, RowSite, SiteState};
+use merge_steps::{Draft, IndexChanges, MoveEntry, moved_edits};
 use merge_table::{Edit, Table};
 use merge_types::{Listing, Moment, NoMemory, RowKey};
 use merge_units::PublisherRow;

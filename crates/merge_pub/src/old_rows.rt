@@ -5,14 +5,12 @@ ghost use Rattle.std.specs.Map.{keys_of};
 ghost use Rattle.merge_types.specs.RowKeys.{key_cmp};
 ghost use Rattle.merge_table.specs.declared.edit.Edit.TheVariants.{Take};
 ghost use Rattle.merge_pub.specs.Held.{tables_of};
-ghost use Rattle.merge_pub.specs.OldSpans.{HasChanged};
-ghost use Rattle.merge_pub.specs.Purging.{gone_at, gone_if, is_old_row, take_row};
+ghost use Rattle.merge_steps.specs.OldSpans.{HasChanged};
+ghost use Rattle.merge_steps.specs.Purging.{gone_at, gone_if, is_old_row, take_row};
 
-use crate::lists::push_some;
-use crate::old_spans::{Span, old_span};
 use crate::publisher::Publisher;
-use crate::staying::Staying;
 use merge_gens::{IndexChange, IndexEntry, sort_rows};
+use merge_steps::{Span, Staying, old_span, push_some};
 use merge_table::Edit;
 use merge_types::{Listing, Moment, NoMemory, RowKey};
 use merge_units::PublisherRow;

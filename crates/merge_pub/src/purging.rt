@@ -7,13 +7,13 @@ ghost use Rattle.merge_pub.specs.After.{after};
 ghost use Rattle.merge_pub.specs.Forgetting.{LeavesAll};
 ghost use Rattle.merge_pub.specs.Held.{IsDrafted, publication_of, tables_of};
 ghost use Rattle.merge_pub.specs.PurgeDrafts.{after_purge};
-ghost use Rattle.merge_pub.specs.Purging.{is_old_mapping, is_old_row};
+ghost use Rattle.merge_steps.specs.Purging.{is_old_mapping, is_old_row};
 
-use crate::changes::Draft;
 use crate::forgetting::Forgetting;
 use crate::old_rows::{entry_takes, row_takes};
 use crate::publisher::Publisher;
 use merge_model::Forgotten;
+use merge_steps::Draft;
 use merge_types::{Listing, Moment, NoMemory};
 
 const DAY_SECONDS: u64 = 86_400;

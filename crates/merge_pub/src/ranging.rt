@@ -10,9 +10,7 @@ ghost use Rattle.merge_pub.specs.Held.{IsDrafted, publication_of, tables_of};
 ghost use Rattle.merge_pub.specs.Ranging.{AreRuled, IsForOthers};
 ghost use Rattle.merge_pub.specs.Refused.{RefusesAs, refusal_of};
 
-use crate::changes::Draft;
 use crate::closing::counters_go_on;
-use crate::lists::push_some;
 use crate::publisher::Publisher;
 use crate::site::check_rules;
 use merge_batch::{
@@ -20,6 +18,7 @@ use merge_batch::{
 };
 use merge_gens::SiteState;
 use merge_ident::{Ask, GrantAnswer, GrantPlan, GrantPlans, IdentFault, RangeBook};
+use merge_steps::{Draft, push_some};
 use merge_types::{Listing, Moment, NoMemory, RowId, SiteId};
 use std::alloc::Global;
 

@@ -5,14 +5,14 @@ ghost use Rattle.merge_ident.specs.Books as granting;
 ghost use Rattle.merge_model.specs.Publisher.{closed, with_state};
 ghost use Rattle.merge_model.specs.PublisherRanges.{with_grants};
 ghost use Rattle.merge_pub.specs.After.{after};
-ghost use Rattle.merge_pub.specs.Keeps.{KeepsRules};
+ghost use Rattle.merge_steps.specs.Keeps.{KeepsRules};
 ghost use Rattle.merge_pub.specs.Held.{IsDrafted, publication_of, tables_of};
 
-use crate::changes::Draft;
 use crate::closing::still;
 use crate::publisher::Publisher;
 use merge_gens::{GenPlan, SiteState};
 use merge_ident::GrantPlans;
+use merge_steps::Draft;
 use merge_table::Edit;
 use merge_types::{Listing, Moment, NoMemory, SiteId};
 use std::alloc::Global;

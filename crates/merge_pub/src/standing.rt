@@ -6,7 +6,7 @@ ghost use Rattle.std.specs.Ordering.{nat_cmp};
 ghost use Rattle.merge_ident.specs.Grants.{AreGrants, AreInOrder};
 ghost use Rattle.merge_schema.specs.Valid.{IsValid};
 ghost use Rattle.merge_pub.specs.Held.{publication_of, tables_of};
-ghost use Rattle.merge_pub.specs.Keeps.{KeepsRules};
+ghost use Rattle.merge_steps.specs.Keeps.{KeepsRules};
 ghost use Rattle.merge_pub.specs.Restoring.{CanStand};
 
 use crate::publisher::Publisher;

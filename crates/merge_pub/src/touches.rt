@@ -6,9 +6,9 @@ ghost use Rattle.merge_model.specs.PublisherDownload.{inside_keys};
 ghost use Rattle.merge_pub.specs.Held.{publication_of, tables_of};
 ghost use Rattle.merge_pub.specs.Touches.{HasTouched, is_in_between};
 
-use crate::move_walk::add_moved;
 use crate::publisher::Publisher;
 use merge_gens::{Mapping, MoveKind, RowSite, sort_rows};
+use merge_steps::add_moved;
 use merge_types::{NoMemory, RowKey, SiteId};
 
 // The generation in which a row of the partition was touched: the later of its last change and of

@@ -20,19 +20,19 @@ ghost use Rattle.merge_pub.specs.After.{after};
 ghost use Rattle.merge_pub.specs.Held.{IsDrafted, publication_of, tables_of};
 ghost use Rattle.merge_pub.specs.Refused.{refusal_of};
 ghost use Rattle.merge_pub.specs.Uploaded.{IsActed, acted_tables, arrival_of, asked_on, decided_on, known_in, none_acted, taken_tables, upload_by};
-ghost use Rattle.merge_pub.specs.Uploading.{AskedSome, after_items, known_of, makes_row_in, pass_at, questions_in};
+ghost use Rattle.merge_steps.specs.Uploading.{AskedSome, after_items, known_of, makes_row_in, pass_at, questions_in};
 
-use crate::acting::{Acting, Arrival, act_on_all, acts_in, is_made_by, key_of_item};
-use crate::changes::{Besides, Draft};
 use crate::closing::counters_go_on;
-use crate::holding::Holding;
 use crate::publisher::Publisher;
-use crate::seeing::site_edits;
 use crate::site::check_rules;
 use merge_batch::{Refusal, Upload, UploadItem, Uploaded, upload_fault};
 use merge_conflict::{ConflictPlan, ConflictRows};
 use merge_gens::SiteState;
 use merge_resolve::Handed;
+use merge_steps::{
+    Acting, Arrival, Besides, Draft, Holding, act_on_all, acts_in, is_made_by, key_of_item,
+    site_edits,
+};
 use merge_table::{Edit, Table};
 use merge_types::limits::ROWS_LIMIT;
 use merge_types::{Listing, Moment, NoMemory, RowKey, Steps};

@@ -18,7 +18,7 @@ use Rattle.merge_draft.specs.declared.drafting.Drafted.{Drafted}
 use Rattle.merge_draft.proofs.Decided.{handled-is}
 use Rattle.merge_pub.specs.After.{after}
 use Rattle.merge_pub.specs.Held.{Held, IsDrafted, tables_of}
-use Rattle.merge_pub.specs.declared.changes.Draft.{Draft}
+use Rattle.merge_steps.specs.declared.changes.Draft.{Draft}
 use Rattle.merge_pub.specs.declared.uploading.UploadDraft.{UploadDraft}
 use Rattle.merge_site.specs.Calls.{IsRefused}
 use Rattle.merge_site.specs.Drafting.{HeldView, IsFit, IsWorked, drafted_as, upload_drafted}

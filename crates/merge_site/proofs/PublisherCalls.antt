@@ -14,7 +14,7 @@ use Rattle.merge_ports.specs.Entries.{Map}
 use Rattle.merge_pub.specs.After.{after}
 use Rattle.merge_pub.specs.Held.{Held, publication_of, tables_of}
 use Rattle.merge_pub.specs.PurgeDrafts.{after_purge}
-use Rattle.merge_pub.specs.declared.changes.Draft.{Draft}
+use Rattle.merge_steps.specs.declared.changes.Draft.{Draft}
 use Rattle.merge_pub.specs.declared.purging.PurgeDraft.{PurgeDraft}
 use Rattle.merge_world.specs.Views.{PublisherCall, PublisherView}
 use Rattle.merge_site.specs.Calls.{IsRefused, WorkedOut}

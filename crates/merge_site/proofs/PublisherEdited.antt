@@ -36,7 +36,7 @@ use Rattle.merge_keeper.specs.declared.stored.PublisherChanges.{PublisherChanges
 use Rattle.merge_keeper.specs.declared.stored.PublisherStored.{PublisherStored}
 use Rattle.merge_keeper.proofs.Encoding.{keys-after_all}
 use Rattle.merge_keeper.proofs.FollowAll.{publisher_follows}
-use Rattle.merge_pub.specs.declared.changes.Changes.{Changes}
+use Rattle.merge_steps.specs.declared.changes.Changes.{Changes}
 use Rattle.merge_site.specs.Grants.{granted_by}
 use Rattle.merge_site.specs.Kept.{LeadTo}
 use Rattle.merge_site.specs.Lists.{book_left, closing_changes}

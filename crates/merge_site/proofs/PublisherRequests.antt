@@ -20,7 +20,7 @@ use Rattle.merge_model.specs.World.{Saying}
 use Rattle.merge_model.proofs.Quiet.{requests-quiet}
 use Rattle.merge_pub.specs.After.{after}
 use Rattle.merge_pub.specs.Held.{Held, publication_of, tables_of}
-use Rattle.merge_pub.specs.declared.changes.Draft.{Draft}
+use Rattle.merge_steps.specs.declared.changes.Draft.{Draft}
 use Rattle.merge_world.specs.Views.{PublisherCall, PublisherView}
 use Rattle.merge_site.specs.Calls.{IsRefused, WorkedOut}
 use Rattle.merge_site.specs.Publishers.{drafted}

@@ -44,7 +44,7 @@ use Rattle.merge_keeper.specs.declared.stored.PublisherStored.{PublisherStored}
 use Rattle.merge_keeper.proofs.First.{ok_is}
 use Rattle.merge_keeper.proofs.Fronts.{all_mapped, all_so, and_first, and_second, each_so}
 use Rattle.merge_keeper.proofs.PublisherBack.{loaded_articles, loaded_back, loaded_keeps, loaded_ordered}
-use Rattle.merge_pub.specs.Keeps.{HaveColumns, KeepsRules, RowFits}
+use Rattle.merge_steps.specs.Keeps.{HaveColumns, KeepsRules, RowFits}
 use Rattle.merge_pub.specs.Restoring.{CanStand}
 use Rattle.merge_sub.proofs.Begun.{begun-ranged}
 use Rattle.merge_sub.proofs.Standing.{numbers-below, numbers-rise}

@@ -28,7 +28,7 @@ use Rattle.merge_model.specs.Publisher.{at_moment}
 use Rattle.merge_model.specs.PublisherDownload.{TouchedRow, asked, download, download_refusal, is_between, item_of, reply_to, touched_rows}
 use Rattle.merge_model.specs.Refusals.{unless}
 use Rattle.merge_model.specs.Tables.{PublisherTables}
-use Rattle.merge_pub.specs.declared.changes.Draft.{Draft}
+use Rattle.merge_steps.specs.declared.changes.Draft.{Draft}
 use Rattle.merge_world.specs.Printable.{ArePrintable}
 use Rattle.merge_site.specs.Publishers.{drafted}
 

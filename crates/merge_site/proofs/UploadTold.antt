@@ -3,7 +3,7 @@ use Rattle.std.proofs.Common.{◌≡◌, ◌∙◌, subst, sym}
 use Rattle.std.specs.Prelude.{Err, IfOk, Ok, OnOk, Result}
 use Rattle.merge_batch.specs.declared.refusal.Refusal.{Refusal}
 use Rattle.merge_batch.specs.declared.reply.Uploaded.{Uploaded}
-use Rattle.merge_pub.specs.declared.changes.Draft.{Draft}
+use Rattle.merge_steps.specs.declared.changes.Draft.{Draft}
 use Rattle.merge_pub.specs.declared.uploading.UploadDraft.{UploadDraft}
 use Rattle.merge_site.specs.Publishers.{told_alone}
 

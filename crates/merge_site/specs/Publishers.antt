@@ -14,8 +14,8 @@ use Rattle.merge_keeper.specs.Stored.{HasGrantKey, IsPublisherKeyed, publisher_r
 use Rattle.merge_keeper.specs.declared.stored.PublisherChanges.{PublisherChanges}
 use Rattle.merge_keeper.specs.declared.stored.PublisherStored.{PublisherStored}
 use Rattle.merge_pub.specs.After.{after}
-use Rattle.merge_pub.specs.declared.changes.Changes.{Changes}
-use Rattle.merge_pub.specs.declared.changes.Draft.{Draft}
+use Rattle.merge_steps.specs.declared.changes.Changes.{Changes}
+use Rattle.merge_steps.specs.declared.changes.Draft.{Draft}
 use Rattle.merge_pub.specs.declared.uploading.UploadDraft.{UploadDraft}
 use Rattle.merge_world.specs.Printable.{AreLostPrintable, ArePrintable}
 use Rattle.merge_site.specs.Grants.{granted_by}

@@ -17,8 +17,9 @@ use merge_batch::{
     Download, Downloaded, Join, Joined, RangeAsk, Ranged, Refusal, Reply, Request, Upload,
 };
 use merge_draft::Drafted;
-use merge_pub::{Draft, Publisher, UploadDraft};
+use merge_pub::{Publisher, UploadDraft};
 use merge_resolve::Handed;
+use merge_steps::Draft;
 use merge_types::{Listing, Moment, Steps};
 use std::alloc::Global;
 use std::marker::Brand;

@@ -19,8 +19,9 @@ use merge_batch::{
     Download, Downloaded, Join, Joined, RangeAsk, Ranged, Refusal, Reply, Request, Upload, Uploaded,
 };
 use merge_ports::Keeper;
-use merge_pub::{Draft, Publisher, UploadDraft};
+use merge_pub::{Publisher, UploadDraft};
 use merge_resolve::Handed;
+use merge_steps::Draft;
 use merge_types::{Moment, Steps};
 use std::marker::Brand;
 use std::sync::ledger::{Blank, Ledger};

@@ -25,7 +25,8 @@ use merge_batch::Refusal;
 use merge_gens::Closing;
 use merge_keeper::PublisherChanges;
 use merge_ports::{EntryEdit, Keeper};
-use merge_pub::{Changes, Draft, Publisher, PurgeDraft};
+use merge_pub::{Publisher, PurgeDraft};
+use merge_steps::{Changes, Draft};
 use merge_types::NoMemory;
 use std::alloc::Global;
 

@@ -1,5 +1,5 @@
 //! A request that was worked out.
-use merge_pub::Draft;
+use merge_steps::Draft;
 
 /// The draft of a request's step, and whether it is committed.
 #[derive(Drop)]

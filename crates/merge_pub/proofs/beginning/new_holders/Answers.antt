@@ -1,6 +1,6 @@
 use Rattle.std.proofs.Common.{refl, length}
 use Rattle.std.proofs.lemmas.Option.{slice_get_read}
-use Rattle.merge_pub.proofs.Identities.{holders-step}
+use Rattle.merge_steps.proofs.Identities.{holders-step}
 use Rattle.merge_pub.proofs.beginning.new_holders.Goals as goal
 
 pub loop-place-preserved : goal.loop-place-preserved

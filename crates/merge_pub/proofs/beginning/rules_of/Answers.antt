@@ -1,6 +1,6 @@
 use Rattle.std.proofs.Common.{refl, length}
 use Rattle.std.proofs.lemmas.Option.{slice_get_read}
-use Rattle.merge_pub.proofs.Identities.{rules-step, taken-fit}
+use Rattle.merge_steps.proofs.Identities.{rules-step, taken-fit}
 use Rattle.merge_pub.proofs.beginning.rules_of.Goals as goal
 
 pub loop-place-preserved : goal.loop-place-preserved

@@ -1,6 +1,6 @@
 use Rattle.std.specs.Prelude.{◌≡◌, [], drop, map}
 use Rattle.merge_table.specs.Edits.{rows_after_all}
-use Rattle.merge_pub.specs.MoveEntries.{move_entry_cmp}
+use Rattle.merge_steps.specs.MoveEntries.{move_entry_cmp}
 use Rattle.merge_pub.specs.Restoring.{moved_put}
 use Rattle.merge_pub.proofs.indexes.moved_by.Given as goal
 

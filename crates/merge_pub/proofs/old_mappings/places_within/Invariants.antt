@@ -1,4 +1,4 @@
-use Rattle.merge_pub.specs.OldSpans.{HasMoved}
+use Rattle.merge_steps.specs.OldSpans.{HasMoved}
 use Rattle.merge_pub.proofs.OldMappings.{left_of}
 use Rattle.merge_pub.proofs.old_mappings.places_within.Given as goal
 

@@ -1,5 +1,5 @@
 use Rattle.std.specs.Prelude.{◌≡◌, map, take}
-use Rattle.merge_pub.specs.Purging.{take_row}
+use Rattle.merge_steps.specs.Purging.{take_row}
 use Rattle.merge_pub.proofs.old_rows.row_takes.Given as goal
 
 abbrev pub invariant-loop-entry : goal.invariant-loop-entry

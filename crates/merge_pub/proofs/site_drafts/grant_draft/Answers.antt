@@ -1,5 +1,5 @@
 use Rattle.std.proofs.Common.{ap}
-use Rattle.merge_pub.specs.declared.changes.Changes.{Changes}
+use Rattle.merge_steps.specs.declared.changes.Changes.{Changes}
 use Rattle.merge_pub.proofs.site_drafts.grant_draft.Goals as goal
 
 pub returns-clause-changes : goal.returns-clause-changes

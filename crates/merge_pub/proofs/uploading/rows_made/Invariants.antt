@@ -1,5 +1,5 @@
 use Rattle.std.specs.Prelude.{◌≡◌, count_by, take}
-use Rattle.merge_pub.specs.Uploading.{makes_row_in}
+use Rattle.merge_steps.specs.Uploading.{makes_row_in}
 use Rattle.merge_pub.proofs.uploading.rows_made.Given as goal
 
 abbrev pub invariant-loop-item : goal.invariant-loop-item

@@ -7,7 +7,7 @@ use Rattle.merge_model.specs.Calls.{request_commits}
 use Rattle.merge_pub.specs.After.{after}
 use Rattle.merge_pub.specs.Held.{publication_of, tables_of}
 use Rattle.merge_pub.specs.Uploaded.{asked_on, decided_on, upload_by}
-use Rattle.merge_pub.specs.declared.changes.Draft.{Draft}
+use Rattle.merge_steps.specs.declared.changes.Draft.{Draft}
 use Rattle.merge_resolve.specs.Asked.{says_at, tallies_after}
 use Rattle.merge_site.specs.Publishers.{told_alone}
 use Rattle.merge_site.proofs.Called.{ok-all}

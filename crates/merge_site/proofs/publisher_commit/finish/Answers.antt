@@ -1,7 +1,7 @@
 use Rattle.std.proofs.lemmas.Result.{err_from_is_err_and}
 use Rattle.merge_pub.specs.After.{after}
 use Rattle.merge_pub.specs.Held.{tables_of}
-use Rattle.merge_pub.specs.declared.changes.Draft.{Draft}
+use Rattle.merge_steps.specs.declared.changes.Draft.{Draft}
 use Rattle.merge_site.proofs.Called.{stopped}
 use Rattle.merge_site.proofs.publisher_commit.finish.Goals as goal
 

@@ -1,7 +1,7 @@
 use Rattle.std.proofs.Common.{refl, ap}
 use Rattle.merge_types.specs.declared.identifiers.Moment.{Moment}
 use Rattle.merge_pub.specs.Held.{tables_of}
-use Rattle.merge_pub.specs.declared.acting.Arrival.{Arrival}
+use Rattle.merge_steps.specs.declared.acting.Arrival.{Arrival}
 use Rattle.merge_pub.proofs.UploadRules.{arrival-same}
 use Rattle.merge_pub.proofs.publisher.Publisher.arrival_of.Goals as goal
 

@@ -1,7 +1,7 @@
 use Rattle.std.proofs.Common.{◌≡◌, ◌∙◌, ap, arith, rules, subst, sym}
 use Rattle.merge_model.specs.Tables.{PublisherTables}
 use Rattle.merge_pub.specs.Held.{publication_of, tables_of}
-use Rattle.merge_pub.specs.declared.changes.Besides.{Besides}
+use Rattle.merge_steps.specs.declared.changes.Besides.{Besides}
 use Rattle.merge_pub.proofs.Costs.{versions-cost}
 use Rattle.merge_pub.proofs.UploadKept.{acted-made, besides_with, fits-at, keeps-at, kept-acted, made-at, rising-on, subscribes-at}
 use Rattle.merge_pub.proofs.publisher.Publisher.draft_acted.Goals as goal

@@ -1,5 +1,5 @@
 use Rattle.merge_pub.specs.Held.{tables_of}
-use Rattle.merge_pub.specs.Purging.{gone_at}
+use Rattle.merge_steps.specs.Purging.{gone_at}
 use Rattle.merge_pub.proofs.BatchCounts.{given-step}
 use Rattle.merge_pub.proofs.publisher.Publisher.gone_among.Goals as goal
 

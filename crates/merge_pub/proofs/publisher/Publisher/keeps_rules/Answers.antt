@@ -2,7 +2,7 @@ use Rattle.std.proofs.Common.{subst}
 use Rattle.merge_schema.specs.Valid.{IsValid}
 use Rattle.std.specs.Prelude.{ℕ}
 use Rattle.merge_pub.specs.Held.{Held, publication_of, tables_of}
-use Rattle.merge_pub.specs.Keeps.{KeepsRules}
+use Rattle.merge_steps.specs.Keeps.{KeepsRules}
 use Rattle.merge_pub.proofs.publisher.Publisher.keeps_rules.Goals as goal
 
 pub returns-clause-valid : goal.returns-clause-valid

@@ -1,6 +1,6 @@
 use Rattle.merge_pub.specs.Forgetting.{is_left_at}
 use Rattle.merge_pub.specs.Held.{tables_of}
-use Rattle.merge_pub.proofs.ListSteps.{filter-step}
+use Rattle.merge_steps.proofs.ListSteps.{filter-step}
 use Rattle.merge_pub.proofs.publisher.Publisher.left_among.Goals as goal
 
 pub loop-key-preserved : goal.loop-key-preserved

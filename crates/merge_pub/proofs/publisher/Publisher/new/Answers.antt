@@ -6,8 +6,8 @@ use Rattle.merge_ident.specs.Grants.{granted_to}
 use Rattle.merge_ident.specs.Holders.{Holder}
 use Rattle.merge_ident.specs.declared.grants.Grant.{Grant}
 use Rattle.merge_model.specs.Keys.{at_number}
-use Rattle.merge_pub.specs.Indexed.{AreIndexed, AreMoved}
-use Rattle.merge_pub.proofs.Identities.{begin-heard, begin-held}
+use Rattle.merge_steps.specs.Indexed.{AreIndexed, AreMoved}
+use Rattle.merge_steps.proofs.Identities.{begin-heard, begin-held}
 use Rattle.merge_pub.proofs.publisher.Publisher.new.Goals as goal
 
 pub invariant_of-result : goal.invariant_of-result

@@ -1,6 +1,6 @@
 use Rattle.std.specs.Prelude.{◌≡◌, filter_map, take}
 use Rattle.merge_pub.specs.Held.{tables_of}
-use Rattle.merge_pub.specs.Purging.{taken_at}
+use Rattle.merge_steps.specs.Purging.{taken_at}
 use Rattle.merge_pub.proofs.publisher.Publisher.taken_among.Given as goal
 
 abbrev pub invariant-loop-place : goal.invariant-loop-place

@@ -8,7 +8,7 @@ use Rattle.merge_resolve.specs.Asked.{says_at, tallies_after}
 use Rattle.merge_pub.specs.After.{after}
 use Rattle.merge_pub.specs.Held.{IsDrafted, publication_of, tables_of}
 use Rattle.merge_pub.specs.Uploaded.{asked_on, upload_by}
-use Rattle.merge_pub.specs.declared.changes.Draft.{Draft}
+use Rattle.merge_steps.specs.declared.changes.Draft.{Draft}
 use Rattle.merge_world.specs.Views.{PublisherView}
 use Rattle.merge_site.specs.Calls.{IsRefused}
 use Rattle.merge_site.proofs.Called.{ok-all}

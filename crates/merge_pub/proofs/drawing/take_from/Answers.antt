@@ -1,9 +1,0 @@
-use Rattle.std.proofs.Common.{inr, rules}
-use Rattle.merge_pub.proofs.Drawn.{take-ended, take-made}
-use Rattle.merge_pub.proofs.drawing.take_from.Goals as goal
-
-pub returns-in-Err-clause-drawn : goal.returns-in-Err-clause-drawn
-returns-in-Err-clause-drawn c = λ before held. inr (take-ended _ held c.args.article c.args.ranges c.in-Err.used_up _ (search rules) (search rules))
-
-pub returns-clause-drawn : goal.returns-clause-drawn
-returns-clause-drawn c = λ before held. take-made before held c.args.article c.args.ranges c.in-Ok.value _ c.push.new.self c.args.grants (search rules) (search rules) (search rules)

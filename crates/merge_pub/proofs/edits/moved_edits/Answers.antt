@@ -1,7 +1,0 @@
-use Rattle.merge_pub.specs.Rows.{moved_edit}
-use Rattle.merge_pub.proofs.ListSteps.{flat-step}
-use Rattle.merge_pub.proofs.edits.moved_edits.Goals as goal
-
-pub loop-edit-preserved : goal.loop-edit-preserved
-loop-edit-preserved c =
-    flat-step (moved_edit c.args.mappings.now.rows) c.args.edits.now _ _ _ _ _ c.loop-edit-test.true c.loop-edit.invariant c.in_ok-more.ensures c.in_ok-append.ensures.items

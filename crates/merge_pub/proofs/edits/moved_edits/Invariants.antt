@@ -1,6 +1,0 @@
-use Rattle.std.proofs.Common.{◌≡◌, take}
-use Rattle.merge_pub.specs.Rows as row
-use Rattle.merge_pub.proofs.edits.moved_edits.Given as goal
-
-abbrev pub invariant-loop-edit : goal.invariant-loop-edit
-invariant-loop-edit l = l.moved.items ≡ row.moved_edits l.mappings.rows (take l.edit-index l.edits)

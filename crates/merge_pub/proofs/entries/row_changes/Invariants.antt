@@ -1,6 +1,0 @@
-use Rattle.std.proofs.Common.{◌≡◌, take, map}
-use Rattle.merge_pub.specs.Working as work
-use Rattle.merge_pub.proofs.entries.row_changes.Given as goal
-
-abbrev pub invariant-loop-one : goal.invariant-loop-one
-invariant-loop-one l = l.changes ≡ map work.row_change (take l.one-index l.versions)

@@ -1,5 +1,0 @@
-use Rattle.merge_pub.proofs.SiteEdits.{sites-edited}
-use Rattle.merge_pub.proofs.seeing.site_edits.Goals as goal
-
-pub returns : goal.returns
-returns c = sites-edited c.args.arrival c.args.upload.now c.args.sites.now.rows _ c.state_edits.ensures.ordered c.in_ok-edits.ensures.edits

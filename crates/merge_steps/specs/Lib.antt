@@ -1,0 +1,16 @@
+pub mod MoveEntries
+pub mod LiveRows
+pub mod Indexed
+pub mod Keeps
+pub mod Tie
+pub mod Rows
+pub mod Working
+pub mod Step
+pub mod Drawing
+pub mod Beginning
+pub mod MoveWalks
+pub mod Given
+pub mod Purging
+pub mod OldSpans
+pub mod Fits
+pub mod Uploading
