@@ -32,7 +32,7 @@ use Rattle.merge_steps.specs.Rows.{moved_edits}
 use Rattle.merge_steps.specs.Working.{AreApart, places_of}
 use Rattle.merge_steps.specs.declared.changes.Changes.{Changes}
 use Rattle.merge_pub.specs.declared.forgetting.Forgetting.{Forgetting}
-use Rattle.merge_steps.specs.declared.move_entry.MoveEntry.{MoveEntry}
+use Rattle.merge_steps.specs.declared.site_moves.MoveEntry.{MoveEntry}
 use Rattle.merge_steps.proofs.MoveFollows.{moves-follow}
 use Rattle.merge_pub.proofs.RangePlans.{all-ruled, grants-keep, subscriber-other}
 

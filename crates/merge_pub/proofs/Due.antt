@@ -25,7 +25,7 @@ use Rattle.merge_steps.specs.Indexed.{AreIndexed, AreMoved, has_entry, is_change
 use Rattle.merge_steps.specs.MoveEntries.{move_entry, move_entry_cmp}
 use Rattle.merge_steps.specs.MoveWalks.{is_in_walk, is_within, key_of_move, keys_in_walk}
 use Rattle.merge_pub.specs.Touches.{AreDue, moved_in}
-use Rattle.merge_steps.specs.declared.move_entry.MoveEntry.{MoveEntry}
+use Rattle.merge_steps.specs.declared.site_moves.MoveEntry.{MoveEntry}
 
 key-itself : (key : Key) → is_at (key_cmp key) key ≡ true
 key-itself key = ap is_eq (tied_itself key_total key)

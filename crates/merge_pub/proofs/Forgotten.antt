@@ -30,7 +30,7 @@ use Rattle.merge_steps.specs.Indexed.{AreMoved, is_moved}
 use Rattle.merge_steps.specs.MoveWalks.{keys_in_walk}
 use Rattle.merge_steps.specs.Rows.{has_left_at}
 use Rattle.merge_steps.specs.Working.{AreApart, places_of}
-use Rattle.merge_steps.specs.declared.move_entry.MoveEntry.{MoveEntry}
+use Rattle.merge_steps.specs.declared.site_moves.MoveEntry.{MoveEntry}
 use Rattle.merge_pub.proofs.Due.{walk-found}
 use Rattle.merge_steps.proofs.MovesApart.{sorted-apart}
 use Rattle.merge_steps.proofs.Told.{contains-from_map, contains-map, same-bool}

@@ -32,7 +32,7 @@ use Rattle.merge_steps.specs.MoveEntries.{move_entry_cmp}
 use Rattle.merge_steps.specs.Step.{Indexes, IndexesMoves, IsStep, KeepsFitting}
 use Rattle.merge_steps.specs.declared.changes.Besides.{Besides}
 use Rattle.merge_steps.specs.declared.changes.Changes.{Changes}
-use Rattle.merge_steps.specs.declared.move_entry.MoveEntry.{MoveEntry}
+use Rattle.merge_steps.specs.declared.site_moves.MoveEntry.{MoveEntry}
 use Rattle.merge_steps.specs.Working.{row_change}
 use Rattle.merge_steps.specs.declared.step.Worked.{Worked}
 use Rattle.merge_steps.proofs.Fitting.{changes-fit}

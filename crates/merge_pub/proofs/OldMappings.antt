@@ -35,7 +35,7 @@ use Rattle.merge_steps.specs.MoveEntries.{move_entry, move_entry_cmp, move_entry
 use Rattle.merge_steps.specs.MoveWalks.{keys_in_walk}
 use Rattle.merge_steps.specs.OldSpans.{HasMapped, HasMoved, IsBefore, IsNextBehind, IsNextFrom, IsSpan, IsWithin, place_of}
 use Rattle.merge_steps.specs.Purging.{is_old_at, is_old_mapping, take_if, taken_at}
-use Rattle.merge_steps.specs.declared.move_entry.MoveEntry.{MoveEntry}
+use Rattle.merge_steps.specs.declared.site_moves.MoveEntry.{MoveEntry}
 use Rattle.merge_steps.specs.declared.old_spans.Span.{Span}
 use Rattle.merge_pub.proofs.Due.{walk-found}
 use Rattle.merge_pub.proofs.GivenRows.{rows-given}

@@ -50,7 +50,7 @@ use Rattle.merge_pub.specs.Restoring.{AreIndexesOf, CanStand, changed_put, held_
 use Rattle.merge_steps.specs.Rows.{moved_edits}
 use Rattle.merge_steps.specs.Working.{Apart, AreApart, all_indexing, places_of, row_change}
 use Rattle.merge_pub.specs.declared.indexes.Indexes.{Indexes}
-use Rattle.merge_steps.specs.declared.move_entry.MoveEntry.{MoveEntry}
+use Rattle.merge_steps.specs.declared.site_moves.MoveEntry.{MoveEntry}
 use Rattle.merge_pub.specs.declared.tables.Tables.{Tables}
 
 abbrev Rows : Type 0

@@ -32,7 +32,7 @@ use Rattle.merge_steps.specs.Keeps.{KeepsRules}
 use Rattle.merge_steps.specs.LiveRows.{live_pairs}
 use Rattle.merge_steps.specs.MoveEntries.{move_entry_cmp}
 use Rattle.merge_steps.specs.declared.changes.Draft.{Draft}
-use Rattle.merge_steps.specs.declared.move_entry.MoveEntry.{MoveEntry}
+use Rattle.merge_steps.specs.declared.site_moves.MoveEntry.{MoveEntry}
 
 -- The parts as contracts of the crate see them. `tables_of` is what the contracts of calls speak of.
 pub record Held : Type 0 where

@@ -23,7 +23,7 @@ use Rattle.merge_steps.specs.Keeps.{KeepsRules}
 use Rattle.merge_steps.specs.LiveRows.{live_pairs}
 use Rattle.merge_steps.specs.MoveEntries.{move_entry}
 use Rattle.merge_pub.specs.declared.indexes.Indexes.{Indexes}
-use Rattle.merge_steps.specs.declared.move_entry.MoveEntry.{MoveEntry}
+use Rattle.merge_steps.specs.declared.site_moves.MoveEntry.{MoveEntry}
 use Rattle.merge_pub.specs.declared.starting.Kept.{Kept}
 use Rattle.merge_pub.specs.declared.tables.Tables.{Tables}
 

@@ -10,7 +10,7 @@ ghost use Rattle.merge_steps.specs.Indexed.{has_entry};
 ghost use Rattle.merge_steps.specs.MoveWalks.{keys_in_walk};
 ghost use Rattle.merge_steps.specs.OldSpans.{HasMapped, HasMoved, IsNextBehind, IsNextFrom};
 ghost use Rattle.merge_steps.specs.Purging.{is_old_mapping, taken_at};
-ghost use Rattle.merge_steps.specs.declared.move_entry.MoveEntry.{MoveEntry as OneEntry};
+ghost use Rattle.merge_steps.specs.declared.site_moves.MoveEntry.{MoveEntry as OneEntry};
 
 use crate::publisher::Publisher;
 use merge_gens::{Mapping, RowSite};

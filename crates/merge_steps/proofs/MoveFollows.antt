@@ -22,7 +22,7 @@ use Rattle.merge_steps.specs.Indexed.{AreMoved, has_entry, is_moved}
 use Rattle.merge_steps.specs.MoveEntries.{move_entry, move_entry_cmp}
 use Rattle.merge_steps.specs.Rows.{moved_edit, moved_edits, new_entry, old_entry}
 use Rattle.merge_steps.specs.Working.{AreApart, has_place_in, places_of}
-use Rattle.merge_steps.specs.declared.move_entry.MoveEntry.{MoveEntry}
+use Rattle.merge_steps.specs.declared.site_moves.MoveEntry.{MoveEntry}
 
 pub move_entry_total : IsTotalOrder move_entry_cmp
 move_entry_total = then_total (on_total (λ (e : MoveEntry). e.site) nat_cmp_total) (then_total (on_total (λ (e : MoveEntry). e.generation) nat_cmp_total) (on_total (λ (e : MoveEntry). e.key) key_total))

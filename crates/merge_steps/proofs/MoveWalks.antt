@@ -12,7 +12,7 @@ use Rattle.std.proofs.lemmas.List.Kept.{IsStrictlySortedBy-filter}
 use Rattle.merge_types.specs.declared.row_key.RowKey.{RowKey as Key}
 use Rattle.merge_steps.specs.MoveEntries.{move_entry_cmp}
 use Rattle.merge_steps.specs.MoveWalks.{is_in_walk, is_within, key_of_move}
-use Rattle.merge_steps.specs.declared.move_entry.MoveEntry.{MoveEntry}
+use Rattle.merge_steps.specs.declared.site_moves.MoveEntry.{MoveEntry}
 
 abbrev pub Entries : Type 0
 Entries = List (MoveEntry × Unit {0})

@@ -43,7 +43,7 @@ use Rattle.merge_gens.specs.declared.moves.RowSite.{RowSite}
 use Rattle.merge_model.proofs.StepParts.{CanBeSaid}
 use Rattle.merge_steps.specs.Working.{Apart, AreApart, all_indexing, all_told, found_entries, keys_in, outs_of, places_of, returns, row_change, version_edit, version_edits}
 use Rattle.merge_steps.specs.MoveEntries.{move_entry_cmp}
-use Rattle.merge_steps.specs.declared.move_entry.MoveEntry.{MoveEntry}
+use Rattle.merge_steps.specs.declared.site_moves.MoveEntry.{MoveEntry}
 use Rattle.merge_steps.proofs.Follows.{pairs-listed}
 use Rattle.merge_steps.proofs.MoveFollows.{moves-follow}
 use Rattle.merge_steps.proofs.MovesApart.{edits-apart}

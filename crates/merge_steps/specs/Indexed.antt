@@ -10,7 +10,7 @@ use Rattle.merge_gens.specs.declared.moves.Mapping.{Mapping}
 use Rattle.merge_gens.specs.declared.moves.RowSite.{RowSite}
 use Rattle.merge_model.specs.Keys.{at_row_site, row_at}
 use Rattle.merge_steps.specs.MoveEntries.{move_entry, move_entry_cmp}
-use Rattle.merge_steps.specs.declared.move_entry.MoveEntry.{MoveEntry}
+use Rattle.merge_steps.specs.declared.site_moves.MoveEntry.{MoveEntry}
 
 -- whether a row changed last in this generation
 abbrev pub is_changed : Option PublisherRow → ℕ → Bool

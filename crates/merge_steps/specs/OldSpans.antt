@@ -13,7 +13,7 @@ use Rattle.merge_gens.specs.declared.moves.Mapping.{Mapping}
 use Rattle.merge_model.specs.Keys.{at_row_site, row_at}
 use Rattle.merge_steps.specs.Indexed.{has_entry}
 use Rattle.merge_steps.specs.Purging.{is_old_at}
-use Rattle.merge_steps.specs.declared.move_entry.MoveEntry.{MoveEntry}
+use Rattle.merge_steps.specs.declared.site_moves.MoveEntry.{MoveEntry}
 use Rattle.merge_steps.specs.declared.old_spans.Span.{Span}
 
 abbrev pub IsWithin : Span → ℕ → Type 0

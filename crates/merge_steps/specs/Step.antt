@@ -17,7 +17,7 @@ use Rattle.std.specs.Map.{keys_of}
 use Rattle.merge_steps.specs.Indexed.{AreIndexed, AreMoved}
 use Rattle.merge_steps.specs.Keeps.{FitsHere, RowFits}
 use Rattle.merge_steps.specs.MoveEntries.{move_entry_cmp}
-use Rattle.merge_steps.specs.declared.move_entry.MoveEntry.{MoveEntry}
+use Rattle.merge_steps.specs.declared.site_moves.MoveEntry.{MoveEntry}
 use Rattle.merge_model.specs.Judge.{PublisherJudge}
 use Rattle.merge_model.specs.Keys.{has_key}
 use Rattle.merge_types.specs.RowKeys.{key_cmp}

@@ -1,5 +1,5 @@
 //! The changes of a step.
-use crate::move_entry::MoveEntry;
+use crate::site_moves::MoveEntry;
 use merge_conflict::ConflictPlan;
 use merge_gens::{GenPlan, IndexPlan, Mapping, RowSite, SiteState};
 use merge_ident::{GrantPlans, Ranges};

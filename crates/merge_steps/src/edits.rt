@@ -7,7 +7,7 @@ ghost use Rattle.merge_steps.specs.MoveEntries.{move_entry};
 ghost use Rattle.merge_steps.specs.Rows as row;
 ghost use Rattle.merge_steps.specs.Tie as tie;
 
-use crate::move_entry::MoveEntry;
+use crate::site_moves::MoveEntry;
 use merge_gens::{IndexChange, IndexEntry, Mapping, MoveKind, RowSite};
 use merge_part::Move;
 use merge_table::{Edit, Table};

@@ -2,7 +2,7 @@
 ghost use Rattle.std.specs.Prelude.{◌≡◌, ◌++◌, ◌&&◌, ◌==◌, not, OnOk};
 ghost use Rattle.merge_steps.specs.MoveWalks.{is_within, keys_in_walk};
 
-use crate::move_entry::MoveEntry;
+use crate::site_moves::MoveEntry;
 use merge_table::Table;
 use merge_types::{NoMemory, RowId, RowKey};
 

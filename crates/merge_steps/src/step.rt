@@ -18,7 +18,7 @@ ghost use Rattle.merge_steps.specs.Working as work;
 
 use crate::edits::{mapping_edits, moved_edits};
 use crate::entries::{found_entries, indexing, keys_in, returns, row_changes, version_edits};
-use crate::move_entry::MoveEntry;
+use crate::site_moves::MoveEntry;
 use merge_gens::{GenBook, GenPlan, IndexChange, Mapping, MoveKind, RowSite};
 use merge_part::{Membership, MembershipPlan, Move};
 use merge_table::{Edit, Table};
