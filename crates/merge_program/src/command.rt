@@ -187,7 +187,9 @@ fn program(alloc: Global) -> Result<clap::Command<'static>, AllocError> {
         .arg(Arg::new(alloc, "ARTICLE").required(true))?;
     let program = clap::Command::new(alloc, "replmerge")
         .about("Merge replication between a publisher and its subscribers")
-        .after_help("The lines of a script and their answers: docs/script.md and docs/commands.md")
+        .after_help(
+            "The lines of a script and their answers: docs/use/script.md and docs/use/commands.md",
+        )
         .disable_help_flag(true)
         .disable_version_flag(true)
         .disable_help_subcommand(true)

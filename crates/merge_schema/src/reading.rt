@@ -24,7 +24,7 @@ fn read_tables(alloc: Global, table: &Table, resolvers: usize) -> Result<Publica
 }
 
 /// The publication that a text says, where so many resolvers are handed in; or the first of its
-/// faults, in the order of docs/publication-file.md.
+/// faults, in the order of docs/use/publication-file.md.
 pub fn read(alloc: Global, text: &[u8], resolvers: usize) -> Result<Publication, SchemaFault>
     ensures answer { UnlessMemory (IsAnswer resolvers text.now) result }
     ensures valid { IfOk result (λ publication. IsValid resolvers publication) }

@@ -1,4 +1,4 @@
-//! Publication texts with their answers. Expected answers are worked out from docs/publication-file.md.
+//! Publication texts with their answers. Expected answers are worked out from docs/use/publication-file.md.
 use crate::{Article, Identity, JoinFilter, SchemaFault, SubKind, Subscription, is_built, read};
 use merge_types::{ColType, Column, NoMemory, SiteId, Tracking};
 use std::alloc::Global;
