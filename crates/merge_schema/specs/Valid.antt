@@ -27,6 +27,7 @@ AreDistinct names = AllPairs (λ (a b : List ℕ). a ≢ b) names
 pub record HasValidRanges (identity : Identity) : Type 0 where
   pub seed : int_le (pos 1) identity.seed ≡ true
   pub greatest : int_le identity.seed identity.greatest ≡ true
+  pub fits : int_le identity.greatest (pos 9223372036854775807) ≡ true
   pub range : IsWithin 1 1000000000 identity.range
   pub pub_range : IsWithin 1 1000000000 identity.pub_range
   pub threshold : IsWithin 1 100 identity.threshold

@@ -35,4 +35,5 @@ pub mod SubscribersLoad
 pub mod PublisherEntries
 pub mod PublisherRowsLoad
 pub mod PublisherLoads
+pub mod ValidPublications
 pub mod TypedRuns

@@ -16,4 +16,5 @@ pub mod OwnRanges
 pub mod SubRanges
 pub mod Always
 pub mod Rules
+pub mod ValidRanges
 pub mod Scripts

@@ -46,7 +46,7 @@ stock-valid = record {
   valid_joins = All-nil (IsValidJoin everything.publication.articles everything.stock.columns);
   valid_resolver = lit< tt;
   valid_decider = (lit< tt, refl);
-  valid_identity = (refl, record { seed = refl; greatest = refl; range = (lit≤ tt, lit≤ tt); pub_range = (lit≤ tt, lit≤ tt); threshold = (lit≤ tt, lit≤ tt) });
+  valid_identity = (refl, record { seed = refl; greatest = refl; fits = refl; range = (lit≤ tt, lit≤ tt); pub_range = (lit≤ tt, lit≤ tt); threshold = (lit≤ tt, lit≤ tt) });
   filter_fits = tt;
 }
 
