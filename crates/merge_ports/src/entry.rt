@@ -83,8 +83,11 @@ impl Ord for EntryKey {
     ghost matches_eq = { entry_ties };
 
     fn cmp(&self, other: &EntryKey) -> Ordering {
-        let keys = self.key.as_slice().cmp(other.key.as_slice());
-        self.table.cmp(&other.table).then(keys)
+        // Bytes are compared only where the tables are the same.
+        match self.table.cmp(&other.table) {
+            Ordering::Equal => self.key.as_slice().cmp(other.key.as_slice()),
+            tables => tables,
+        }
     }
 }
 
