@@ -1,11 +1,14 @@
 //! What a record is made of: fields, each of which has one spelling.
-ghost use Rattle.std.specs.Prelude.{◌≡◌, ◌++◌, IfOk, OnOk};
+ghost use Rattle.std.specs.Prelude.{◌≡◌, ◌++◌, ◌∷◌, [], IfOk, OnOk};
 ghost use Rattle.merge_record.specs.Reading.{Gives, whole_of};
 ghost use Rattle.merge_record.specs.Codec.{IsRecord};
 
 use crate::stop::Stop;
 use merge_types::{Listing, NoMemory, Octets};
 use std::alloc::Global;
+
+// As many bytes as most records have, so that they are written with no move to more memory.
+const USUAL_LENGTH: usize = 128;
 
 /// A field of a record, or a whole one. It is written in one way, and read back from there: what
 /// holds of both together is said by the laws of this crate.
@@ -40,7 +43,7 @@ pub trait Field: Drop {
         requires { IsShort self.now }
         ensures { IfOk result (λ octets. IsRecord spelling IsSpelled octets self.now) }
     {
-        let mut out = Vec::new(alloc);
+        let mut out = Vec::with_capacity(alloc, USUAL_LENGTH)?;
         self.put(&mut out)?;
         Ok(Listing::new(out))
     }
@@ -62,6 +65,14 @@ pub(crate) fn put(out: &mut Vec<u8>, bytes: &[u8]) -> Result<(), NoMemory>
     ensures { OnOk result (out.new.items ≡ out.old.items ++ bytes.now) }
 {
     out.extend_from_slice(bytes)?;
+    Ok(())
+}
+
+/// Writes one byte behind what is there.
+pub(crate) fn put_byte(out: &mut Vec<u8>, byte: u8) -> Result<(), NoMemory>
+    ensures { OnOk result (out.new.items ≡ out.old.items ++ byte ∷ []) }
+{
+    out.push(byte)?;
     Ok(())
 }
 

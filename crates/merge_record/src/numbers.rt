@@ -1,5 +1,5 @@
 //! Numbers, the highest byte first.
-use crate::field::put;
+use crate::field::{put, put_byte};
 use crate::{Field, Stop};
 use merge_types::NoMemory;
 use std::alloc::Global;
@@ -19,7 +19,8 @@ impl Field for u8 {
     ghost IsShort = { λ _. Unit {0} };
 
     fn put(&self, out: &mut Vec<u8>) -> Result<(), NoMemory> {
-        put(out, &self.to_be_bytes())
+        let [byte] = self.to_be_bytes();
+        put_byte(out, byte)
     }
 
     fn take(_: Global, bytes: &[u8]) -> Result<(u8, &[u8]), Stop> {

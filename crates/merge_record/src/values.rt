@@ -7,7 +7,7 @@ ghost use Rattle.merge_record.specs.Reading.{Gives, string_at};
 ghost use Rattle.merge_record.specs.Codec.{string_bytes_of};
 ghost use Rattle.merge_record.specs.Versions.{bit_at, text_at, day_at, tagged_at, value_bytes};
 
-use crate::field::put;
+use crate::field::{put, put_byte};
 use crate::{Field, Stop};
 use merge_types::limits::{FIRST_DAY, LAST_DAY};
 use merge_types::{Listing, NoMemory, Octets, Value, Words};
@@ -122,7 +122,7 @@ fn put_int(out: &mut Vec<u8>, number: i64) -> Result<(), NoMemory>
     ensures fits { FitsSigned w64 number }
     ensures bytes { OnOk result (out.new.items ≡ out.old.items ++ value_bytes (Int number)) }
 {
-    put(out, &[1])?;
+    put_byte(out, 1)?;
     put(out, &number.to_be_bytes())
 }
 
@@ -139,23 +139,23 @@ impl Field for Value {
 
     fn put(&self, out: &mut Vec<u8>) -> Result<(), NoMemory> {
         match self {
-            Value::Null => put(out, &[0]),
+            Value::Null => put_byte(out, 0),
             Value::Int(number) => put_int(out, *number),
             Value::Bit(bit) => put(out, &[2, u8::from(*bit)]),
             Value::Text(words) => {
-                put(out, &[3])?;
+                put_byte(out, 3)?;
                 put_text(out, words)
             }
             Value::Day(day) => {
-                put(out, &[4])?;
+                put_byte(out, 4)?;
                 put(out, &day.to_be_bytes())
             }
             Value::Guid(guid) => {
-                put(out, &[5])?;
+                put_byte(out, 5)?;
                 put(out, &guid.to_be_bytes())
             }
             Value::Bytes(octets) => {
-                put(out, &[6])?;
+                put_byte(out, 6)?;
                 put_string(out, octets.as_slice())
             }
         }

@@ -4,7 +4,7 @@ ghost use Rattle.merge_units.specs.declared.version.Body.TheVariants.{Dead};
 ghost use Rattle.merge_record.specs.Reading.{Gives};
 ghost use Rattle.merge_record.specs.Versions.{body_bytes, body_tagged_at, IsBody};
 
-use crate::field::put;
+use crate::field::put_byte;
 use crate::many::{put_counted, take_many};
 use crate::{Field, Stop};
 use merge_lineage::{Lineage, are_ascending};
@@ -118,7 +118,7 @@ fn put_dead(out: &mut Vec<u8>, dot: Dot) -> Result<(), NoMemory>
     ensures fits { OnOk result (IsBody (Dead dot)) }
     ensures bytes { OnOk result (out.new.items ≡ out.old.items ++ body_bytes (Dead dot)) }
 {
-    put(out, &[2])?;
+    put_byte(out, 2)?;
     dot.put(out)
 }
 
@@ -136,7 +136,7 @@ impl Field for Body {
     fn put(&self, out: &mut Vec<u8>) -> Result<(), NoMemory> {
         match self {
             Body::Live(cells) => {
-                put(out, &[1])?;
+                put_byte(out, 1)?;
                 put_counted(out, cells.as_slice())
             }
             Body::Dead(dot) => put_dead(out, *dot),
