@@ -20,11 +20,20 @@ pub fn insert(
 ) -> Result<Version, NoMemory>
     ensures { IfOk result (λ version. version ≡ new_row dot values tracking) }
 {
-    let mut dots = Vec::new(alloc);
+    let mut dots = Vec::with_capacity(alloc, 1)?;
     dots.push(dot)?;
     let lineage = Lineage::restore(dots);
     let body = Body::Live(new_cells(alloc, dot, values, tracking)?);
     Ok(Version { lineage, body })
+}
+
+// A list of one cell, with memory for no more.
+fn one_cell(alloc: Global, cell: Cell) -> Result<Cells, NoMemory>
+    ensures { IfOk result (λ cells. cells ≡ cell ∷ []) }
+{
+    let mut cells = Vec::with_capacity(alloc, 1)?;
+    cells.push(cell)?;
+    Ok(Cells::new(cells))
 }
 
 // The cells of a new row.
@@ -32,11 +41,7 @@ fn new_cells(alloc: Global, dot: Dot, values: Values, tracking: Tracking) -> Res
     ensures { IfOk result (λ cells. cells ≡ new_cells tracking dot values) }
 {
     match tracking {
-        Tracking::Row => {
-            let mut cells = Cells::empty(alloc);
-            cells.push(Cell { top: dot, values })?;
-            Ok(cells)
-        }
+        Tracking::Row => one_cell(alloc, Cell { top: dot, values }),
         Tracking::ByColumn => Ok(Cells::new(new_columns(alloc, dot, values.into_vec())?)),
     }
 }
@@ -44,7 +49,7 @@ fn new_cells(alloc: Global, dot: Dot, values: Values, tracking: Tracking) -> Res
 fn new_columns(alloc: Global, dot: Dot, values: Vec<Value>) -> Result<Vec<Cell>, NoMemory>
     ensures { IfOk result (λ cells. cells.items ≡ map (λ value. record { top = dot; values = value ∷ [] }) values.items) }
 {
-    let mut cells = Vec::new(alloc);
+    let mut cells = Vec::with_capacity(alloc, values.len())?;
     for value in values {
         cells.push(column_cell(alloc, dot, value)?)?;
     }
@@ -102,9 +107,7 @@ fn cells_after(
     match tracking {
         Tracking::Row => {
             let values = Values::new(values_after(alloc, cells[0].values.as_slice(), edits)?);
-            let mut after = Cells::empty(alloc);
-            after.push(Cell { top: dot, values })?;
-            Ok(after)
+            one_cell(alloc, Cell { top: dot, values })
         }
         Tracking::ByColumn => Ok(Cells::new(columns_after(alloc, cells, dot, edits)?)),
     }
@@ -143,7 +146,10 @@ fn columns_after(
 fn column_cell(alloc: Global, dot: Dot, value: Value) -> Result<Cell, NoMemory>
     ensures { IfOk result (λ cell. cell ≡ record { top = dot; values = value ∷ [] }) }
 {
-    let mut values = Values::empty(alloc);
+    let mut values = Vec::with_capacity(alloc, 1)?;
     values.push(value)?;
-    Ok(Cell { top: dot, values })
+    Ok(Cell {
+        top: dot,
+        values: Values::new(values),
+    })
 }
