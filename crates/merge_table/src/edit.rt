@@ -47,7 +47,7 @@ impl<K: TableKey, V: Drop> Table<K, V> {
         if self.has_room(key) {
             return Ok(());
         }
-        self.make_room(key.clone()?)
+        self.add_slot(key.clone()?)
     }
 
     /// Takes all memory that the changes need, and makes none of them.

@@ -1,5 +1,5 @@
 //! The table.
-ghost use Rattle.std.specs.Prelude.{◌≡◌, ◌↔◌, ◌+◌, ◌*◌, ◌<◌, ◌≤◌, ◌^◌, true, [], IsTrue, IsOk, IfOk, OnOk, OnErr, OnSome, is_some, length, filter, option_copied};
+ghost use Rattle.std.specs.Prelude.{◌≡◌, ◌↔◌, ◌+◌, ◌*◌, ◌<◌, ◌≤◌, ◌^◌, false, true, [], IsTrue, IsOk, IfOk, OnOk, OnErr, OnSome, is_some, length, filter, option_copied};
 ghost use Rattle.std.specs.Option.{option_flatten};
 ghost use Rattle.std.specs.List.{All};
 ghost use Rattle.std.specs.Map.{lookup, set_value, remove_entry, keys_of};
@@ -139,6 +139,18 @@ impl<K: TableKey, V: Drop> Table<K, V> {
         if self.slots.contains_key(&key) {
             return Ok(());
         }
+        self.add_slot(key)
+    }
+
+    /// Makes a slot for a key that has none.
+    pub(crate) fn add_slot(&mut self, key: K) -> Result<(), AllocError>
+        requires { has_room K.cmp self.old.slots key ≡ false }
+        ensures rows { self.new.rows ≡ self.old.rows }
+        ensures ok { OnOk result (self.new.slots ≡ insert_key K.cmp self.old.slots key) }
+        ensures room { OnOk result (IsTrue (has_room K.cmp self.new.slots key)) }
+        ensures kept { (q : K) → IsTrue (has_room K.cmp self.old.slots q) → IsTrue (has_room K.cmp self.new.slots q) }
+        ensures err { OnErr result (self.new ≡ self.old) }
+    {
         self.slots.insert(key, None)?;
         Ok(())
     }
