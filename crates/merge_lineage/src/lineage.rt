@@ -228,7 +228,10 @@ impl Lineage {
         ensures numbers { IfOk result (Advances self.now dot) }
         ensures value { IfOk result (λ lineage. lineage ≡ with_dot dot self.now) }
     {
-        let mut advanced = self.clone()?;
+        // There is room for a dot of one more site.
+        let mut dots = Vec::with_capacity(*self.dots.allocator(), self.dots.len() + 1)?;
+        dots.extend_from_slice(&self.dots)?;
+        let mut advanced = Lineage::restore(dots);
         advanced.raise(dot)?;
         Ok(advanced)
     }
