@@ -23,7 +23,7 @@ use Rattle.merge_model.specs.Steps.{Action, CloseAt, Deliver, Forget, Look, Make
 use Rattle.merge_model.specs.declared.outcome.Outcome.TheVariants.{Passed, Posted, Refuses, Took}
 use Rattle.merge_model.specs.declared.outcome.Outcome.{Outcome}
 use Rattle.merge_model.specs.World.{World}
-use Rattle.merge_model.specs.SlipLaws.{shown}
+use Rattle.merge_model.specs.SlipLaws.{refused_for, shown}
 
 abbrev answer_by : ℕ → ℕ → ℕ → Option Refusal → Answer
 answer_by uploads downloads watermark None = Done uploads downloads watermark
@@ -37,19 +37,15 @@ Both R x y = (x.1 ≡ y.1) × R x.0 y.0
 abbrev pub BothOr : {V W A : Type 0} → (V → W → Type 0) → (A → Bool) → V × A → W × A → Type 0
 BothOr R excuses x y = Both R x y ⊎ (excuses x.1 ≡ true)
 
--- by the refusals that excuse: which outcomes, ends of a session and answers do
-abbrev pub is_off : (Refusal → Bool) → Outcome → Bool
-is_off off (Refuses refusal) = off refusal
-is_off off outcome = false
-
+-- by the refusals that excuse: which ends of a session do
 abbrev pub stops_off : (Refusal → Bool) → Option Refusal → Bool
 stops_off off None = false
 stops_off off (Some refusal) = off refusal
 
-module _ {V W : Type 0} (one : Stepping V) (other : Stepping W) (R : V → W → Type 0) (off : Refusal → Bool) (acts : (v : V) (w : W) (action : Action) → R v w → BothOr R (is_off off) (one.act v action) (other.act w action))
+module _ {V W : Type 0} (one : Stepping V) (other : Stepping W) (R : V → W → Type 0) (off : Refusal → Bool) (acts : (v : V) (w : W) (action : Action) → R v w → BothOr R (refused_for off) (one.act v action) (other.act w action))
     (passes : (v : V) (w : W) (seconds : ℕ) → R v w → Both R (one.act v (Pass seconds)) (other.act w (Pass seconds))) (looks : (v : V) (w : W) → R v w → one.look v ≡ other.look w) where
   abbrev Acted : V × Outcome → W × Outcome → Type 0
-  Acted x y = BothOr R (is_off off) x y
+  Acted x y = BothOr R (refused_for off) x y
 
   abbrev pub Told : V × Answer → W × Answer → Type 0
   Told x y = BothOr R (shown off) x y
@@ -92,7 +88,7 @@ module _ {V W : Type 0} (one : Stepping V) (other : Stepping W) (R : V → W →
     posted v w (Posted number) r = acts v w (Deliver number) r
     posted v w outcome r = inl (refl, r)
 
-    posted-off : (x : V × Outcome) → is_off off x.1 ≡ true → is_off off (then_deliver one site x).1 ≡ true
+    posted-off : (x : V × Outcome) → refused_for off x.1 ≡ true → refused_for off (then_deliver one site x).1 ≡ true
     posted-off (v, Refuses refusal) is = is
     posted-off (v, outcome) is = absurd (cc is)
 
@@ -109,7 +105,7 @@ module _ {V W : Type 0} (one : Stepping V) (other : Stepping W) (R : V → W →
     arrives next onward each s t a v w (Refuses refusal) r = inl (record { world = r; uploads = a.uploads; downloads = a.downloads; stop = refl })
     arrives next onward each s t a v w outcome r = inl (record { world = r; uploads = a.uploads; downloads = a.downloads; stop = a.stop })
 
-    arrived-off : (next : Session V → Session V) (s : Session V) (x : V × Outcome) → is_off off x.1 ≡ true → stops_off off (arrived one site next s x).stop ≡ true
+    arrived-off : (next : Session V → Session V) (s : Session V) (x : V × Outcome) → refused_for off x.1 ≡ true → stops_off off (arrived one site next s x).stop ≡ true
     arrived-off next s (v, Refuses refusal) is = is
     arrived-off next s (v, outcome) is = absurd (cc is)
 
@@ -126,7 +122,7 @@ module _ {V W : Type 0} (one : Stepping V) (other : Stepping W) (R : V → W →
     answers counted next counts onward counting each s t a v w (Refuses refusal) r = inl (record { world = r; uploads = a.uploads; downloads = a.downloads; stop = refl })
     answers counted next counts onward counting each s t a v w outcome r = inl (record { world = r; uploads = a.uploads; downloads = a.downloads; stop = a.stop })
 
-    answered-off : (counted next : Session V → Session V) (s : Session V) (x : V × Outcome) → is_off off x.1 ≡ true → stops_off off (answered_as one site counted next s x).stop ≡ true
+    answered-off : (counted next : Session V → Session V) (s : Session V) (x : V × Outcome) → refused_for off x.1 ≡ true → stops_off off (answered_as one site counted next s x).stop ≡ true
     answered-off counted next s (v, Refuses refusal) is = is
     answered-off counted next s (v, outcome) is = absurd (cc is)
 
@@ -226,7 +222,7 @@ module _ {V W : Type 0} (one : Stepping V) (other : Stepping W) (R : V → W →
     looked-alike f g same v w (Refuses refusal) r = (refl, r)
     looked-alike f g same v w outcome r = (same v w r, r)
 
-    looked-off : (f : V → Answer) (x : V × Outcome) → is_off off x.1 ≡ true → shown off (looked publication one f x).1 ≡ true
+    looked-off : (f : V → Answer) (x : V × Outcome) → refused_for off x.1 ≡ true → shown off (looked publication one f x).1 ≡ true
     looked-off f (v, Refuses refusal) is = is
     looked-off f (v, outcome) is = absurd (cc is)
 
@@ -238,11 +234,11 @@ module _ {V W : Type 0} (one : Stepping V) (other : Stepping W) (R : V → W →
     looking-alike f g same v w r = looked-pair f g same (one.act v Look) (other.act w Look) (acts v w Look r)
 
     -- what is answered by the outcome alone
-    answered-alike : (answer : Outcome → Answer) → ((outcome : Outcome) → is_off off outcome ≡ true → shown off (answer outcome) ≡ true) → (x : V × Outcome) (y : W × Outcome) → Acted x y → Told (answered_by publication one answer x) (answered_by publication other answer y)
+    answered-alike : (answer : Outcome → Answer) → ((outcome : Outcome) → refused_for off outcome ≡ true → shown off (answer outcome) ≡ true) → (x : V × Outcome) (y : W × Outcome) → Acted x y → Told (answered_by publication one answer x) (answered_by publication other answer y)
     answered-alike answer excused x y (inl b) = inl (ap answer b.0, b.1)
     answered-alike answer excused x y (inr is) = inr (excused x.1 is)
 
-    outcome-off : (number : ℕ) (outcome : Outcome) → is_off off outcome ≡ true → shown off (outcome_answer number outcome) ≡ true
+    outcome-off : (number : ℕ) (outcome : Outcome) → refused_for off outcome ≡ true → shown off (outcome_answer number outcome) ≡ true
     outcome-off number (Refuses refusal) is = is
     outcome-off number outcome is = absurd (cc is)
 
@@ -250,7 +246,7 @@ module _ {V W : Type 0} (one : Stepping V) (other : Stepping W) (R : V → W →
     refused-off change NoMemory is = is
     refused-off change refusal is = is
 
-    change-off : (change : Change) (outcome : Outcome) → is_off off outcome ≡ true → shown off (change_answer change outcome) ≡ true
+    change-off : (change : Change) (outcome : Outcome) → refused_for off outcome ≡ true → shown off (change_answer change outcome) ≡ true
     change-off change (Refuses refusal) is = refused-off change refusal is
     change-off change outcome is = absurd (cc is)
 

@@ -49,7 +49,7 @@ module _ {V W : Type 0} (publication : Publication) (one : Stepping V) (other : 
   fails-from slips v w Forget same = acting-alike slips Forget v w (one.act v Forget) (other.act w Forget) same (acts v w Forget same)
   fails-from slips v w Look same = acting-alike slips Look v w (one.act v Look) (other.act w Look) same (acts v w Look same)
 
-  fails-alike : (f : Faulty V) (g : Faulty W) (action : Action) → Together f g → Both Together (fails publication one f action) (fails publication other g action)
+  pub fails-alike : (f : Faulty V) (g : Faulty W) (action : Action) → Together f g → Both Together (fails publication one f action) (fails publication other g action)
   fails-alike f g action same = subst (λ (slips : Slips). Both Together (fails publication one f action) (fails publication other (faulty g.world slips) action)) same.0 (fails-from f.slips f.world g.world action same.1)
 
   pub runs-alike : (slips : Slips) (events : List Event) (v : V) (w : W) → R v w → (answers publication (failing publication one) (faulty v slips) events ≡ answers publication (failing publication other) (faulty w slips) events)

@@ -306,7 +306,7 @@ if_noted-once : (b : Bool) (after before : History) → Once after.done → Once
 if_noted-once true after before first second = first
 if_noted-once false after before first second = second
 
-step-once : (publication : Publication) (says : Saying) (m : Model) (action : Action) → Once m.history.done → Once (model_step publication says m action).0.history.done
+pub step-once : (publication : Publication) (says : Saying) (m : Model) (action : Action) → Once m.history.done → Once (model_step publication says m action).0.history.done
 step-once publication says m action once =
     let judges : Judges = by_history m.history in
     let done : World × Outcome = step_by publication says judges m.world action in

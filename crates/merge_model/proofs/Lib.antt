@@ -25,6 +25,7 @@ pub mod Alike
 pub mod AlikeFailing
 pub mod NoSlips
 pub mod KeptFailing
+pub mod Actions
 pub mod Reached
 pub mod Calling
 pub mod ReachedSessions

@@ -10,11 +10,11 @@ use Rattle.merge_model.specs.Steps.{Action, CloseAt, Deliver, Forget, Look, Make
 use Rattle.merge_model.specs.declared.event.Event.{Event}
 use Rattle.merge_model.specs.declared.outcome.Outcome.{Outcome}
 use Rattle.merge_model.specs.Reach.{AreNone}
-use Rattle.merge_model.specs.SlipLaws.{is_slip, shown}
-use Rattle.merge_model.proofs.Alike.{Both, BothOr, events-alike, events-or, is_off}
+use Rattle.merge_model.specs.SlipLaws.{is_slip, refused_for, shown}
+use Rattle.merge_model.proofs.Alike.{Both, BothOr, events-alike, events-or}
 
 module _ {W : Type 0} (publication : Publication) (stepping : Stepping W) where
-  abbrev Plain : Faulty W → W → Type 0
+  abbrev pub Plain : Faulty W → W → Type 0
   Plain f w = (f.world ≡ w) × AreNone f.slips
 
   acting : (slips : Slips) (action : Action) (w : W) (done : W × Outcome) → AreNone slips → Both Plain (acting_with publication stepping slips action w done) done
@@ -32,7 +32,7 @@ module _ {W : Type 0} (publication : Publication) (stepping : Stepping W) where
   acts-from Forget w slips none = acting slips Forget w (stepping.act w Forget) none
   acts-from Look w slips none = acting slips Look w (stepping.act w Look) none
 
-  acts-plain : (f : Faulty W) (w : W) (action : Action) → Plain f w → Both Plain ((failing publication stepping).act f action) (stepping.act w action)
+  pub acts-plain : (f : Faulty W) (w : W) (action : Action) → Plain f w → Both Plain ((failing publication stepping).act f action) (stepping.act w action)
   acts-plain f w action same = subst (λ (v : W). Both Plain ((failing publication stepping).act f action) (stepping.act v action)) same.0 (acts-from action f.world f.slips same.1)
 
   pub none-fails : (w : W) (slips : Slips) (events : List Event) → AreNone slips
@@ -41,23 +41,23 @@ module _ {W : Type 0} (publication : Publication) (stepping : Stepping W) where
 
   -- The same world, until a step fails.
 
-  abbrev Same : Faulty W → W → Type 0
+  abbrev pub Same : Faulty W → W → Type 0
   Same f w = f.world ≡ w
 
   slip-off : (is_fault : Bool) → is_slip (if is_fault then refusal.StoreFault else refusal.NoMemory) ≡ true
   slip-off true = refl
   slip-off false = refl
 
-  slip-or : (allowed : Bool) (slips : Slips) (slip : Slip) (action : Action) (w : W) (done : W × Outcome) → BothOr Same (is_off is_slip) (slip_if publication stepping allowed slips slip action w done) done
+  slip-or : (allowed : Bool) (slips : Slips) (slip : Slip) (action : Action) (w : W) (done : W × Outcome) → BothOr Same (refused_for is_slip) (slip_if publication stepping allowed slips slip action w done) done
   slip-or true slips slip action w done = inr (slip-off slip.is_fault)
   slip-or false slips slip action w done = inl (refl, refl)
 
-  acting-or : (slips : Slips) (action : Action) (w : W) (done : W × Outcome) → BothOr Same (is_off is_slip) (acting_with publication stepping slips action w done) done
+  acting-or : (slips : Slips) (action : Action) (w : W) (done : W × Outcome) → BothOr Same (refused_for is_slip) (acting_with publication stepping slips action w done) done
   acting-or [] action w done = inl (refl, refl)
   acting-or (None ∷ slips) action w done = inl (refl, refl)
   acting-or (Some slip ∷ slips) action w done = slip-or (is_allowed publication (stepping.look w) action slip done.1) slips slip action w done
 
-  acts-or-from : (action : Action) (f : Faulty W) → BothOr Same (is_off is_slip) ((failing publication stepping).act f action) (stepping.act f.world action)
+  acts-or-from : (action : Action) (f : Faulty W) → BothOr Same (refused_for is_slip) ((failing publication stepping).act f action) (stepping.act f.world action)
   acts-or-from (Pass seconds) f = inl (refl, refl)
   acts-or-from (Make site change) f = acting-or f.slips (Make site change) f.world (stepping.act f.world (Make site change))
   acts-or-from (CloseAt site) f = acting-or f.slips (CloseAt site) f.world (stepping.act f.world (CloseAt site))
@@ -67,8 +67,8 @@ module _ {W : Type 0} (publication : Publication) (stepping : Stepping W) where
   acts-or-from Forget f = acting-or f.slips Forget f.world (stepping.act f.world Forget)
   acts-or-from Look f = acting-or f.slips Look f.world (stepping.act f.world Look)
 
-  acts-or : (f : Faulty W) (w : W) (action : Action) → Same f w → BothOr Same (is_off is_slip) ((failing publication stepping).act f action) (stepping.act w action)
-  acts-or f w action same = subst (λ (v : W). BothOr Same (is_off is_slip) ((failing publication stepping).act f action) (stepping.act v action)) same (acts-or-from action f)
+  pub acts-or : (f : Faulty W) (w : W) (action : Action) → Same f w → BothOr Same (refused_for is_slip) ((failing publication stepping).act f action) (stepping.act w action)
+  acts-or f w action same = subst (λ (v : W). BothOr Same (refused_for is_slip) ((failing publication stepping).act f action) (stepping.act v action)) same (acts-or-from action f)
 
   passes-same : (f : Faulty W) (w : W) (seconds : ℕ) → Same f w → Both Same ((failing publication stepping).act f (Pass seconds)) (stepping.act w (Pass seconds))
   passes-same f w seconds same = subst (λ (v : W). Both Same ((failing publication stepping).act f (Pass seconds)) (stepping.act v (Pass seconds))) same (refl, refl)

@@ -19,6 +19,8 @@ use Rattle.merge_model.specs.Tables.{PublisherTables}
 use Rattle.merge_model.specs.World.{Saying, World, letter_at}
 use Rattle.merge_model.specs.declared.event.Event.{Event}
 use Rattle.merge_model.specs.declared.letter.Message.TheVariants.{Asks}
+use Rattle.merge_model.specs.declared.outcome.Outcome.{Outcome}
+use Rattle.merge_model.specs.declared.outcome.Outcome.TheVariants.{Refuses}
 use Rattle.merge_batch.specs.declared.refusal.Refusal.TheVariants as refusal
 
 -- Answers that tell of refusals that pass a test: of an event, or of what ended a session
@@ -27,6 +29,11 @@ shown test (Refused refusal) = test refusal
 shown test (RefusedIn article refusal) = test refusal
 shown test (Stopped uploads downloads refusal) = test refusal
 shown test answer = false
+
+-- and outcomes of single steps that are such refusals
+abbrev pub refused_for : (Refusal → Bool) → Outcome → Bool
+refused_for test (Refuses refusal) = test refusal
+refused_for test outcome = false
 
 -- what a step is refused for that fails
 abbrev pub is_slip : Refusal → Bool
