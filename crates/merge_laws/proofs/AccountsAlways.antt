@@ -2,12 +2,12 @@
 use Rattle.std.specs.Prelude.{[]}
 use Rattle.merge_schema.specs.declared.publication.Publication.{Publication}
 use Rattle.merge_model.specs.Failing.{faulty}
-use Rattle.merge_model.specs.Runs.{model_behind}
-use Rattle.merge_model.proofs.KeptFailing.{runs-keep}
+use Rattle.merge_model.specs.Runs.{model_behind_actions}
 use Rattle.merge_model.specs.Model.{Model, empty_model, model}
 use Rattle.merge_model.specs.Promises.{AllAccounted}
+use Rattle.merge_model.proofs.Actions.{failing-actions-keep}
 use Rattle.merge_laws.specs.Accounts.{OfAccounts}
-use Rattle.merge_laws.specs.Laws.{OfEveryValidRun}
+use Rattle.merge_laws.specs.Laws.{OfEveryValidActions}
 use Rattle.merge_laws.proofs.AccountBase.{Base}
 use Rattle.merge_laws.proofs.AccountEach.{all-accounted}
 use Rattle.merge_laws.proofs.AccountSteps.{accounts-begin, accounts-keep}
@@ -20,12 +20,12 @@ base publication m k = (ground publication m k, (k.told, owns publication m k))
 abbrev IsAccounted : Publication → Model → Type 0
 IsAccounted publication m = Kept publication m × OfAccounts publication m.world m.history
 
-pub no-change-is-lost : OfEveryValidRun (λ publication says m. AllAccounted m)
-no-change-is-lost resolvers publication valid says tallies slips events =
-    let m : Model = model_behind publication says tallies slips events in
-    let all : IsAccounted publication m = runs-keep publication (model publication says) (IsAccounted publication)
+pub no-change-is-lost : OfEveryValidActions (λ publication says m. AllAccounted m)
+no-change-is-lost resolvers publication valid says tallies slips actions =
+    let m : Model = model_behind_actions publication says tallies slips actions in
+    let all : IsAccounted publication m = failing-actions-keep publication (model publication says) (IsAccounted publication)
     (λ n action k. (
       kept-step publication n k.0 says action,
       step-keeps publication says (Base publication) (OfAccounts publication) (λ w h b. b.0.received) (accounts-keep publication says) n action (base publication n k.0) k.1,
-    )) (λ n others k. (kept-tallied publication n others k.0, k.1)) events (faulty (empty_model publication tallies) slips) (kept-always publication (resolvers, valid) says tallies [] [], accounts-begin publication tallies (resolvers, valid)) in
+    )) (λ n others k. (kept-tallied publication n others k.0, k.1)) actions (faulty (empty_model publication tallies) slips) (kept-always publication (resolvers, valid) says tallies [] [], accounts-begin publication tallies (resolvers, valid)) in
     all-accounted publication m.world m.history (base publication m all.0).0.numbered all.1

@@ -13,7 +13,7 @@ use Rattle.merge_batch.specs.declared.request.Request.TheVariants as request
 use Rattle.merge_batch.specs.declared.request.Upload.{Upload}
 use Rattle.merge_batch.proofs.Values.{slice_get-append_within}
 use Rattle.merge_model.specs.Failing.{Slips, faulty}
-use Rattle.merge_model.specs.Runs.{model_behind, model_after}
+use Rattle.merge_model.specs.Runs.{model_after_actions, model_behind_actions}
 use Rattle.merge_model.specs.Acts.{Act}
 use Rattle.merge_model.specs.ByHistory.{by_made, by_past}
 use Rattle.merge_model.specs.Entries.{Entries}
@@ -24,25 +24,25 @@ use Rattle.merge_model.specs.Model.{Model, did_something, model}
 use Rattle.merge_model.specs.Noting
 use Rattle.merge_model.specs.Publisher.{last_closed}
 use Rattle.merge_model.specs.PublisherUpload.{brings_news}
-use Rattle.merge_model.specs.Steps.{Deliver, kept_decisions, upload_questions}
+use Rattle.merge_model.specs.Steps.{Action, Deliver, kept_decisions, upload_questions}
 use Rattle.merge_model.specs.declared.outcome.Outcome.{Outcome}
 use Rattle.merge_model.specs.Tables.{PublisherTables}
 use Rattle.merge_model.specs.World.{Saying, World, letter_at}
 use Rattle.merge_model.specs.declared.letter.Message.TheVariants.{Asks}
 use Rattle.merge_model.specs.declared.letter.Letter.{Letter}
 use Rattle.merge_model.specs.declared.letter.Message.{Message}
-use Rattle.merge_model.specs.declared.event.Event.{Event}
-use Rattle.merge_model.proofs.KeptFailing.{runs-keep}
+use Rattle.merge_model.proofs.Actions.{failing-actions-keep}
 use Rattle.merge_laws.proofs.Tallied.{received-tallied}
-use Rattle.merge_laws.specs.Laws.{OfEveryDecidedRun}
-use Rattle.merge_laws.specs.ActsOnce.{AllActed, DoneStays, LettersStay, TakenHaveActed, TakenOnlyAnswer, delivered}
+use Rattle.merge_laws.specs.Laws.{OfEveryActions}
+use Rattle.merge_laws.specs.ActsOnce.{AllActed, DoneStays, DoneStaysByActions, LettersStay, LettersStayByActions, OnlyAnswers, TakenHaveActed, TakenOnlyAnswer, TakenOnlyAnswerByActions, delivered}
 use Rattle.merge_laws.specs.Received.{Received}
 use Rattle.merge_laws.proofs.ActsOnceSteps.{acted-uploads-only-answer, delivered-by, is-fine, judge, refusal, taken_by}
-use Rattle.merge_laws.proofs.Models.{model-fine, received-always}
+use Rattle.merge_laws.proofs.Models.{model-fine, received-by-actions}
 use Rattle.merge_laws.proofs.Noted.{NotesKeep, acts-keep, acts-own, anew-keep, lines-keep, own-keep, purge-keep, reply-keep}
 use Rattle.merge_laws.proofs.Publishing.{done-joins}
 use Rattle.merge_laws.proofs.Walking.{Sends, StepsKeep, acts_in, here, join_noted, step-keeps}
 use Rattle.merge_laws.proofs.Worlds.{received-is}
+use Rattle.merge_laws.proofs.OfActions.{of-later-events}
 
 -- a letter stays where one more comes
 letter-more : (w : World) (number : ℕ) (letter other : Letter) → letter_at w number ≡ Some letter → letter_at (record w { pool = w.pool ++ other ∷ [] }) number ≡ Some letter
@@ -121,9 +121,9 @@ module _ (before : Model) where
     }
 
 module _ (publication : Publication) (says : Saying) where
-  both-stay : (m : Model) → Received m.world m.history → (slips : Slips) (more : List Event)
-      → (let later : Model = model_after publication says m slips more in Received later.world later.history × Stays m later.world later.history)
-  both-stay m r slips more = runs-keep publication (model publication says) (λ (n : Model). Received n.world n.history × Stays m n.world n.history)
+  both-stay : (m : Model) → Received m.world m.history → (slips : Slips) (more : List Action)
+      → (let later : Model = model_after_actions publication says m slips more in Received later.world later.history × Stays m later.world later.history)
+  both-stay m r slips more = failing-actions-keep publication (model publication says) (λ (n : Model). Received n.world n.history × Stays m n.world n.history)
       (λ n action both. (
         model-fine publication says n action both.0,
         step-keeps publication says Received (Stays m) (λ w h r. r) (stays-keep m publication says) n action both.0 both.1,
@@ -154,25 +154,43 @@ module _ (publication : Publication) (says : Saying) where
 
   -- So another delivery is only answered, or refused.
 
-  again-answers : (m : Model) → Received m.world m.history → TakenOnlyAnswer publication says m
+  again-answers : (m : Model) → Received m.world m.history → TakenOnlyAnswerByActions publication says m
   again-answers m r number site u at did slips more =
       let done : Model = (delivered publication says m number).0 in
       let there = step-keeps publication says Received (Stays m) (λ w h r. r) (stays-keep m publication says) m (Deliver number) r (λ k letter is. is, λ n generation is. is) in
       let later = both-stay done (model-fine publication says m (Deliver number) r) slips more in
       let acted : AllActed done.history u = delivered-acted m r number site u at did in
-      acted-uploads-only-answer publication says (model_after publication says done slips more) number site u (later.1.0 number (record { site = site; message = Asks (request.Upload u) }) (there.0 number (record { site = site; message = Asks (request.Upload u) }) at))
+      acted-uploads-only-answer publication says (model_after_actions publication says done slips more) number site u (later.1.0 number (record { site = site; message = Asks (request.Upload u) }) (there.0 number (record { site = site; message = Asks (request.Upload u) }) at))
       (λ generation above within. later.1.1 u.site.0 generation (acted generation above within))
 
-pub taken-have-acted : OfEveryDecidedRun TakenHaveActed
-taken-have-acted publication says tallies slips events = delivered-acted publication says (model_behind publication says tallies slips events) (received-always publication says tallies slips events)
+pub taken-have-acted : OfEveryActions TakenHaveActed
+taken-have-acted publication says tallies slips actions = delivered-acted publication says (model_behind_actions publication says tallies slips actions) (received-by-actions publication says tallies slips actions)
 
-pub done-stays : OfEveryDecidedRun DoneStays
-done-stays publication says tallies slips events site generation acted others more =
-    (both-stay publication says (model_behind publication says tallies slips events) (received-always publication says tallies slips events) others more).1.1 site generation acted
+pub done-stays-by-actions : OfEveryActions DoneStaysByActions
+done-stays-by-actions publication says tallies slips actions site generation acted others more =
+    (both-stay publication says (model_behind_actions publication says tallies slips actions) (received-by-actions publication says tallies slips actions) others more).1.1 site generation acted
 
-pub letters-stay : OfEveryDecidedRun LettersStay
-letters-stay publication says tallies slips events number letter at others more =
-    (both-stay publication says (model_behind publication says tallies slips events) (received-always publication says tallies slips events) others more).1.0 number letter at
+pub letters-stay-by-actions : OfEveryActions LettersStayByActions
+letters-stay-by-actions publication says tallies slips actions number letter at others more =
+    (both-stay publication says (model_behind_actions publication says tallies slips actions) (received-by-actions publication says tallies slips actions) others more).1.0 number letter at
 
-pub taken-only-answer : OfEveryDecidedRun TakenOnlyAnswer
-taken-only-answer publication says tallies slips events = again-answers publication says (model_behind publication says tallies slips events) (received-always publication says tallies slips events)
+pub taken-only-answer-by-actions : OfEveryActions TakenOnlyAnswerByActions
+taken-only-answer-by-actions publication says tallies slips actions =
+    again-answers publication says (model_behind_actions publication says tallies slips actions) (received-by-actions publication says tallies slips actions)
+
+-- So it is where events come afterwards.
+
+pub done-stays : OfEveryActions DoneStays
+done-stays publication says tallies slips actions site generation acted others more =
+    of-later-events publication says (model_behind_actions publication says tallies slips actions) others more (λ (n : Model). is_done n.history site generation ≡ true)
+    (done-stays-by-actions publication says tallies slips actions site generation acted others)
+
+pub letters-stay : OfEveryActions LettersStay
+letters-stay publication says tallies slips actions number letter at others more =
+    of-later-events publication says (model_behind_actions publication says tallies slips actions) others more (λ (n : Model). letter_at n.world number ≡ Some letter)
+    (letters-stay-by-actions publication says tallies slips actions number letter at others)
+
+pub taken-only-answer : OfEveryActions TakenOnlyAnswer
+taken-only-answer publication says tallies slips actions number site u at did others more =
+    of-later-events publication says (delivered publication says (model_behind_actions publication says tallies slips actions) number).0 others more (λ (n : Model). OnlyAnswers site u n (delivered publication says n number))
+    (taken-only-answer-by-actions publication says tallies slips actions number site u at did others)

@@ -11,7 +11,9 @@ use Rattle.merge_model.specs.World.{Saying, World}
 use Rattle.merge_model.specs.declared.event.Event.{Event}
 use Rattle.merge_model.specs.declared.outcome.Outcome.{Outcome}
 use Rattle.merge_model.proofs.Alike.{Both, events-alike}
-use Rattle.merge_model.proofs.AlikeFailing.{runs-alike as failing-runs}
+use Rattle.merge_model.proofs.Actions.{actions-alike}
+use Rattle.merge_model.proofs.AlikeFailing.{Together, fails-alike, runs-alike as failing-runs}
+use Rattle.merge_model.specs.Runs.{after_actions, outcomes}
 
 module _ (publication : Publication) (says : Saying) (Kept : Model → Type 0) (keeps : (m : Model) (action : Action) → Kept m → Kept (model_step publication says m action).0) (acts : (m : Model) (action : Action) → Kept m → StepsAlike publication says m action) where
   -- the same but for the history
@@ -41,3 +43,11 @@ module _ (publication : Publication) (says : Saying) (Kept : Model → Type 0) (
         → (answers publication (failing publication (machine publication says)) (faulty m.world slips) events ≡ answers publication (failing publication (model publication says)) (faulty m slips) events)
         × ((after publication (failing publication (machine publication says)) (faulty m.world slips) events).world ≡ (after publication (failing publication (model publication says)) (faulty m slips) events).world.world)
     failing-alike slips events m k = (let run = failing-runs publication (machine publication says) (model publication says) Same act-alike (λ w n same. same.0) tally-alike slips events m.world m (refl, k) in (run.0, run.1.1.0))
+
+    pub failing-actions-alike : (slips : Slips) (actions : List Action) (m : Model) → Kept m
+        → (outcomes (failing publication (machine publication says)) (faulty m.world slips) actions ≡ outcomes (failing publication (model publication says)) (faulty m slips) actions)
+        × ((after_actions (failing publication (machine publication says)) (faulty m.world slips) actions).world ≡ (after_actions (failing publication (model publication says)) (faulty m slips) actions).world.world)
+    failing-actions-alike slips actions m k =
+        let done = actions-alike (failing publication (machine publication says)) (failing publication (model publication says)) (Together publication (machine publication says) (model publication says) Same act-alike (λ w n same. same.0) tally-alike)
+        (fails-alike publication (machine publication says) (model publication says) Same act-alike (λ w n same. same.0) tally-alike) actions (faulty m.world slips) (faulty m slips) (refl, (refl, k)) in
+        (done.0, done.1.1.0)

@@ -19,7 +19,7 @@ use Rattle.merge_batch.specs.declared.request.Outstanding.TheVariants as ask
 use Rattle.merge_batch.specs.declared.request.Request.TheVariants as request
 use Rattle.merge_batch.specs.declared.request.Upload.{Upload}
 use Rattle.merge_model.specs.Failing.{Slips, faulty}
-use Rattle.merge_model.specs.Runs.{model_behind}
+use Rattle.merge_model.specs.Runs.{model_behind, model_behind_actions}
 use Rattle.merge_model.specs.Acts.{Act}
 use Rattle.merge_model.specs.ByHistory.{by_made, by_past}
 use Rattle.merge_model.specs.ByNumbers.{received_by_number}
@@ -48,7 +48,8 @@ use Rattle.merge_model.specs.declared.letter.Message.TheVariants.{Asks, Replies}
 use Rattle.merge_model.specs.declared.letter.Letter.{Letter}
 use Rattle.merge_model.specs.declared.letter.Message.{Message}
 use Rattle.merge_model.specs.declared.event.Event.{Event}
-use Rattle.merge_model.proofs.KeptFailing.{runs-keep}
+use Rattle.merge_model.specs.Steps.{Action}
+use Rattle.merge_model.proofs.Actions.{failing-actions-keep}
 use Rattle.merge_laws.proofs.Tallied.{behind-tallied, received-tallied}
 use Rattle.merge_laws.specs.Behind.{Behind, StaysBehind, TellsActed}
 use Rattle.merge_laws.specs.Received.{JoinFits, MessageFits, Received, joined_at}
@@ -65,6 +66,7 @@ use Rattle.merge_model.proofs.Tests.{number-itself}
 use Rattle.merge_laws.proofs.UnsentKept.{reply-site, version-site}
 use Rattle.merge_laws.proofs.Walking.{StepsKeep, acts_in, comes, here, step-keeps, told_by, uploaded_world}
 use Rattle.merge_laws.proofs.Worlds.{received-is}
+use Rattle.merge_laws.proofs.OfActions.{of-events}
 
 -- What a subscriber does.
 
@@ -377,8 +379,12 @@ behind-begins publication tallies = record {
   letters = tt;
 }
 
+pub behind-by-actions : (publication : Publication) (says : Saying) (tallies : List ℕ) (slips : Slips) (actions : List Action)
+    → (let m : Model = model_behind_actions publication says tallies slips actions in Received m.world m.history × Behind m.world)
+behind-by-actions publication says tallies slips actions = failing-actions-keep publication (model publication says) (λ (m : Model). Received m.world m.history × Behind m.world)
+    (λ m action i. (model-fine publication says m action i.0, step-keeps publication says Received OfWorlds (λ w h r. r) (behind-keeps publication says) m action i.0 i.1)) (λ m others i. (received-tallied m.world others m.history i.0, behind-tallied m.world others i.1)) actions (faulty (empty_model publication tallies) slips)
+    (begins publication tallies, behind-begins publication tallies)
+
 pub behind-always : (publication : Publication) (says : Saying) (tallies : List ℕ) (slips : Slips) (events : List Event)
     → (let m : Model = model_behind publication says tallies slips events in Received m.world m.history × Behind m.world)
-behind-always publication says tallies slips events = runs-keep publication (model publication says) (λ (m : Model). Received m.world m.history × Behind m.world)
-    (λ m action i. (model-fine publication says m action i.0, step-keeps publication says Received OfWorlds (λ w h r. r) (behind-keeps publication says) m action i.0 i.1)) (λ m others i. (received-tallied m.world others m.history i.0, behind-tallied m.world others i.1)) events (faulty (empty_model publication tallies) slips)
-    (begins publication tallies, behind-begins publication tallies)
+behind-always publication says tallies slips events = of-events publication says tallies slips events (λ (m : Model). Received m.world m.history × Behind m.world) (behind-by-actions publication says tallies slips)

@@ -13,7 +13,7 @@ use Rattle.merge_model.specs.ByHistory.{by_made}
 use Rattle.merge_model.specs.History.{MadeChange, made_at}
 use Rattle.merge_model.specs.Model.{Model, model, model_step}
 use Rattle.merge_model.specs.Publisher.{last_closed}
-use Rattle.merge_model.specs.Runs.{model_behind}
+use Rattle.merge_model.specs.Runs.{model_behind_actions}
 use Rattle.merge_model.specs.Sending.{sending_refusal, unsent_rows, upload_made, upload_sent}
 use Rattle.merge_model.specs.Session.{Session, after_download, all_downloads, all_uploads, answered_as, arrived, ask, downloaded_in, downloading, exchange, last_message, unsent_generations, uploading, with_answer, with_upload}
 use Rattle.merge_model.specs.Steps.{Deliver, Send, SendDownload, SendUpload, Sending, posted}
@@ -26,12 +26,12 @@ use Rattle.merge_model.specs.declared.outcome.Outcome.{Outcome}
 use Rattle.merge_model.specs.declared.outcome.Outcome.TheVariants.{NoPost, Posted, Refuses, Took}
 use Rattle.merge_model.proofs.Finding.{found-named}
 use Rattle.merge_laws.specs.Bounds.{DownloadsAreEnough, UploadsAreEnough, more_downloads, more_uploads, under_way}
-use Rattle.merge_laws.specs.Laws.{OfEveryValidRun}
+use Rattle.merge_laws.specs.Laws.{OfEveryValidActions}
 use Rattle.merge_laws.proofs.SessionChanges.{NoneBetween, UpTo, none-nothing, order-up, up-none}
 use Rattle.merge_laws.proofs.SessionExchanges.{DownloadLeaves, UploadLeaves, UploadRests, download-leaves, upload-leaves}
 use Rattle.merge_laws.proofs.SessionLaw.{At, Joins, Known, at_next, deliver-known, ends-here, own, same-site, step-known}
 use Rattle.merge_laws.proofs.SessionSteps.{After, Answered, Ends, Sent, send-step, unless-step}
-use Rattle.merge_laws.proofs.SettledLaw.{settled-always}
+use Rattle.merge_laws.proofs.SettledLaw.{settled-by-actions}
 
 module _ (publication : Publication) (says : Saying) (site : SiteId) where
   -- Two ways to go on that are the same where an exchange acts.
@@ -182,14 +182,14 @@ module _ (publication : Publication) (says : Saying) (m : Model) (s : Subscriber
       ∙ uploading-same publication says s.site bound count more u (record { at = here; joined = joined }) all (omega (arith, below)) (omega (arith, below))
       ∙ ap (λ (n : ℕ). uploading (model publication says) s.site n u) (sym is)
 
-pub uploads-enough : OfEveryValidRun UploadsAreEnough
-uploads-enough resolvers publication valid says tallies slips events s uploads downloads more at joined =
-    let m : Model = model_behind publication says tallies slips events in
-    let g = (settled-always publication says tallies slips events (resolvers, valid)).0 in
+pub uploads-enough : OfEveryValidActions UploadsAreEnough
+uploads-enough resolvers publication valid says tallies slips actions s uploads downloads more at joined =
+    let m : Model = model_behind_actions publication says tallies slips actions in
+    let g = (settled-by-actions publication says tallies slips actions (resolvers, valid)).0 in
     uploads-here publication says m s at (g.received, g.numbered) joined (found-named m.world.subscribers s.site.0 s g.none at) uploads downloads more
 
-pub downloads-enough : OfEveryValidRun DownloadsAreEnough
-downloads-enough resolvers publication valid says tallies slips events s uploads downloads more at joined =
-    let m : Model = model_behind publication says tallies slips events in
-    let g = (settled-always publication says tallies slips events (resolvers, valid)).0 in
+pub downloads-enough : OfEveryValidActions DownloadsAreEnough
+downloads-enough resolvers publication valid says tallies slips actions s uploads downloads more at joined =
+    let m : Model = model_behind_actions publication says tallies slips actions in
+    let g = (settled-by-actions publication says tallies slips actions (resolvers, valid)).0 in
     downloads-same publication says s.site more (under_way m uploads downloads) (here publication says m s at (g.received, g.numbered))

@@ -1,5 +1,5 @@
 -- No generation takes effect twice: what takes effect at a delivery has acted behind it, and stays so.
-use Rattle.std.specs.Prelude.{◌≡◌, ◌<◌, ◌+◌, ◌-◌, ◌++◌, ℕ, zero, suc, List, [], ◌∷◌, Bool, true, false, not, Option, Some, None, refl, filter, cond, nat_lt, All}
+use Rattle.std.specs.Prelude.{◌≡◌, ◌<◌, ◌+◌, ◌-◌, ℕ, zero, suc, List, [], ◌∷◌, Bool, true, false, not, Option, Some, None, refl, filter, cond, nat_lt, All}
 use Rattle.std.specs.List.{AllByRecursion, list_any, range_with_len}
 use Rattle.std.proofs.Common.{arith, subst, sym, ap, ◌∙◌}
 use Rattle.std.proofs.lemmas.Bool.Decides.{nat_tests}
@@ -13,22 +13,21 @@ use Rattle.merge_batch.specs.declared.request.UploadItem.{UploadItem}
 use Rattle.merge_model.specs.ByNumbers.{by_numbers, received_by_number}
 use Rattle.merge_model.specs.Failing.{Faulty, Slip, Slips, acting_with, failing, fails, faulty, is_allowed, slip_if}
 use Rattle.merge_model.specs.History.{History, is_done}
-use Rattle.merge_model.specs.Model.{Model, did_something, empty_model, model, model_step}
+use Rattle.merge_model.specs.Model.{Model, did_something, empty_model, model}
 use Rattle.merge_model.specs.PublisherUpload.{brings_news}
-use Rattle.merge_model.specs.Runs.{model_behind}
+use Rattle.merge_model.specs.Runs.{model_behind_actions}
 use Rattle.merge_model.specs.Steps.{Action, Deliver}
 use Rattle.merge_model.specs.Tables.{PublisherTables}
 use Rattle.merge_model.specs.World.{Saying}
 use Rattle.merge_model.specs.declared.outcome.Outcome.{Outcome}
-use Rattle.merge_model.proofs.Events.{events-keep}
-use Rattle.merge_model.proofs.KeptFailing.{fails-keep}
+use Rattle.merge_model.proofs.Actions.{events-are-actions, failing-actions-keep}
 use Rattle.merge_laws.specs.ActsOnce.{AllActed, delivered}
 use Rattle.merge_laws.specs.Effects.{ActingTakeEffect, EffectAt, NewsIsUnmet, NoneTakesEffectTwice, NumbersTakeEffect, RunsAreSteps, TakesEffect, after_steps, history_judge}
-use Rattle.merge_laws.specs.Laws.{OfEveryModel}
+use Rattle.merge_laws.specs.Laws.{OfEveryActions}
 use Rattle.merge_laws.specs.Received.{DoneIsReceived, Received}
 use Rattle.merge_laws.proofs.ActsOnceSteps.{delivered-by, is-fine, refusal, taken_by}
 use Rattle.merge_laws.proofs.ActsOnceTaken.{Stays, delivered-acted, stays-keep}
-use Rattle.merge_laws.proofs.Models.{begins, model-fine, received-always}
+use Rattle.merge_laws.proofs.Models.{begins, model-fine, received-by-actions}
 use Rattle.merge_laws.proofs.Tallied.{received-tallied}
 use Rattle.merge_laws.proofs.Walking.{step-keeps}
 use Rattle.merge_laws.proofs.Worlds.{received-is}
@@ -36,21 +35,12 @@ use Rattle.merge_laws.proofs.Worlds.{received-is}
 -- Steps, some of which may fail, keep what each step and other tallies keep.
 
 module _ (publication : Publication) (says : Saying) where
-  steps-after : (f : Faulty Model) (actions : List Action) (action : Action) → after_steps publication says f (actions ++ action ∷ []) ≡ (fails publication (model publication says) (after_steps publication says f actions) action).0
-  steps-after f [] action = refl
-  steps-after f (first ∷ actions) action = steps-after (fails publication (model publication says) f first).0 actions action
-
-  pub steps-keep : (P : Model → Type 0) → ((m : Model) (action : Action) → P m → P (model_step publication says m action).0) → ((m : Model) (tallies : List ℕ) → P m → P (record m { world = record m.world { tallies = tallies } }))
-      → (actions : List Action) (f : Faulty Model) → P f.world → P (after_steps publication says f actions).world
-  steps-keep P of_act of_tallies [] f h = h
-  steps-keep P of_act of_tallies (action ∷ actions) f h = steps-keep P of_act of_tallies actions (fails publication (model publication says) f action).0 (fails-keep publication (model publication says) P of_act of_tallies f action h)
-
   received-after : (actions : List Action) (f : Faulty Model) → Received f.world.world f.world.history → (let g : Faulty Model = after_steps publication says f actions in Received g.world.world g.world.history)
-  received-after actions f r = steps-keep (λ (m : Model). Received m.world m.history) (λ m action h. model-fine publication says m action h) (λ m tallies h. received-tallied m.world tallies m.history h) actions f r
+  received-after actions f r = failing-actions-keep publication (model publication says) (λ (m : Model). Received m.world m.history) (λ m action h. model-fine publication says m action h) (λ m tallies h. received-tallied m.world tallies m.history h) actions f r
 
   stays-after : (m : Model) (actions : List Action) (f : Faulty Model) → Received f.world.world f.world.history → Stays m f.world.world f.world.history
       → (let g : Faulty Model = after_steps publication says f actions in Stays m g.world.world g.world.history)
-  stays-after m actions f r stays = (steps-keep (λ (n : Model). Received n.world n.history × Stays m n.world n.history)
+  stays-after m actions f r stays = (failing-actions-keep publication (model publication says) (λ (n : Model). Received n.world n.history × Stays m n.world n.history)
       (λ n action both. (model-fine publication says n action both.0, step-keeps publication says Received (Stays m) (λ w h r. r) (stays-keep m publication says) n action both.0 both.1))
       (λ n tallies both. (received-tallied n.world tallies n.history both.0, both.1)) actions f (r, stays)).1
 
@@ -92,8 +82,7 @@ none-twice publication says tallies slips before between first second u v genera
     twice-never publication says (after_steps publication says (faulty (empty_model publication tallies) slips) before) between first second u v generation (received-after publication says before (faulty (empty_model publication tallies) slips) (begins publication tallies)) same one other
 
 pub runs-are-steps : RunsAreSteps
-runs-are-steps publication says f events = events-keep publication (failing publication (model publication says)) (λ (g : Faulty Model). (actions : List Action) × (after_steps publication says f actions ≡ g))
-    (λ g action made. (made.0 ++ action ∷ [], steps-after publication says f made.0 action ∙ ap (λ (k : Faulty Model). (fails publication (model publication says) k action).0) made.1)) events f ([], refl)
+runs-are-steps publication says f events = events-are-actions (failing publication (model publication says)) publication events f
 
 -- The items that act.
 
@@ -138,10 +127,10 @@ module _ (m : Model) (r : Received m.world m.history) (number : ℕ) (u : Upload
     unmet = sym (r.done u.site.0 generation (omega (arith, effect.above))) ∙ effect.unmet;
   }
 
-pub numbers-take-effect : OfEveryModel NumbersTakeEffect
-numbers-take-effect publication says tallies slips events number u generation =
-    let m : Model = model_behind publication says tallies slips events in
-    let r = received-always publication says tallies slips events in
+pub numbers-take-effect : OfEveryActions (λ publication says m. NumbersTakeEffect m)
+numbers-take-effect publication says tallies slips actions number u generation =
+    let m : Model = model_behind_actions publication says tallies slips actions in
+    let r = received-by-actions publication says tallies slips actions in
     (by-history m r number u generation, by-number m r number u generation)
 
 -- News, read from the set.
@@ -157,7 +146,7 @@ news-of m r number u (suc more) is up =
     let end : u.from + suc more ≡ u.to = omega (arith, is, up) in
     ap (λ (n : ℕ). nat_lt n u.to) (received-is m.history m.world.publisher u.site.0 r.done) ∙ ap (λ (to : ℕ). nat_lt (received_by_number m.world.publisher u.site.0) to) (sym end) ∙ sym (any-unmet m.history m.world.publisher u.site.0 r.done more u.from)
 
-pub news-is-unmet : OfEveryModel NewsIsUnmet
-news-is-unmet publication says tallies slips events number u up =
-    let m : Model = model_behind publication says tallies slips events in
-    news-of m (received-always publication says tallies slips events) number u (u.to - u.from) refl up
+pub news-is-unmet : OfEveryActions (λ publication says m. NewsIsUnmet m)
+news-is-unmet publication says tallies slips actions number u up =
+    let m : Model = model_behind_actions publication says tallies slips actions in
+    news-of m (received-by-actions publication says tallies slips actions) number u (u.to - u.from) refl up

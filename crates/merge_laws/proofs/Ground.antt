@@ -1,5 +1,6 @@
 -- What is known of every model that a list of events leads to, where the publication is one that a file can say: the base of further laws.
 use Rattle.merge_batch.specs.declared.request.Outstanding.TheVariants as ask
+use Rattle.merge_model.proofs.Actions.{failing-actions-keep}
 use Rattle.merge_laws.proofs.Tallied.{behind-tallied, lineages-tallied, numbered-tallied, received-tallied}
 use Rattle.merge_laws.proofs.BehindKept.{behind-always, behind-keeps}
 use Rattle.merge_model.proofs.Finding.{at_put_other}
@@ -23,8 +24,7 @@ use Rattle.merge_laws.specs.Received.{Received}
 use Rattle.merge_laws.specs.Unsent.{Unsent}
 use Rattle.merge_laws.specs.Watermarks.{HoldsWatermarks}
 use Rattle.merge_model.specs.Failing.{Slips, faulty}
-use Rattle.merge_model.specs.Runs.{model_behind}
-use Rattle.merge_model.proofs.KeptFailing.{runs-keep}
+use Rattle.merge_model.specs.Runs.{model_behind, model_behind_actions}
 use Rattle.merge_model.proofs.Runs.{publisher_stays_sorted}
 use Rattle.merge_model.proofs.Sorted.{step-sorted}
 use Rattle.merge_model.proofs.Subscribers.{step-sub-sorted}
@@ -50,6 +50,7 @@ use Rattle.std.proofs.Common.{arith, sym, ap, ◌∙◌}
 use Rattle.std.proofs.lemmas.List.Elements.{All-head, All-tail}
 use Rattle.std.specs.List.{AllByRecursion, fold}
 use Rattle.std.specs.Prelude.{◌≡◌, ◌≤◌, ℕ, List, [], ◌∷◌, All, Option, Some, None, option_map, refl}
+use Rattle.merge_laws.proofs.OfActions.{of-events}
 
 pub record Ground (publication : Publication) (w : World) (h : History) : Type 0 where
   pub valid : (resolvers : ℕ) × IsValid resolvers publication
@@ -169,8 +170,14 @@ ground-tallied publication w h tallies g = record {
 }
 
 -- What a further invariant needs: that each step and other tallies keep it over what is known, and that it holds where nothing has happened.
+pub grounded-by-actions : (publication : Publication) (says : Saying) (tallies : List ℕ) (slips : Slips) (actions : List Action) → (resolvers : ℕ) × IsValid resolvers publication → (P : World → History → Type 0)
+    → ((m : Model) (action : Action) → Ground publication m.world m.history → P m.world m.history → (let n : Model = (model_step publication says m action).0 in P n.world n.history)) → ((w : World) (h : History) (others : List ℕ) → P w h → P (record w { tallies = others }) h) → P (empty_world publication tallies) no_history
+    → (let m : Model = model_behind_actions publication says tallies slips actions in Ground publication m.world m.history × P m.world m.history)
+grounded-by-actions publication says tallies slips actions valid P keeps stays begins = failing-actions-keep publication (model publication says) (λ (m : Model). Ground publication m.world m.history × P m.world m.history)
+    (λ m action both. (ground-step publication says m action both.0, keeps m action both.0 both.1)) (λ m others both. (ground-tallied publication m.world m.history others both.0, stays m.world m.history others both.1)) actions (faulty (empty_model publication tallies) slips) (ground-begins publication says tallies valid, begins)
+
 pub grounded-always : (publication : Publication) (says : Saying) (tallies : List ℕ) (slips : Slips) (events : List Event) → (resolvers : ℕ) × IsValid resolvers publication → (P : World → History → Type 0)
     → ((m : Model) (action : Action) → Ground publication m.world m.history → P m.world m.history → (let n : Model = (model_step publication says m action).0 in P n.world n.history)) → ((w : World) (h : History) (others : List ℕ) → P w h → P (record w { tallies = others }) h) → P (empty_world publication tallies) no_history
     → (let m : Model = model_behind publication says tallies slips events in Ground publication m.world m.history × P m.world m.history)
-grounded-always publication says tallies slips events valid P keeps stays begins = runs-keep publication (model publication says) (λ (m : Model). Ground publication m.world m.history × P m.world m.history)
-    (λ m action both. (ground-step publication says m action both.0, keeps m action both.0 both.1)) (λ m others both. (ground-tallied publication m.world m.history others both.0, stays m.world m.history others both.1)) events (faulty (empty_model publication tallies) slips) (ground-begins publication says tallies valid, begins)
+grounded-always publication says tallies slips events valid P keeps stays begins =
+    of-events publication says tallies slips events (λ (m : Model). Ground publication m.world m.history × P m.world m.history) (λ actions. grounded-by-actions publication says tallies slips actions valid P keeps stays begins)

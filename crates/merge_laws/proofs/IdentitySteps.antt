@@ -30,7 +30,7 @@ use Rattle.merge_batch.specs.declared.request.Outstanding.{Outstanding}
 use Rattle.merge_batch.specs.declared.request.Outstanding.TheVariants as ask
 use Rattle.merge_batch.proofs.Values.{slice_get-append_past}
 use Rattle.merge_model.specs.Failing.{Slips, faulty}
-use Rattle.merge_model.specs.Runs.{model_behind}
+use Rattle.merge_model.specs.Runs.{model_behind, model_behind_actions}
 use Rattle.merge_model.specs.declared.event.Event.{Event}
 use Rattle.merge_types.specs.declared.row_key.RowKey.{RowKey as Key}
 use Rattle.merge_model.specs.Tables.{PublisherTables, SubscriberTables}
@@ -59,7 +59,7 @@ use Rattle.merge_model.specs.Reinit.{reinitialised}
 use Rattle.merge_model.specs.Sending.{join_of, upload_sent, want_of, with_message}
 use Rattle.merge_model.specs.Subscriber.{empty_subscriber, sub_at_moment, sub_closed, sub_drawn, sub_last_closed, sub_made_locally, sub_next_dot, sub_version_at, with_version, with_version_if}
 use Rattle.merge_model.specs.Taking.{taken}
-use Rattle.merge_model.proofs.KeptFailing.{runs-keep}
+use Rattle.merge_model.proofs.Actions.{failing-actions-keep}
 use Rattle.merge_laws.proofs.Tallied.{received-tallied}
 use Rattle.merge_laws.specs.Identities.{Held, holder_in, held_at, holders_at, Identities, LetterTells, MessageTells}
 use Rattle.merge_laws.specs.Received.{Received}
@@ -73,6 +73,7 @@ use Rattle.merge_laws.proofs.Walking.{StepsKeep, acts_in, here, join_noted, own_
 use Rattle.merge_laws.proofs.WatermarkModels.{pool-at}
 use Rattle.merge_laws.proofs.IdentityTakes.{all-received, draw-took, holding, own-held, ranged-fits, same-held}
 use Rattle.merge_laws.proofs.Models.{model-fine, received-always}
+use Rattle.merge_laws.proofs.OfActions.{of-events}
 
 abbrev pub Apart : Publication → World → List MadeChange → Type 0
 Apart publication w made = Identities publication w.publisher.grants w.publisher.held w.subscribers w.pool made
@@ -301,9 +302,13 @@ module _ (publication : Publication) (says : Saying) where
 
 -- Every list of events.
 
+pub identities-by-actions : (publication : Publication) → All IsRule (rules_of publication) → (says : Saying) (tallies : List ℕ) (slips : Slips) (actions : List Action)
+    → (let m : Model = model_behind_actions publication says tallies slips actions in Apart publication m.world m.history.made)
+identities-by-actions publication fit says tallies slips actions =
+    (failing-actions-keep publication (model publication says) (λ (m : Model). Received m.world m.history × Apart publication m.world m.history.made)
+    (λ m action both. (model-fine publication says m action both.0, identities-step publication says m action both.0 both.1)) (λ m others both. (received-tallied m.world others m.history both.0, both.1)) actions (faulty (empty_model publication tallies) slips)
+    (received-always publication says tallies [] [], begins publication fit tallies)).1
+
 pub identities-always : (publication : Publication) → All IsRule (rules_of publication) → (says : Saying) (tallies : List ℕ) (slips : Slips) (events : List Event)
     → (let m : Model = model_behind publication says tallies slips events in Apart publication m.world m.history.made)
-identities-always publication fit says tallies slips events =
-    (runs-keep publication (model publication says) (λ (m : Model). Received m.world m.history × Apart publication m.world m.history.made)
-    (λ m action both. (model-fine publication says m action both.0, identities-step publication says m action both.0 both.1)) (λ m others both. (received-tallied m.world others m.history both.0, both.1)) events (faulty (empty_model publication tallies) slips)
-    (received-always publication says tallies [] [], begins publication fit tallies)).1
+identities-always publication fit says tallies slips events = of-events publication says tallies slips events (λ (m : Model). Apart publication m.world m.history.made) (identities-by-actions publication fit says tallies slips)

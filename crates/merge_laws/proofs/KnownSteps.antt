@@ -17,7 +17,7 @@ use Rattle.merge_batch.specs.declared.reply.Reply.{Reply}
 use Rattle.merge_batch.specs.declared.reply.Reply.TheVariants as reply
 use Rattle.merge_batch.specs.declared.request.Outstanding.TheVariants as ask
 use Rattle.merge_model.specs.Failing.{Slips, faulty}
-use Rattle.merge_model.specs.Runs.{model_behind}
+use Rattle.merge_model.specs.Runs.{model_behind, model_behind_actions}
 use Rattle.merge_model.specs.declared.event.Event.{Event}
 use Rattle.merge_types.specs.declared.row_key.RowKey.{RowKey as Key}
 use Rattle.merge_model.specs.Tables.{PublisherTables, SubscriberTables}
@@ -35,7 +35,7 @@ use Rattle.merge_model.specs.Subscriber.{sub_at_moment, sub_last_closed, sub_mad
 use Rattle.merge_model.specs.World.{Saying, World, subscriber_at, with_publisher, with_subscriber, empty_subscribers, empty_world}
 use Rattle.merge_model.specs.declared.letter.Message.TheVariants.{Asks, Replies}
 use Rattle.merge_model.specs.declared.letter.Message.{Message}
-use Rattle.merge_model.specs.Steps.{kept_decisions, upload_questions}
+use Rattle.merge_model.specs.Steps.{Action, kept_decisions, upload_questions}
 use Rattle.merge_model.specs.History.{History, Line, Past, pasts_with, no_history}
 use Rattle.merge_model.specs.ByHistory.{by_past, by_made}
 use Rattle.merge_model.specs.Noting
@@ -44,7 +44,7 @@ use Rattle.merge_model.specs.Model.{Model, empty_model, model}
 use Rattle.merge_model.specs.Reinit.{reinitialised}
 use Rattle.merge_model.specs.Sending.{join_of, upload_sent, want_of, with_message}
 use Rattle.merge_model.specs.Taking.{taken}
-use Rattle.merge_model.proofs.KeptFailing.{runs-keep}
+use Rattle.merge_model.proofs.Actions.{failing-actions-keep}
 use Rattle.merge_laws.proofs.Tallied.{received-tallied}
 use Rattle.merge_laws.specs.Knowledge.{Known, changes_of, counts_down}
 use Rattle.merge_laws.specs.Received.{Received}
@@ -54,6 +54,7 @@ use Rattle.merge_laws.proofs.KnownRows.{letter-knows}
 use Rattle.merge_laws.proofs.KnownNotes.{Reached, acts-reached, change-known, counted, lines-known, others-known, raised}
 use Rattle.merge_laws.proofs.KnownLetters.{anew-known, join-known, letter-known, purge-known, reply-known}
 use Rattle.merge_laws.proofs.KnownCounts.{GoesOn, found_changes, made-on, on-counts, own-count, publisher-counts, same-counts, taken-on}
+use Rattle.merge_laws.proofs.OfActions.{of-events}
 
 abbrev OfChanges : World → History → Type 0
 OfChanges w h = Known (changes_of w) h
@@ -156,9 +157,13 @@ known-begins publication tallies = record {
   knowledge = record { held = tt; sent = tt; lost = tt; making = tt };
 }
 
+pub known-by-actions : (publication : Publication) (says : Saying) (tallies : List ℕ) (slips : Slips) (actions : List Action)
+    → (let m : Model = model_behind_actions publication says tallies slips actions in Known (changes_of m.world) m.history)
+known-by-actions publication says tallies slips actions =
+    (failing-actions-keep publication (model publication says) (λ (m : Model). Received m.world m.history × Known (changes_of m.world) m.history)
+    (λ m action both. (model-fine publication says m action both.0, step-keeps publication says Received OfChanges (λ w h r. r) (known-keeps publication says) m action both.0 both.1)) (λ m others both. (received-tallied m.world others m.history both.0, both.1)) actions (faulty (empty_model publication tallies) slips)
+    (begins publication tallies, known-begins publication tallies)).1
+
 pub known-always : (publication : Publication) (says : Saying) (tallies : List ℕ) (slips : Slips) (events : List Event)
     → (let m : Model = model_behind publication says tallies slips events in Known (changes_of m.world) m.history)
-known-always publication says tallies slips events =
-    (runs-keep publication (model publication says) (λ (m : Model). Received m.world m.history × Known (changes_of m.world) m.history)
-    (λ m action both. (model-fine publication says m action both.0, step-keeps publication says Received OfChanges (λ w h r. r) (known-keeps publication says) m action both.0 both.1)) (λ m others both. (received-tallied m.world others m.history both.0, both.1)) events (faulty (empty_model publication tallies) slips)
-    (begins publication tallies, known-begins publication tallies)).1
+known-always publication says tallies slips events = of-events publication says tallies slips events (λ (m : Model). Known (changes_of m.world) m.history) (known-by-actions publication says tallies slips)

@@ -8,7 +8,7 @@ use Rattle.merge_schema.specs.declared.publication.Publication.{Publication}
 use Rattle.merge_batch.specs.declared.request.Join.{Join}
 use Rattle.merge_batch.specs.declared.request.Upload.{Upload}
 use Rattle.merge_model.specs.Failing.{Slips, faulty}
-use Rattle.merge_model.specs.Runs.{model_behind}
+use Rattle.merge_model.specs.Runs.{model_behind, model_behind_actions}
 use Rattle.merge_model.specs.declared.event.Event.{Event}
 use Rattle.merge_types.specs.declared.row_key.RowKey.{RowKey as Key}
 use Rattle.merge_gens.specs.declared.moves.RowSite.{RowSite}
@@ -32,9 +32,10 @@ use Rattle.merge_model.specs.History.{History, Line, Past, pasts_with, no_histor
 use Rattle.merge_model.specs.ByHistory.{by_history, by_past, by_made}
 use Rattle.merge_model.specs.Noting
 use Rattle.merge_model.specs.Model.{Model, empty_model, model}
-use Rattle.merge_model.proofs.KeptFailing.{runs-keep}
 use Rattle.merge_model.proofs.Sorted.{step-sorted}
 use Rattle.merge_model.proofs.Runs.{publisher_stays_sorted}
+use Rattle.merge_model.specs.Steps.{Action}
+use Rattle.merge_model.proofs.Actions.{failing-actions-keep}
 use Rattle.merge_laws.proofs.Tallied.{received-tallied}
 use Rattle.merge_laws.specs.LastLines.{LastLines}
 use Rattle.merge_laws.specs.Received.{Received}
@@ -44,6 +45,7 @@ use Rattle.merge_laws.proofs.LastLineNotes.{acts-lines, anew-lines, purged-lines
 use Rattle.merge_laws.proofs.Models.{model-fine, received-always}
 use Rattle.merge_laws.proofs.Walking.{StepsKeep, acts_in, here, join_noted, step-keeps}
 use Rattle.merge_laws.proofs.LastLineGone.{all-gone, forgotten-fit, forgotten-rows, forgotten-sites, left-gone, old_places}
+use Rattle.merge_laws.proofs.OfActions.{of-events}
 
 abbrev pub Fits : Publication → PublisherTables → List Line → Type 0
 Fits publication p lines = LastLines publication p.rows p.mappings lines
@@ -140,12 +142,16 @@ module _ (publication : Publication) (says : Saying) where
 begins : (publication : Publication) (tallies : List ℕ) → OfLines publication (empty_world publication tallies) no_history
 begins publication tallies = record { moves = λ key site. refl; changes = λ key held. refl; sites = λ key site held. absurd cc }
 
-pub last_lines-always : (publication : Publication) (says : Saying) (tallies : List ℕ) (slips : Slips) (events : List Event)
-    → (let m : Model = model_behind publication says tallies slips events in Fits publication m.world.publisher m.history.lines)
-last_lines-always publication says tallies slips events =
-    (runs-keep publication (model publication says) (λ (m : Model). LinesBase m.world m.history × OfLines publication m.world m.history)
+pub last_lines-by-actions : (publication : Publication) (says : Saying) (tallies : List ℕ) (slips : Slips) (actions : List Action)
+    → (let m : Model = model_behind_actions publication says tallies slips actions in Fits publication m.world.publisher m.history.lines)
+last_lines-by-actions publication says tallies slips actions =
+    (failing-actions-keep publication (model publication says) (λ (m : Model). LinesBase m.world m.history × OfLines publication m.world m.history)
     (λ m action both. (
       (model-fine publication says m action both.0.0, step-sorted publication says (by_history m.history) m.world action both.0.1),
       step-keeps publication says LinesBase (OfLines publication) (λ w h b. b.0) (last_lines-keep publication says) m action both.0 both.1,
-    )) (λ m others both. ((received-tallied m.world others m.history both.0.0, both.0.1), both.1)) events (faulty (empty_model publication tallies) slips)
+    )) (λ m others both. ((received-tallied m.world others m.history both.0.0, both.0.1), both.1)) actions (faulty (empty_model publication tallies) slips)
     ((received-always publication says tallies [] [], publisher_stays_sorted publication says tallies [] []), begins publication tallies)).1
+
+pub last_lines-always : (publication : Publication) (says : Saying) (tallies : List ℕ) (slips : Slips) (events : List Event)
+    → (let m : Model = model_behind publication says tallies slips events in Fits publication m.world.publisher m.history.lines)
+last_lines-always publication says tallies slips events = of-events publication says tallies slips events (λ (m : Model). Fits publication m.world.publisher m.history.lines) (last_lines-by-actions publication says tallies slips)

@@ -12,19 +12,19 @@ use Rattle.merge_model.specs.Model.{Model}
 use Rattle.merge_model.specs.Promises.{IsPast, base_of, is_expired_at, watermark_of}
 use Rattle.merge_model.specs.PublisherJoin.{join_acts, join_taken}
 use Rattle.merge_model.specs.PublisherPurge.{purge}
-use Rattle.merge_model.specs.Runs.{model_behind}
+use Rattle.merge_model.specs.Runs.{model_behind_actions}
 use Rattle.merge_model.specs.Tables.{PublisherTables, SubscriberTables}
 use Rattle.merge_model.specs.World.{subscriber_at}
 use Rattle.merge_model.specs.declared.letter.Letter.{Letter}
 use Rattle.merge_model.specs.declared.letter.Message.TheVariants.{Asks}
 use Rattle.merge_model.proofs.Finding.{pool-at, some_same}
-use Rattle.merge_laws.specs.Laws.{OfEveryValidRun}
+use Rattle.merge_laws.specs.Laws.{OfEveryValidActions}
 use Rattle.merge_laws.specs.Leavings.{JoinsTakeNothingOwed, PurgesTakeNothingOwed, StaysOwed}
 use Rattle.merge_laws.specs.Received.{JoinFits, LetterFits, joined_at}
 use Rattle.merge_laws.specs.Settled.{Settled, SiteHolds, TouchedInOrder, made_in, site_view, touched_at}
 use Rattle.merge_laws.proofs.Ground.{Ground}
 use Rattle.merge_laws.proofs.PurgeModels.{old-is-past}
-use Rattle.merge_laws.proofs.SettledLaw.{settled-always}
+use Rattle.merge_laws.proofs.SettledLaw.{settled-by-actions}
 use Rattle.merge_laws.proofs.SettledWorlds.{if-found}
 use Rattle.merge_laws.proofs.TouchTables.{IsForgotten, joined-other, joined-owed, purge-owed, purge-touched}
 use Rattle.merge_laws.proofs.WatermarkModels.{watermarks-held}
@@ -80,15 +80,15 @@ module _ (publication : Publication) (m : Model) (g : Ground publication m.world
     joined-stays differs true = record { touched = joined-other publication j p g.sorted s.site differs key; owed = joined-owed publication j p s.site key }
     joined-stays differs false = record { touched = refl; owed = refl }
 
-pub purges-take-nothing : OfEveryValidRun (λ publication says m. PurgesTakeNothingOwed publication m)
-purges-take-nothing resolvers publication valid says tallies slips events s key at joins live owed =
-    let both = settled-always publication says tallies slips events (resolvers, valid) in
-    purge-stays publication (model_behind publication says tallies slips events) both.0 both.1 s key at joins live owed
+pub purges-take-nothing : OfEveryValidActions (λ publication says m. PurgesTakeNothingOwed publication m)
+purges-take-nothing resolvers publication valid says tallies slips actions s key at joins live owed =
+    let both = settled-by-actions publication says tallies slips actions (resolvers, valid) in
+    purge-stays publication (model_behind_actions publication says tallies slips actions) both.0 both.1 s key at joins live owed
 
-pub joins-take-nothing : OfEveryValidRun (λ publication says m. JoinsTakeNothingOwed publication m)
-joins-take-nothing resolvers publication valid says tallies slips events number site j sent acts s key at =
-    let m : Model = model_behind publication says tallies slips events in
-    let both = settled-always publication says tallies slips events (resolvers, valid) in
+pub joins-take-nothing : OfEveryValidActions (λ publication says m. JoinsTakeNothingOwed publication m)
+joins-take-nothing resolvers publication valid says tallies slips actions number site j sent acts s key at =
+    let m : Model = model_behind_actions publication says tallies slips actions in
+    let both = settled-by-actions publication says tallies slips actions (resolvers, valid) in
     let letter : Letter = record { site = site; message = Asks (request.Join j) } in
     let fits : LetterFits m.world.subscribers m.world.publisher letter = pool-at (LetterFits m.world.subscribers m.world.publisher) m.world number letter sent both.0.received.letters in (
       (λ same. joining-empty publication m both.0 both.1 s key at site j acts same fits),

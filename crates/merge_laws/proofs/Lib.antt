@@ -1,4 +1,5 @@
 pub mod Tallied
+pub mod OfActions
 pub mod DotTests
 pub mod NotesLeave
 pub mod MessageFacts
@@ -197,3 +198,4 @@ pub mod LeavingsOwed
 pub mod RoundStays
 pub mod RoundLaw
 pub mod BoundsEnough
+pub mod LawsOfActions

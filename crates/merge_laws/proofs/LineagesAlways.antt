@@ -1,4 +1,4 @@
--- Lineages decide as histories do, after every list of events: the whole invariant, and what follows from it.
+-- Lineages decide as histories do, after every list of actions and of events: the whole invariant, and what follows from it.
 use Rattle.std.specs.Prelude.{◌≡◌, ℕ, List, Some}
 use Rattle.std.proofs.Common.{arith}
 use Rattle.std.proofs.lemmas.Bool.Decides.{nat_tests}
@@ -13,21 +13,22 @@ use Rattle.merge_model.specs.History.{past_in, pasts_with}
 use Rattle.merge_model.specs.Keys.{row_at}
 use Rattle.merge_model.specs.Model.{Model, empty_model, model, model_answers, model_step}
 use Rattle.merge_model.specs.Promises.{AllStand}
-use Rattle.merge_model.specs.Runs.{machine_says, model_behind, model_says, world_behind}
+use Rattle.merge_model.specs.Runs.{machine_does, machine_says, model_behind, model_behind_actions, model_does, model_says, world_behind, world_behind_actions}
 use Rattle.merge_model.specs.Steps.{Action}
 use Rattle.merge_units.specs.declared.site_row.PublisherRow.{PublisherRow}
 use Rattle.merge_model.specs.World.{Saying, empty_world}
 use Rattle.merge_model.specs.declared.event.Event.{Event}
-use Rattle.merge_model.proofs.KeptFailing.{runs-keep}
+use Rattle.merge_model.proofs.Actions.{failing-actions-keep}
 use Rattle.merge_laws.specs.Accepted.{AllAccepted}
-use Rattle.merge_laws.specs.Deciding.{CasesDecideAlike}
+use Rattle.merge_laws.specs.Deciding.{CasesDecideAlike, EachStepAlike}
+use Rattle.merge_laws.specs.Laws.{OfEveryValidActions}
 use Rattle.merge_laws.specs.LineagesStand.{AllTold, LineagesStand, OwnKnown, Owns}
 use Rattle.merge_laws.specs.TablesAgree.{TablesAgree}
 use Rattle.merge_laws.proofs.AcceptedParts.{tallies-accepted}
 use Rattle.merge_laws.proofs.AcceptedSteps.{accepted-step, all-begin}
 use Rattle.merge_laws.proofs.AlikeCases.{Meets, held-meets, items-meet}
 use Rattle.merge_laws.proofs.AlikeDecisions.{case-decides-alike, publisher-decides-alike}
-use Rattle.merge_laws.proofs.AlikeRuns.{after-alike, answers-alike, failing-alike}
+use Rattle.merge_laws.proofs.AlikeRuns.{after-alike, answers-alike, failing-actions-alike, failing-alike}
 use Rattle.merge_laws.proofs.AlikeSteps.{steps-alike}
 use Rattle.merge_laws.proofs.AllStand.{all-stand}
 use Rattle.merge_model.proofs.Finding.{all-weaker}
@@ -41,6 +42,7 @@ use Rattle.merge_laws.proofs.TablesAgree.{tables-begin, tables-step}
 use Rattle.merge_laws.proofs.Tallied.{makers-tallied, order-tallied, tables-tallied}
 use Rattle.merge_laws.proofs.ToldSteps.{OfTold, told-begins, told-keeps}
 use Rattle.merge_laws.proofs.Walking.{step-keeps}
+use Rattle.merge_laws.proofs.OfActions.{of-events}
 
 pub record Kept (publication : Publication) (m : Model) : Type 0 where
   pub grounded : Grounded publication m
@@ -133,10 +135,31 @@ kept-tallied publication m others k = record {
   seen = k.seen;
 }
 
+pub kept-by-actions : (publication : Publication) → (resolvers : ℕ) × IsValid resolvers publication → (says : Saying) (tallies : List ℕ) (slips : Slips) (actions : List Action) → Kept publication (model_behind_actions publication says tallies slips actions)
+kept-by-actions publication valid says tallies slips actions = failing-actions-keep publication (model publication says) (Kept publication) (λ m action k. kept-step publication m k says action) (λ m others k. kept-tallied publication m others k) actions
+    (faulty (empty_model publication tallies) slips) (kept-begins publication says tallies valid)
+
+pub all-alike : OfEveryValidActions (λ publication says m. AllStand m)
+all-alike resolvers publication valid says tallies slips actions = all-stands publication (model_behind_actions publication says tallies slips actions) (kept-by-actions publication (resolvers, valid) says tallies slips actions)
+
+pub publishers-alike : OfEveryValidActions (λ publication says m. PublisherDecidesAlike m)
+publishers-alike resolvers publication valid says tallies slips actions = publisher-alike publication (model_behind_actions publication says tallies slips actions) (kept-by-actions publication (resolvers, valid) says tallies slips actions)
+
+pub cases-decided : OfEveryValidActions (λ publication says m. CasesDecideAlike m)
+cases-decided resolvers publication valid says tallies slips actions = cases-alike publication (model_behind_actions publication says tallies slips actions) (kept-by-actions publication (resolvers, valid) says tallies slips actions)
+
+pub all-steps : OfEveryValidActions EachStepAlike
+all-steps resolvers publication valid says tallies slips actions action = alike-step publication (model_behind_actions publication says tallies slips actions) (kept-by-actions publication (resolvers, valid) says tallies slips actions) says action
+
+-- the machine does what the model does, and has its tables
+pub actions-same : (publication : Publication) → (resolvers : ℕ) × IsValid resolvers publication → (says : Saying) (tallies : List ℕ) (slips : Slips) (actions : List Action)
+    → (machine_does publication says tallies slips actions ≡ model_does publication says tallies slips actions) × (world_behind_actions publication says tallies slips actions ≡ (model_behind_actions publication says tallies slips actions).world)
+actions-same publication valid says tallies slips actions = failing-actions-alike publication says (Kept publication) (λ m action k. kept-step publication m k says action) (λ m action k. alike-step publication m k says action) (λ m others k. kept-tallied publication m others k) slips actions
+    (empty_model publication tallies) (kept-begins publication says tallies valid)
+
 module _ (publication : Publication) (valid : (resolvers : ℕ) × IsValid resolvers publication) (says : Saying) (tallies : List ℕ) (slips : Slips) (events : List Event) where
   pub kept-always : Kept publication (model_behind publication says tallies slips events)
-  kept-always = runs-keep publication (model publication says) (Kept publication) (λ m action k. kept-step publication m k says action) (λ m others k. kept-tallied publication m others k) events
-      (faulty (empty_model publication tallies) slips) (kept-begins publication says tallies valid)
+  kept-always = of-events publication says tallies slips events (Kept publication) (kept-by-actions publication valid says tallies slips)
 
   runs-same : (machine_says publication says tallies slips events ≡ model_says publication says tallies slips events) × (world_behind publication says tallies slips events ≡ (model_behind publication says tallies slips events).world)
   runs-same = failing-alike publication says (Kept publication) (λ m action k. kept-step publication m k says action) (λ m action k. alike-step publication m k says action) (λ m others k. kept-tallied publication m others k) slips events

@@ -26,7 +26,7 @@ use Rattle.merge_batch.specs.declared.request.Request.TheVariants as request
 use Rattle.merge_batch.specs.declared.request.Upload.{Upload}
 use Rattle.merge_batch.specs.declared.request.UploadItem.{UploadItem}
 use Rattle.merge_model.specs.Failing.{Slips, faulty}
-use Rattle.merge_model.specs.Runs.{model_behind}
+use Rattle.merge_model.specs.Runs.{model_behind, model_behind_actions}
 use Rattle.merge_model.specs.Acts.{Act, acting_items, changes_by}
 use Rattle.merge_model.specs.ByHistory.{by_made, by_past}
 use Rattle.merge_model.specs.Changes.{key_of, version_after}
@@ -43,7 +43,7 @@ use Rattle.merge_model.specs.PublisherRanges.{plans, ranged, with_grants}
 use Rattle.merge_model.specs.PublisherUpload.{taken_in}
 use Rattle.merge_model.specs.Reinit.{discarded, numbered_from, reinitialised}
 use Rattle.merge_model.specs.Sending.{join_of, upload_sent, want_of, with_message}
-use Rattle.merge_model.specs.Steps.{kept_decisions, upload_questions}
+use Rattle.merge_model.specs.Steps.{Action, kept_decisions, upload_questions}
 use Rattle.merge_model.specs.Subscriber.{sub_at_moment, sub_closed, sub_made_locally, sub_next_dot, sub_version_at, with_version_if}
 use Rattle.merge_types.specs.declared.row_key.RowKey.{RowKey as Key}
 use Rattle.merge_units.specs.declared.site_row.PublisherRow.{PublisherRow}
@@ -55,7 +55,7 @@ use Rattle.merge_model.specs.declared.letter.Message.TheVariants.{Asks, Replies}
 use Rattle.merge_model.specs.declared.letter.Letter.{Letter}
 use Rattle.merge_model.specs.declared.letter.Message.{Message}
 use Rattle.merge_model.specs.declared.event.Event.{Event}
-use Rattle.merge_model.proofs.KeptFailing.{runs-keep}
+use Rattle.merge_model.proofs.Actions.{failing-actions-keep}
 use Rattle.merge_laws.proofs.Tallied.{lineages-tallied, received-tallied}
 use Rattle.merge_laws.specs.Lineages.{IsOfMade, LineagesAreMade, OfLineages, OfLost, OfMessage, OfOrder, OfPublisher, OfSubscriber}
 use Rattle.merge_laws.specs.Knowledge.{changes_of}
@@ -68,6 +68,7 @@ use Rattle.merge_laws.proofs.Models.{begins, begins-with, model-fine}
 use Rattle.merge_laws.proofs.Subscribing.{number-decided, same_number, version-conflicts}
 use Rattle.merge_laws.proofs.UnsentKept.{version-site}
 use Rattle.merge_laws.proofs.Walking.{Sends, StepsKeep, acts_in, comes, here, step-keeps, told_by, uploaded_world}
+use Rattle.merge_laws.proofs.OfActions.{of-events}
 
 version-changes : (key : Key) (found : Option Version) (u : SubscriberTables) → (with_version_if key found u).changes ≡ u.changes
 version-changes key None u = refl
@@ -344,8 +345,12 @@ lineages-begin publication tallies = record {
   letters = tt;
 }
 
+pub lineages-by-actions : (publication : Publication) (says : Saying) (tallies : List ℕ) (slips : Slips) (actions : List Action)
+    → (let m : Model = model_behind_actions publication says tallies slips actions in Received m.world m.history × LineagesAreMade m.world)
+lineages-by-actions publication says tallies slips actions = failing-actions-keep publication (model publication says) (λ (m : Model). Received m.world m.history × LineagesAreMade m.world)
+    (λ m action i. (model-fine publication says m action i.0, step-keeps publication says Received OfWorlds (λ w h r. r) (lineages-keep publication says) m action i.0 i.1)) (λ m others i. (received-tallied m.world others m.history i.0, lineages-tallied m.world others (Made m.world) i.1)) actions (faulty (empty_model publication tallies) slips)
+    (begins publication tallies, lineages-begin publication tallies)
+
 pub lineages-always : (publication : Publication) (says : Saying) (tallies : List ℕ) (slips : Slips) (events : List Event)
     → (let m : Model = model_behind publication says tallies slips events in Received m.world m.history × LineagesAreMade m.world)
-lineages-always publication says tallies slips events = runs-keep publication (model publication says) (λ (m : Model). Received m.world m.history × LineagesAreMade m.world)
-    (λ m action i. (model-fine publication says m action i.0, step-keeps publication says Received OfWorlds (λ w h r. r) (lineages-keep publication says) m action i.0 i.1)) (λ m others i. (received-tallied m.world others m.history i.0, lineages-tallied m.world others (Made m.world) i.1)) events (faulty (empty_model publication tallies) slips)
-    (begins publication tallies, lineages-begin publication tallies)
+lineages-always publication says tallies slips events = of-events publication says tallies slips events (λ (m : Model). Received m.world m.history × LineagesAreMade m.world) (lineages-by-actions publication says tallies slips)

@@ -9,7 +9,7 @@ use Rattle.merge_batch.specs.declared.reply.Reply.{Reply}
 use Rattle.merge_batch.specs.declared.reply.Reply.TheVariants as reply
 use Rattle.merge_schema.specs.declared.publication.Publication.{Publication}
 use Rattle.merge_model.specs.Failing.{Slips, faulty}
-use Rattle.merge_model.specs.Runs.{model_behind}
+use Rattle.merge_model.specs.Runs.{model_behind, model_behind_actions}
 use Rattle.merge_model.specs.Tables.{PublisherTables, SubscriberTables}
 use Rattle.merge_model.specs.Keys.{at_number, put_number}
 use Rattle.merge_model.specs.ByNumbers.{received_by_number}
@@ -21,13 +21,14 @@ use Rattle.merge_model.specs.World.{World, Judges, Saying, letter_at, subscriber
 use Rattle.merge_model.specs.declared.letter.Letter.{Letter}
 use Rattle.merge_model.specs.declared.letter.Message.{Message}
 use Rattle.merge_model.specs.declared.letter.Message.TheVariants.{Asks, Replies}
-use Rattle.merge_model.specs.Steps.{Action, Pass, Make, CloseAt, Send, Deliver, MakeAnew, Forget, Look, at_subscriber, make_at, close_at, send_from, deliver_reply, deliver_letter, make_anew, step_by}
+use Rattle.merge_model.specs.Steps.{Action, CloseAt, Deliver, Forget, Look, Make, MakeAnew, Pass, Send, at_subscriber, close_at, deliver_letter, deliver_reply, make_anew, make_at, send_from, step_by}
 use Rattle.merge_model.specs.declared.outcome.Outcome.{Outcome}
 use Rattle.merge_model.specs.declared.outcome.Outcome.TheVariants.{NoLetter}
 use Rattle.merge_model.specs.History.{History, is_done, pasts_with}
 use Rattle.merge_model.specs.Noting
 use Rattle.merge_model.specs.Model.{Model, model_step, noted, noted_if, noted_letter, did_something, with_posted}
 use Rattle.merge_model.proofs.DoneOnce.{taker-done, make-done, anew-done, purge-done, posted-done}
+use Rattle.merge_model.proofs.Actions.{failing-actions-keep}
 use Rattle.merge_laws.proofs.Tallied.{received-tallied}
 use Rattle.merge_laws.specs.Received.{joined_at, MessageFits, LetterFits, SubscriberFits, DoneIsReceived, Received}
 use Rattle.merge_model.proofs.Finding.{all-at, at_put_same}
@@ -43,7 +44,6 @@ use Rattle.merge_model.specs.Subscriber.{empty_subscriber}
 use Rattle.merge_model.specs.World.{empty_subscribers, empty_world}
 use Rattle.merge_model.specs.Model.{empty_model, model}
 use Rattle.merge_model.specs.declared.event.Event.{Event}
-use Rattle.merge_model.proofs.KeptFailing.{runs-keep}
 use Rattle.merge_model.proofs.Finding.{at_put_other}
 use Rattle.merge_laws.proofs.Subscribing.{same_number, number-decided}
 use Rattle.merge_laws.proofs.Steps.{sites-fine, fits-here, make-fine, close-fine}
@@ -51,6 +51,7 @@ use Rattle.merge_laws.proofs.Sendings.{send-fine, anew-fine}
 use Rattle.merge_laws.proofs.Deliveries.{Keeps, request-fine}
 use Rattle.std.specs.BTreeMap.{is_at}
 use Rattle.std.specs.Ordering.{nat_cmp}
+use Rattle.merge_laws.proofs.OfActions.{of-events}
 
 -- what is noted without a change of what has acted
 noted-same : (b : Bool) (w : World) (k h : History) → k.done ≡ h.done → Received w h → Received w (noted_if b k h)
@@ -166,10 +167,14 @@ begins publication tallies = record {
   done = λ n generation from. grind (arith, nat_tests, from);
 }
 
+pub received-by-actions : (publication : Publication) (says : Saying) (tallies : List ℕ) (slips : Slips) (actions : List Action)
+    → (let m : Model = model_behind_actions publication says tallies slips actions in Received m.world m.history)
+received-by-actions publication says tallies slips actions = failing-actions-keep publication (model publication says) (λ (m : Model). Received m.world m.history)
+    (λ m action r. model-fine publication says m action r) (λ m others r. received-tallied m.world others m.history r) actions (faulty (empty_model publication tallies) slips) (begins publication tallies)
+
 pub received-always : (publication : Publication) (says : Saying) (tallies : List ℕ) (slips : Slips) (events : List Event)
     → (let m : Model = model_behind publication says tallies slips events in Received m.world m.history)
-received-always publication says tallies slips events = runs-keep publication (model publication says) (λ (m : Model). Received m.world m.history)
-    (λ m action r. model-fine publication says m action r) (λ m others r. received-tallied m.world others m.history r) events (faulty (empty_model publication tallies) slips) (begins publication tallies)
+received-always publication says tallies slips events = of-events publication says tallies slips events (λ (m : Model). Received m.world m.history) (received-by-actions publication says tallies slips)
 
 -- A gap, by the number and by Done.
 

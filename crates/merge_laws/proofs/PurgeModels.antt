@@ -9,7 +9,7 @@ use Rattle.merge_gens.specs.Retention.{is_expired}
 use Rattle.merge_gens.specs.declared.sites.SiteState.{SiteState}
 use Rattle.merge_schema.specs.declared.publication.Publication.{Publication}
 use Rattle.merge_model.specs.Failing.{Slips, faulty}
-use Rattle.merge_model.specs.Runs.{model_behind}
+use Rattle.merge_model.specs.Runs.{model_behind, model_behind_actions}
 use Rattle.merge_model.specs.declared.event.Event.{Event}
 use Rattle.merge_model.specs.Tables.{PublisherTables}
 use Rattle.merge_model.specs.Keys.{at_number, put_number}
@@ -27,7 +27,7 @@ use Rattle.merge_model.specs.Noting
 use Rattle.merge_model.specs.Model.{Model, empty_model, model, model_step}
 use Rattle.merge_model.specs.Acts.{Act}
 use Rattle.merge_model.specs.PublisherUpload.{taken_in}
-use Rattle.merge_model.proofs.KeptFailing.{runs-keep}
+use Rattle.merge_model.proofs.Actions.{failing-actions-keep}
 use Rattle.merge_laws.proofs.Tallied.{received-tallied}
 use Rattle.merge_laws.specs.Received.{Received}
 use Rattle.merge_laws.specs.Purges.{StateInStep, IsInStep}
@@ -37,6 +37,7 @@ use Rattle.merge_laws.proofs.Walking.{StepsKeep, acts_in, here, join_noted, own_
 use Rattle.merge_laws.proofs.PurgeLists.{found-at}
 use Rattle.merge_laws.proofs.PurgeNotes.{lines-bases, upload-bases, purge-bases, taken-bases, anew-bases}
 use Rattle.merge_laws.proofs.PurgeSteps.{moment-in-step, passed-in-step, entered-in-step, closed-in-step, purge-in-step, taken-in-step, asked-in-step, joined-in-step}
+use Rattle.merge_laws.proofs.OfActions.{of-events}
 
 -- at this moment
 abbrev AtMoment : ℕ → World → History → Type 0
@@ -109,10 +110,13 @@ in-step-step publication says m action r fits =
 begins : (publication : Publication) (tallies : List ℕ) → ModelInStep (empty_model publication tallies)
 begins publication tallies = record { been = omega arith; closings = record { closed = tt; been = tt; rising = tt }; sites = λ n. tt }
 
+pub in_step-by-actions : (publication : Publication) (says : Saying) (tallies : List ℕ) (slips : Slips) (actions : List Action) → ModelInStep (model_behind_actions publication says tallies slips actions)
+in_step-by-actions publication says tallies slips actions =
+    (failing-actions-keep publication (model publication says) (λ (m : Model). Received m.world m.history × ModelInStep m) (λ m action both. (model-fine publication says m action both.0, in-step-step publication says m action both.0 both.1))
+    (λ m others both. (received-tallied m.world others m.history both.0, both.1)) actions (faulty (empty_model publication tallies) slips) (received-always publication says tallies [] [], begins publication tallies)).1
+
 pub in_step-always : (publication : Publication) (says : Saying) (tallies : List ℕ) (slips : Slips) (events : List Event) → ModelInStep (model_behind publication says tallies slips events)
-in_step-always publication says tallies slips events =
-    (runs-keep publication (model publication says) (λ (m : Model). Received m.world m.history × ModelInStep m) (λ m action both. (model-fine publication says m action both.0, in-step-step publication says m action both.0 both.1))
-    (λ m others both. (received-tallied m.world others m.history both.0, both.1)) events (faulty (empty_model publication tallies) slips) (received-always publication says tallies [] [], begins publication tallies)).1
+in_step-always publication says tallies slips events = of-events publication says tallies slips events (λ (m : Model). ModelInStep m) (in_step-by-actions publication says tallies slips)
 
 -- What is old.
 

@@ -15,33 +15,34 @@ use Rattle.merge_model.specs.Failing.{faulty}
 use Rattle.merge_model.specs.History.{MadeChange, has, is_accepted, past_at}
 use Rattle.merge_model.specs.Keys.{at_number, same_key}
 use Rattle.merge_model.specs.Model.{Model, empty_model, model}
-use Rattle.merge_model.specs.Runs.{model_behind}
+use Rattle.merge_model.specs.Runs.{model_behind_actions}
 use Rattle.merge_model.proofs.EntryLists.{all-dropped}
 use Rattle.merge_model.proofs.Finding.{all-more}
-use Rattle.merge_model.proofs.KeptFailing.{runs-keep}
 use Rattle.merge_model.proofs.Lists.{all-filter}
+use Rattle.merge_model.proofs.Actions.{failing-actions-keep}
 use Rattle.merge_laws.specs.Accounts.{OfAccounts}
 use Rattle.merge_laws.specs.Identities.{Held, gives_to, holder_in, holders_at}
 use Rattle.merge_laws.specs.Knowledge.{same_dot}
-use Rattle.merge_laws.specs.Laws.{OfEveryModel, OfEveryValidRun}
+use Rattle.merge_laws.specs.Laws.{OfEveryActions, OfEveryValidActions, OfEveryValidRun}
 use Rattle.merge_laws.specs.LineagesStand.{KnownCounts}
 use Rattle.merge_laws.specs.RestsOn.{AcceptedIsKnown, ChainsAreAccounted, HeldWereGranted, KnownIsAccepted, MomentsAreInStep, ReceivedIsInStep, RepliesAreTrue, SitesAreEqual}
 use Rattle.merge_laws.specs.Settled.{Settled, SiteHolds, made_in, site_view}
 use Rattle.merge_laws.proofs.AccountBase.{Base}
 use Rattle.merge_laws.proofs.AccountElements.{all-in, any-out}
 use Rattle.merge_laws.proofs.AccountSteps.{accounts-begin, accounts-keep}
-use Rattle.merge_laws.proofs.BehindKept.{behind-always}
+use Rattle.merge_laws.proofs.BehindKept.{behind-by-actions}
 use Rattle.merge_laws.proofs.DotTests.{dots-same}
 use Rattle.merge_laws.proofs.Ground.{Ground}
 use Rattle.merge_laws.proofs.IdentityCalls.{counts-cons}
-use Rattle.merge_laws.proofs.IdentitySteps.{Apart, identities-always}
+use Rattle.merge_laws.proofs.IdentitySteps.{Apart, identities-by-actions}
 use Rattle.merge_laws.proofs.IdentitySums.{heard-granted}
-use Rattle.merge_laws.proofs.LineagesAlways.{Kept, ground, kept-always, kept-step, kept-tallied, owns}
+use Rattle.merge_laws.proofs.LineagesAlways.{Kept, ground, kept-always, kept-by-actions, kept-step, kept-tallied, owns}
 use Rattle.merge_laws.proofs.SettledExpired.{expired-later}
-use Rattle.merge_laws.proofs.SettledLaw.{settled-always}
+use Rattle.merge_laws.proofs.SettledLaw.{settled-by-actions}
 use Rattle.merge_laws.proofs.SettledWorlds.{if-found}
 use Rattle.merge_laws.proofs.ValidRules.{valid-rules}
 use Rattle.merge_laws.proofs.Walking.{step-keeps}
+use Rattle.merge_laws.proofs.OfActions.{of-valid-runs}
 
 -- What is known was accepted, and what was accepted is known where the row is held.
 
@@ -63,25 +64,31 @@ module _ (publication : Publication) (m : Model) (k : Kept publication m) where
       (subst (λ (d : Dot). is_accepted m.history d ≡ true) (sym same) accepted) in
       subst (λ (d : Dot). has (past_at m.history 0 key).known d ≡ true) same knows))
 
+pub known-accepted-by-actions : OfEveryValidActions (λ publication says m. KnownIsAccepted m)
+known-accepted-by-actions resolvers publication valid says tallies slips actions = known-here publication (model_behind_actions publication says tallies slips actions) (kept-by-actions publication (resolvers, valid) says tallies slips actions)
+
 pub known-accepted : OfEveryValidRun (λ publication says m. KnownIsAccepted m)
-known-accepted resolvers publication valid says tallies slips events = known-here publication (model_behind publication says tallies slips events) (kept-always publication (resolvers, valid) says tallies slips events)
+known-accepted = of-valid-runs (λ publication says m. KnownIsAccepted m) known-accepted-by-actions
+
+pub accepted-known-by-actions : OfEveryValidActions (λ publication says m. AcceptedIsKnown m)
+accepted-known-by-actions resolvers publication valid says tallies slips actions = accepted-here publication (model_behind_actions publication says tallies slips actions) (kept-by-actions publication (resolvers, valid) says tallies slips actions)
 
 pub accepted-known : OfEveryValidRun (λ publication says m. AcceptedIsKnown m)
-accepted-known resolvers publication valid says tallies slips events = accepted-here publication (model_behind publication says tallies slips events) (kept-always publication (resolvers, valid) says tallies slips events)
+accepted-known = of-valid-runs (λ publication says m. AcceptedIsKnown m) accepted-known-by-actions
 
 -- Chains are accounted for.
 
 base : (publication : Publication) (m : Model) → Kept publication m → Base publication m.world m.history
 base publication m k = (ground publication m k, (k.told, owns publication m k))
 
-pub chains-accounted : OfEveryValidRun (λ publication says m. ChainsAreAccounted publication m)
-chains-accounted resolvers publication valid says tallies slips events =
-    let all : Kept publication (model_behind publication says tallies slips events) × OfAccounts publication (model_behind publication says tallies slips events).world (model_behind publication says tallies slips events).history =
-    runs-keep publication (model publication says) (λ (n : Model). Kept publication n × OfAccounts publication n.world n.history)
+pub chains-accounted : OfEveryValidActions (λ publication says m. ChainsAreAccounted publication m)
+chains-accounted resolvers publication valid says tallies slips actions =
+    let all : Kept publication (model_behind_actions publication says tallies slips actions) × OfAccounts publication (model_behind_actions publication says tallies slips actions).world (model_behind_actions publication says tallies slips actions).history =
+    failing-actions-keep publication (model publication says) (λ (n : Model). Kept publication n × OfAccounts publication n.world n.history)
     (λ n action k. (
       kept-step publication n k.0 says action,
       step-keeps publication says (Base publication) (OfAccounts publication) (λ w h b. b.0.received) (accounts-keep publication says) n action (base publication n k.0) k.1,
-    )) (λ n others k. (kept-tallied publication n others k.0, k.1)) events (faulty (empty_model publication tallies) slips) (kept-always publication (resolvers, valid) says tallies [] [], accounts-begin publication tallies (resolvers, valid)) in
+    )) (λ n others k. (kept-tallied publication n others k.0, k.1)) actions (faulty (empty_model publication tallies) slips) (kept-always publication (resolvers, valid) says tallies [] [], accounts-begin publication tallies (resolvers, valid)) in
     all.1
 
 -- Sites are equal, but for what is under way.
@@ -93,21 +100,21 @@ module _ (publication : Publication) (m : Model) (g : Ground publication m.world
       let holds : SiteHolds (site_view publication m.world.publisher (made_in m.history.made n) n) s = if-found (SiteHolds (site_view publication m.world.publisher (made_in m.history.made n) n)) (at_number m.world.subscribers n) s at (i.sites.sites n) in
       holds.equal (expired-later publication m.world.publisher.latest m.world.moment (at_number m.world.publisher.sites n) g.in_step.been live) joins key changed touched
 
-pub sites-equal : OfEveryValidRun (λ publication says m. SitesAreEqual publication m)
-sites-equal resolvers publication valid says tallies slips events =
-    let both = settled-always publication says tallies slips events (resolvers, valid) in
-    equal-here publication (model_behind publication says tallies slips events) both.0 both.1
+pub sites-equal : OfEveryValidActions (λ publication says m. SitesAreEqual publication m)
+sites-equal resolvers publication valid says tallies slips actions =
+    let both = settled-by-actions publication says tallies slips actions (resolvers, valid) in
+    equal-here publication (model_behind_actions publication says tallies slips actions) both.0 both.1
 
-pub replies-true : OfEveryValidRun (λ publication says m. RepliesAreTrue publication m)
-replies-true resolvers publication valid says tallies slips events = (settled-always publication says tallies slips events (resolvers, valid)).1
+pub replies-true : OfEveryValidActions (λ publication says m. RepliesAreTrue publication m)
+replies-true resolvers publication valid says tallies slips actions = (settled-by-actions publication says tallies slips actions (resolvers, valid)).1
 
-pub moments-step : OfEveryValidRun (λ publication says m. MomentsAreInStep m)
-moments-step resolvers publication valid says tallies slips events =
-    let g = (settled-always publication says tallies slips events (resolvers, valid)).0 in
+pub moments-step : OfEveryValidActions (λ publication says m. MomentsAreInStep m)
+moments-step resolvers publication valid says tallies slips actions =
+    let g = (settled-by-actions publication says tallies slips actions (resolvers, valid)).0 in
     record { moments = g.in_step; watermarks = g.watermarks }
 
-pub received-step : OfEveryModel ReceivedIsInStep
-received-step publication says tallies slips events = (let i = behind-always publication says tallies slips events in record { received = i.0; behind = i.1 })
+pub received-step : OfEveryActions (λ publication says m. ReceivedIsInStep m)
+received-step publication says tallies slips actions = (let i = behind-by-actions publication says tallies slips actions in record { received = i.0; behind = i.1 })
 
 -- The ranges that a site holds are among those that it received.
 
@@ -149,6 +156,6 @@ held-within grants made site article holder value k =
 held-here : (publication : Publication) (m : Model) → Apart publication m.world m.history.made → HeldWereGranted m
 held-here publication m i site article value = held-within m.world.publisher.grants m.history.made site article (holder_in (holders_at m.world.publisher.held m.world.subscribers site) article) value (i.held site article)
 
-pub held-granted-always : OfEveryValidRun (λ publication says m. HeldWereGranted m)
-held-granted-always resolvers publication valid says tallies slips events =
-    held-here publication (model_behind publication says tallies slips events) (identities-always publication (valid-rules resolvers publication valid) says tallies slips events)
+pub held-granted-always : OfEveryValidActions (λ publication says m. HeldWereGranted m)
+held-granted-always resolvers publication valid says tallies slips actions =
+    held-here publication (model_behind_actions publication says tallies slips actions) (identities-by-actions publication (valid-rules resolvers publication valid) says tallies slips actions)

@@ -11,7 +11,7 @@ use Rattle.merge_model.specs.Keys.{at_number}
 use Rattle.merge_model.specs.Model.{Model, model}
 use Rattle.merge_model.specs.Promises.{IsSettled}
 use Rattle.merge_model.specs.Publisher.{last_closed}
-use Rattle.merge_model.specs.Runs.{model_behind}
+use Rattle.merge_model.specs.Runs.{model_behind_actions}
 use Rattle.merge_model.specs.Session.{ask as asking}
 use Rattle.merge_model.specs.Session.{Session, after_download, downloading, exchange, unsent_generations, uploading, with_answer, with_upload}
 use Rattle.merge_model.specs.Steps.{SendDownload, SendUpload}
@@ -19,14 +19,14 @@ use Rattle.merge_model.specs.Subscriber.{sub_last_closed}
 use Rattle.merge_model.specs.Tables.{SubscriberTables}
 use Rattle.merge_model.specs.World.{Saying}
 use Rattle.merge_model.proofs.Finding.{found-named, some_same}
-use Rattle.merge_laws.specs.Laws.{OfEveryValidRun}
+use Rattle.merge_laws.specs.Laws.{OfEveryValidActions}
 use Rattle.merge_laws.specs.Rounds.{AllComplete, Completes, HasSubscribers, RoundSettles, downloaded_by, is_among, started, uploaded_by}
 use Rattle.merge_laws.proofs.RoundStays.{AskStays, Stays, Unmoved, answered-both, asks-then, download-stays, stays-itself, stays-then, stays-unmoved, upload-stays}
 use Rattle.merge_laws.proofs.SessionChanges.{NoneBetween}
 use Rattle.merge_laws.proofs.SessionExchanges.{DownloadLeaves, UploadLeaves, UploadRests, download-leaves, upload-leaves}
 use Rattle.merge_laws.proofs.SessionLaw.{At, Fetched, Joins, Known, Settles, Uploaded, at_next, downloads-settle, ends-here, exchange-settles, fetch-settles, if-settles, own, same-site, settled, uploads-settle}
 use Rattle.merge_laws.proofs.SettledExpired.{expired_in}
-use Rattle.merge_laws.proofs.SettledLaw.{settled-always}
+use Rattle.merge_laws.proofs.SettledLaw.{settled-by-actions}
 use Rattle.merge_laws.proofs.Subscribing.{number-decided, same_number}
 use Rattle.merge_laws.proofs.Walking.{same-sites}
 
@@ -221,7 +221,7 @@ module _ (publication : Publication) (says : Saying) where
       let f : Fetched publication says s.site done = last.1 s.site (record { tables = s; known = last.0 s.site; here = here }) in
       subst (λ (x : SubscriberTables). IsSettled publication done x) (some_same f.fetches.uploaded.joins.at.tables s (sym f.fetches.uploaded.joins.at.here ∙ here)) (settled publication says s.site done f)
 
-pub round-settles : OfEveryValidRun RoundSettles
-round-settles resolvers publication valid says tallies slips events =
-    let g = (settled-always publication says tallies slips events (resolvers, valid)).0 in
-    round-here publication says (model_behind publication says tallies slips events) g.none (λ a. (g.received, g.numbered))
+pub round-settles : OfEveryValidActions RoundSettles
+round-settles resolvers publication valid says tallies slips actions =
+    let g = (settled-by-actions publication says tallies slips actions (resolvers, valid)).0 in
+    round-here publication says (model_behind_actions publication says tallies slips actions) g.none (λ a. (g.received, g.numbered))

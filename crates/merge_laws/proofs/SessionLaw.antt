@@ -7,7 +7,7 @@ use Rattle.merge_schema.specs.declared.publication.Publication.{Publication}
 use Rattle.merge_batch.specs.declared.refusal.Refusal.{Refusal}
 use Rattle.merge_batch.specs.declared.reply.Downloaded.{Downloaded}
 use Rattle.merge_batch.specs.declared.reply.Reply.TheVariants as reply
-use Rattle.merge_model.specs.Runs.{model_behind}
+use Rattle.merge_model.specs.Runs.{model_behind_actions}
 use Rattle.merge_model.specs.History.{History, MadeChange, made_at}
 use Rattle.merge_model.specs.Model.{Model, model, model_step}
 use Rattle.merge_model.specs.Promises.{IsSettled, SessionSettles, is_expired_at}
@@ -23,14 +23,15 @@ use Rattle.merge_model.specs.declared.letter.Message.{Message}
 use Rattle.merge_model.specs.declared.letter.Message.TheVariants.{Replies}
 use Rattle.merge_laws.specs.Numbered.{Numbered}
 use Rattle.merge_laws.specs.Received.{Received}
-use Rattle.merge_laws.specs.Laws.{OfEveryDecidedRun}
+use Rattle.merge_laws.specs.Laws.{OfEveryActions, OfEveryDecidedRun}
 use Rattle.merge_model.proofs.Finding.{some_same}
 use Rattle.merge_laws.proofs.Models.{model-fine}
 use Rattle.merge_laws.proofs.SessionChanges.{NoneBetween, UpTo, none-later, none-nothing, nothing-none, order-up, up-none}
 use Rattle.merge_laws.proofs.SessionExchanges.{DownloadLeaves, JoinLeaves, RangesLeave, UploadLeaves, UploadRests, download-leaves, join-leaves, ranges-leave, upload-leaves}
 use Rattle.merge_laws.proofs.SessionSteps.{Answered, Ends}
-use Rattle.merge_laws.proofs.Tellings.{numbered-always, numbered-keeps}
+use Rattle.merge_laws.proofs.Tellings.{numbered-by-actions, numbered-keeps}
 use Rattle.merge_laws.proofs.Walking.{step-keeps, same-sites}
+use Rattle.merge_laws.proofs.OfActions.{of-runs}
 
 module _ (publication : Publication) (says : Saying) (site : SiteId) where
   abbrev pub Known : Model → Type 0
@@ -311,7 +312,10 @@ session-leaves-settled publication says m r i s t here ended there =
     let f : Fetched publication says s.site k = session-settles publication says s.site m (record { tables = s; known = (r, i); here = here }) ended in
     subst (λ (x : SubscriberTables). IsSettled publication k x) (some_same f.fetches.uploaded.joins.at.tables t (sym f.fetches.uploaded.joins.at.here ∙ there)) (settled publication says s.site k f)
 
+pub sessions-settle-by-actions : OfEveryActions SessionSettles
+sessions-settle-by-actions publication says tallies slips actions =
+    let known = numbered-by-actions publication says tallies slips actions in
+    session-leaves-settled publication says (model_behind_actions publication says tallies slips actions) known.0 known.1
+
 pub sessions-settle : OfEveryDecidedRun SessionSettles
-sessions-settle publication says tallies slips events =
-    let known = numbered-always publication says tallies slips events in
-    session-leaves-settled publication says (model_behind publication says tallies slips events) known.0 known.1
+sessions-settle = of-runs SessionSettles sessions-settle-by-actions

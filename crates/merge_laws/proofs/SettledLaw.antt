@@ -9,7 +9,7 @@ use Rattle.merge_schema.specs.Valid.{IsValid}
 use Rattle.merge_schema.specs.declared.publication.Publication.{Publication}
 use Rattle.merge_table.proofs.LookUps.{rows_from_look_ups}
 use Rattle.merge_model.specs.Failing.{Slips}
-use Rattle.merge_model.specs.Runs.{model_behind}
+use Rattle.merge_model.specs.Runs.{model_behind, model_behind_actions}
 use Rattle.merge_model.specs.History.{MadeChange, made_at}
 use Rattle.merge_types.specs.RowKeys.{key_cmp}
 use Rattle.merge_model.specs.Keys.{at_number, has_key, row_at}
@@ -27,11 +27,11 @@ use Rattle.merge_model.specs.World.{Saying, World}
 use Rattle.merge_model.specs.declared.event.Event.{Event}
 use Rattle.merge_model.specs.ByNumbers.{received_by_number}
 use Rattle.merge_model.proofs.Sorted.{key_total}
-use Rattle.merge_laws.specs.Laws.{OfEveryValidRun}
+use Rattle.merge_laws.specs.Laws.{OfEveryValidActions}
 use Rattle.merge_laws.specs.Settled.{OfPublisher, OfSites, Settled, SiteHolds, TouchedInOrder, changed_of, held_at, live_only, made_in, owed_at, site_view}
 use Rattle.merge_laws.specs.Unsent.{last_made}
 use Rattle.merge_laws.proofs.Changed.{made-changed}
-use Rattle.merge_laws.proofs.Ground.{Ground, grounded-always}
+use Rattle.merge_laws.proofs.Ground.{Ground, grounded-by-actions}
 use Rattle.merge_model.proofs.KeyLookUps.{keys-tied}
 use Rattle.merge_laws.proofs.SettledExpired.{expired-later}
 use Rattle.merge_laws.proofs.SettledRows.{kept-ascend, kept-at, kept_rows, with_value}
@@ -41,6 +41,7 @@ use Rattle.merge_laws.proofs.SettledWorlds.{if-found}
 use Rattle.merge_laws.proofs.TouchedSteps.{touched-begins, touched-keeps}
 use Rattle.merge_laws.proofs.UnsentKept.{all-found}
 use Rattle.merge_laws.proofs.Walking.{step-keeps}
+use Rattle.merge_laws.proofs.OfActions.{of-events}
 
 -- The rows that a site holds, and those that it is to hold, as rows for which there is a value.
 
@@ -135,12 +136,17 @@ settled-step publication says m action g i = record {
   publisher = step-keeps publication says (Ground publication) (OfPublisher publication) (λ w h b. b.received) (touched-keeps publication says) m action g i.publisher;
 }
 
-pub settled-always : (publication : Publication) (says : Saying) (tallies : List ℕ) (slips : Slips) (events : List Event) → (resolvers : ℕ) × IsValid resolvers publication
-    → (let m : Model = model_behind publication says tallies slips events in Ground publication m.world m.history × Settled publication m.world m.history)
-settled-always publication says tallies slips events valid = grounded-always publication says tallies slips events valid (Settled publication) (settled-step publication says) (λ w h others s. record { sites = s.sites; publisher = s.publisher })
+pub settled-by-actions : (publication : Publication) (says : Saying) (tallies : List ℕ) (slips : Slips) (actions : List Action) → (resolvers : ℕ) × IsValid resolvers publication
+    → (let m : Model = model_behind_actions publication says tallies slips actions in Ground publication m.world m.history × Settled publication m.world m.history)
+settled-by-actions publication says tallies slips actions valid = grounded-by-actions publication says tallies slips actions valid (Settled publication) (settled-step publication says) (λ w h others s. record { sites = s.sites; publisher = s.publisher })
     (record { sites = sites-begin publication tallies; publisher = touched-begins publication tallies })
 
-pub settled-sites-hold : OfEveryValidRun (λ publication says m. SettledHoldsPartition publication m)
-settled-sites-hold resolvers publication valid says tallies slips events =
-    let both = settled-always publication says tallies slips events (resolvers, valid) in
-    settled-holds publication (model_behind publication says tallies slips events) both.0 both.1
+pub settled-always : (publication : Publication) (says : Saying) (tallies : List ℕ) (slips : Slips) (events : List Event) → (resolvers : ℕ) × IsValid resolvers publication
+    → (let m : Model = model_behind publication says tallies slips events in Ground publication m.world m.history × Settled publication m.world m.history)
+settled-always publication says tallies slips events valid =
+    of-events publication says tallies slips events (λ (m : Model). Ground publication m.world m.history × Settled publication m.world m.history) (λ actions. settled-by-actions publication says tallies slips actions valid)
+
+pub settled-sites-hold : OfEveryValidActions (λ publication says m. SettledHoldsPartition publication m)
+settled-sites-hold resolvers publication valid says tallies slips actions =
+    let both = settled-by-actions publication says tallies slips actions (resolvers, valid) in
+    settled-holds publication (model_behind_actions publication says tallies slips actions) both.0 both.1

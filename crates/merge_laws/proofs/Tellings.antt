@@ -19,7 +19,7 @@ use Rattle.merge_batch.specs.declared.request.Upload.{Upload}
 use Rattle.merge_batch.specs.declared.reply.Reply.{Reply}
 use Rattle.merge_batch.specs.declared.reply.Reply.TheVariants as reply
 use Rattle.merge_model.specs.Failing.{Slips, faulty}
-use Rattle.merge_model.specs.Runs.{model_behind}
+use Rattle.merge_model.specs.Runs.{model_behind, model_behind_actions}
 use Rattle.merge_model.specs.Acts.{Act}
 use Rattle.merge_model.specs.ByHistory.{by_made, by_past}
 use Rattle.merge_model.specs.ByNumbers.{received_by_number}
@@ -41,7 +41,7 @@ use Rattle.merge_model.specs.PublisherRanges.{plans, ranged, with_grants}
 use Rattle.merge_model.specs.PublisherUpload.{brings_news, taken_in, upload_refusal}
 use Rattle.merge_model.specs.Reinit.{reinitialised}
 use Rattle.merge_model.specs.Sending.{join_of, upload_end, upload_sent, upload_to, want_of, with_message}
-use Rattle.merge_model.specs.Steps.{kept_decisions, upload_questions}
+use Rattle.merge_model.specs.Steps.{Action, kept_decisions, upload_questions}
 use Rattle.merge_model.specs.Subscriber.{empty_subscriber, sub_at_moment, sub_closed, sub_last_closed, sub_local_refusal, sub_made_locally, sub_next_dot, sub_version_at, with_version_if}
 use Rattle.merge_types.specs.declared.row_key.RowKey.{RowKey as Key}
 use Rattle.merge_model.specs.Tables.{PublisherTables, SubscriberTables}
@@ -49,7 +49,7 @@ use Rattle.merge_model.specs.Taking.{seq_of, taken}
 use Rattle.merge_model.specs.World.{Saying, World, empty_world, subscriber_at, with_publisher, with_subscriber}
 use Rattle.merge_model.specs.declared.letter.Message.TheVariants.{Asks, Replies}
 use Rattle.merge_model.specs.declared.event.Event.{Event}
-use Rattle.merge_model.proofs.KeptFailing.{runs-keep}
+use Rattle.merge_model.proofs.Actions.{failing-actions-keep}
 use Rattle.merge_laws.proofs.Tallied.{numbered-tallied, received-tallied}
 use Rattle.merge_laws.specs.Received.{Received}
 use Rattle.merge_laws.specs.Numbered.{Numbered, Tells, last_of}
@@ -64,6 +64,7 @@ use Rattle.merge_laws.proofs.Sendings.{batch-begin, batch-bound}
 use Rattle.merge_laws.proofs.Telling.{anew-tells, answered-tells, change-older, change-tells, closing-tells, message-tells, moment-tells, received-tells}
 use Rattle.merge_laws.proofs.Walking.{Sends, StepsKeep, acts_in, comes, here, join_noted, own_noted, step-keeps, told_by, uploaded_world}
 use Rattle.merge_laws.proofs.Worlds.{history-same, no-gap}
+use Rattle.merge_laws.proofs.OfActions.{of-events}
 
 -- What a subscriber does.
 
@@ -268,8 +269,12 @@ numbered-begins publication tallies = record {
   first = λ n. refl;
 }
 
+pub numbered-by-actions : (publication : Publication) (says : Saying) (tallies : List ℕ) (slips : Slips) (actions : List Action)
+    → (let m : Model = model_behind_actions publication says tallies slips actions in Received m.world m.history × Numbered m.world m.history)
+numbered-by-actions publication says tallies slips actions = failing-actions-keep publication (model publication says) (λ (m : Model). Received m.world m.history × Numbered m.world m.history)
+    (λ m action i. (model-fine publication says m action i.0, step-keeps publication says Received Numbered (λ w h r. r) (numbered-keeps publication says) m action i.0 i.1)) (λ m others i. (received-tallied m.world others m.history i.0, numbered-tallied m.world others m.history i.1)) actions (faulty (empty_model publication tallies) slips)
+    (begins publication tallies, numbered-begins publication tallies)
+
 pub numbered-always : (publication : Publication) (says : Saying) (tallies : List ℕ) (slips : Slips) (events : List Event)
     → (let m : Model = model_behind publication says tallies slips events in Received m.world m.history × Numbered m.world m.history)
-numbered-always publication says tallies slips events = runs-keep publication (model publication says) (λ (m : Model). Received m.world m.history × Numbered m.world m.history)
-    (λ m action i. (model-fine publication says m action i.0, step-keeps publication says Received Numbered (λ w h r. r) (numbered-keeps publication says) m action i.0 i.1)) (λ m others i. (received-tallied m.world others m.history i.0, numbered-tallied m.world others m.history i.1)) events (faulty (empty_model publication tallies) slips)
-    (begins publication tallies, numbered-begins publication tallies)
+numbered-always publication says tallies slips events = of-events publication says tallies slips events (λ (m : Model). Received m.world m.history × Numbered m.world m.history) (numbered-by-actions publication says tallies slips)

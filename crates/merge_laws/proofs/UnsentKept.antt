@@ -17,7 +17,7 @@ use Rattle.merge_batch.specs.declared.request.Outstanding.TheVariants as ask
 use Rattle.merge_batch.specs.declared.reply.Reply.{Reply}
 use Rattle.merge_batch.specs.declared.reply.Reply.TheVariants as reply
 use Rattle.merge_model.specs.Failing.{Slips, faulty}
-use Rattle.merge_model.specs.Runs.{model_behind}
+use Rattle.merge_model.specs.Runs.{model_behind, model_behind_actions}
 use Rattle.merge_model.specs.Bridge.{SubscriberDecidesAlike}
 use Rattle.merge_model.specs.ByHistory.{by_history, by_made, by_past}
 use Rattle.merge_model.specs.Changes.{key_of, version_after}
@@ -40,8 +40,8 @@ use Rattle.merge_model.specs.Tables.{SubscriberTables}
 use Rattle.merge_model.specs.Taking.{row_above, seq_of, taken}
 use Rattle.merge_model.specs.World.{Saying, World, empty_world, subscriber_at, with_subscriber}
 use Rattle.merge_model.specs.declared.event.Event.{Event}
-use Rattle.merge_model.proofs.KeptFailing.{runs-keep}
 use Rattle.merge_model.proofs.Subscribers.{step-sub-sorted}
+use Rattle.merge_model.proofs.Actions.{failing-actions-keep}
 use Rattle.merge_laws.proofs.Tallied.{numbered-tallied, received-tallied}
 use Rattle.merge_laws.specs.Numbered.{InOrder, Numbered}
 use Rattle.merge_laws.specs.Received.{Received}
@@ -58,6 +58,7 @@ use Rattle.merge_laws.proofs.Telling.{closing-tells, row-there}
 use Rattle.merge_laws.proofs.Tellings.{joined-alike, numbered-begins, numbered-keeps, uploaded-alike}
 use Rattle.merge_laws.proofs.Unsending.{anew-rows, change-rows, items-told, received-rows, received-sorted}
 use Rattle.merge_laws.proofs.Walking.{StepsKeep, acts_in, here, join_noted, own_noted, step-keeps}
+use Rattle.merge_laws.proofs.OfActions.{of-events}
 
 -- what is known besides
 abbrev pub Base : World → History → Type 0
@@ -217,12 +218,16 @@ base-step publication says m action b = (
   ),
 )
 
+pub unsent-by-actions : (publication : Publication) (says : Saying) (tallies : List ℕ) (slips : Slips) (actions : List Action)
+    → (let m : Model = model_behind_actions publication says tallies slips actions in Base m.world m.history × Unsent m.world m.history)
+unsent-by-actions publication says tallies slips actions = failing-actions-keep publication (model publication says) (λ (m : Model). Base m.world m.history × Unsent m.world m.history)
+    (λ m action i. (base-step publication says m action i.0, step-keeps publication says Base Unsent (λ w h b. b.0) (unsent-keeps publication says) m action i.0 i.1))
+    (λ m others i. ((received-tallied m.world others m.history i.0.0, (numbered-tallied m.world others m.history i.0.1.0, i.0.1.1)), i.1)) actions (faulty (empty_model publication tallies) slips)
+    ((begins publication tallies, (numbered-begins publication tallies, sorted-begins publication (by_site publication))), unsent-begins publication tallies)
+
 pub unsent-always : (publication : Publication) (says : Saying) (tallies : List ℕ) (slips : Slips) (events : List Event)
     → (let m : Model = model_behind publication says tallies slips events in Base m.world m.history × Unsent m.world m.history)
-unsent-always publication says tallies slips events = runs-keep publication (model publication says) (λ (m : Model). Base m.world m.history × Unsent m.world m.history)
-    (λ m action i. (base-step publication says m action i.0, step-keeps publication says Base Unsent (λ w h b. b.0) (unsent-keeps publication says) m action i.0 i.1))
-    (λ m others i. ((received-tallied m.world others m.history i.0.0, (numbered-tallied m.world others m.history i.0.1.0, i.0.1.1)), i.1)) events (faulty (empty_model publication tallies) slips)
-    ((begins publication tallies, (numbered-begins publication tallies, sorted-begins publication (by_site publication))), unsent-begins publication tallies)
+unsent-always publication says tallies slips events = of-events publication says tallies slips events (λ (m : Model). Base m.world m.history × Unsent m.world m.history) (unsent-by-actions publication says tallies slips)
 
 -- what a subscriber decides
 pub decides-alike : (m : Model) → Base m.world m.history → Unsent m.world m.history → (s : SubscriberTables) → (s.site.0 ≡ 0 → ⊥) → at_number m.world.subscribers s.site.0 ≡ Some s → SubscriberDecidesAlike m s

@@ -21,7 +21,7 @@ use Rattle.merge_batch.specs.declared.request.Request.TheVariants as request
 use Rattle.merge_batch.specs.declared.reply.Reply.{Reply}
 use Rattle.merge_batch.specs.declared.reply.Reply.TheVariants as reply
 use Rattle.merge_model.specs.Failing.{Slips, faulty}
-use Rattle.merge_model.specs.Runs.{model_behind}
+use Rattle.merge_model.specs.Runs.{model_behind, model_behind_actions}
 use Rattle.merge_model.specs.declared.event.Event.{Event}
 use Rattle.merge_model.specs.Tables.{PublisherTables, SubscriberTables}
 use Rattle.merge_model.specs.Keys.{at_number, put_number}
@@ -40,14 +40,14 @@ use Rattle.merge_model.specs.World.{Saying, World, letter_at, subscriber_at, wit
 use Rattle.merge_model.specs.declared.letter.Message.TheVariants.{Asks, Replies}
 use Rattle.merge_model.specs.declared.letter.Letter.{Letter}
 use Rattle.merge_model.specs.declared.letter.Message.{Message}
-use Rattle.merge_model.specs.Steps.{post}
+use Rattle.merge_model.specs.Steps.{Action, post}
 use Rattle.merge_model.specs.History.{History, pasts_with}
 use Rattle.merge_model.specs.Model.{Model, empty_model, model}
 use Rattle.merge_model.specs.Events.{after}
 use Rattle.merge_model.specs.ByHistory.{by_made, by_past}
 use Rattle.merge_model.specs.PublisherRanges.{plans, ranged}
 use Rattle.merge_model.specs.Taking.{seq_of, taken}
-use Rattle.merge_model.proofs.KeptFailing.{runs-keep}
+use Rattle.merge_model.proofs.Actions.{failing-actions-keep}
 use Rattle.merge_laws.proofs.Tallied.{received-tallied}
 use Rattle.merge_laws.specs.Received.{joined_at, JoinFits, MessageFits, LetterFits, Received}
 use Rattle.merge_laws.specs.Watermarks.{AskHolds, HoldsWatermark, HoldsWatermarks, LetterHolds, StateHolds, Watermarks, WatermarksAreHeld, state_in}
@@ -59,6 +59,7 @@ use Rattle.merge_laws.proofs.Subscribing.{number-decided}
 use Rattle.merge_laws.proofs.Walking.{StepsKeep, acts_in, here, step-keeps, told_by}
 use Rattle.merge_laws.proofs.WatermarkLists.{Moves, letter-more, site-moves, state-map, state-put, states-move}
 use Rattle.merge_laws.proofs.WatermarkSites.{anew-moves, made-moves, quiet, sent-moves, taken-moves}
+use Rattle.merge_laws.proofs.OfActions.{of-events}
 
 -- what is known of a join, and of an ask that is not refused
 join-seq : (m : Join) (joined : ℕ) (site : SiteId) (found : Option SubscriberTables) (s : SubscriberTables) → JoinFits joined site m found → found ≡ Some s → m.seq ≤ s.seq
@@ -227,14 +228,18 @@ all-new publication (entry ∷ entries) n =
     new-head (StateHolds no_state) (is_at (nat_cmp n) entry.0) (empty_subscriber publication entry.1.site) (at_number (map (λ (s : ℕ × Subscription). (s.0, empty_subscriber publication s.1.site)) entries) n)
     (new-holds publication entry.1.site) (all-new publication entries n)
 
-pub watermarks-always : (publication : Publication) (says : Saying) (tallies : List ℕ) (slips : Slips) (events : List Event)
-    → (let m : Model = model_behind publication says tallies slips events in HoldsWatermarks m.world)
-watermarks-always publication says tallies slips events =
-    (runs-keep publication (model publication says) (λ (m : Model). Received m.world m.history × HoldsWatermarks m.world)
-    (λ m action both. (model-fine publication says m action both.0, step-keeps publication says Received OfWorlds (λ w h r. r) (watermarks-keep publication says) m action both.0 both.1)) (λ m others both. (received-tallied m.world others m.history both.0, both.1)) events (faulty (empty_model publication tallies) slips) (
+pub watermarks-by-actions : (publication : Publication) (says : Saying) (tallies : List ℕ) (slips : Slips) (actions : List Action)
+    → (let m : Model = model_behind_actions publication says tallies slips actions in HoldsWatermarks m.world)
+watermarks-by-actions publication says tallies slips actions =
+    (failing-actions-keep publication (model publication says) (λ (m : Model). Received m.world m.history × HoldsWatermarks m.world)
+    (λ m action both. (model-fine publication says m action both.0, step-keeps publication says Received OfWorlds (λ w h r. r) (watermarks-keep publication says) m action both.0 both.1)) (λ m others both. (received-tallied m.world others m.history both.0, both.1)) actions (faulty (empty_model publication tallies) slips) (
       received-always publication says tallies [] [],
       record { sites = λ n. all-new publication (by_site publication) n; letters = tt },
     )).1
+
+pub watermarks-always : (publication : Publication) (says : Saying) (tallies : List ℕ) (slips : Slips) (events : List Event)
+    → (let m : Model = model_behind publication says tallies slips events in HoldsWatermarks m.world)
+watermarks-always publication says tallies slips events = of-events publication says tallies slips events (λ (m : Model). HoldsWatermarks m.world) (watermarks-by-actions publication says tallies slips)
 
 pub watermarks-held : (m : Model) → Received m.world m.history → HoldsWatermarks m.world → WatermarksAreHeld m
 watermarks-held m r k n s at joins =

@@ -9,7 +9,7 @@ use Rattle.merge_batch.specs.declared.request.Request.TheVariants as request
 use Rattle.merge_batch.specs.declared.request.Upload.{Upload}
 use Rattle.merge_batch.specs.declared.request.UploadItem.{UploadItem}
 use Rattle.merge_model.specs.Failing.{Slips}
-use Rattle.merge_model.specs.Runs.{model_after}
+use Rattle.merge_model.specs.Runs.{model_after, model_after_actions}
 use Rattle.merge_model.specs.declared.event.Event.{Event}
 use Rattle.merge_model.specs.Acts.{key_of_item}
 use Rattle.merge_model.specs.ByHistory.{received_by_done}
@@ -18,7 +18,7 @@ use Rattle.merge_model.specs.Keys.{row_at, same_key}
 use Rattle.merge_model.specs.Model.{Model, did_something, model_step}
 use Rattle.merge_model.specs.Promises.{key_of_conflict}
 use Rattle.merge_model.specs.Publisher.{at_moment}
-use Rattle.merge_model.specs.Steps.{Deliver}
+use Rattle.merge_model.specs.Steps.{Action, Deliver}
 use Rattle.merge_model.specs.declared.outcome.Outcome.{Outcome}
 use Rattle.merge_types.specs.declared.row_key.RowKey.{RowKey as Key}
 use Rattle.merge_units.specs.declared.site_row.PublisherRow.{PublisherRow}
@@ -118,3 +118,16 @@ abbrev pub TakenOnlyAnswer : Publication → Saying → Model → Type 0
 TakenOnlyAnswer publication says m = (number : ℕ) (site : SiteId) (u : Upload) → IsUpload m number site u
     → (let done : Model × Outcome = delivered publication says m number in did_something done.1 ≡ true → (slips : Slips) (more : List Event)
     → (let later : Model = model_after publication says done.0 slips more in OnlyAnswers site u later (delivered publication says later number)))
+
+-- The same where single actions come afterwards, in any order.
+
+abbrev pub DoneStaysByActions : Publication → Saying → Model → Type 0
+DoneStaysByActions publication says m = (site generation : ℕ) → is_done m.history site generation ≡ true → (slips : Slips) (more : List Action) → is_done (model_after_actions publication says m slips more).history site generation ≡ true
+
+abbrev pub LettersStayByActions : Publication → Saying → Model → Type 0
+LettersStayByActions publication says m = (number : ℕ) (letter : Letter) → letter_at m.world number ≡ Some letter → (slips : Slips) (more : List Action) → letter_at (model_after_actions publication says m slips more).world number ≡ Some letter
+
+abbrev pub TakenOnlyAnswerByActions : Publication → Saying → Model → Type 0
+TakenOnlyAnswerByActions publication says m = (number : ℕ) (site : SiteId) (u : Upload) → IsUpload m number site u
+    → (let done : Model × Outcome = delivered publication says m number in did_something done.1 ≡ true → (slips : Slips) (more : List Action)
+    → (let later : Model = model_after_actions publication says done.0 slips more in OnlyAnswers site u later (delivered publication says later number)))

@@ -1,5 +1,5 @@
 -- No generation of a site takes effect twice: not at two deliveries, wherever in a run they come.
-use Rattle.std.specs.Prelude.{◌≡◌, ◌≤◌, ◌<◌, ◌+◌, ◌-◌, ◌↔◌, ℕ, Bool, List, [], ◌∷◌, true, false, not}
+use Rattle.std.specs.Prelude.{◌≡◌, ◌≤◌, ◌<◌, ◌+◌, ◌-◌, ◌↔◌, ℕ, Bool, List, true, false, not}
 use Rattle.std.specs.List.{AllByRecursion, list_any, range_with_len}
 use Rattle.merge_types.specs.declared.identifiers.SiteId.{SiteId}
 use Rattle.merge_schema.specs.declared.publication.Publication.{Publication}
@@ -14,6 +14,7 @@ use Rattle.merge_model.specs.History.{is_done, pasts_with}
 use Rattle.merge_model.specs.Judge.{PublisherJudge}
 use Rattle.merge_model.specs.Model.{Model, did_something, empty_model, model}
 use Rattle.merge_model.specs.PublisherUpload.{brings_news}
+use Rattle.merge_model.specs.Runs.{after_actions}
 use Rattle.merge_model.specs.Steps.{Action, Deliver}
 use Rattle.merge_model.specs.World.{Saying}
 use Rattle.merge_model.specs.declared.event.Event.{Event}
@@ -21,8 +22,7 @@ use Rattle.merge_laws.specs.ActsOnce.{IsUpload, delivered}
 
 -- Steps one after the other, of which some may fail.
 abbrev pub after_steps : Publication → Saying → Faulty Model → List Action → Faulty Model
-after_steps publication says f [] = f
-after_steps publication says f (action ∷ actions) = after_steps publication says (fails publication (model publication says) f action).0 actions
+after_steps publication says f actions = after_actions (failing publication (model publication says)) f actions
 
 -- Every list of events is such steps, since a session is.
 abbrev pub RunsAreSteps : Type 0

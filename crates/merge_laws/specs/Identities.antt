@@ -14,7 +14,8 @@ use Rattle.merge_batch.specs.declared.reply.Reply.TheVariants as reply
 use Rattle.merge_batch.specs.declared.request.Request.TheVariants as request
 use Rattle.merge_schema.specs.declared.publication.Publication.{Publication}
 use Rattle.merge_model.specs.Failing.{Slips}
-use Rattle.merge_model.specs.Runs.{model_behind}
+use Rattle.merge_model.specs.Runs.{model_behind, model_behind_actions}
+use Rattle.merge_model.specs.Steps.{Action}
 use Rattle.merge_model.specs.declared.event.Event.{Event}
 use Rattle.merge_model.specs.History.{MadeChange}
 use Rattle.merge_model.specs.Keys.{at_number}
@@ -33,6 +34,11 @@ use Rattle.merge_model.specs.declared.letter.Message.{Message}
 abbrev pub OfEveryRuledModel : (Model → Type 0) → Type 0
 OfEveryRuledModel Holds = (publication : Publication) → All IsRule (rules_of publication) → (says : Saying) (tallies : List ℕ) (slips : Slips) (events : List Event)
     → Holds (model_behind publication says tallies slips events)
+
+-- the same of every list of actions
+abbrev pub OfEveryRuledActions : (Model → Type 0) → Type 0
+OfEveryRuledActions Holds = (publication : Publication) → All IsRule (rules_of publication) → (says : Saying) (tallies : List ℕ) (slips : Slips) (actions : List Action)
+    → Holds (model_behind_actions publication says tallies slips actions)
 
 -- whether a change is an insert of a site that took a value of an article
 abbrev pub takes_at : ℕ → ℕ → ℤ → MadeChange → Bool

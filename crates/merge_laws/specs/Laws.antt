@@ -1,9 +1,10 @@
--- What holds after every list of events.
+-- What holds after every list of events, and after every list of actions.
 use Rattle.std.specs.Prelude.{true, ◌≡◌, ◌≤◌, ◌<◌, ℕ, List, Some}
 use Rattle.merge_schema.specs.Valid.{IsValid}
 use Rattle.merge_schema.specs.declared.publication.Publication.{Publication}
 use Rattle.merge_model.specs.Failing.{Slips}
-use Rattle.merge_model.specs.Runs.{model_behind}
+use Rattle.merge_model.specs.Runs.{model_behind, model_behind_actions}
+use Rattle.merge_model.specs.Steps.{Action}
 use Rattle.merge_model.specs.declared.event.Event.{Event}
 use Rattle.merge_types.specs.declared.identifiers.SiteId.{SiteId}
 use Rattle.merge_gens.specs.Book.{moment_of}
@@ -37,6 +38,14 @@ OfEveryDecidedRun Holds = (publication : Publication) (says : Saying) (tallies :
 abbrev pub OfEveryValidRun : (Publication → Saying → Model → Type 0) → Type 0
 OfEveryValidRun Holds = (resolvers : ℕ) (publication : Publication) → IsValid resolvers publication → (says : Saying) (tallies : List ℕ) (slips : Slips) (events : List Event)
     → Holds publication says (model_behind publication says tallies slips events)
+
+-- And of every list of actions, in any order: what sites meet that are served, where no script has events. A list of events is one.
+abbrev pub OfEveryActions : (Publication → Saying → Model → Type 0) → Type 0
+OfEveryActions Holds = (publication : Publication) (says : Saying) (tallies : List ℕ) (slips : Slips) (actions : List Action) → Holds publication says (model_behind_actions publication says tallies slips actions)
+
+abbrev pub OfEveryValidActions : (Publication → Saying → Model → Type 0) → Type 0
+OfEveryValidActions Holds = (resolvers : ℕ) (publication : Publication) → IsValid resolvers publication → (says : Saying) (tallies : List ℕ) (slips : Slips) (actions : List Action)
+    → Holds publication says (model_behind_actions publication says tallies slips actions)
 
 -- and of every model, however it came about
 abbrev pub OfEach : (Publication → Model → Type 0) → Type 0

@@ -1,5 +1,10 @@
+use Rattle.merge_laws.specs.Bounds.{DownloadsAreEnough, UploadsAreEnough}
 use Rattle.merge_laws.proofs.BoundsEnough.{downloads-enough, uploads-enough}
+use Rattle.merge_laws.proofs.OfActions.{of-valid-runs}
 use Rattle.merge_laws.proofs.bounds.bounds_never_end_a_session.Goals as goal
 
 pub returns : goal.returns
-returns c = record { uploads = uploads-enough; downloads = downloads-enough }
+returns c = record {
+  uploads = of-valid-runs UploadsAreEnough uploads-enough;
+  downloads = of-valid-runs DownloadsAreEnough downloads-enough;
+}

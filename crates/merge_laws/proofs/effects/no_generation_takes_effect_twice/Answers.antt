@@ -1,11 +1,13 @@
+use Rattle.merge_laws.specs.Effects.{NewsIsUnmet, NumbersTakeEffect}
 use Rattle.merge_laws.proofs.EffectsOnce.{acting-take-effect, news-is-unmet, none-twice, numbers-take-effect, runs-are-steps}
+use Rattle.merge_laws.proofs.OfActions.{of-runs}
 use Rattle.merge_laws.proofs.effects.no_generation_takes_effect_twice.Goals as goal
 
 pub returns : goal.returns
 returns c = record {
   once = none-twice;
   acting = acting-take-effect;
-  numbers = numbers-take-effect;
-  news = news-is-unmet;
+  numbers = of-runs (λ publication says m. NumbersTakeEffect m) numbers-take-effect;
+  news = of-runs (λ publication says m. NewsIsUnmet m) news-is-unmet;
   runs = runs-are-steps;
 }

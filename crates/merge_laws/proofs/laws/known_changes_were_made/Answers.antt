@@ -1,8 +1,10 @@
-use Rattle.merge_laws.proofs.KnownSteps.{known-always}
+use Rattle.merge_laws.specs.Knowledge.{KnownWereMade, MadeAreNumbered}
+use Rattle.merge_laws.proofs.LawsOfActions.{known-were-made, made-are-numbered}
+use Rattle.merge_laws.proofs.OfActions.{of-runs}
 use Rattle.merge_laws.proofs.laws.known_changes_were_made.Goals as goal
 
 pub returns : goal.returns
 returns c = record {
-  numbered = λ publication says tallies slips events. (known-always publication says tallies slips events).numbered;
-  known = λ publication says tallies slips events. (known-always publication says tallies slips events).knowledge;
+  numbered = of-runs (λ publication says m. MadeAreNumbered m) made-are-numbered;
+  known = of-runs (λ publication says m. KnownWereMade m) known-were-made;
 }

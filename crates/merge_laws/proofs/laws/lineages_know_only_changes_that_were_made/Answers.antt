@@ -1,5 +1,7 @@
-use Rattle.merge_laws.proofs.LineagesKept.{lineages-always}
+use Rattle.merge_laws.specs.Laws.{KnowsOnlyMade}
+use Rattle.merge_laws.proofs.LawsOfActions.{knows-only-made}
+use Rattle.merge_laws.proofs.OfActions.{of-runs}
 use Rattle.merge_laws.proofs.laws.lineages_know_only_changes_that_were_made.Goals as goal
 
 pub returns : goal.returns
-returns c publication says tallies slips events = (lineages-always publication says tallies slips events).1
+returns c = of-runs (λ publication says m. KnowsOnlyMade m) knows-only-made

@@ -1,5 +1,7 @@
+use Rattle.merge_model.specs.Promises.{AllAccounted}
 use Rattle.merge_laws.proofs.AccountsAlways.{no-change-is-lost}
+use Rattle.merge_laws.proofs.OfActions.{of-valid-runs}
 use Rattle.merge_laws.proofs.laws.no_change_is_lost.Goals as goal
 
 pub returns : goal.returns
-returns c resolvers publication valid says tallies slips events = no-change-is-lost resolvers publication valid says tallies slips events
+returns c = of-valid-runs (λ publication says m. AllAccounted m) no-change-is-lost

@@ -1,5 +1,7 @@
+use Rattle.merge_model.specs.Promises.{SettledHoldsPartition}
 use Rattle.merge_laws.proofs.SettledLaw.{settled-sites-hold}
+use Rattle.merge_laws.proofs.OfActions.{of-valid-runs}
 use Rattle.merge_laws.proofs.laws.settled_sites_hold_their_partitions.Goals as goal
 
 pub returns : goal.returns
-returns c resolvers publication valid says tallies slips events = settled-sites-hold resolvers publication valid says tallies slips events
+returns c = of-valid-runs (λ publication says m. SettledHoldsPartition publication m) settled-sites-hold

@@ -1,5 +1,10 @@
+use Rattle.merge_laws.specs.Leavings.{JoinsTakeNothingOwed, PurgesTakeNothingOwed}
 use Rattle.merge_laws.proofs.LeavingsOwed.{joins-take-nothing, purges-take-nothing}
+use Rattle.merge_laws.proofs.OfActions.{of-valid-runs}
 use Rattle.merge_laws.proofs.leavings.purges_and_joins_take_nothing_owed.Goals as goal
 
 pub returns : goal.returns
-returns c = record { purges = purges-take-nothing; joins = joins-take-nothing }
+returns c = record {
+  purges = of-valid-runs (λ publication says m. PurgesTakeNothingOwed publication m) purges-take-nothing;
+  joins = of-valid-runs (λ publication says m. JoinsTakeNothingOwed publication m) joins-take-nothing;
+}

@@ -1,5 +1,7 @@
+use Rattle.merge_laws.specs.Rounds.{RoundSettles}
 use Rattle.merge_laws.proofs.RoundLaw.{round-settles}
+use Rattle.merge_laws.proofs.OfActions.{of-valid-runs}
 use Rattle.merge_laws.proofs.rounds.rounds_settle_all_sites.Goals as goal
 
 pub returns : goal.returns
-returns c resolvers publication valid says tallies slips events = round-settles resolvers publication valid says tallies slips events
+returns c = of-valid-runs (RoundSettles) round-settles
