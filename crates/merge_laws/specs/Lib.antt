@@ -23,8 +23,8 @@ pub mod Deciding
 pub mod ActsOnce
 pub mod Accounts
 pub mod Effects
-pub mod Promised
 pub mod RestsOn
 pub mod Leavings
 pub mod Rounds
 pub mod Bounds
+pub mod Promised

@@ -15,12 +15,16 @@ use Rattle.merge_model.specs.Tables.{SubscriberTables}
 use Rattle.merge_model.specs.World.{Saying, World}
 use Rattle.merge_model.specs.declared.event.Event.{Event}
 use Rattle.merge_laws.specs.ActsOnce.{DoneStays, LettersStay, TakenHaveActed, TakenOnlyAnswer}
+use Rattle.merge_laws.specs.Bounds.{DownloadsAreEnough, UploadsAreEnough}
 use Rattle.merge_laws.specs.Deciding.{CasesDecideAlike, EachStepAlike}
 use Rattle.merge_laws.specs.Effects.{NewsIsUnmet, NumbersTakeEffect}
 use Rattle.merge_laws.specs.Identities.{TakenWereGranted}
 use Rattle.merge_laws.specs.Knowledge.{KnownWereMade, MadeAreNumbered}
-use Rattle.merge_laws.specs.LastLines.{ChangedIsLastChange, MappingIsLastLine}
-use Rattle.merge_laws.specs.Laws.{ActedIsDone, GapIsDone, JoinedTakesActed, KnowsOnlyMade, ReceivedIsDone, ReceivedNumberIsDone, SubscribersDecideAlike, TakesOnlyClosed, UnmetIsDone}
+use Rattle.merge_laws.specs.LastLines.{ChangedIsLastChange, LeftByLine, MappingIsLastLine, TouchedInsideByLine, TouchedOutsideByLine}
+use Rattle.merge_laws.specs.Laws.{ActedIsDone, ClosingsKeepTheLast, GapIsDone, JoinedTakesActed, KnowsOnlyMade, ReceivedIsDone, ReceivedNumberIsDone, SubscribersDecideAlike, TakesOnlyClosed, UnmetIsDone, UploadsTellTheLast}
+use Rattle.merge_laws.specs.Leavings.{JoinsTakeNothingOwed, PurgesTakeNothingOwed}
+use Rattle.merge_laws.specs.RestsOn.{AcceptedIsKnown, ChainsAreAccounted, HeldWereGranted, KnownIsAccepted, MomentsAreInStep, ReceivedIsInStep, RepliesAreTrue, SitesAreEqual}
+use Rattle.merge_laws.specs.Rounds.{RoundSettles}
 use Rattle.merge_laws.specs.Watermarks.{WatermarksAreHeld}
 
 -- the ranges of a publication that a file can say have values
@@ -72,6 +76,28 @@ pub record Promised (publication : Publication) (says : Saying) (m : Model) : Ty
   pub numbered : MadeAreNumbered m
   pub known : KnownWereMade m
   pub lineages_known : KnowsOnlyMade m
+  -- what a site keeps and an upload tells of its last changes, and what is read of mappings
+  pub kept : ClosingsKeepTheLast m
+  pub told : UploadsTellTheLast m
+  pub has_left : LeftByLine m
+  pub touch_inside : TouchedInsideByLine m
+  pub touch_outside : TouchedOutsideByLine m
+  -- a round of uploads and downloads settles all sites, and bounds never end a session
+  pub rounds : RoundSettles publication says m
+  pub uploads : UploadsAreEnough publication says m
+  pub downloads : DownloadsAreEnough publication says m
+  -- what a purge takes and a join forgets is owed to no site that still asks for it
+  pub purges : PurgesTakeNothingOwed publication m
+  pub forgets : JoinsTakeNothingOwed publication m
+  -- what the laws rest on
+  pub accepted : KnownIsAccepted m
+  pub accepted_known : AcceptedIsKnown m
+  pub chains : ChainsAreAccounted publication m
+  pub equal : SitesAreEqual publication m
+  pub replies : RepliesAreTrue publication m
+  pub moments : MomentsAreInStep m
+  pub in_step : ReceivedIsInStep m
+  pub held : HeldWereGranted m
   -- rows and closed generations ascend, at the publisher mappings and sites too
   pub sorted : AreSorted m.world.publisher
   pub sub_sorted : AllByRecursion (λ (entry : ℕ × SubscriberTables). AreSubSorted entry.1) m.world.subscribers

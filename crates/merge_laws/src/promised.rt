@@ -2,6 +2,7 @@
 ghost use Rattle.merge_laws.specs.Laws.{OfEveryValidRun};
 ghost use Rattle.merge_laws.specs.Promised.{MachineHasPromises, Promised, ValidRulesHaveValues};
 
+use crate::bounds::bounds_never_end_a_session;
 use crate::effects::no_generation_takes_effect_twice;
 use crate::laws::{
     downloads_stay_in_the_partition, finished_sessions_settle_their_sites,
@@ -13,6 +14,9 @@ use crate::laws::{
     received_numbers_are_the_generations_that_acted, settled_sites_hold_their_partitions,
     subscribers_decide_as_their_changes_do, uploads_take_effect_once, watermarks_are_held,
 };
+use crate::leavings::purges_and_joins_take_nothing_owed;
+use crate::rests_on::runs_keep_what_laws_rest_on;
+use crate::rounds::rounds_settle_all_sites;
 use merge_model::{lists_stay_sorted, no_generation_acts_twice, ranges_never_overlap};
 
 /// The identity ranges of a publication that a file can say begin at 1 or above and have values, so
@@ -48,5 +52,9 @@ pub fn promises_hold()
     mappings_are_the_last_lines();
     known_changes_were_made();
     lineages_know_only_changes_that_were_made();
+    rounds_settle_all_sites();
+    bounds_never_end_a_session();
+    purges_and_joins_take_nothing_owed();
+    runs_keep_what_laws_rest_on();
     lists_stay_sorted();
 }
