@@ -23,13 +23,13 @@ use Rattle.merge_model.specs.Noting.{gone_for, site_of_subscription}
 use Rattle.merge_model.specs.Publications.{by_site}
 use Rattle.merge_model.specs.PublisherJoin.{is_left_of}
 use Rattle.merge_model.specs.PublisherPurge.{is_old}
-use Rattle.merge_model.specs.Runs.{model_behind}
+use Rattle.merge_model.specs.Runs.{model_behind_actions}
 use Rattle.merge_model.proofs.KeyLookUps.{keys-same}
 use Rattle.merge_model.proofs.Lists.{all-filter, all-kept, all-of, any-leads}
 use Rattle.merge_laws.specs.LastLines.{move_in, move_told}
-use Rattle.merge_laws.specs.Laws.{OfEveryModel, OfEveryValidRun}
+use Rattle.merge_laws.specs.Laws.{OfEveryActions, OfEveryValidActions}
 use Rattle.merge_laws.proofs.LastLineGone.{all-gone, left-gone, moved_in, old_places}
-use Rattle.merge_laws.proofs.LastLineSteps.{last_lines-always}
+use Rattle.merge_laws.proofs.LastLineSteps.{last_lines-by-actions}
 use Rattle.merge_owed.specs.Forgotten.{JoinsForgetByLines, PurgesForgetByLines, TombstonesAreOldByLines, going_over, has_place}
 
 -- Where no move is told, none is told to have left.
@@ -89,10 +89,10 @@ join-place : (lines : List Line) (site : SiteId) (place : RowSite) (found : Opti
 join-place lines site place None at = sym (none-gone lines site place at)
 join-place lines site place (Some move) at = sym (left-gone lines site place.key place.site move at)
 
-pub joins-forget : OfEveryModel JoinsForgetByLines
-joins-forget publication says tallies slips events site place =
-    let m : Model = model_behind publication says tallies slips events in
-    let fits = last_lines-always publication says tallies slips events in
+pub joins-forget : OfEveryActions (λ publication says m. JoinsForgetByLines m)
+joins-forget publication says tallies slips actions site place =
+    let m : Model = model_behind_actions publication says tallies slips actions in
+    let fits = last_lines-by-actions publication says tallies slips actions in
     ap (λ (found : Option Mapping). option_map_or (λ (move : Mapping). is_left_of site (place, move)) found false) (fits.moves place.key place.site) ∙ join-place m.history.lines site place (move_in m.history.lines place.key place.site) refl
 
 -- Purges.
@@ -108,10 +108,10 @@ purge-place publication lines old place sites None at among = sym (none-anywhere
 purge-place publication lines old place sites (Some move) at among =
     sym (all-gone lines old place.key place.site move at sites ∙ and-true (list_any (λ (other : SiteId). other.0 == place.site) sites) (is_left move.kind && old move.generation) (among refl))
 
-pub purges-forget : OfEveryValidRun PurgesForgetByLines
-purges-forget resolvers publication valid says tallies slips events place =
-    let m : Model = model_behind publication says tallies slips events in
-    let fits = last_lines-always publication says tallies slips events in
+pub purges-forget : OfEveryValidActions PurgesForgetByLines
+purges-forget resolvers publication valid says tallies slips actions place =
+    let m : Model = model_behind_actions publication says tallies slips actions in
+    let fits = last_lines-by-actions publication says tallies slips actions in
     let old : ℕ → Bool = is_old publication (going_over m) in
     ap (λ (found : Option Mapping). option_map_or (λ (move : Mapping). is_left move.kind && old move.generation) found false) (fits.moves place.key place.site)
     ∙ purge-place publication m.history.lines old place (map site_of_subscription (by_site publication)) (move_in m.history.lines place.key place.site) refl
@@ -123,8 +123,8 @@ row-old : (live : Bool) (old : ℕ → Bool) (row : PublisherRow) (found : Optio
 row-old live old row found last at is =
     ap (λ (n : Option ℕ). not live && option_map_or old n false) (sym (ap (λ (o : Option PublisherRow). option_map (λ (r : PublisherRow). r.changed) o) at) ∙ is)
 
-pub tombstones-old : OfEveryValidRun TombstonesAreOldByLines
-tombstones-old resolvers publication valid says tallies slips events key row at =
-    let m : Model = model_behind publication says tallies slips events in
-    let fits = last_lines-always publication says tallies slips events in
+pub tombstones-old : OfEveryValidActions TombstonesAreOldByLines
+tombstones-old resolvers publication valid says tallies slips actions key row at =
+    let m : Model = model_behind_actions publication says tallies slips actions in
+    let fits = last_lines-by-actions publication says tallies slips actions in
     row-old (is_live row.version.body) (is_old publication (going_over m)) row (row_at m.world.publisher.rows key) (last_change m.history key) at (fits.changes key (ap (λ (found : Option PublisherRow). is_some found) at))

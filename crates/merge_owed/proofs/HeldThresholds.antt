@@ -29,7 +29,8 @@ use Rattle.merge_model.specs.Keys.{at_number, put_number}
 use Rattle.merge_model.specs.Publications.{identity_of}
 use Rattle.merge_model.specs.Publisher.{holder_for}
 use Rattle.merge_model.specs.Reinit.{reinitialised}
-use Rattle.merge_model.specs.Runs.{model_behind}
+use Rattle.merge_model.specs.Model.{Model}
+use Rattle.merge_model.specs.Runs.{model_behind, model_behind_actions}
 use Rattle.merge_model.specs.Sending.{upload_sent, with_message}
 use Rattle.merge_model.specs.Subscriber.{sub_at_moment, sub_closed, sub_drawn, sub_made_locally, taken_value, with_version_if}
 use Rattle.merge_model.specs.Tables.{SubscriberTables}
@@ -39,11 +40,13 @@ use Rattle.merge_model.specs.declared.event.Event.{Event}
 use Rattle.merge_batch.specs.declared.reply.Reply.{Reply}
 use Rattle.merge_batch.specs.declared.request.Outstanding.TheVariants as ask
 use Rattle.merge_model.proofs.Finding.{at_put_other, at_put_same, some_same}
-use Rattle.merge_laws.proofs.Ground.{Ground, grounded-always}
+use Rattle.merge_model.specs.Steps.{Action}
+use Rattle.merge_laws.proofs.Ground.{Ground, grounded-by-actions}
 use Rattle.merge_laws.proofs.Models.{begins-with}
 use Rattle.merge_laws.proofs.Subscribing.{number-decided, same_number}
 use Rattle.merge_laws.proofs.ToldSites.{put-here}
 use Rattle.merge_laws.proofs.Walking.{StepsKeep, step-keeps}
+use Rattle.merge_laws.proofs.OfActions.{of-events}
 
 -- of each article
 abbrev pub AreThresholds : List (ℕ × Holder) → Type 0
@@ -148,8 +151,11 @@ thresholds-begin : (resolvers : ℕ) (publication : Publication) → IsValid res
 thresholds-begin resolvers publication valid tallies n s at =
     begins-with publication (λ (k : ℕ) (t : SubscriberTables). AreThresholds t.held) (λ k site keyed. articles-new resolvers publication.articles publication.articles 0 valid.valid_articles) n s at
 
-pub thresholds-always : (publication : Publication) (says : Saying) (tallies : List ℕ) (slips : Slips) (events : List Event) → (valid : (resolvers : ℕ) × IsValid resolvers publication) → (let m = model_behind publication says tallies slips events in HaveThresholds m.world m.history)
-thresholds-always publication says tallies slips events valid =
-    (grounded-always publication says tallies slips events valid HaveThresholds
+pub thresholds-by-actions : (publication : Publication) (says : Saying) (tallies : List ℕ) (slips : Slips) (actions : List Action) → (valid : (resolvers : ℕ) × IsValid resolvers publication) → (let m = model_behind_actions publication says tallies slips actions in HaveThresholds m.world m.history)
+thresholds-by-actions publication says tallies slips actions valid =
+    (grounded-by-actions publication says tallies slips actions valid HaveThresholds
     (λ m action g p. step-keeps publication says (Ground publication) HaveThresholds (λ w h ground. ground.received) (thresholds-keep publication says) m action g p)
     (λ w h others p. p) (thresholds-begin valid.0 publication valid.1 tallies)).1
+
+pub thresholds-always : (publication : Publication) (says : Saying) (tallies : List ℕ) (slips : Slips) (events : List Event) → (valid : (resolvers : ℕ) × IsValid resolvers publication) → (let m = model_behind publication says tallies slips events in HaveThresholds m.world m.history)
+thresholds-always publication says tallies slips events valid = of-events publication says tallies slips events (λ (m : Model). HaveThresholds m.world m.history) (λ actions. thresholds-by-actions publication says tallies slips actions valid)

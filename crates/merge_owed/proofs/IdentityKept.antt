@@ -1,6 +1,7 @@
 -- Every list of events keeps that identity values were taken as their rows were made: the laws on them.
 use Rattle.std.specs.Option.{option_and_then, option_map_or}
 use Rattle.std.specs.Prelude.{List, None, Option, Some, [], is_some, option_map, refl, slice_get, true, false, ℕ, ℤ, ◌≡◌, ◌∷◌}
+use Rattle.std.specs.List.{AllByRecursion}
 use Rattle.std.proofs.Common.{ap, arith, inl, inr, subst, sym, ◌∙◌}
 use Rattle.merge_types.specs.declared.identifiers.Dot.{Dot}
 use Rattle.merge_types.specs.declared.row_key.RowKey.{RowKey as Key}
@@ -19,20 +20,21 @@ use Rattle.merge_batch.specs.Uploads.{identity_at, identity_in, identity_value, 
 use Rattle.merge_model.specs.History.{MadeChange, Past}
 use Rattle.merge_model.specs.Keys.{same_key}
 use Rattle.merge_model.specs.Model.{Model}
-use Rattle.merge_model.specs.Runs.{model_after, model_behind}
+use Rattle.merge_model.specs.Runs.{model_after_actions, model_behind_actions}
 use Rattle.merge_model.proofs.Finding.{some_same}
 use Rattle.merge_model.proofs.KeyLookUps.{keys-same}
 use Rattle.merge_laws.specs.Knowledge.{changes_of, same_dot}
-use Rattle.merge_laws.specs.Laws.{OfEveryValidRun}
+use Rattle.merge_laws.specs.Laws.{OfEveryValidActions, OfEveryValidRun}
 use Rattle.merge_laws.proofs.AccountElements.{IsIn, all-in, each-in}
 use Rattle.merge_laws.proofs.ChangeDots.{AreDistinct, made-distinct}
 use Rattle.merge_laws.proofs.DotTests.{dot-itself}
 use Rattle.merge_laws.proofs.LineagesAlways.{Kept, ground}
 use Rattle.merge_laws.proofs.ToldSites.{Every}
-use Rattle.merge_owed.specs.Identity.{HasIdentity, HasValue, IsMaker, TakenStands, TakenStandsForGood, ValueWasTaken, ValuesWereTaken, WasTaken}
+use Rattle.merge_owed.specs.Identity.{HasIdentity, HasValue, IsMaker, TakenStands, TakenStandsForGood, TakenStandsForGoodByActions, ValueWasTaken, ValuesWereTaken, WasTaken}
 use Rattle.merge_owed.proofs.IdentityFits.{BodyTook, TookIts, taken-out, took-goes_on}
 use Rattle.merge_owed.proofs.MadeStays.{AreAmong, every-weaker}
-use Rattle.merge_owed.proofs.VersionKept.{GoesOn, holds-after, holds-always}
+use Rattle.merge_owed.proofs.VersionKept.{GoesOn, holds-after, holds-by-actions}
+use Rattle.merge_laws.proofs.OfActions.{of-later-events, of-valid-runs}
 
 -- The value at the identity column is the identity value.
 
@@ -53,11 +55,14 @@ body-taken : (publication : Publication) (made : List MadeChange) (key : Key) (b
 body-taken publication made key (Live cells) fits = λ has. column-took publication made key cells (identity_column publication key.article) refl has fits
 body-taken publication made key (Dead top) fits = tt
 
-pub values-taken : OfEveryValidRun ValuesWereTaken
-values-taken resolvers publication valid says tallies slips events =
-    let m : Model = model_behind publication says tallies slips events in
+pub values-taken-by-actions : OfEveryValidActions ValuesWereTaken
+values-taken-by-actions resolvers publication valid says tallies slips actions =
+    let m : Model = model_behind_actions publication says tallies slips actions in
     every-weaker (TookIts publication m.history.made) (λ (key : Key) (version : Version) (past : Past). ValueWasTaken publication m.history.made key version.body)
-    (λ key version past fits. body-taken publication m.history.made key version.body fits) m.world m.history (holds-always publication (TookIts publication) (took-goes_on resolvers publication valid) says tallies slips events (resolvers, valid)).1.0
+    (λ key version past fits. body-taken publication m.history.made key version.body fits) m.world m.history (holds-by-actions publication (TookIts publication) (took-goes_on resolvers publication valid) says tallies slips actions (resolvers, valid)).1.0
+
+pub values-taken : OfEveryValidRun ValuesWereTaken
+values-taken = of-valid-runs ValuesWereTaken values-taken-by-actions
 
 -- A row is made by one change.
 
@@ -92,11 +97,20 @@ stands-in publication before n kept every among change is maker has =
     every-weaker (TookIts publication n.history.made) (λ (key : Key) (version : Version) (past : Past). same_key change.key key ≡ true → HasValue publication change.identity key version.body)
     (λ key version past fits same. body-stands publication n.history.made distinct change (among change is) maker key version.body has (body-taken publication n.history.made key version.body fits) same) n.world n.history every
 
-pub taken-stands : OfEveryValidRun TakenStandsForGood
-taken-stands resolvers publication valid says tallies slips events others more =
-    let m : Model = model_behind publication says tallies slips events in
+pub taken-stands-by-actions : OfEveryValidActions TakenStandsForGoodByActions
+taken-stands-by-actions resolvers publication valid says tallies slips actions others more =
+    let m : Model = model_behind_actions publication says tallies slips actions in
     let on : GoesOn publication (TookIts publication) = took-goes_on resolvers publication valid in
-    let here = holds-always publication (TookIts publication) on says tallies slips events (resolvers, valid) in
-    let n : Model = model_after publication says m others more in
+    let here = holds-by-actions publication (TookIts publication) on says tallies slips actions (resolvers, valid) in
+    let n : Model = model_after_actions publication says m others more in
     let there = holds-after publication (TookIts publication) on m.history.made says m others more (here.0, (here.1.0, λ change is. is)) in
     each-in (TakenStands publication n) m.history.made (stands-in publication m.history.made n there.0 there.1.0 there.1.1)
+
+-- so where events come afterwards
+taken-stands-later : OfEveryValidActions TakenStandsForGood
+taken-stands-later resolvers publication valid says tallies slips actions others more =
+    let m : Model = model_behind_actions publication says tallies slips actions in
+    of-later-events publication says m others more (λ (n : Model). AllByRecursion (TakenStands publication n) m.history.made) (taken-stands-by-actions resolvers publication valid says tallies slips actions others)
+
+pub taken-stands : OfEveryValidRun TakenStandsForGood
+taken-stands = of-valid-runs TakenStandsForGood taken-stands-later

@@ -22,7 +22,7 @@ use Rattle.merge_model.specs.Keys.{at_number}
 use Rattle.merge_model.specs.Model.{Model, model, model_step}
 use Rattle.merge_model.specs.Publications.{rules_of}
 use Rattle.merge_model.specs.PublisherRanges.{granted_by}
-use Rattle.merge_model.specs.Runs.{model_behind}
+use Rattle.merge_model.specs.Runs.{model_behind_actions}
 use Rattle.merge_model.specs.Session.{Session, answered_as, arrived, as_it_is, ask, asking_ranges, exchange, has_grant, last_message}
 use Rattle.merge_model.specs.Steps.{Deliver, Send, SendRanges, Sending}
 use Rattle.merge_model.specs.Tables.{SubscriberTables}
@@ -33,12 +33,12 @@ use Rattle.merge_model.specs.declared.outcome.Outcome.{Outcome}
 use Rattle.merge_model.specs.declared.outcome.Outcome.TheVariants.{NoPost, Posted, Refuses, Took}
 use Rattle.merge_model.proofs.Finding.{some_same}
 use Rattle.merge_laws.specs.Bounds.{under_way}
-use Rattle.merge_laws.specs.Laws.{OfEveryValidRun}
+use Rattle.merge_laws.specs.Laws.{OfEveryValidActions}
 use Rattle.merge_laws.proofs.SessionLaw.{At, Known, at_next, deliver-known, ends-here, own, same-site, step-known}
 use Rattle.merge_laws.proofs.SessionSteps.{Answered, Ends}
-use Rattle.merge_laws.proofs.SettledLaw.{settled-always}
+use Rattle.merge_laws.proofs.SettledLaw.{settled-by-actions}
 use Rattle.merge_owed.specs.Ranges.{RangesAreEnough}
-use Rattle.merge_owed.proofs.HeldThresholds.{AreThresholds, thresholds-always}
+use Rattle.merge_owed.proofs.HeldThresholds.{AreThresholds, thresholds-by-actions}
 use Rattle.merge_owed.proofs.RangeAnswers.{FitsIfAny, OwnAfter, and-both, answered, brought, none-brought, none-without, others-held, own-after, own-found, planned, received}
 use Rattle.merge_owed.proofs.RangeSteps.{Goes, HasSome, Stuck, goes-on}
 use Rattle.merge_owed.proofs.RangesGo.{RangesGo, ranges-go}
@@ -164,11 +164,11 @@ all-begin publication site grants held thresholds article holder at = record {
   within = inr (let most = count_by-le-length (is_of article site.0) grants in omega (arith, most));
 }
 
-pub ranges-enough : OfEveryValidRun RangesAreEnough
-ranges-enough resolvers publication valid says tallies slips events s uploads downloads more at =
-    let m : Model = model_behind publication says tallies slips events in
-    let g = (settled-always publication says tallies slips events (resolvers, valid)).0 in
-    let thresholds : AreThresholds s.held = thresholds-always publication says tallies slips events (resolvers, valid) s.site.0 s at in
+pub ranges-enough : OfEveryValidActions RangesAreEnough
+ranges-enough resolvers publication valid says tallies slips actions s uploads downloads more at =
+    let m : Model = model_behind_actions publication says tallies slips actions in
+    let g = (settled-by-actions publication says tallies slips actions (resolvers, valid)).0 in
+    let thresholds : AreThresholds s.held = thresholds-by-actions publication says tallies slips actions (resolvers, valid) s.site.0 s at in
     let grants : List Grant = m.world.publisher.grants in
     asking-same publication says s.site (length grants + 4) more (suc (suc (length grants))) (under_way m uploads downloads) (record { tables = s; known = (g.received, g.numbered); here = at })
     (all-begin publication s.site grants s.held thresholds) (omega arith)

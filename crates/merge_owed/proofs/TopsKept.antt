@@ -35,14 +35,14 @@ use Rattle.merge_model.specs.History.{Chains, MadeChange, OfCells, OfDead, Past,
 use Rattle.merge_model.specs.Pasts.{cell_chains, cell_count, chain_after, chains_by, merged_chain, merged_chains, past_after, past_by, set_cells}
 use Rattle.merge_model.proofs.Refusals.{first-none}
 use Rattle.merge_laws.specs.Knowledge.{same_dot}
-use Rattle.merge_laws.specs.Laws.{OfEveryValidRun}
+use Rattle.merge_laws.specs.Laws.{OfEveryValidActions}
 use Rattle.merge_laws.proofs.AccountCells.{AreFour}
 use Rattle.merge_laws.proofs.AccountChanges.{count_by_tracking}
 use Rattle.merge_laws.proofs.DotTests.{dot-first}
 use Rattle.merge_laws.proofs.Telling.{no-refusal}
 use Rattle.merge_laws.proofs.ToldRows.{HeldFits}
 use Rattle.merge_owed.specs.Chains.{TopIsIn, TopsAreInChains, TopsStand}
-use Rattle.merge_owed.proofs.VersionKept.{GoesOn, holds-always}
+use Rattle.merge_owed.proofs.VersionKept.{GoesOn, holds-by-actions}
 
 -- A new row.
 
@@ -216,5 +216,5 @@ tops-go_on publication = record {
   merged = λ made judge site p key held incoming case decision dot past other is keeps counts one two. merged-tops publication made key held incoming case decision dot past other is one two;
 }
 
-pub tops-stand : OfEveryValidRun TopsAreInChains
-tops-stand resolvers publication valid says tallies slips events = (holds-always publication (HasTops publication) (tops-go_on publication) says tallies slips events (resolvers, valid)).1.0
+pub tops-stand : OfEveryValidActions TopsAreInChains
+tops-stand resolvers publication valid says tallies slips actions = (holds-by-actions publication (HasTops publication) (tops-go_on publication) says tallies slips actions (resolvers, valid)).1.0

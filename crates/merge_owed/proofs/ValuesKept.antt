@@ -40,20 +40,19 @@ use Rattle.merge_model.specs.PublisherJoin.{join_taken}
 use Rattle.merge_model.specs.PublisherLocal.{Drawn, made_locally, next_dot, version_at}
 use Rattle.merge_model.specs.PublisherRanges.{plans, ranged, with_grants}
 use Rattle.merge_model.specs.PublisherUpload.{taken_in, upload_refusal}
-use Rattle.merge_model.specs.Runs.{model_after, model_behind}
+use Rattle.merge_model.specs.Runs.{model_after_actions, model_behind_actions}
 use Rattle.merge_model.specs.Sending.{join_of, want_of, with_message}
-use Rattle.merge_model.specs.Steps.{kept_decisions, upload_questions}
+use Rattle.merge_model.specs.Steps.{Action, kept_decisions, upload_questions}
 use Rattle.merge_model.specs.Subscriber.{sub_at_moment, sub_closed, sub_last_closed, sub_made_locally, sub_next_dot, sub_version_at}
 use Rattle.merge_model.specs.Tables.{PublisherTables, SubscriberTables}
 use Rattle.merge_model.specs.World.{Saying, World, subscriber_at, with_publisher, with_subscriber}
-use Rattle.merge_model.specs.declared.event.Event.{Event}
 use Rattle.merge_model.specs.declared.letter.Message.TheVariants.{Asks, Replies}
 use Rattle.merge_model.proofs.Finding.{all-weaker}
-use Rattle.merge_model.proofs.KeptFailing.{runs-keep}
 use Rattle.merge_model.proofs.KeyLookUps.{key-itself, keys-same}
 use Rattle.merge_model.proofs.Lists.{all-both}
+use Rattle.merge_model.proofs.Actions.{failing-actions-keep}
 use Rattle.merge_laws.specs.Knowledge.{changes_of, is_made, same_dot}
-use Rattle.merge_laws.specs.Laws.{OfEveryValidRun}
+use Rattle.merge_laws.specs.Laws.{OfEveryValidActions}
 use Rattle.merge_laws.proofs.AccountElements.{IsIn, any-out}
 use Rattle.merge_laws.proofs.DotTests.{dot-itself, dots-same}
 use Rattle.merge_laws.proofs.KnownCounts.{own-count}
@@ -65,12 +64,13 @@ use Rattle.merge_laws.proofs.ToldRows.{HeldFits}
 use Rattle.merge_laws.proofs.ToldSites.{Every, letter-goes, publisher-stays, world-stays}
 use Rattle.merge_laws.proofs.ToldWalk.{every-begins}
 use Rattle.merge_laws.proofs.Walking.{StepsKeep, acts_in, comes, here, join_noted, own_noted, step-keeps, told_by, uploaded_world}
-use Rattle.merge_owed.specs.Values.{BodiesAgree, CellsAgree, ValuesStandForGood}
+use Rattle.merge_owed.specs.Values.{BodiesAgree, CellsAgree, ValuesStandForGood, ValuesStandForGoodByActions}
 use Rattle.merge_owed.proofs.EveryVersions.{TopsMade, every-both, is_later, made-before, tops-made}
 use Rattle.merge_owed.proofs.MadeStays.{AreAmong, acts-stay, every-weaker, join-stays, notes-stay}
 use Rattle.merge_owed.proofs.ValuesFit.{BodyIs, CellsAre, Register, body-before, case-is, inserted-is, updated-is, values_at, with_later}
 use Rattle.merge_owed.proofs.VersionActs.{ActMakes, FateMakes}
 use Rattle.merge_owed.proofs.VersionSteps.{anew, answers-ask, forgets, joins, own-change, replies, sends-upload, stays, sub-change, uploads}
+use Rattle.merge_laws.proofs.OfActions.{of-later-events}
 
 abbrev Has : Register → Key → Version → Past → Type 0
 Has f key version past = BodyIs f key version.body
@@ -292,10 +292,10 @@ module _ (publication : Publication) (known : List MadeChange) (before : Registe
     abbrev Whole : Model → Type 0
     Whole m = Kept publication m × Holds m.world m.history
 
-    holds-after : (m : Model) (slips : Slips) (events : List Event) → Whole m → Whole (model_after publication says m slips events)
-    holds-after m slips events whole = runs-keep publication (model publication says) Whole
+    holds-after : (m : Model) (slips : Slips) (actions : List Action) → Whole m → Whole (model_after_actions publication says m slips actions)
+    holds-after m slips actions whole = failing-actions-keep publication (model publication says) Whole
         (λ n action k. (kept-step publication n k.0 says action, step-keeps publication says (Base publication) Holds (λ w h b. (ground publication (record { world = w; history = h }) b).received) holds-keep n action k.0 k.1))
-        (λ n others k. (kept-tallied publication n others k.0, on (record n.world { tallies = others }) n.history n.history n.world k.1 (λ x is. is) (world-stays (Has k.1.register) n.world (record n.world { tallies = others }) n.history refl refl refl k.1.every))) events (faulty m slips) whole
+        (λ n others k. (kept-tallied publication n others k.0, on (record n.world { tallies = others }) n.history n.history n.world k.1 (λ x is. is) (world-stays (Has k.1.register) n.world (record n.world { tallies = others }) n.history refl refl refl k.1.every))) actions (faulty m slips) whole
 
 -- Two versions with what the registers say, which say the same of the first one's tops.
 
@@ -327,13 +327,20 @@ agree-in m n f r key version past is made =
     (all-weaker (λ (top : Dot). is_made m.history.made key top ≡ true) (λ (top : Dot). (k : ℕ) → r.register key k top ≡ f key k top) (λ top was. made-same f r.register key m.history.made r.same top was) (tops_of version.body) made)
     is (subst (λ (x : Key). BodyIs r.register x there.body) (sym one) are))) n.world n.history r.every
 
-pub values-stand : OfEveryValidRun ValuesStandForGood
-values-stand resolvers publication valid says tallies slips events others more =
-    let m : Model = model_behind publication says tallies slips events in
-    let n : Model = model_after publication says m others more in
+pub values-stand-by-actions : OfEveryValidActions ValuesStandForGoodByActions
+values-stand-by-actions resolvers publication valid says tallies slips actions others more =
+    let m : Model = model_behind_actions publication says tallies slips actions in
+    let n : Model = model_after_actions publication says m others more in
     let nothing : Register = λ key k dot. [] in
-    let here = holds-after publication [] nothing says (empty_model publication tallies) slips events
+    let here = holds-after publication [] nothing says (empty_model publication tallies) slips actions
     (kept-always publication (resolvers, valid) says tallies [] [], record { register = nothing; every = every-begins (Has nothing) publication tallies; same = λ change is key k. refl; among = λ change is. is }) in
     let there = holds-after publication m.history.made here.1.register says m others more (here.0, record { register = here.1.register; every = here.1.every; same = λ change is key k. refl; among = λ change is. is }) in
     every-both (Has here.1.register) (TopsMade m.history.made) (λ (key : Key) (version : Version) (past : Past). Every (λ (other : Key) (known : Version) (old : Past). same_key key other ≡ true → BodiesAgree version.body known.body) n.world n.history)
     (λ key version past is made. agree-in m n here.1.register there.1 key version past is made) m.world m.history here.1.every (tops-made m (ground publication m here.0).known.knowledge here.0.told)
+
+-- so where events come afterwards
+pub values-stand : OfEveryValidActions ValuesStandForGood
+values-stand resolvers publication valid says tallies slips actions others more =
+    let m : Model = model_behind_actions publication says tallies slips actions in
+    of-later-events publication says m others more (λ (n : Model). Every (λ (key : Key) (version : Version) (past : Past). Every (λ (other : Key) (there : Version) (known : Past). same_key key other ≡ true → BodiesAgree version.body there.body) n.world n.history) m.world m.history)
+    (values-stand-by-actions resolvers publication valid says tallies slips actions others)

@@ -36,7 +36,7 @@ use Rattle.merge_model.specs.PublisherLocal.{Drawn, local_refusal, made_locally,
 use Rattle.merge_model.specs.PublisherRanges.{plans, ranged, with_grants}
 use Rattle.merge_model.specs.PublisherUpload.{taken_in, upload_refusal}
 use Rattle.merge_model.specs.Refusals.{counter_end}
-use Rattle.merge_model.specs.Runs.{model_after, model_behind}
+use Rattle.merge_model.specs.Runs.{model_after_actions, model_behind, model_behind_actions}
 use Rattle.merge_model.specs.Sending.{join_of, want_of, with_message}
 use Rattle.merge_model.specs.Subscriber.{is_joining, sub_at_moment, sub_closed, sub_counters, sub_last_closed, sub_local_refusal, sub_made_locally, sub_next_dot, sub_version_at}
 use Rattle.merge_model.specs.Tables.{PublisherTables, SubscriberTables}
@@ -44,8 +44,9 @@ use Rattle.merge_model.specs.World.{Saying, World, subscriber_at, with_publisher
 use Rattle.merge_model.specs.declared.event.Event.{Event}
 use Rattle.merge_model.specs.declared.letter.Message.TheVariants.{Asks, Replies}
 use Rattle.merge_model.proofs.Finding.{all-weaker}
-use Rattle.merge_model.proofs.KeptFailing.{runs-keep}
 use Rattle.merge_model.proofs.Refusals.{first-none}
+use Rattle.merge_model.proofs.Actions.{failing-actions-keep}
+use Rattle.merge_model.specs.Steps.{Action}
 use Rattle.merge_laws.specs.LetterNumbers.{LettersAreNamed}
 use Rattle.merge_laws.proofs.Ground.{Ground}
 use Rattle.merge_laws.proofs.LineagesAlways.{Kept, ground, kept-always, kept-step, kept-tallied}
@@ -59,6 +60,7 @@ use Rattle.merge_owed.proofs.Decided.{ActCounts, FateCounts, upload-counts}
 use Rattle.merge_owed.proofs.MadeStays.{AreAmong, acts-stay, every-weaker, join-stays, lines-stay, notes-stay}
 use Rattle.merge_owed.proofs.VersionActs.{ActMakes, FateMakes}
 use Rattle.merge_owed.proofs.VersionSteps.{anew, answers-ask, forgets, joins, own-change, replies, sends-upload, stays, sub-change, uploads}
+use Rattle.merge_laws.proofs.OfActions.{of-events}
 
 -- an identifier of a row can carry the change
 pub record IsCarried (dot : Dot) : Type 0 where
@@ -193,18 +195,21 @@ module _ (publication : Publication) (P : List MadeChange → Key → Version �
             (replies publication says (P h.made) w h b.0 t.0 s at (by_made h s.site) number m there);
       }
 
-      -- Behind events that follow, and behind every list of events.
+      -- Behind actions that follow, and behind every list of actions, so of events.
 
       abbrev pub Whole : Model → Type 0
       Whole m = Kept publication m × Holds m.world m.history
 
-      pub holds-after : (m : Model) (slips : Slips) (events : List Event) → Whole m → Whole (model_after publication says m slips events)
-      holds-after m slips events whole = runs-keep publication (model publication says) Whole
+      pub holds-after : (m : Model) (slips : Slips) (actions : List Action) → Whole m → Whole (model_after_actions publication says m slips actions)
+      holds-after m slips actions whole = failing-actions-keep publication (model publication says) Whole
           (λ n action k. (
             kept-step publication n k.0 says action,
             step-keeps publication says (Base publication) Holds (λ w h b. b.0.received) holds-keep n action (ground publication n k.0, k.0.grounded.1.1) k.1,
           ))
-          (λ n others k. (kept-tallied publication n others k.0, (world-stays (P n.history.made) n.world (record n.world { tallies = others }) n.history refl refl refl k.1.0, k.1.1))) events (faulty m slips) whole
+          (λ n others k. (kept-tallied publication n others k.0, (world-stays (P n.history.made) n.world (record n.world { tallies = others }) n.history refl refl refl k.1.0, k.1.1))) actions (faulty m slips) whole
+
+  pub holds-by-actions : (says : Saying) (tallies : List ℕ) (slips : Slips) (actions : List Action) → (resolvers : ℕ) × IsValid resolvers publication → Whole [] says (model_behind_actions publication says tallies slips actions)
+  holds-by-actions says tallies slips actions valid = holds-after [] says (empty_model publication tallies) slips actions (kept-always publication valid says tallies [] [], (every-begins (P []) publication tallies, λ change is. is))
 
   pub holds-always : (says : Saying) (tallies : List ℕ) (slips : Slips) (events : List Event) → (resolvers : ℕ) × IsValid resolvers publication → Whole [] says (model_behind publication says tallies slips events)
-  holds-always says tallies slips events valid = holds-after [] says (empty_model publication tallies) slips events (kept-always publication valid says tallies [] [], (every-begins (P []) publication tallies, λ change is. is))
+  holds-always says tallies slips events valid = of-events publication says tallies slips events (Whole [] says) (λ actions. holds-by-actions says tallies slips actions valid)

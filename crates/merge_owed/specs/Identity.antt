@@ -13,7 +13,8 @@ use Rattle.merge_model.specs.Failing.{Slips}
 use Rattle.merge_model.specs.History.{MadeChange, Past}
 use Rattle.merge_model.specs.Keys.{same_key}
 use Rattle.merge_model.specs.Model.{Model}
-use Rattle.merge_model.specs.Runs.{model_after}
+use Rattle.merge_model.specs.Runs.{model_after, model_after_actions}
+use Rattle.merge_model.specs.Steps.{Action}
 use Rattle.merge_model.specs.World.{Saying}
 use Rattle.merge_model.specs.declared.event.Event.{Event}
 use Rattle.merge_laws.specs.LineagesStand.{EveryVersion}
@@ -40,6 +41,10 @@ TakenStands publication m change = IsMaker change → HasIdentity publication ch
 -- So it is for good, whatever happens afterwards.
 abbrev pub TakenStandsForGood : Publication → Saying → Model → Type 0
 TakenStandsForGood publication says m = (slips : Slips) (events : List Event) → AllByRecursion (TakenStands publication (model_after publication says m slips events)) m.history.made
+
+-- also where single actions come afterwards, in any order
+abbrev pub TakenStandsForGoodByActions : Publication → Saying → Model → Type 0
+TakenStandsForGoodByActions publication says m = (slips : Slips) (actions : List Action) → AllByRecursion (TakenStands publication (model_after_actions publication says m slips actions)) m.history.made
 
 -- And each live version has a value that was taken so: one of the changes made its row, with this value.
 pub record MadeWith (key : Key) (value : Option ℤ) (change : MadeChange) : Type 0 where

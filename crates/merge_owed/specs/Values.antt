@@ -10,7 +10,8 @@ use Rattle.merge_model.specs.Failing.{Slips}
 use Rattle.merge_model.specs.History.{Past}
 use Rattle.merge_model.specs.Keys.{same_key}
 use Rattle.merge_model.specs.Model.{Model}
-use Rattle.merge_model.specs.Runs.{model_after}
+use Rattle.merge_model.specs.Runs.{model_after, model_after_actions}
+use Rattle.merge_model.specs.Steps.{Action}
 use Rattle.merge_model.specs.World.{Saying}
 use Rattle.merge_model.specs.declared.event.Event.{Event}
 use Rattle.merge_laws.specs.LineagesStand.{EveryVersion}
@@ -28,3 +29,8 @@ BodiesAgree ours theirs = Unit {0}
 abbrev pub ValuesStandForGood : Publication → Saying → Model → Type 0
 ValuesStandForGood publication says m = (slips : Slips) (events : List Event)
     → EveryVersion (λ (key : Key) (version : Version) (past : Past). EveryVersion (λ (other : Key) (there : Version) (known : Past). same_key key other ≡ true → BodiesAgree version.body there.body) (model_after publication says m slips events)) m
+
+-- also where single actions come afterwards, in any order
+abbrev pub ValuesStandForGoodByActions : Publication → Saying → Model → Type 0
+ValuesStandForGoodByActions publication says m = (slips : Slips) (actions : List Action)
+    → EveryVersion (λ (key : Key) (version : Version) (past : Past). EveryVersion (λ (other : Key) (there : Version) (known : Past). same_key key other ≡ true → BodiesAgree version.body there.body) (model_after_actions publication says m slips actions)) m

@@ -1,5 +1,7 @@
+use Rattle.merge_laws.proofs.OfActions.{of-valid-runs}
+use Rattle.merge_owed.specs.Chains.{TopsAreInChains}
 use Rattle.merge_owed.proofs.TopsKept.{tops-stand}
 use Rattle.merge_owed.proofs.bodies.tops_are_in_chains.Goals as goal
 
 pub returns : goal.returns
-returns c resolvers publication valid says tallies slips events = tops-stand resolvers publication valid says tallies slips events
+returns c = of-valid-runs TopsAreInChains tops-stand

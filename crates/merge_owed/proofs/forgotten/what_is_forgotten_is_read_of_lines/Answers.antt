@@ -1,9 +1,11 @@
+use Rattle.merge_laws.proofs.OfActions.{of-runs, of-valid-runs}
+use Rattle.merge_owed.specs.Forgotten.{JoinsForgetByLines, PurgesForgetByLines, TombstonesAreOldByLines}
 use Rattle.merge_owed.proofs.ForgottenByLines.{joins-forget, purges-forget, tombstones-old}
 use Rattle.merge_owed.proofs.forgotten.what_is_forgotten_is_read_of_lines.Goals as goal
 
 pub returns : goal.returns
 returns c = record {
-  joins = joins-forget;
-  purges = purges-forget;
-  tombstones = tombstones-old;
+  joins = of-runs (λ publication says m. JoinsForgetByLines m) joins-forget;
+  purges = of-valid-runs PurgesForgetByLines purges-forget;
+  tombstones = of-valid-runs TombstonesAreOldByLines tombstones-old;
 }

@@ -1,5 +1,7 @@
+use Rattle.merge_laws.proofs.OfActions.{of-valid-runs}
+use Rattle.merge_owed.specs.Ranges.{RangesAreEnough}
 use Rattle.merge_owed.proofs.RangesEnough.{ranges-enough}
 use Rattle.merge_owed.proofs.ranges.range_requests_are_enough.Goals as goal
 
 pub returns : goal.returns
-returns c resolvers publication valid says tallies slips events = ranges-enough resolvers publication valid says tallies slips events
+returns c = of-valid-runs RangesAreEnough ranges-enough
