@@ -1,0 +1,29 @@
+//! Values, bodies, reports and range requests.
+ghost use Rattle.merge_laws.specs.Laws.{OfEveryActions, OfEveryValidActions};
+ghost use Rattle.merge_owed.specs.Chains.{TopsAreInChains};
+ghost use Rattle.merge_owed.specs.Forgotten.{JoinsForgetByLines, PublisherTellsDone, PurgesForgetByLines, SubscribersTellMade, TombstonesAreOldByLines};
+ghost use Rattle.merge_owed.specs.Identity.{TakenStandsForGoodByActions, ValuesWereTaken};
+ghost use Rattle.merge_owed.specs.Ranges.{RangesAreEnough};
+ghost use Rattle.merge_owed.specs.Values.{ValuesStandForGoodByActions};
+
+/// Whatever actions came and come, where a publication can be said by a file: the value that an insert
+/// took for its identity column is the value that its row has, for good, and a live version has no
+/// other; what made a cell is in its chain; and cells of a row with one top have the same values at
+/// each place, for good.
+pub fn actions_keep_values()
+    ensures stay { OfEveryValidActions TakenStandsForGoodByActions }
+    ensures taken { OfEveryValidActions ValuesWereTaken }
+    ensures tops { OfEveryValidActions TopsAreInChains }
+    ensures values { OfEveryValidActions ValuesStandForGoodByActions }
+{}
+
+/// Whatever actions came: what a join and a purge forget is what the last lines say, the numbers in
+/// reports are what the history says, and the bound on a session's range requests is never what ends it.
+pub fn actions_forget_by_lines()
+    ensures joins { OfEveryActions (λ publication says m. JoinsForgetByLines m) }
+    ensures purges { OfEveryValidActions PurgesForgetByLines }
+    ensures tombstones { OfEveryValidActions TombstonesAreOldByLines }
+    ensures publisher { OfEveryValidActions PublisherTellsDone }
+    ensures subscribers { OfEveryValidActions SubscribersTellMade }
+    ensures ranges { OfEveryValidActions RangesAreEnough }
+{}
