@@ -55,3 +55,4 @@ pub mod SessionRequests
 pub mod SessionTimes
 pub mod SessionsFinish
 pub mod FailingSessions
+mod Valued

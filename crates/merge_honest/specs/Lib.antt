@@ -9,3 +9,4 @@ pub mod HeldRanges
 pub mod Answered
 pub mod Taken
 pub mod Finished
+pub mod Valued

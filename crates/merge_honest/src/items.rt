@@ -1,5 +1,6 @@
 //! Laws on the rules of messages that requests keep, each by its number.
 ghost use Rattle.merge_honest.specs.Delivered.{NoneIsRefusedFor, breaks};
+ghost use Rattle.merge_honest.specs.Valued.{InsertsTook, RowsAreValued};
 ghost use Rattle.merge_laws.specs.Laws.{OfEveryValidRun};
 
 use merge_laws::identity_values_are_taken_once;
@@ -51,4 +52,12 @@ pub fn identity_values_are_right()
 /// limit, and a whole number where there is an identity column.
 pub fn rows_fit_their_articles()
     ensures { OfEveryValidRun (NoneIsRefusedFor (breaks 6)) }
+{}
+
+/// Where a publication can be said by a file, each insert of an article with an identity column took a
+/// value, whatever happened. So each live version of such a row has one: at every site, in every message
+/// and in every conflict table. It is the value that the insert took (`identity_values_stay` in `merge_owed`).
+pub fn inserts_take_values()
+    ensures took { OfEveryValidRun InsertsTook }
+    ensures rows { OfEveryValidRun RowsAreValued }
 {}

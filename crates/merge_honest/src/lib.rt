@@ -11,7 +11,7 @@ mod sessions;
 
 pub use expected::{honest_requests_are_taken, requests_are_refused_for_little};
 pub use items::{
-    identity_values_are_right, items_tell_what_is_known, makers_are_heard_of,
+    identity_values_are_right, inserts_take_values, items_tell_what_is_known, makers_are_heard_of,
     numbers_and_lineages_fit, rows_fit_their_articles, uploads_are_made_well,
 };
 pub use replies::{
