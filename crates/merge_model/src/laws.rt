@@ -46,8 +46,9 @@ pub fn lists_stay_sorted()
     ensures subscribers { SubscribersStaySorted }
 {}
 
-/// No generation acts twice: each comes once among those that have acted, and the generations of an
-/// upload that are noted are none of these.
+/// No generation is noted twice as acted: each comes once among those that have acted, and the
+/// generations of an upload that are noted are none of these. This holds by how they are noted,
+/// whatever the sites decide by; that none takes effect twice is said in `merge_laws`.
 pub fn no_generation_acts_twice()
     ensures once { NoGenerationActsTwice }
     ensures new { ActingAreNew }
