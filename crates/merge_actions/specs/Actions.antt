@@ -4,6 +4,8 @@ use Rattle.std.specs.Prelude.{List, false, ℕ, ◌≡◌}
 use Rattle.merge_schema.specs.Valid.{IsValid}
 use Rattle.merge_schema.specs.declared.publication.Publication.{Publication}
 use Rattle.merge_model.specs.Failing.{Slips, failing, faulty}
+use Rattle.merge_model.specs.Model.{Model}
+use Rattle.merge_model.specs.Promises.{AllAccounted, OldIsPast, RepliesStayInside, SettledHoldsPartition}
 use Rattle.merge_model.specs.Reach.{AreNone}
 use Rattle.merge_model.specs.Runs.{after_actions, machine_does, model_behind_actions, model_does, outcomes, world_behind_actions}
 use Rattle.merge_model.specs.Session.{Stepping}
@@ -41,3 +43,17 @@ NoActionFails {W = W} stepping = (publication : Publication) (says : Saying) (w 
 abbrev pub FailuresShowInOutcomes : {W : Type 0} → (Publication → Saying → Stepping W) → Type 0
 FailuresShowInOutcomes {W = W} stepping = (publication : Publication) (says : Saying) (w : W) (slips : Slips) (actions : List Action)
     → list_any (refused_for is_slip) (outcomes (failing publication (stepping publication says)) (faulty w slips) actions) ≡ false → DoesPlainly publication (stepping publication says) w slips actions
+
+-- Promises, of the model behind actions.
+
+abbrev pub NoneIsLost : Publication → Saying → Model → Type 0
+NoneIsLost publication says m = AllAccounted m
+
+abbrev pub SettledHold : Publication → Saying → Model → Type 0
+SettledHold publication says m = SettledHoldsPartition publication m
+
+abbrev pub DownloadsStayInside : Publication → Saying → Model → Type 0
+DownloadsStayInside publication says m = RepliesStayInside publication m
+
+abbrev pub PurgesTakeThePast : Publication → Saying → Model → Type 0
+PurgesTakeThePast publication says m = OldIsPast publication m

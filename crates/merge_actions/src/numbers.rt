@@ -1,10 +1,10 @@
 //! What numbers, mappings and lineages say, and what is forgotten.
+ghost use Rattle.merge_actions.specs.Actions.{PurgesTakeThePast};
 ghost use Rattle.merge_laws.specs.Knowledge.{KnownWereMade, MadeAreNumbered};
 ghost use Rattle.merge_laws.specs.LastLines.{ChangedIsLastChange, LeftByLine, MappingIsLastLine, TouchedInsideByLine, TouchedOutsideByLine};
 ghost use Rattle.merge_laws.specs.Laws.{ActedIsDone, ClosingsKeepTheLast, GapIsDone, JoinedTakesActed, KnowsOnlyMade, OfEveryActions, OfEveryValidActions, ReceivedIsDone, ReceivedNumberIsDone, SubscribersDecideAlike, TakesOnlyClosed, UnmetIsDone, UploadsTellTheLast};
 ghost use Rattle.merge_laws.specs.Leavings.{JoinsTakeNothingOwed, PurgesTakeNothingOwed};
 ghost use Rattle.merge_laws.specs.Watermarks.{WatermarksAreHeld};
-ghost use Rattle.merge_model.specs.Promises.{OldIsPast};
 
 /// Whatever actions came: the numbers that the publisher keeps of a site say which of its generations
 /// and changes have acted, its mappings are what the last lines say, a subscriber decides as its
@@ -34,7 +34,7 @@ pub fn actions_keep_numbers_and_lines()
 /// to one; what a join forgets is owed to none; and the watermark that the publisher keeps of a joined
 /// site is no more than the site's own.
 pub fn actions_take_nothing_owed()
-    ensures old { OfEveryActions (λ publication says m. OldIsPast publication m) }
+    ensures old { OfEveryActions PurgesTakeThePast }
     ensures purges { OfEveryValidActions (λ publication says m. PurgesTakeNothingOwed publication m) }
     ensures joins { OfEveryValidActions (λ publication says m. JoinsTakeNothingOwed publication m) }
     ensures watermarks { OfEveryActions (λ publication says m. WatermarksAreHeld m) }

@@ -1,11 +1,11 @@
 //! The promises, of every list of actions.
-ghost use Rattle.merge_actions.specs.Actions.{MachineHasPromisesBehindActions};
+ghost use Rattle.merge_actions.specs.Actions.{DownloadsStayInside, MachineHasPromisesBehindActions, NoneIsLost, SettledHold};
 ghost use Rattle.merge_laws.specs.Bounds.{DownloadsAreEnough, UploadsAreEnough};
 ghost use Rattle.merge_laws.specs.Identities.{OfEveryRuledActions, TakenWereGranted};
 ghost use Rattle.merge_laws.specs.Laws.{OfEveryActions, OfEveryValidActions};
 ghost use Rattle.merge_laws.specs.Promised.{Promised};
 ghost use Rattle.merge_laws.specs.Rounds.{RoundSettles};
-ghost use Rattle.merge_model.specs.Promises.{AllAccounted, IdentitiesApart, RangesApart, RepliesStayInside, SessionSettles, SettledHoldsPartition};
+ghost use Rattle.merge_model.specs.Promises.{IdentitiesApart, RangesApart, SessionSettles};
 
 /// Where a publication can be said by a file, all promises hold of the model behind every list of
 /// actions, in whatever order they come and whichever fail. So they hold of the machine, which has
@@ -19,7 +19,7 @@ pub fn promises_hold_of_actions()
 /// No change is lost that was made among actions, where a publication can be said by a file: each is
 /// accounted for as `no_change_is_lost` in `merge_laws` says.
 pub fn actions_lose_no_change()
-    ensures { OfEveryValidActions (λ publication says m. AllAccounted m) }
+    ensures { OfEveryValidActions NoneIsLost }
 {}
 
 /// A settled site holds exactly its partition, and a session that nothing refused settles its site,
@@ -27,9 +27,9 @@ pub fn actions_lose_no_change()
 /// The answer to a download puts only what is in its site's partition, and removes only what left it.
 /// The bounds on a session's uploads and downloads are never what ends it.
 pub fn actions_settle_sites()
-    ensures partition { OfEveryValidActions (λ publication says m. SettledHoldsPartition publication m) }
+    ensures partition { OfEveryValidActions SettledHold }
     ensures sessions { OfEveryActions SessionSettles }
-    ensures inside { OfEveryActions (λ publication says m. RepliesStayInside publication m) }
+    ensures inside { OfEveryActions DownloadsStayInside }
     ensures rounds { OfEveryValidActions RoundSettles }
     ensures uploads { OfEveryValidActions UploadsAreEnough }
     ensures downloads { OfEveryValidActions DownloadsAreEnough }
