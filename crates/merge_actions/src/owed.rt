@@ -3,6 +3,7 @@ ghost use Rattle.merge_laws.specs.Laws.{OfEveryActions, OfEveryValidActions};
 ghost use Rattle.merge_owed.specs.Chains.{TopsAreInChains};
 ghost use Rattle.merge_owed.specs.Forgotten.{JoinsForgetByLines, PublisherTellsDone, PurgesForgetByLines, SubscribersTellMade, TombstonesAreOldByLines};
 ghost use Rattle.merge_owed.specs.Identity.{TakenStandsForGoodByActions, ValuesWereTaken};
+ghost use Rattle.merge_owed.specs.Purged.{KnownIsWithin, LackedWerePurged, OfEveryPurgingActions, PurgedWereTaken};
 ghost use Rattle.merge_owed.specs.Ranges.{RangesAreEnough};
 ghost use Rattle.merge_owed.specs.Values.{ValuesStandForGoodByActions};
 
@@ -26,4 +27,15 @@ pub fn actions_forget_by_lines()
     ensures publisher { OfEveryValidActions PublisherTellsDone }
     ensures subscribers { OfEveryValidActions SubscribersTellMade }
     ensures ranges { OfEveryValidActions RangesAreEnough }
+{}
+
+/// A row that the publisher lacks, and of which it accepted a change, was purged: a purge came among the
+/// actions, the row was deleted then, its last change stood in an old generation, and behind the purge
+/// it was gone. So what a site knows of a row is known to the publisher's version of it, but for the
+/// site's own changes that are not accepted, or the row was purged so. And the rows that the history
+/// has as purged are just those that a purge took.
+pub fn actions_purge_what_is_lacking()
+    ensures lacked { OfEveryPurgingActions LackedWerePurged }
+    ensures within { OfEveryPurgingActions KnownIsWithin }
+    ensures taken { OfEveryPurgingActions PurgedWereTaken }
 {}

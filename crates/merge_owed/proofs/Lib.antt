@@ -19,6 +19,7 @@ pub mod RangeSteps
 pub mod RangesGo
 pub mod RangesEnough
 pub mod PurgeEvents
+pub mod PurgeActions
 pub mod PurgedRows
 pub mod HaveMakers
 pub mod RowsThere

@@ -118,7 +118,7 @@ noted-leaves false after before same = refl
 
 -- Only an event that purges makes the step of a purge. So where others happen, it may as well do nothing.
 
-abbrev act_without : {W : Type 0} → Stepping W → W → Action → W × Outcome
+abbrev pub act_without : {W : Type 0} → Stepping W → W → Action → W × Outcome
 act_without stepping w (Pass seconds) = stepping.act w (Pass seconds)
 act_without stepping w (Make site change) = stepping.act w (Make site change)
 act_without stepping w (CloseAt site) = stepping.act w (CloseAt site)
@@ -128,7 +128,7 @@ act_without stepping w (MakeAnew site) = stepping.act w (MakeAnew site)
 act_without stepping w Forget = (w, Passed)
 act_without stepping w Look = stepping.act w Look
 
-abbrev without_purges : {W : Type 0} → Stepping W → Stepping W
+abbrev pub without_purges : {W : Type 0} → Stepping W → Stepping W
 without_purges stepping = record stepping { act = act_without stepping }
 
 abbrev IsOther : Event → Type 0
@@ -149,7 +149,7 @@ module _ (publication : Publication) (says : Saying) where
       let new : History = noted publication says judges m.world action m.history in
       posted-leaves done.0 done.1 (noted_if (did_something done.1) new m.history) ∙ noted-leaves (did_something done.1) new m.history same
 
-  act-leaves : (m : Model) (action : Action) → (act_without (model publication says) m action).0.history.purged ≡ m.history.purged
+  pub act-leaves : (m : Model) (action : Action) → (act_without (model publication says) m action).0.history.purged ≡ m.history.purged
   act-leaves m (Pass seconds) = step-leaves m (Pass seconds) refl
   act-leaves m (Make site change) = step-leaves m (Make site change) (make-leaves publication (by_history m.history) site change m.world m.history)
   act-leaves m (CloseAt site) = step-leaves m (CloseAt site) refl
@@ -193,13 +193,13 @@ module _ (publication : Publication) (says : Saying) where
 
   -- A purge, which may fail: either it leaves all rows and what was purged, or it is made.
 
-  abbrev IsMade : Model → Model → Type 0
+  abbrev pub IsMade : Model → Model → Type 0
   IsMade m n = n ≡ (model_step publication says m Forget).0
 
-  abbrev IsLeft : Model → Model → Type 0
+  abbrev pub IsLeft : Model → Model → Type 0
   IsLeft m n = (n.history.purged ≡ m.history.purged) × (n.world.publisher.rows ≡ m.world.publisher.rows)
 
-  slip-either : (allowed : Bool) (slips : Slips) (slip : Slip) (m : Model) → (let n : Model = (slip_if publication (model publication says) allowed slips slip Forget m (model_step publication says m Forget)).0.world in IsMade m n ⊎ IsLeft m n)
+  pub slip-either : (allowed : Bool) (slips : Slips) (slip : Slip) (m : Model) → (let n : Model = (slip_if publication (model publication says) allowed slips slip Forget m (model_step publication says m Forget)).0.world in IsMade m n ⊎ IsLeft m n)
   slip-either true slips slip m = inr (refl, refl)
   slip-either false slips slip m = inl refl
 
@@ -208,10 +208,10 @@ module _ (publication : Publication) (says : Saying) where
   purge-either (None ∷ slips) m = inl refl
   purge-either (Some slip ∷ slips) m = slip-either (is_allowed publication m.world Forget slip (model_step publication says m Forget).1) slips slip m
 
-  abbrev old_in : Model → Key × PublisherRow → Bool
+  abbrev pub old_in : Model → Key × PublisherRow → Bool
   old_in m = is_old_tombstone publication (going_over m)
 
-  made-purged : (m : Model) (key : Key) → has_key (model_step publication says m Forget).0.history.purged key ≡ (has_key (keys_old (old_in m) m.world.publisher.rows) key || has_key m.history.purged key)
+  pub made-purged : (m : Model) (key : Key) → has_key (model_step publication says m Forget).0.history.purged key ≡ (has_key (keys_old (old_in m) m.world.publisher.rows) key || has_key m.history.purged key)
   made-purged m key =
       let p : PublisherTables = at_moment m.world.moment m.world.publisher in
       let keys : List Key = Noting.old_tombstones publication p in
@@ -274,7 +274,7 @@ module _ (publication : Publication) (says : Saying) where
 
   -- And what a purge took is purged from then on.
 
-  step-has : (key : Key) (m : Model) (action : Action) → has_key m.history.purged key ≡ true → has_key (model_step publication says m action).0.history.purged key ≡ true
+  pub step-has : (key : Key) (m : Model) (action : Action) → has_key m.history.purged key ≡ true → has_key (model_step publication says m action).0.history.purged key ≡ true
   step-has key m Forget is = (let now = made-purged m key in grind (arith, now, is))
   step-has key m action is = ap (λ (purged : List Key). has_key purged key) (act-leaves m action) ∙ is
 
@@ -282,7 +282,7 @@ module _ (publication : Publication) (says : Saying) where
   behind-parts [] later f = refl
   behind-parts (e ∷ before) later f = behind-parts before later (behind_event stepping f e)
 
-  purge-has : (m n : Model) (key : Key) (row : PublisherRow) → AreSorted m.world.publisher → row_at m.world.publisher.rows key ≡ Some row → old_in m (key, row) ≡ true → row_at n.world.publisher.rows key ≡ None → IsMade m n ⊎ IsLeft m n
+  pub purge-has : (m n : Model) (key : Key) (row : PublisherRow) → AreSorted m.world.publisher → row_at m.world.publisher.rows key ≡ Some row → old_in m (key, row) ≡ true → row_at n.world.publisher.rows key ≡ None → IsMade m n ⊎ IsLeft m n
       → has_key n.history.purged key ≡ true
   purge-has m n key row sorted held old gone (inr left) = absurd (let still : row_at n.world.publisher.rows key ≡ Some row = ap (λ (rows : List (Key × PublisherRow)). row_at rows key) left.1 ∙ held in cc (still, gone))
   purge-has m n key row sorted held old gone (inl made) =

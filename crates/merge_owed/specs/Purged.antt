@@ -11,6 +11,8 @@ use Rattle.merge_model.specs.History.{has, is_accepted, past_at}
 use Rattle.merge_model.specs.Keys.{has_key, row_at}
 use Rattle.merge_model.specs.Model.{Model, empty_model, model}
 use Rattle.merge_model.specs.PublisherPurge.{is_old_tombstone}
+use Rattle.merge_model.specs.Runs.{after_actions}
+use Rattle.merge_model.specs.Steps.{Action, Forget}
 use Rattle.merge_model.specs.World.{Saying}
 use Rattle.merge_model.specs.declared.event.Event.{Event}
 use Rattle.merge_model.specs.declared.event.Event.TheVariants as event
@@ -36,6 +38,23 @@ pub record WasPurged (publication : Publication) (says : Saying) (f : Faulty Mod
 abbrev pub OfEveryPurgingRun : ((Key → Type 0) → Model → Type 0) → Type 0
 OfEveryPurgingRun Holds = (resolvers : ℕ) (publication : Publication) → IsValid resolvers publication → (says : Saying) (tallies : List ℕ) (slips : Slips) (events : List Event)
     → (let start : Faulty Model = faulty (empty_model publication tallies) slips in Holds (WasPurged publication says start events) (behind publication says start events).world)
+
+-- The same of lists of actions, in any order.
+abbrev pub behind_actions : Publication → Saying → Faulty Model → List Action → Faulty Model
+behind_actions publication says f actions = after_actions (failing publication (model publication says)) f actions
+
+pub record WasPurgedByActions (publication : Publication) (says : Saying) (f : Faulty Model) (actions : List Action) (key : Key) : Type 0 where
+  pub before : List Action
+  pub later : List Action
+  pub parts : actions ≡ before ++ Forget ∷ later
+  pub row : PublisherRow
+  pub held : row_at (behind_actions publication says f before).world.world.publisher.rows key ≡ Some row
+  pub old : is_old_tombstone publication (going_over (behind_actions publication says f before).world) (key, row) ≡ true
+  pub gone : row_at (behind_actions publication says (behind_actions publication says f before) (Forget ∷ [])).world.world.publisher.rows key ≡ None
+
+abbrev pub OfEveryPurgingActions : ((Key → Type 0) → Model → Type 0) → Type 0
+OfEveryPurgingActions Holds = (resolvers : ℕ) (publication : Publication) → IsValid resolvers publication → (says : Saying) (tallies : List ℕ) (slips : Slips) (actions : List Action)
+    → (let start : Faulty Model = faulty (empty_model publication tallies) slips in Holds (WasPurgedByActions publication says start actions) (behind_actions publication says start actions).world)
 
 -- A row that the publisher lacks, and of which it accepted a change, was purged.
 abbrev pub LackedWerePurged : (Key → Type 0) → Model → Type 0
