@@ -15,8 +15,6 @@ mod reply;
 mod request;
 mod rules;
 mod standing;
-#[cfg(test)]
-mod tests;
 mod upload;
 
 pub use answer::reply_fault;

@@ -8,8 +8,6 @@ mod kept;
 mod length;
 mod refusal;
 mod settings;
-#[cfg(test)]
-mod tests;
 mod version;
 
 pub use article::identity_column;

@@ -12,6 +12,3 @@ pub use laws::{kind_law, numbering_law};
 pub use losers::{Conflict, losing_rows};
 pub use row::{ConflictRow, ConflictRows, Verdict};
 pub use table::{ConflictPlan, ConflictTable, are_rising};
-
-#[cfg(test)]
-mod tests;

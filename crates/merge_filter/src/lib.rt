@@ -12,8 +12,6 @@ mod names;
 mod parsing;
 mod pieces;
 mod quoted;
-#[cfg(test)]
-mod tests;
 mod tokens;
 mod tree;
 mod types;

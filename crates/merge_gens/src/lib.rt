@@ -19,6 +19,3 @@ pub use moves::{Mapping, MoveKind, RowSite};
 pub use plan::{GenAnswer, GenAnswers, GenChange, GenPlan, Generations};
 pub use retention::expired;
 pub use sites::{Marks, SiteState};
-
-#[cfg(test)]
-mod tests;

@@ -13,8 +13,6 @@ pub mod laws;
 mod ranges;
 mod seen_grants;
 mod slots;
-#[cfg(test)]
-mod tests;
 
 pub use book::RangeBook;
 pub use first_bad::{can_follow, first_bad_grant};

@@ -4,8 +4,6 @@
 mod entry;
 mod index;
 mod laws;
-#[cfg(test)]
-mod tests;
 
 pub use entry::{JoinChange, JoinEntry};
 pub use index::JoinIndex;

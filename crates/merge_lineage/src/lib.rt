@@ -3,8 +3,6 @@
 
 mod laws;
 mod lineage;
-#[cfg(test)]
-mod tests;
 
 pub use laws::{cover_laws, join_laws, knowing_laws};
 pub use lineage::{Lineage, Order4, are_ascending};

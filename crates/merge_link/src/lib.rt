@@ -3,8 +3,6 @@
 
 mod clock;
 mod link;
-#[cfg(test)]
-mod tests;
 
 pub use clock::{Clock, MemoryClock};
 pub use link::{Exchange, Link, LinkFault, MemoryLink};

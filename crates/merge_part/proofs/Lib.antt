@@ -19,4 +19,3 @@ pub mod SitePartitions
 pub mod Prepared
 pub mod Orders
 pub mod Begun
-pub mod Trials

@@ -14,17 +14,9 @@ mod membership;
 mod moves;
 mod settling;
 mod sites;
-#[cfg(test)]
-mod slow;
 mod subscribers;
 mod taking;
-#[cfg(test)]
-mod tests;
-#[cfg(test)]
-mod trial;
 mod waiting;
-#[cfg(test)]
-mod worked;
 
 pub use change::{Move, Moves, RowChange};
 pub use membership::{Membership, MembershipPlan};

@@ -10,8 +10,6 @@ mod outside;
 mod ports;
 mod short;
 mod streams;
-#[cfg(test)]
-mod tests;
 mod whole;
 
 pub use entry::{Entries, EntryEdit, EntryKey};

@@ -4,8 +4,6 @@
 mod events;
 mod line;
 mod stop;
-#[cfg(test)]
-mod tests;
 mod word;
 
 pub use line::read_line;

@@ -8,7 +8,5 @@ mod names;
 mod ranges;
 mod refusals;
 mod rows;
-#[cfg(test)]
-mod tests;
 
 pub use answers::{text_of, texts_of};

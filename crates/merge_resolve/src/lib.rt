@@ -25,6 +25,3 @@ pub use priorities::{incoming_priority, publisher_priority};
 pub use priority::{Priority, SubscriberWins};
 pub use question::Meeting;
 pub use resolver::{Handed, Resolver};
-
-#[cfg(test)]
-mod tests;

@@ -16,8 +16,6 @@ mod places;
 mod publication;
 mod reading;
 mod tables;
-#[cfg(test)]
-mod tests;
 mod values;
 
 pub use built::is_built;

@@ -4,8 +4,6 @@
 mod input;
 mod lines;
 mod names;
-#[cfg(test)]
-mod tests;
 mod words;
 
 pub use input::{bar_cuts_its_input, cut_input};

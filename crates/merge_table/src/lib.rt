@@ -11,8 +11,6 @@ mod key;
 mod laws;
 mod rows;
 mod table;
-#[cfg(test)]
-mod tests;
 
 pub use edit::Edit;
 pub use kept::RowTest;

@@ -11,8 +11,6 @@ mod literal;
 mod names;
 mod row_key;
 mod steps;
-#[cfg(test)]
-mod tests;
 mod values;
 mod words;
 

@@ -8,8 +8,6 @@ mod length;
 mod local_change;
 mod result;
 mod site_row;
-#[cfg(test)]
-mod tests;
 mod version;
 
 pub use case::{Case, Side, Sides, classify};
