@@ -4,7 +4,7 @@ use Rattle.merge_types.specs.declared.identifiers.SiteId.{SiteId}
 use Rattle.merge_ports.specs.Entries.{Map}
 use Rattle.merge_world.specs.Views.{HandedView}
 use Rattle.merge_program.specs.declared.command.Command.{Command}
-use Rattle.merge_program.specs.declared.command.Command.TheVariants.{Change, Make, Play, Show}
+use Rattle.merge_program.specs.declared.command.Command.TheVariants.{Change, Make, Play, Show, Sync}
 use Rattle.merge_program.specs.declared.command.Place.{Place}
 use Rattle.merge_program.specs.declared.ending.Ending.{Ending}
 use Rattle.merge_program.specs.declared.ending.Ending.TheVariants.{NoMemory, Usage}
@@ -13,6 +13,7 @@ use Rattle.merge_program.specs.Headline.{PlayRunEnds}
 use Rattle.merge_program.specs.Making.{MakeEnds}
 use Rattle.merge_program.specs.Showing.{ShowEnds}
 use Rattle.merge_program.specs.Statuses.{CommandEnds}
+use Rattle.merge_program.specs.Syncing.{SyncEnds}
 use Rattle.merge_program.specs.Visits.{Visit, sides_of}
 use Rattle.merge_program.proofs.Ends.{any-of}
 
@@ -34,6 +35,10 @@ module _ (ending : Ending) (handed : HandedView) (v : Visit) where
   by-show command place article is resolvers counted ends =
       subst (λ (c : Command). Ends (Some c)) (sym is) (subst (λ (n : ℕ). ShowEnds ending place article n v) counted ends)
 
+  pub by-sync : (command : Command) (place : Place) (address : List ℕ) → command ≡ Sync place address → (resolvers : ℕ) → resolvers ≡ length handed.tallies → SyncEnds ending place address resolvers v → Ends (Some command)
+  by-sync command place address is resolvers counted ends =
+      subst (λ (c : Command). Ends (Some c)) (sym is) (subst (λ (n : ℕ). SyncEnds ending place address n v) counted ends)
+
   -- the words say no command
   pub by-none : (command : Option Command) → command ≡ None → ending ≡ Usage → v.written ≡ v.was → Ends command
   by-none command none usage silent = subst Ends (sym none) (usage, silent)
@@ -51,6 +56,7 @@ lacking handed v (Some Play) some silent same = any-of v.input
 lacking handed v (Some (Make customers)) some silent same = (tt, silent)
 lacking handed v (Some (Change place)) some silent same = inl (record { silent = silent; same = ap (λ (f : SiteId → List ℕ → Option Map). f place.site place.store) same })
 lacking handed v (Some (Show place article)) some silent same = inl (record { silent = silent; same = ap (λ (f : SiteId → List ℕ → Option Map). f place.site place.store) same })
+lacking handed v (Some (Sync place address)) some silent same = inl (record { silent = silent; same = ap (λ (f : SiteId → List ℕ → Option Map). f place.site place.store) same })
 
 pub same-command : (command other : Command) (said : Option Command) → Some command ≡ said → said ≡ Some other → command ≡ other
 same-command command other said is say = ap (λ (o : Option Command). unwrap_or o command) (is ∙ say)

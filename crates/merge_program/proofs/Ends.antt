@@ -14,7 +14,7 @@ use Rattle.merge_script.specs.Lines.{lines_of}
 use Rattle.merge_script.proofs.Cuts.{IsCut-input}
 use Rattle.merge_world.specs.Views.{HandedView}
 use Rattle.merge_program.specs.declared.ending.Ending.{Ending}
-use Rattle.merge_program.specs.declared.ending.Ending.TheVariants.{Damaged, Done, NoEvent, NoMemory, NotTaken, ReadFault, Refused, StoreFault, TooLong, UnknownArticle, UnknownSite, Usage, WriteFault}
+use Rattle.merge_program.specs.declared.ending.Ending.TheVariants.{BadReply, Damaged, Declined, Done, Expired, LinkFault, NoEvent, NoMemory, NotTaken, ReadFault, Refused, StoreFault, TooLong, UnknownArticle, UnknownSite, Usage, WriteFault}
 use Rattle.merge_program.specs.Endings.{refused_for, unread}
 use Rattle.merge_program.specs.Headline.{AnsweredInPart, InputEnds, IsTaken, IsTakenInput, PlayEnds, PlayRunEnds, Sides, WrittenInPart, lines_of_input}
 
@@ -38,6 +38,10 @@ module _ (handed : HandedView) (input : List ℕ) (sides : Sides) (writes refuse
     input-ends (NotTaken line) p = absurd p
     input-ends UnknownSite p = absurd p
     input-ends UnknownArticle p = absurd p
+    input-ends LinkFault p = absurd p
+    input-ends (Expired last_sync now) p = absurd p
+    input-ends (BadReply place) p = absurd p
+    input-ends (Declined number) p = absurd p
 
   module _ (fits : length input ≤ 67108864) where
     -- the text before the script is no publication
@@ -115,6 +119,10 @@ module _ (left : Option (List ℕ)) (handed : HandedView) (sides : Sides) (write
   read-ends input same (NotTaken line) p = absurd p
   read-ends input same UnknownSite p = absurd p
   read-ends input same UnknownArticle p = absurd p
+  read-ends input same LinkFault p = absurd p
+  read-ends input same (Expired last_sync now) p = absurd p
+  read-ends input same (BadReply place) p = absurd p
+  read-ends input same (Declined number) p = absurd p
 
   pub ends-by-slice : (input slice : List ℕ) → slice ≡ input → IfSome left (λ (l : List ℕ). input ≡ l) → (ending : Ending) → InputEnds ending handed slice sides writes refused → Ends ending
   ends-by-slice input slice is same ending p = read-ends input same ending (subst (λ (l : List ℕ). InputEnds ending handed l sides writes refused) is p)

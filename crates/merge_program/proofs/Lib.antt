@@ -1,3 +1,4 @@
+pub mod Addresses
 pub mod Changes
 pub mod Commands
 pub mod Ends
@@ -11,4 +12,5 @@ pub mod Rooms
 pub mod Shows
 pub mod Sites
 pub mod Statuses
+pub mod Syncs
 pub mod Tellings

@@ -7,7 +7,7 @@ use Rattle.merge_make.specs.Runs.{Summed}
 use Rattle.merge_make.specs.Script.{script}
 use Rattle.merge_make.proofs.Published.{made-valid}
 use Rattle.merge_program.specs.declared.ending.Ending.{Ending}
-use Rattle.merge_program.specs.declared.ending.Ending.TheVariants.{Damaged, Done, NoEvent, NoMemory, NotTaken, ReadFault, Refused, StoreFault, TooLong, UnknownArticle, UnknownSite, Usage, WriteFault}
+use Rattle.merge_program.specs.declared.ending.Ending.TheVariants.{BadReply, Damaged, Declined, Done, Expired, LinkFault, NoEvent, NoMemory, NotTaken, ReadFault, Refused, StoreFault, TooLong, UnknownArticle, UnknownSite, Usage, WriteFault}
 use Rattle.merge_program.specs.Fresh.{fresh_view}
 use Rattle.merge_program.specs.Making.{IsSummary, IsUnmade, MakeEnds, WriteEnds}
 use Rattle.merge_program.specs.Runs.{Sides}
@@ -39,6 +39,10 @@ unmade TooLong before after rose = rose
 unmade (NotTaken line) before after rose = rose
 unmade UnknownSite before after rose = rose
 unmade UnknownArticle before after rose = rose
+unmade LinkFault before after rose = rose
+unmade (Expired last_sync now) before after rose = rose
+unmade (BadReply place) before after rose = rose
+unmade (Declined number) before after rose = rose
 
 module _ (customers : ℕ) (handed : HandedView) (sides : Sides) (writes refused : ℕ) where
   abbrev Ends : Ending → Type 0
@@ -58,6 +62,10 @@ module _ (customers : ℕ) (handed : HandedView) (sides : Sides) (writes refused
   written-ends text summary (NotTaken line) p = absurd p
   written-ends text summary UnknownSite p = absurd p
   written-ends text summary UnknownArticle p = absurd p
+  written-ends text summary LinkFault p = absurd p
+  written-ends text summary (Expired last_sync now) p = absurd p
+  written-ends text summary (BadReply place) p = absurd p
+  written-ends text summary (Declined number) p = absurd p
 
   -- the text that was written is a slice of it
   pub written-by-slice : (text slice : List ℕ) → slice ≡ text → IsSummary customers handed sides.before sides.after text → (ending : Ending) → WriteEnds ending slice sides.was sides.written writes refused → Ends ending
@@ -77,3 +85,7 @@ module _ (customers : ℕ) (handed : HandedView) (sides : Sides) (writes refused
   unmade-ends (NotTaken line) p same = absurd p
   unmade-ends UnknownSite p same = absurd p
   unmade-ends UnknownArticle p same = absurd p
+  unmade-ends LinkFault p same = absurd p
+  unmade-ends (Expired last_sync now) p same = absurd p
+  unmade-ends (BadReply place) p same = absurd p
+  unmade-ends (Declined number) p same = absurd p

@@ -1,10 +1,12 @@
 -- The commands of the program.
-use Rattle.std.specs.Prelude.{Bool, List, None, Option, Some, [], codes, false, if◌then◌else◌, nat_eq, nat_le, not, option_and_then, option_map, ℕ, ◌&&◌, ◌==◌, ◌||◌, ◌∷◌}
+use Rattle.std.specs.Prelude.{Bool, List, None, Option, Some, [], codes, false, if◌then◌else◌, length, nat_eq, nat_le, not, option_and_then, option_map, ℕ, ◌&&◌, ◌==◌, ◌||◌, ◌∷◌}
+use Rattle.std.specs.List.{list_all}
 use Rattle.std.specs.Cmp.Lexicographic.{pointwise}
 use Rattle.merge_types.specs.declared.identifiers.SiteId.{SiteId}
 use Rattle.merge_script.specs.Names.{decimal_of}
+use Rattle.merge_wire.specs.Written.{IsVisible}
 use Rattle.merge_program.specs.declared.command.Command.{Command}
-use Rattle.merge_program.specs.declared.command.Command.TheVariants.{Change, Make, Play, Show}
+use Rattle.merge_program.specs.declared.command.Command.TheVariants.{Change, Make, Play, Show, Sync}
 use Rattle.merge_program.specs.declared.command.Place.{Place}
 
 -- how many customers a generated script has: a plain decimal from 1 to 20000
@@ -38,11 +40,31 @@ abbrev pub by_show : (word publication store site article : List ℕ) → Option
 by_show word publication store site article =
     if pointwise nat_eq word (codes "show") && not (is_dashed article) then option_map (λ (place : Place). Show place article) (place_by publication store site) else None
 
--- the command that words say: `play` alone; `make` and a number; `change`, a publication's path, a store's path and a site; or `show`, the
--- same and an article
+-- an address has from 1 to 255 bytes, all visible characters of ASCII
+abbrev pub is_visible_byte : ℕ → Bool
+is_visible_byte byte = nat_le 33 byte && nat_le byte 126
+
+abbrev pub is_address : List ℕ → Bool
+is_address word = nat_le 1 (length word) && (nat_le (length word) 255 && list_all is_visible_byte word)
+
+abbrev pub by_sync : (publication store site address : List ℕ) → Option Command
+by_sync publication store site address =
+    if is_address address && not (is_dashed address) then option_map (λ (place : Place). Sync place address) (place_by publication store site) else None
+
+abbrev pub by_last : (word publication store site last : List ℕ) → Option Command
+by_last word publication store site last =
+    if pointwise nat_eq word (codes "sync") then by_sync publication store site last else by_show word publication store site last
+
+-- the command that words say: `play` alone; `make` and a number; `change`, a publication's path, a store's path and a site; `show`, the
+-- same and an article; or `sync`, the same and an address
 abbrev pub command_of : List (List ℕ) → Option Command
 command_of (word ∷ []) = by_word word
 command_of (word ∷ number ∷ []) = by_word_and_number word number
 command_of (word ∷ publication ∷ store ∷ site ∷ []) = by_change word publication store site
-command_of (word ∷ publication ∷ store ∷ site ∷ article ∷ []) = by_show word publication store site article
+command_of (word ∷ publication ∷ store ∷ site ∷ last ∷ []) = by_last word publication store site last
 command_of other = None
+
+-- where a command has an address, it is one that a request can have
+abbrev pub IsMeant : Command → Type 0
+IsMeant (Sync place address) = IsVisible address
+IsMeant other = Unit {0}

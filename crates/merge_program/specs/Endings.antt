@@ -9,7 +9,7 @@ use Rattle.merge_ports.specs.declared.whole.ReadFault.TheVariants as reading
 use Rattle.merge_schema.specs.declared.fault.SchemaFault.{SchemaFault}
 use Rattle.merge_schema.specs.declared.fault.SchemaFault.TheVariants as schema
 use Rattle.merge_program.specs.declared.ending.Ending.{Ending}
-use Rattle.merge_program.specs.declared.ending.Ending.TheVariants.{Damaged, Done, NoEvent, NoMemory, NotTaken, ReadFault, Refused, StoreFault, TooLong, UnknownArticle, UnknownSite, Usage, WriteFault}
+use Rattle.merge_program.specs.declared.ending.Ending.TheVariants.{BadReply, Damaged, Declined, Done, Expired, LinkFault, NoEvent, NoMemory, NotTaken, ReadFault, Refused, StoreFault, TooLong, UnknownArticle, UnknownSite, Usage, WriteFault}
 
 abbrev pub status_of : Ending → ℕ
 status_of Done = 0
@@ -25,6 +25,10 @@ status_of NoMemory = 11
 status_of UnknownSite = 12
 status_of UnknownArticle = 12
 status_of TooLong = 14
+status_of LinkFault = 7
+status_of (Expired last_sync now) = 8
+status_of (BadReply place) = 9
+status_of (Declined number) = 12
 
 abbrev pub unopened : OpenFault → Ending
 unopened opening.Failed = StoreFault

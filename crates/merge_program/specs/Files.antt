@@ -6,6 +6,7 @@ use Rattle.merge_schema.specs.Answers.{IsAnswer}
 use Rattle.merge_schema.specs.declared.fault.SchemaFault.{SchemaFault}
 use Rattle.merge_schema.specs.declared.fault.SchemaFault.TheVariants.{NoMemory as Lacking}
 use Rattle.merge_schema.specs.declared.publication.Publication.{Publication}
+use Rattle.merge_schema.specs.Places.{is_subscription}
 use Rattle.merge_model.specs.Events.{is_site}
 use Rattle.merge_model.specs.Naming.{article_by}
 use Rattle.merge_program.specs.declared.ending.Ending.{Ending}
@@ -94,3 +95,23 @@ IsUnnamed UnknownSite told resolvers site name before after = HasNoSite told res
 IsUnnamed UnknownArticle told resolvers site name before after = HasNoArticle told resolvers site name
 IsUnnamed NoMemory told resolvers site name before after = Unit {0}
 IsUnnamed other told resolvers site name before after = ⊥
+
+-- the file has this publication, of which the site is a subscription
+pub record HasSubscription (told : Option (List ℕ)) (resolvers : ℕ) (site : SiteId) (publication : Publication) : Type 0 where
+  pub read : IfSome told (IsAccepted resolvers publication)
+  pub known : is_subscription publication site.0 ≡ true
+
+-- the file has a publication, of which the site is no subscription
+pub record HasNoSubscription (told : Option (List ℕ)) (resolvers : ℕ) (site : SiteId) : Type 0 where
+  pub publication : Publication
+  pub read : IfSome told (IsAccepted resolvers publication)
+  pub unknown : is_subscription publication site.0 ≡ false
+
+-- why there is no such publication or subscription
+abbrev pub IsUnsubscribed : Ending → (told : Option (List ℕ)) → (resolvers : ℕ) → SiteId → (before after : ℕ) → Type 0
+IsUnsubscribed ReadFault told resolvers site before after = Rose before after
+IsUnsubscribed TooLong told resolvers site before after = IsLong told
+IsUnsubscribed (Refused fault) told resolvers site before after = IsRefusedFile told resolvers fault
+IsUnsubscribed UnknownSite told resolvers site before after = HasNoSubscription told resolvers site
+IsUnsubscribed NoMemory told resolvers site before after = Unit {0}
+IsUnsubscribed other told resolvers site before after = ⊥

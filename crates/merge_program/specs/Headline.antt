@@ -15,7 +15,7 @@ use Rattle.merge_model.specs.declared.answer.Answer.{Answer}
 use Rattle.merge_model.specs.declared.event.Event.{Event}
 use Rattle.merge_world.specs.Views.{HandedView}
 use Rattle.merge_program.specs.declared.ending.Ending.{Ending}
-use Rattle.merge_program.specs.declared.ending.Ending.TheVariants.{Damaged, Done, NoEvent, NoMemory, NotTaken, ReadFault, Refused, StoreFault, TooLong, UnknownArticle, UnknownSite, Usage, WriteFault}
+use Rattle.merge_program.specs.declared.ending.Ending.TheVariants.{BadReply, Damaged, Declined, Done, Expired, LinkFault, NoEvent, NoMemory, NotTaken, ReadFault, Refused, StoreFault, TooLong, UnknownArticle, UnknownSite, Usage, WriteFault}
 pub use Rattle.merge_program.specs.Runs.{IsRun, Sides}
 
 -- the lines of an input's script
@@ -104,6 +104,10 @@ PlayRunEnds Usage left handed sides writes refused reads failed = ⊥
 PlayRunEnds (NotTaken line) left handed sides writes refused reads failed = ⊥
 PlayRunEnds UnknownSite left handed sides writes refused reads failed = ⊥
 PlayRunEnds UnknownArticle left handed sides writes refused reads failed = ⊥
+PlayRunEnds LinkFault left handed sides writes refused reads failed = ⊥
+PlayRunEnds (Expired last_sync now) left handed sides writes refused reads failed = ⊥
+PlayRunEnds (BadReply place) left handed sides writes refused reads failed = ⊥
+PlayRunEnds (Declined number) left handed sides writes refused reads failed = ⊥
 PlayRunEnds ReadFault left handed sides writes refused reads failed = Rose reads failed
 PlayRunEnds TooLong left handed sides writes refused reads failed = IfSome left (λ (input : List ℕ). 67108864 < length input)
 PlayRunEnds WriteFault left handed sides writes refused reads failed = Rose writes refused × IfSome left (IsTakenInput (length handed.tallies))

@@ -13,4 +13,5 @@ pub mod Sited
 pub mod Statuses
 pub mod Stopping
 pub mod Stores
+pub mod Syncing
 pub mod Visits

@@ -7,7 +7,7 @@ use Rattle.merge_ports.specs.Faults.{Rose}
 use Rattle.merge_ports.specs.Parts.{AppendsFront}
 use Rattle.merge_schema.specs.Faults.{number_of, words_of}
 use Rattle.merge_program.specs.declared.ending.Ending.{Ending}
-use Rattle.merge_program.specs.declared.ending.Ending.TheVariants.{Damaged, Done, NoEvent, NoMemory, NotTaken, ReadFault, Refused, StoreFault, TooLong, UnknownArticle, UnknownSite, Usage, WriteFault}
+use Rattle.merge_program.specs.declared.ending.Ending.TheVariants.{BadReply, Damaged, Declined, Done, Expired, LinkFault, NoEvent, NoMemory, NotTaken, ReadFault, Refused, StoreFault, TooLong, UnknownArticle, UnknownSite, Usage, WriteFault}
 
 -- a key in hexadecimal, and `-` where it is empty
 abbrev pub key_text : List ℕ → List ℕ
@@ -29,6 +29,10 @@ note_of help NoMemory = codes "no memory\n"
 note_of help UnknownSite = codes "refused 1\n"
 note_of help UnknownArticle = codes "refused 18\n"
 note_of help TooLong = codes "input too long\n"
+note_of help LinkFault = codes "link fault\n"
+note_of help (Expired last_sync now) = codes "expired " ++ decimal last_sync.0 ++ 32 ∷ decimal now.0 ++ 10 ∷ []
+note_of help (BadReply place) = codes "bad reply " ++ decimal place ++ 10 ∷ []
+note_of help (Declined number) = codes "refused " ++ decimal number ++ 10 ∷ []
 
 -- The notes got the whole of a text; or a front of it, since a write failed; or nothing, since memory was wanting.
 abbrev pub IsTold : List ℕ → (old new : Option (List ℕ)) → (before after : ℕ) → Type 0

@@ -8,9 +8,10 @@ use Rattle.merge_program.specs.Runs.{Sides}
 
 -- What is told before a run and behind it, each part where it is told, and how many faults there were by then.
 pub record Visit : Type 0 where
-  -- the bytes of the input; and the texts at paths, and the moments of a clock
+  -- the bytes of the input; and the texts at paths, the moments of a clock, and the link, before and behind
   pub input : Option (List ℕ)
   pub offers : Offers
+  pub behind : Offers
   -- the maps of the stores, before and behind
   pub stored : SiteId → List ℕ → Option Map
   pub kept : SiteId → List ℕ → Option Map

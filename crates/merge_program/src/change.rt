@@ -184,6 +184,7 @@ pub fn change<I: Source, O: Sink, E: CommandOutside>(
     ensures { ChangeEnds result place.now resolvers (record {
       input = I.left input.old;
       offers = E.offers outside.old;
+      behind = E.offers outside.new;
       stored = E.told outside.old;
       kept = E.told outside.new;
       was = O.written output.old;

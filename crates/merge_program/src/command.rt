@@ -1,10 +1,11 @@
 //! What the words behind the program's name say.
 ghost use Rattle.std.specs.Prelude.{◌≡◌, ◌≢◌, IfOk, None, OnErr};
-ghost use Rattle.merge_program.specs.Commands.{by_change, by_show, by_word, by_word_and_number, command_of, customers_of, is_dashed, place_by, site_in};
+ghost use Rattle.merge_program.specs.Commands.{by_change, by_last, by_show, by_sync, by_word, by_word_and_number, command_of, customers_of, is_address, is_dashed, place_by, site_in};
 
 use clap::Arg;
 use merge_script::read_decimal;
 use merge_types::{NoMemory, SiteId, Words};
+use merge_wire::is_visible;
 use std::alloc::{AllocError, Global};
 
 /// The most customers that a generated script has.
@@ -35,6 +36,8 @@ pub enum Command {
     Change(Place),
     /// The rows of an article at a site are shown.
     Show { place: Place, article: Words },
+    /// A subscriber meets the publisher at an address.
+    Sync { place: Place, address: Words },
 }
 
 // A number of customers: a plain decimal from 1 to the most.
@@ -146,9 +149,55 @@ fn by_show(
     }
 }
 
+// Whether a word is an address.
+fn is_address(word: &Words) -> bool
+    ensures { result ≡ is_address word.now }
+{
+    is_visible(word.as_str())
+}
+
+fn by_sync(
+    publication: &Words,
+    store: &Words,
+    site: &Words,
+    address: &Words,
+) -> Result<Option<Command>, NoMemory>
+    ensures ok { IfOk result (λ command. command ≡ by_sync publication.now store.now site.now address.now) }
+    ensures err { OnErr result (by_sync publication.now store.now site.now address.now ≢ None) }
+{
+    if is_address(address) && !is_dashed(address) {
+        match place_by(publication, store, site)? {
+            Some(place) => Ok(Some(Command::Sync {
+                place,
+                address: address.clone()?,
+            })),
+            None => Ok(None),
+        }
+    } else {
+        Ok(None)
+    }
+}
+
+fn by_last(
+    word: &Words,
+    publication: &Words,
+    store: &Words,
+    site: &Words,
+    last: &Words,
+) -> Result<Option<Command>, NoMemory>
+    ensures ok { IfOk result (λ command. command ≡ by_last word.now publication.now store.now site.now last.now) }
+    ensures err { OnErr result (by_last word.now publication.now store.now site.now last.now ≢ None) }
+{
+    if word.as_str() == "sync" {
+        by_sync(publication, store, site, last)
+    } else {
+        by_show(word, publication, store, site, last)
+    }
+}
+
 /// The command that the words say: `play`; `make` and a number of customers; `change`, a publication's
-/// path, a store's path and a site; or `show`, the same and an article. None where they say something
-/// else. Memory is only wanting for words that are a command.
+/// path, a store's path and a site; `show`, the same and an article; or `sync`, the same and an address.
+/// None where they say something else. Memory is only wanting for words that are a command.
 pub fn command_of(words: &[Words]) -> Result<Option<Command>, NoMemory>
     ensures ok { IfOk result (λ command. command ≡ command_of words.now) }
     ensures err { OnErr result (command_of words.now ≢ None) }
@@ -157,9 +206,7 @@ pub fn command_of(words: &[Words]) -> Result<Option<Command>, NoMemory>
         [word] => Ok(by_word(word)),
         [word, number] => Ok(by_word_and_number(word, number)),
         [word, publication, store, site] => by_change(word, publication, store, site),
-        [word, publication, store, site, article] => {
-            by_show(word, publication, store, site, article)
-        }
+        [word, publication, store, site, last] => by_last(word, publication, store, site, last),
         _ => Ok(None),
     }
 }
@@ -185,6 +232,12 @@ fn program(alloc: Global) -> Result<clap::Command<'static>, AllocError> {
         .arg(Arg::new(alloc, "STORE").required(true))?
         .arg(Arg::new(alloc, "SITE").required(true))?
         .arg(Arg::new(alloc, "ARTICLE").required(true))?;
+    let sync = clap::Command::new(alloc, "sync")
+        .about("Synchronise that site, a subscriber, with the publisher at ADDRESS over HTTP")
+        .arg(Arg::new(alloc, "PUB").required(true))?
+        .arg(Arg::new(alloc, "STORE").required(true))?
+        .arg(Arg::new(alloc, "SITE").required(true))?
+        .arg(Arg::new(alloc, "ADDRESS").required(true))?;
     let program = clap::Command::new(alloc, "replmerge")
         .about("Merge replication between a publisher and its subscribers")
         .after_help(
@@ -196,7 +249,8 @@ fn program(alloc: Global) -> Result<clap::Command<'static>, AllocError> {
         .subcommand(play)?
         .subcommand(make)?
         .subcommand(change)?
-        .subcommand(show)?;
+        .subcommand(show)?
+        .subcommand(sync)?;
     Ok(program)
 }
 

@@ -5,7 +5,7 @@ ghost use Rattle.merge_program.specs.Endings.{refused_for, status_of, stopped_by
 use merge_batch::Refusal;
 use merge_ports::{OpenFault, ReadFault};
 use merge_schema::SchemaFault;
-use merge_types::{NoMemory, Octets};
+use merge_types::{Moment, NoMemory, Octets};
 
 /// The exit status.
 #[derive(Clone, Copy, Debug, PartialEq, Eq)]
@@ -39,6 +39,14 @@ pub enum Ending {
     UnknownArticle,
     /// The input or a file has more bytes than the limit.
     TooLong,
+    /// The link failed in a session.
+    LinkFault,
+    /// More than the retention has passed since the subscriber was in step.
+    Expired { last_sync: Moment, now: Moment },
+    /// A response is no message or does not fit. The place is that of its first bad item, from 1, or 0.
+    BadReply { place: u64 },
+    /// The session was refused with this number.
+    Declined { number: u8 },
 }
 
 impl Ending {
@@ -60,6 +68,10 @@ impl Ending {
             Ending::UnknownSite => 12,
             Ending::UnknownArticle => 12,
             Ending::TooLong => 14,
+            Ending::LinkFault => 7,
+            Ending::Expired { .. } => 8,
+            Ending::BadReply { .. } => 9,
+            Ending::Declined { .. } => 12,
         })
     }
 }

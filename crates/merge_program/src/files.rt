@@ -40,6 +40,7 @@ pub fn read_file<E: CommandOutside>(
     ensures offers { E.offers outside.new ≡ E.offers outside.old }
     ensures told { E.told outside.new ≡ E.told outside.old }
     ensures stores { (E.counts outside.new).stores ≡ (E.counts outside.old).stores }
+    ensures links { (E.counts outside.new).links ≡ (E.counts outside.old).links }
 {
     let mut text = match outside.text(path) {
         Ok(text) => text,

@@ -13,6 +13,7 @@ mod play;
 mod script;
 mod show;
 mod stores;
+mod sync;
 mod top;
 
 pub use ending::Status;

@@ -8,7 +8,7 @@ use crate::command::help;
 use crate::ending::Ending;
 use merge_ports::{Sink, write_whole};
 use merge_schema::SchemaFault;
-use merge_types::{NoMemory, Octets};
+use merge_types::{Moment, NoMemory, Octets};
 use std::alloc::Global;
 
 // The help, behind the word that says why it is told.
@@ -53,6 +53,29 @@ fn line_note(alloc: Global, line: u64, word: u64) -> Result<String, NoMemory>
     Ok(format!(in alloc; "line {line} word {word}: no event\n")?)
 }
 
+// The last moment at which an expired site was in step, and the moment now.
+fn expired_note(alloc: Global, last_sync: Moment, now: Moment) -> Result<String, NoMemory>
+    ensures { IfOk result (λ note. string_bytes note ≡ codes "expired " ++ decimal last_sync.0 ++ 32 ∷ decimal now.0 ++ 10 ∷ []) }
+{
+    let last = last_sync.0;
+    let now = now.0;
+    Ok(format!(in alloc; "expired {last} {now}\n")?)
+}
+
+// The place in a reply that does not fit.
+fn reply_note(alloc: Global, place: u64) -> Result<String, NoMemory>
+    ensures { IfOk result (λ note. string_bytes note ≡ codes "bad reply " ++ decimal place ++ 10 ∷ []) }
+{
+    Ok(format!(in alloc; "bad reply {place}\n")?)
+}
+
+// The number of a refusal.
+fn declined_note(alloc: Global, number: u8) -> Result<String, NoMemory>
+    ensures { IfOk result (λ note. string_bytes note ≡ codes "refused " ++ decimal number ++ 10 ∷ []) }
+{
+    Ok(format!(in alloc; "refused {number}\n")?)
+}
+
 // Writes a note. A fault of the notes is nobody's.
 fn write_note<N: Sink>(notes: &mut N, note: &str)
     ensures { IsTold note.now (N.written notes.old) (N.written notes.new) (N.count notes.old) (N.count notes.new) }
@@ -88,5 +111,11 @@ pub fn tell<N: Sink>(alloc: Global, ending: &Ending, notes: &mut N)
         Ending::UnknownSite => write_note(notes, "refused 1\n"),
         Ending::UnknownArticle => write_note(notes, "refused 18\n"),
         Ending::TooLong => write_note(notes, "input too long\n"),
+        Ending::LinkFault => write_note(notes, "link fault\n"),
+        Ending::Expired { last_sync, now } => {
+            write_made(notes, expired_note(alloc, *last_sync, *now))
+        }
+        Ending::BadReply { place } => write_made(notes, reply_note(alloc, *place)),
+        Ending::Declined { number } => write_made(notes, declined_note(alloc, *number)),
     }
 }

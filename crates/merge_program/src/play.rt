@@ -5,7 +5,7 @@ ghost use Rattle.merge_schema.specs.Valid.{IsValid};
 ghost use Rattle.merge_world.specs.Views.{handed_view, site_of};
 ghost use Rattle.merge_program.specs.Endings.{status_of};
 ghost use Rattle.merge_program.specs.Headline.{AnsweredInPart, InputEnds, PlayEnds, WrittenInPart};
-ghost use Rattle.merge_program.specs.Statuses.{is_early};
+ghost use Rattle.merge_program.specs.Statuses.{is_silent};
 ghost use Rattle.merge_program.specs.Stores.{AreRooms, fresh_publisher, fresh_subscribers};
 
 use crate::ending::{Ending, refused};
@@ -94,7 +94,7 @@ pub fn play_input<O: Sink, E: Outside>(
         (record { was = O.written output.old; written = O.written output.new; before = (E.counts outside.old).stores; after = (E.counts outside.new).stores }) (O.count output.old) (O.count output.new) }
     ensures part { WrittenInPart (handed_view (λ r. says r) (λ r. tally_of r) resolvers.old.items) input.now
         (record { was = O.written output.old; written = O.written output.new; before = (E.counts outside.old).stores; after = (E.counts outside.new).stores }) }
-    ensures silent { is_early (status_of result) ≡ true → O.written output.new ≡ O.written output.old }
+    ensures silent { is_silent (status_of result) ≡ true → O.written output.new ≡ O.written output.old }
 {
     let (publication, script) = cut_input(input);
     match read(alloc, publication, resolvers.len()) {

@@ -160,6 +160,7 @@ pub fn show<O: Sink, E: CommandOutside>(
     ensures { (input : Option (List ℕ)) (reads failed : ℕ) → ShowEnds result place.now article.now resolvers (record {
       input = input;
       offers = E.offers outside.old;
+      behind = E.offers outside.new;
       stored = E.told outside.old;
       kept = E.told outside.new;
       was = O.written output.old;

@@ -1,11 +1,11 @@
 //! The top call.
 ghost use Rattle.std.specs.Prelude.{◌≡◌, IfSome, true, ℕ};
 ghost use Rattle.merge_world.specs.Views.{handed_view};
-ghost use Rattle.merge_program.specs.Commands.{command_of};
+ghost use Rattle.merge_program.specs.Commands.{IsMeant, command_of};
 ghost use Rattle.merge_program.specs.Endings.{status_of};
 ghost use Rattle.merge_program.specs.Headline.{PlayRunEnds, WrittenInPart};
 ghost use Rattle.merge_program.specs.Making.{IsMade};
-ghost use Rattle.merge_program.specs.Statuses.{CommandEnds, IsNoted, Tells, is_early};
+ghost use Rattle.merge_program.specs.Statuses.{CommandEnds, IsNoted, Tells, is_silent};
 
 use crate::change::change;
 use crate::command::{Command, command_of};
@@ -14,6 +14,7 @@ use crate::make::make;
 use crate::notes::tell;
 use crate::play::play_input;
 use crate::show::show;
+use crate::sync::sync;
 use merge_outside::CommandOutside;
 use merge_ports::{INPUT_LIMIT, Outside, Sink, Source, read_whole};
 use merge_resolve::Handed;
@@ -44,7 +45,7 @@ fn read_and_play<I: Source, O: Sink, E: Outside>(
         (O.count output.old) (O.count output.new) (I.count input.old) (I.count input.new) }
     ensures part { IfSome (I.left input.old) (λ input. WrittenInPart (handed_view (λ r. says r) (λ r. tally_of r) resolvers.old.items) input
         (record { was = O.written output.old; written = O.written output.new; before = (E.counts outside.old).stores; after = (E.counts outside.new).stores })) }
-    ensures silent { is_early (status_of result) ≡ true → O.written output.new ≡ O.written output.old }
+    ensures silent { is_silent (status_of result) ≡ true → O.written output.new ≡ O.written output.old }
 {
     match read_whole(alloc, input, INPUT_LIMIT) {
         Ok(input) => play_input(alloc, input.as_slice(), resolvers, output, outside),
@@ -61,10 +62,12 @@ fn obey<I: Source, O: Sink, E: CommandOutside>(
     outside: &mut E,
     resolvers: &mut Vec<Handed>,
 ) -> Ending
+    requires { IsMeant command.now }
     ensures ends { CommandEnds (Some command.now) result (handed_view (λ r. says r) (λ r. tally_of r) resolvers.old.items)
         (record {
           input = I.left input.old;
           offers = E.offers outside.old;
+          behind = E.offers outside.new;
           stored = E.told outside.old;
           kept = E.told outside.new;
           was = O.written output.old;
@@ -78,7 +81,7 @@ fn obey<I: Source, O: Sink, E: CommandOutside>(
         }) }
     ensures played { command.now ≡ Command.Play → IfSome (I.left input.old) (λ input. WrittenInPart (handed_view (λ r. says r) (λ r. tally_of r) resolvers.old.items) input
         (record { was = O.written output.old; written = O.written output.new; before = (E.counts outside.old).stores; after = (E.counts outside.new).stores })) }
-    ensures silent { is_early (status_of result) ≡ true → O.written output.new ≡ O.written output.old }
+    ensures silent { is_silent (status_of result) ≡ true → O.written output.new ≡ O.written output.old }
 {
     let count = resolvers.len();
     match command {
@@ -86,6 +89,7 @@ fn obey<I: Source, O: Sink, E: CommandOutside>(
         Command::Make(customers) => make(alloc, *customers, resolvers, output, outside),
         Command::Change(place) => change(alloc, place, count, input, output, outside),
         Command::Show { place, article } => show(alloc, place, article, count, output, outside),
+        Command::Sync { place, address } => sync(alloc, place, address, count, output, outside),
     }
 }
 
@@ -102,6 +106,7 @@ fn work<I: Source, O: Sink, E: CommandOutside>(
         (record {
           input = I.left input.old;
           offers = E.offers outside.old;
+          behind = E.offers outside.new;
           stored = E.told outside.old;
           kept = E.told outside.new;
           was = O.written output.old;
@@ -115,7 +120,7 @@ fn work<I: Source, O: Sink, E: CommandOutside>(
         }) }
     ensures played { command_of words.now ≡ Some Command.Play → IfSome (I.left input.old) (λ input. WrittenInPart (handed_view (λ r. says r) (λ r. tally_of r) resolvers.old.items) input
         (record { was = O.written output.old; written = O.written output.new; before = (E.counts outside.old).stores; after = (E.counts outside.new).stores })) }
-    ensures silent { is_early (status_of result) ≡ true → O.written output.new ≡ O.written output.old }
+    ensures silent { is_silent (status_of result) ≡ true → O.written output.new ≡ O.written output.old }
 {
     match command_of(words) {
         Ok(Some(command)) => obey(alloc, &command, input, output, outside, resolvers),
@@ -132,7 +137,9 @@ fn work<I: Source, O: Sink, E: CommandOutside>(
 /// of its own publication at their stores, plays the script that it makes, and writes the summary of
 /// the answers, which is a function of their texts. `change` and `show` read a publication's file, and
 /// `change` then the input; then one site starts at its store, and is changed line by line, or its
-/// rows are shown. The first cause that is met gives the status. Want of memory may come at any time.
+/// rows are shown. `sync` reads the file too; then the site starts at its store, and has its session
+/// over a link of the outside, step by step; where it is done its line is written. The first cause that
+/// is met gives the status. Want of memory may come at any time.
 pub fn run<I: Source, O: Sink, N: Sink, E: CommandOutside>(
     alloc: Global,
     words: &[Words],
@@ -143,6 +150,7 @@ pub fn run<I: Source, O: Sink, N: Sink, E: CommandOutside>(
         (record {
           input = I.left host.old.input;
           offers = E.offers host.old.outside;
+          behind = E.offers host.new.outside;
           stored = E.told host.old.outside;
           kept = E.told host.new.outside;
           was = O.written host.old.output;
@@ -162,6 +170,7 @@ pub fn run<I: Source, O: Sink, N: Sink, E: CommandOutside>(
         (record {
           input = I.left host.old.input;
           offers = E.offers host.old.outside;
+          behind = E.offers host.new.outside;
           stored = E.told host.old.outside;
           kept = E.told host.new.outside;
           was = O.written host.old.output;

@@ -1,8 +1,10 @@
 -- Each command ends as it does.
 use Rattle.std.proofs.Common.{length, rules, sym, ◌∙◌, ◌≡◌}
 use Rattle.std.proofs.lemmas.List.{length-map}
-use Rattle.merge_program.proofs.Commands.{by-change, by-make, by-play, by-show}
-use Rattle.merge_program.proofs.Statuses.{change-early, never-early, show-early}
+use Rattle.merge_program.proofs.Addresses.{meant-visible}
+use Rattle.merge_program.proofs.Commands.{by-change, by-make, by-play, by-show, by-sync}
+use Rattle.merge_program.proofs.Statuses.{change-silent, never-silent, show-silent}
+use Rattle.merge_program.proofs.Syncs.{sync-silent}
 use Rattle.merge_program.proofs.top.obey.Goals as goal
 
 pub returns-in-Play-clause-ends : goal.returns-in-Play-clause-ends
@@ -21,7 +23,7 @@ pub returns-in-Make-clause-played : goal.returns-in-Make-clause-played
 returns-in-Make-clause-played g c = λ play. let is = c.in-Make.is in absurd (cc (is, play))
 
 pub returns-in-Make-clause-silent : goal.returns-in-Make-clause-silent
-returns-in-Make-clause-silent g c = λ early. absurd (never-early _ _ _ _ _ _ c.make.ensures early)
+returns-in-Make-clause-silent g c = λ silent. absurd (never-silent _ _ _ _ _ _ c.make.ensures silent)
 
 pub returns-in-Change-clause-ends : goal.returns-in-Change-clause-ends
 returns-in-Change-clause-ends g c =
@@ -32,7 +34,7 @@ pub returns-in-Change-clause-played : goal.returns-in-Change-clause-played
 returns-in-Change-clause-played g c = λ play. let is = c.in-Change.is in absurd (cc (is, play))
 
 pub returns-in-Change-clause-silent : goal.returns-in-Change-clause-silent
-returns-in-Change-clause-silent g c = change-early _ _ _ _ c.change.ensures
+returns-in-Change-clause-silent g c = change-silent _ _ _ _ c.change.ensures
 
 pub returns-in-Show-clause-ends : goal.returns-in-Show-clause-ends
 returns-in-Show-clause-ends g c =
@@ -43,4 +45,18 @@ pub returns-in-Show-clause-played : goal.returns-in-Show-clause-played
 returns-in-Show-clause-played g c = λ play. let is = c.in-Show.is in absurd (cc (is, play))
 
 pub returns-in-Show-clause-silent : goal.returns-in-Show-clause-silent
-returns-in-Show-clause-silent g c = show-early _ _ _ _ _ (c.show.ensures (g.I.Source.left c.args.input.now) 0 0)
+returns-in-Show-clause-silent g c = show-silent _ _ _ _ _ (c.show.ensures (g.I.Source.left c.args.input.now) 0 0)
+
+pub sync-requires : goal.sync-requires
+sync-requires g c = meant-visible _ _ _ c.in-Sync.is c.requires
+
+pub returns-in-Sync-clause-ends : goal.returns-in-Sync-clause-ends
+returns-in-Sync-clause-ends g c =
+    let counted : c.len-count.result ≡ length c.args.resolvers.now.items = search rules in
+    by-sync _ _ _ _ _ _ c.in-Sync.is _ (counted ∙ sym (length-map _ _)) (c.sync.ensures _ _ _)
+
+pub returns-in-Sync-clause-played : goal.returns-in-Sync-clause-played
+returns-in-Sync-clause-played g c = λ play. let is = c.in-Sync.is in absurd (cc (is, play))
+
+pub returns-in-Sync-clause-silent : goal.returns-in-Sync-clause-silent
+returns-in-Sync-clause-silent g c = sync-silent _ _ _ _ _ (c.sync.ensures (g.I.Source.left c.args.input.now) 0 0)

@@ -1,5 +1,6 @@
 -- The words say a command, or none.
 use Rattle.std.proofs.Common.{refl, sym}
+use Rattle.merge_program.proofs.Addresses.{meant}
 use Rattle.merge_program.proofs.Commands.{by-none, by-words, lacking, same-command}
 use Rattle.merge_program.proofs.Ends.{nothing-written}
 use Rattle.merge_program.proofs.top.work.Goals as goal
@@ -9,6 +10,9 @@ returns-in-Ok-None-clause-ends g c = let said = rw c.in-Ok-None.field-0-is at c.
 
 pub returns-in-Ok-None-clause-played : goal.returns-in-Ok-None-clause-played
 returns-in-Ok-None-clause-played g c = λ play. nothing-written _ _ _ refl
+
+pub obey-requires : goal.obey-requires
+obey-requires g c = let said = rw c.in-Ok-Some.field-0-is at c.in-Ok-Some.ensures.ok in meant _ _ said
 
 pub returns-in-Ok-Some-clause-ends : goal.returns-in-Ok-Some-clause-ends
 returns-in-Ok-Some-clause-ends g c = let said = rw c.in-Ok-Some.field-0-is at c.in-Ok-Some.ensures.ok in by-words _ _ _ _ _ said c.obey.ensures.ends

@@ -1,0 +1,173 @@
+-- How a run of `sync` ends.
+use Rattle.std.proofs.Common.{Err, List, Ok, Option, Result, ap, false, inl, inr, length, refl, subst, sym, true, ℕ, ◌∙◌, ◌≡◌, ◌≤◌}
+use Rattle.std.specs.Prelude.{IfSome}
+use Rattle.merge_types.specs.declared.identifiers.SiteId.{SiteId}
+use Rattle.merge_link.specs.Moments.{Moments}
+use Rattle.merge_outside.specs.Offers.{Offers}
+use Rattle.merge_ports.specs.declared.outside.Counts.{Counts}
+use Rattle.merge_ports.specs.Entries.{Map}
+use Rattle.merge_ports.specs.Faults.{Rose}
+use Rattle.merge_schema.specs.Answers.{IsAnswer}
+use Rattle.merge_schema.specs.Places.{is_subscription}
+use Rattle.merge_schema.specs.declared.publication.Publication.{Publication}
+use Rattle.merge_sync.specs.Ends.{Ends}
+use Rattle.merge_sync.specs.Stores.{Around}
+use Rattle.merge_sync.specs.declared.stop.Stop.{Stop}
+use Rattle.merge_sync.specs.declared.stop.Stop.TheVariants as break
+use Rattle.merge_program.specs.declared.command.Place.{Place}
+use Rattle.merge_program.specs.declared.ending.Ending.{Ending}
+use Rattle.merge_program.specs.declared.ending.Ending.TheVariants.{BadReply, Damaged, Declined, Expired, LinkFault, NoMemory, ReadFault, Refused, StoreFault, TooLong, UnknownArticle, UnknownSite, WriteFault}
+use Rattle.merge_program.specs.Endings.{status_of}
+use Rattle.merge_program.specs.Files.{HasSubscription, IsUnpublished, IsUnread, IsUnsubscribed}
+use Rattle.merge_program.specs.Sited.{IsUntouched}
+use Rattle.merge_program.specs.Statuses.{is_silent}
+use Rattle.merge_program.specs.Stopping.{synced_by}
+use Rattle.merge_program.specs.Syncing.{SubscribedEnds, SyncEnds, around_of}
+use Rattle.merge_program.specs.Visits.{Visit}
+use Rattle.merge_program.proofs.Changes.{accepted, refused-file}
+
+-- What each ending of a session tells.
+
+module _ (publication : Publication) (place : Place) (address : List ℕ) (v : Visit) where
+  abbrev Session : Result Unit Stop → Type 0
+  Session r = Ends address publication place.site (around_of place v) v.was v.written v.writes v.refused r
+
+  write-failed : (r : Result Unit Stop) → WriteFault ≡ synced_by r → Session r → Rose v.writes v.refused
+  write-failed (Err break.WriteFault) is p = p.1
+  write-failed (Err break.StoreFault) is p = absurd (cc is)
+  write-failed (Err (break.Damaged table key)) is p = absurd (cc is)
+  write-failed (Err break.LinkFault) is p = absurd (cc is)
+  write-failed (Err (break.Expired last_sync now)) is p = absurd (cc is)
+  write-failed (Err (break.BadReply at)) is p = absurd (cc is)
+  write-failed (Err (break.Refused number)) is p = absurd (cc is)
+  write-failed (Err break.NoMemory) is p = absurd (cc is)
+  write-failed (Ok told) is p = absurd (cc is)
+
+  store-failed : (r : Result Unit Stop) → StoreFault ≡ synced_by r → Session r → Rose v.old.stores v.new.stores
+  store-failed (Err break.StoreFault) is p = p.1.0
+  store-failed (Err break.WriteFault) is p = absurd (cc is)
+  store-failed (Err (break.Damaged table key)) is p = absurd (cc is)
+  store-failed (Err break.LinkFault) is p = absurd (cc is)
+  store-failed (Err (break.Expired last_sync now)) is p = absurd (cc is)
+  store-failed (Err (break.BadReply at)) is p = absurd (cc is)
+  store-failed (Err (break.Refused number)) is p = absurd (cc is)
+  store-failed (Err break.NoMemory) is p = absurd (cc is)
+  store-failed (Ok told) is p = absurd (cc is)
+
+  link-failed : (r : Result Unit Stop) → LinkFault ≡ synced_by r → Session r → Rose v.old.links v.new.links
+  link-failed (Err break.LinkFault) is p = p.1.0
+  link-failed (Err break.WriteFault) is p = absurd (cc is)
+  link-failed (Err break.StoreFault) is p = absurd (cc is)
+  link-failed (Err (break.Damaged table key)) is p = absurd (cc is)
+  link-failed (Err (break.Expired last_sync now)) is p = absurd (cc is)
+  link-failed (Err (break.BadReply at)) is p = absurd (cc is)
+  link-failed (Err (break.Refused number)) is p = absurd (cc is)
+  link-failed (Err break.NoMemory) is p = absurd (cc is)
+  link-failed (Ok told) is p = absurd (cc is)
+
+  -- nothing is written of a session that was not done
+  undone-silent : (ending : Ending) (r : Result Unit Stop) → ending ≡ synced_by r → Session r → is_silent (status_of ending) ≡ true → v.written ≡ v.was
+  undone-silent ending (Err break.LinkFault) is p silent = p.0
+  undone-silent ending (Err (break.Expired last_sync now)) is p silent = p.0
+  undone-silent ending (Err (break.BadReply at)) is p silent = p.0
+  undone-silent ending (Err (break.Refused number)) is p silent = p.0
+  undone-silent ending (Err break.StoreFault) is p silent = p.0
+  undone-silent ending (Err (break.Damaged table key)) is p silent = p.0
+  undone-silent ending (Err break.NoMemory) is p silent = p.0
+  undone-silent ending (Err break.WriteFault) is p silent = let no : is_silent (status_of ending) ≡ false = ap (λ (e : Ending). is_silent (status_of e)) is in absurd (cc (no, silent))
+  undone-silent ending (Ok told) is p silent = let no : is_silent (status_of ending) ≡ false = ap (λ (e : Ending). is_silent (status_of e)) is in absurd (cc (no, silent))
+
+module _ (place : Place) (address : List ℕ) (resolvers : ℕ) (v : Visit) where
+  abbrev Sync : Ending → Type 0
+  Sync ending = SyncEnds ending place address resolvers v
+
+  pub sync-unwritten : Sync WriteFault → Rose v.writes v.refused
+  sync-unwritten (publication, there, s) = write-failed publication place address v s.synced s.ending_is s.ends
+
+  pub sync-unstored : Sync StoreFault → Rose v.old.stores v.new.stores
+  sync-unstored (publication, there, s) = store-failed publication place address v s.synced s.ending_is s.ends
+
+  pub sync-unlinked : Sync LinkFault → Rose v.old.links v.new.links
+  sync-unlinked (publication, there, s) = link-failed publication place address v s.synced s.ending_is s.ends
+
+  undone-so : (ending : Ending) → SubscribedEnds ending place address resolvers v → is_silent (status_of ending) ≡ true → v.written ≡ v.was
+  undone-so ending (publication, there, s) silent = undone-silent publication place address v ending s.synced s.ending_is s.ends silent
+
+  pub sync-silent : (ending : Ending) → Sync ending → is_silent (status_of ending) ≡ true → v.written ≡ v.was
+  sync-silent (Refused fault) p silent = p.1.silent
+  sync-silent ReadFault p silent = p.1.silent
+  sync-silent TooLong p silent = p.1.silent
+  sync-silent UnknownSite p silent = p.1.silent
+  sync-silent UnknownArticle p silent = absurd p
+  sync-silent LinkFault p silent = undone-so LinkFault p silent
+  sync-silent (Expired last_sync now) p silent = undone-so (Expired last_sync now) p silent
+  sync-silent (BadReply at) p silent = undone-so (BadReply at) p silent
+  sync-silent (Declined number) p silent = undone-so (Declined number) p silent
+  sync-silent other p silent = absurd (cc silent)
+
+  -- The whole.
+
+  subscribed-so : (publication : Publication) → HasSubscription (v.offers.texts place.publication) resolvers place.site publication → (r : Result Unit Stop)
+      → Ends address publication place.site (around_of place v) v.was v.written v.writes v.refused r → Sync (synced_by r)
+  subscribed-so publication there (Ok told) p = (publication, there, record { synced = Ok told; ending_is = refl; ends = p })
+  subscribed-so publication there (Err break.StoreFault) p = (publication, there, record { synced = Err break.StoreFault; ending_is = refl; ends = p })
+  subscribed-so publication there (Err (break.Damaged table key)) p = (publication, there, record { synced = Err (break.Damaged table key); ending_is = refl; ends = p })
+  subscribed-so publication there (Err break.LinkFault) p = (publication, there, record { synced = Err break.LinkFault; ending_is = refl; ends = p })
+  subscribed-so publication there (Err (break.Expired last_sync now)) p = (publication, there, record { synced = Err (break.Expired last_sync now); ending_is = refl; ends = p })
+  subscribed-so publication there (Err (break.BadReply at)) p = (publication, there, record { synced = Err (break.BadReply at); ending_is = refl; ends = p })
+  subscribed-so publication there (Err (break.Refused number)) p = (publication, there, record { synced = Err (break.Refused number); ending_is = refl; ends = p })
+  subscribed-so publication there (Err break.WriteFault) p = (publication, there, record { synced = Err break.WriteFault; ending_is = refl; ends = p })
+  subscribed-so publication there (Err break.NoMemory) p = inr (publication, there, record { synced = Err break.NoMemory; ending_is = refl; ends = p })
+
+  -- what is told around the session is told as before the file was read
+  around-same : (around : Around) (told : Option Map) (responses : Option (List (List ℕ))) (moments : Option Moments) (stores links : ℕ)
+      → told ≡ v.stored place.site place.store → responses ≡ v.offers.responses → moments ≡ v.offers.moments → stores ≡ v.old.stores → links ≡ v.old.links
+      → around ≡ record (around_of place v) { stored = told; responses = responses; moments = moments; stores = stores; links = links } → around ≡ around_of place v
+  around-same around told responses moments stores links first second third fourth fifth is = is
+      ∙ (ap (λ (o : Option Map). record (around_of place v) { stored = o; responses = responses; moments = moments; stores = stores; links = links }) first
+      ∙ (ap (λ (o : Option (List (List ℕ))). record (around_of place v) { responses = o; moments = moments; stores = stores; links = links }) second
+      ∙ (ap (λ (o : Option Moments). record (around_of place v) { moments = o; stores = stores; links = links }) third
+      ∙ (ap (λ (n : ℕ). record (around_of place v) { stores = n; links = links }) fourth
+      ∙ ap (λ (n : ℕ). record (around_of place v) { links = n }) fifth))))
+
+  pub subscribed-ends : (ending : Ending) (r : Result Unit Stop) → ending ≡ synced_by r → (publication : Publication) → HasSubscription (v.offers.texts place.publication) resolvers place.site publication
+      → (told : SiteId → List ℕ → Option Map) → told ≡ v.stored → (offers : Offers) → offers ≡ v.offers → (counts : Counts) → counts.stores ≡ v.old.stores → counts.links ≡ v.old.links
+      → Ends address publication place.site (record (around_of place v) { stored = told place.site place.store; responses = offers.responses; moments = offers.moments; stores = counts.stores; links = counts.links }) v.was v.written v.writes v.refused r
+      → Sync ending
+  subscribed-ends ending r is publication there told stored offers same counts stores links p = subst Sync (sym is) (subscribed-so publication there r (subst (λ (a : Around). Ends address publication place.site a v.was v.written v.writes v.refused r)
+      (around-same _ (told place.site place.store) offers.responses offers.moments counts.stores counts.links (ap (λ (f : SiteId → List ℕ → Option Map). f place.site place.store) stored) (ap (λ (o : Offers). o.responses) same) (ap (λ (o : Offers). o.moments) same) stores links refl) p))
+
+  untouched : v.written ≡ v.was → v.kept ≡ v.stored → IsUntouched (v.stored place.site place.store) (v.kept place.site place.store) (record { was = v.was; written = v.written; before = v.old.stores; after = v.new.stores })
+  untouched silent same = record { silent = silent; same = ap (λ (f : SiteId → List ℕ → Option Map). f place.site place.store) same }
+
+  pub unsubscribed-ends : (ending : Ending) → IsUnsubscribed ending (v.offers.texts place.publication) resolvers place.site v.old.texts v.new.texts → v.written ≡ v.was → v.kept ≡ v.stored → Sync ending
+  unsubscribed-ends (Refused fault) p silent same = (p, untouched silent same)
+  unsubscribed-ends ReadFault p silent same = (p, untouched silent same)
+  unsubscribed-ends TooLong p silent same = (p, untouched silent same)
+  unsubscribed-ends UnknownSite p silent same = (p, untouched silent same)
+  unsubscribed-ends NoMemory p silent same = inl (untouched silent same)
+  unsubscribed-ends other p silent same = absurd p
+
+-- What was read, and why not.
+
+module _ (told : Option (List ℕ)) (resolvers : ℕ) (site : SiteId) (before after : ℕ) where
+  abbrev Unsubscribed : Ending → Type 0
+  Unsubscribed ending = IsUnsubscribed ending told resolvers site before after
+
+  pub by-file : (ending : Ending) → IsUnread ending told before after → Unsubscribed ending
+  by-file ReadFault p = p
+  by-file TooLong p = p
+  by-file NoMemory p = tt
+  by-file other p = absurd p
+
+  module _ (text : List ℕ) (all : IfSome told (λ (left : List ℕ). text ≡ left)) (fits : length text ≤ 67108864) (slice : List ℕ) (is : slice ≡ text) where
+    pub by-text : (ending : Ending) → IsUnpublished ending resolvers slice → Unsubscribed ending
+    by-text (Refused fault) p = refused-file told told resolvers site before after before after text all fits slice is fault p
+    by-text NoMemory p = tt
+    by-text other p = absurd p
+
+    pub by-subscription : (ending : Ending) (publication : Publication) → IsAnswer resolvers slice (Ok publication) → (ending ≡ UnknownSite) × (is_subscription publication site.0 ≡ false) → Unsubscribed ending
+    by-subscription ending publication answer p = subst Unsubscribed (sym p.0) (record { publication = publication; read = accepted told told resolvers site before after before after text all fits slice is publication answer; unknown = p.1 })
+
+    pub is-subscribed : (publication : Publication) → IsAnswer resolvers slice (Ok publication) → is_subscription publication site.0 ≡ true → HasSubscription told resolvers site publication
+    is-subscribed publication answer known = record { read = accepted told told resolvers site before after before after text all fits slice is publication answer; known = known }

@@ -1,0 +1,32 @@
+-- A session is held at a store, or it is not.
+use Rattle.std.proofs.Common.{List, Option, ap, sym, ℕ, ◌∙◌}
+use Rattle.merge_types.specs.declared.identifiers.SiteId.{SiteId}
+use Rattle.merge_ports.specs.Entries.{Map}
+use Rattle.merge_ports.specs.declared.outside.Counts.{Counts}
+use Rattle.merge_outside.specs.Offers.{Offers}
+use Rattle.merge_sync.proofs.Holding.{held, links-counted, meets, stores-counted, undone-so}
+use Rattle.merge_sync.proofs.meeting.meet.Goals as goal
+
+pub returns-in-Err : goal.returns-in-Err
+returns-in-Err g c =
+    let l = c.in_ok-link.ensures in
+    let e = c.in-Err.ensures in
+    let back = c.link_back.ensures in
+    undone-so _ _ _ _ _ c.in_ok-own.ensures _ _ (ap (λ (f : SiteId → List ℕ → Option Map). f c.args.site c.args.store.now) (l.stores ∙ c.clock-clock.ensures.stores))
+    _ _ (ap (λ (k : Counts). k.stores) (l.counts ∙ c.clock-clock.ensures.counts)) (sym (ap (λ (k : Counts). k.stores) back.counts)) e.stop
+    (ap (λ (f : SiteId → List ℕ → Option Map). f c.args.site c.args.store.now) back.stores ∙ e.same) _ (ap (λ (o : Offers). o.exchanges) back.exchanges) l.unasked
+
+pub returns : goal.returns
+returns g c =
+    let l = c.in_ok-link.ensures in
+    let s = c.in-Ok.ensures in
+    let given = c.keeper_back.ensures in
+    let back = c.link_back-2.ensures in
+    let counts = l.counts ∙ c.clock-clock.ensures.counts in
+    meets _ _ _ _ _ _ c.ending_of.ensures (held _ _ _ _ _ c.in_ok-own.ensures _ _ _ _ _ _ _ _ _ _ _
+    (ap (λ (f : SiteId → List ℕ → Option Map). f c.args.site c.args.store.now) (l.stores ∙ c.clock-clock.ensures.stores))
+    s.tables s.site s.publication s.faults (l.coming ∙ ap (λ (o : Offers). o.responses) c.clock-clock.ensures.others) l.unasked l.fresh c.clock-clock.ensures.moments
+    _ c.session-met.ensures _ (ap (λ (f : SiteId → List ℕ → Option Map). f c.args.site c.args.store.now) back.stores ∙ given.map) c.into_keeper.ensures.kept.kept
+    (ap (λ (o : Offers). o.exchanges) back.exchanges)
+    (stores-counted (g.E.Outside.counts c.args.outside.now) _ _ _ _ back.counts _ _ given.counts c.into_keeper.ensures.faults (s.stores ∙ ap (λ (k : Counts). k.stores) counts))
+    (links-counted (g.E.Outside.counts c.args.outside.now) _ _ _ _ back.counts _ given.counts (s.links ∙ ap (λ (k : Counts). k.links) counts)))

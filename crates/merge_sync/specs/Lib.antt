@@ -1,0 +1,4 @@
+pub mod Ends
+pub mod Stops
+pub mod Stores
+pub mod Written
