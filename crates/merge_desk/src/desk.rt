@@ -1,7 +1,7 @@
 //! A publisher behind a lock.
 ghost use Rattle.std.specs.List.{sum_by};
 ghost use Rattle.std.specs.Prelude.{◌≡◌, ◌+◌, ◌≤◌, ◌++◌, ◌∷◌, [], ℕ, Err, IfErr, IfOk, OnErr, OnOk, length, map};
-ghost use Rattle.merge_json.specs.Sendable.{IsSendableRequest};
+ghost use Rattle.merge_json.specs.Sendable.{IsSendableReply, IsSendableRequest};
 ghost use Rattle.merge_desk.specs.Comparing.{AllToldAsKept};
 ghost use Rattle.merge_desk.specs.Ending.{IsDiffering};
 ghost use Rattle.merge_desk.specs.Marks.{mark_on};
@@ -127,6 +127,7 @@ impl<P: DraftingPublisher, L: Ledger, M: Ledger, O: Opening> Desk<P, L, M, O> {
         ensures calls { OnOk result ((seat.new.calls ≡ seat.old.calls + 1) × (seat.new.faults ≡ seat.old.faults)) }
         ensures told { IfOk result (λ r. seat.new.told ≡ seat.old.told ++ r.mark ∷ []) }
         ensures mark { IfOk result (λ r. r.mark ≡ mark_on r.place request.now r.reply) }
+        ensures sendable { IfOk result (λ r. IsSendableReply r.reply) }
         ensures place { IfOk result (λ r. length seat.new.told ≤ r.place) }
         ensures fault { (n : ℕ) → result ≡ Err (fault.StoreFault n) → (seat.new.faults ≡ seat.old.faults + 1) × (seat.new.calls ≡ seat.old.calls) }
         ensures memory { result ≡ Err fault.NoMemory → seat.new ≡ seat.old }

@@ -1,6 +1,6 @@
 //! What the lock of a desk holds.
 ghost use Rattle.std.specs.Prelude.{◌≡◌, ◌+◌, ◌<◌, ◌≤◌, ◌++◌, ◌∷◌, [], ℕ, Err, IfOk, OnErr, OnOk, length};
-ghost use Rattle.merge_json.specs.Sendable.{IsSendableRequest};
+ghost use Rattle.merge_json.specs.Sendable.{IsSendableReply, IsSendableRequest};
 ghost use Rattle.merge_model.specs.Calls.{handled};
 ghost use Rattle.merge_desk.specs.Marks.{mark_on};
 ghost use Rattle.merge_desk.specs.Replay.{answered, entry_decisions};
@@ -64,6 +64,7 @@ impl<P: DraftingPublisher, L: Ledger, M: Ledger, O: Opening> DeskState<P, L, M, 
           mark = r.mark;
         } ∷ []) }
         ensures mark { IfOk result (λ r. r.mark ≡ mark_on r.place request.now r.reply) }
+        ensures sendable { IfOk result (λ r. IsSendableReply r.reply) }
         ensures place { IfOk result (λ r. r.place ≡ length self.new.journal) }
         ensures calls { OnOk result ((seat.new.calls ≡ seat.old.calls + 1) × (seat.new.faults ≡ seat.old.faults)) }
         ensures same { (seat.new.number ≡ seat.old.number) × (seat.new.told ≡ seat.old.told) × (seat.new.call_parts ≡ seat.old.call_parts) × (seat.new.fault_parts ≡ seat.old.fault_parts) }
@@ -94,6 +95,7 @@ impl<P: DraftingPublisher, L: Ledger, M: Ledger, O: Opening> DeskState<P, L, M, 
           mark = r.mark;
         } ∷ []) }
         ensures mark { IfOk result (λ r. r.mark ≡ mark_on r.place request.now r.reply) }
+        ensures sendable { IfOk result (λ r. IsSendableReply r.reply) }
         ensures place { IfOk result (λ r. r.place ≡ length self.new.journal) }
         ensures calls { OnOk result ((calls.new.amount ≡ calls.old.amount + 1) × (faults.new.amount ≡ faults.old.amount)) }
         ensures above { IfOk result (λ r. calls.new.amount ≤ r.place) }

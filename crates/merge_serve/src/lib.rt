@@ -11,7 +11,6 @@ mod gate;
 mod last;
 mod memory;
 mod replying;
-mod sendable;
 mod serving;
 
 pub use answer::{Answer, Bare};

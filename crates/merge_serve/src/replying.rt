@@ -1,37 +1,24 @@
 //! What the desk answers to a request.
-ghost use Rattle.std.specs.Prelude.{◌≡◌, IfOk};
-ghost use Rattle.serde_json.specs.Written.{compact_text};
-ghost use Rattle.merge_json.specs.Sendable.{IsSendableRequest};
-ghost use Rattle.merge_json.specs.WrittenReplies.{reply_data};
+ghost use Rattle.merge_json.specs.Sendable.{IsSendableReply, IsSendableRequest};
 ghost use Rattle.merge_serve.specs.Answers.{IsReplied, Tells};
 ghost use Rattle.merge_serve.specs.Closing.{IsLater};
 
 use crate::answer::{Answer, Bare};
-use crate::sendable::is_sendable;
 use merge_batch::{Reply, Request};
 use merge_desk::{Desk, DeskFault, Opening, Seat};
 use merge_draft::DraftingPublisher;
 use merge_json::write_reply;
-use merge_types::{Moment, NoMemory, Octets};
+use merge_types::{Moment, NoMemory};
 use std::alloc::Global;
 use std::sync::Wait;
 use std::sync::ledger::Ledger;
 
-// The body of a reply.
-fn body_of(alloc: Global, reply: &Reply) -> Result<Octets, NoMemory>
-    ensures { IfOk result (λ body. body ≡ compact_text (reply_data reply.now)) }
-{
-    if !is_sendable(reply) {
-        return Err(NoMemory);
-    }
-    write_reply(alloc, reply)
-}
-
 // The answer of a reply, or none for want of memory.
 fn told(alloc: Global, reply: Reply) -> Answer
+    requires { IsSendableReply reply }
     ensures { Tells reply result }
 {
-    match body_of(alloc, &reply) {
+    match write_reply(alloc, &reply) {
         Ok(body) => Answer::Told { reply, body },
         Err(NoMemory) => Answer::Bare(Bare::NoMemory),
     }
