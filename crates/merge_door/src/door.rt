@@ -1,0 +1,165 @@
+//! Doors over TCP.
+ghost use Rattle.std.specs.Prelude.{◌≡◌, IfOk};
+ghost use Rattle.merge_serve.specs.Attending.{traffic};
+ghost use Rattle.merge_serve.specs.Closing.{IsServed};
+
+use crate::half::{TcpHalf, Waits};
+use merge_desk::Seat;
+use merge_ports::{Failed, OpenFault};
+use merge_serve::{Connection, Door, Doors, LastClosed};
+use merge_types::Words;
+use std::io;
+use std::io::ErrorKind;
+use std::net::{TcpListener, TcpStream};
+use std::sync::ledger::Ledger;
+use std::time::Instant;
+
+// How many peers in turn may go away before they are accepted.
+const GONE_IN_TURN: usize = 1000;
+
+// The two halves of a connection, whose time begins now.
+fn halves(rt: HostRuntime, stream: TcpStream, waits: Waits) -> io::Result<(TcpHalf, TcpHalf)>
+    ensures input { IfOk result (λ halves. halves.0.faults ≡ 0) }
+    ensures output { IfOk result (λ halves. halves.1.faults ≡ 0) }
+{
+    let started = Instant::now(&rt)?;
+    let output = stream.try_clone()?;
+    Ok((
+        TcpHalf::new(rt, stream, started, waits),
+        TcpHalf::new(rt, output, started, waits),
+    ))
+}
+
+// Whether a peer went away before it was accepted, so that the next may be.
+fn is_gone(fault: &io::Error) -> bool {
+    match fault.kind() {
+        ErrorKind::ConnectionAborted | ErrorKind::ConnectionReset | ErrorKind::Interrupted => true,
+        _ => false,
+    }
+}
+
+/// A door over TCP. It tells nothing of its connections, and counts each call that fails.
+#[derive(Drop)]
+pub struct TcpDoor {
+    rt: HostRuntime,
+    listener: TcpListener,
+    waits: Waits,
+    faults: u64,
+}
+
+impl TcpDoor {
+    /// A door at `HOST:PORT`, at the first of the host's addresses that can be listened at.
+    pub fn open(rt: HostRuntime, address: &str, waits: Waits) -> io::Result<TcpDoor>
+        ensures { IfOk result (λ door. door.faults ≡ 0) }
+    {
+        let listener = TcpListener::bind(&rt, address)?;
+        Ok(TcpDoor {
+            rt,
+            listener,
+            waits,
+            faults: 0,
+        })
+    }
+
+    // The next peer that has not gone away.
+    fn next(&self) -> io::Result<TcpStream> {
+        for _ in 0..GONE_IN_TURN {
+            match self.listener.accept() {
+                Ok((stream, _)) => return Ok(stream),
+                Err(fault) if is_gone(&fault) => {}
+                Err(fault) => return Err(fault),
+            }
+        }
+        Err(ErrorKind::ConnectionAborted.into())
+    }
+
+    fn take(&self) -> io::Result<(TcpHalf, TcpHalf)>
+        ensures input { IfOk result (λ halves. halves.0.faults ≡ 0) }
+        ensures output { IfOk result (λ halves. halves.1.faults ≡ 0) }
+    {
+        halves(self.rt, self.next()?, self.waits)
+    }
+}
+
+impl Door for TcpDoor {
+    ghost use Rattle.std.specs.Prelude.{None};
+
+    type Input = TcpHalf;
+
+    type Output = TcpHalf;
+
+    ghost handed = { λ d. None };
+
+    ghost count = { λ d. d.faults };
+
+    fn accept(&mut self) -> Result<Connection<TcpHalf, TcpHalf>, Failed> {
+        match self.take() {
+            Ok((input, output)) => Ok(Connection::new(input, output)),
+            Err(_) => {
+                self.faults = self.faults.saturating_add(1);
+                Err(Failed)
+            }
+        }
+    }
+
+    fn close<L: Ledger, M: Ledger>(
+        connection: Connection<TcpHalf, TcpHalf>,
+        seat: &Seat<L, M>,
+        last: &mut LastClosed<L, M>,
+    )
+        requires { IsServed
+            (traffic None None connection.first_input.value.faults connection.first_output.value.faults)
+            (traffic None None connection.input.faults connection.output.faults)
+            last.old.seat.value seat.now }
+        ensures { last.new.seat.value ≡ seat.now }
+    {
+        let (_input, output) = connection.into_halves();
+        output.close();
+        last.note(seat);
+    }
+
+    fn faults(&self) -> u64 {
+        self.faults
+    }
+}
+
+/// Opens doors over TCP, and takes them back.
+#[derive(Drop)]
+pub struct TcpDoors {
+    rt: HostRuntime,
+    faults: u64,
+}
+
+impl TcpDoors {
+    /// Of which none was opened yet.
+    pub fn new(rt: HostRuntime) -> Self
+        ensures { result.faults ≡ 0 }
+    {
+        TcpDoors { rt, faults: 0 }
+    }
+}
+
+impl Doors for TcpDoors {
+    ghost use Rattle.std.specs.Prelude.{None};
+
+    type Opened = TcpDoor;
+
+    ghost handed = { λ d. None };
+
+    ghost count = { λ d. d.faults };
+
+    fn door(&mut self, address: &Words) -> Result<TcpDoor, OpenFault> {
+        match TcpDoor::open(self.rt, address.as_str(), Waits::usual()) {
+            Ok(door) => Ok(door),
+            Err(fault) if fault.kind() == ErrorKind::OutOfMemory => Err(OpenFault::NoMemory),
+            Err(_) => {
+                self.faults = self.faults.saturating_add(1);
+                Err(OpenFault::Failed)
+            }
+        }
+    }
+
+    fn door_back(&mut self, door: TcpDoor) {
+        self.faults = self.faults.saturating_add(door.faults());
+    }
+}
