@@ -18,6 +18,7 @@ pub struct DraftingSite<K: Keeper> {
 impl<K: Keeper> DraftingSite<K> {
     ghost use Rattle.std.specs.Prelude.{◌≡◌};
     ghost use Rattle.merge_pub.specs.Held.{publication_of, tables_of};
+    ghost use Rattle.merge_site.specs.Publishers.{IsKeptPublisher};
 
     /// Of a kept publisher and the resolvers that decide its conflicts, by their places.
     pub fn new(site: KeptPublisher<K>, resolvers: Vec<Handed>) -> DraftingSite<K>
@@ -30,6 +31,14 @@ impl<K: Keeper> DraftingSite<K> {
             site: HeldPublisher::of(site),
             resolvers,
         }
+    }
+
+    /// Stops the site, and gives its keeper back with the records of its tables.
+    pub fn into_keeper(self) -> K
+        ensures kept { IsKeptPublisher (tables_of self.site.held) (K.told result) }
+        ensures faults { K.count result ≡ self.site.faults }
+    {
+        self.site.into_keeper()
     }
 }
 

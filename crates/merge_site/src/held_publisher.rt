@@ -9,6 +9,7 @@ ghost use Rattle.merge_pub.specs.After.{after};
 ghost use Rattle.merge_pub.specs.Held.{IsDrafted, publication_of, tables_of};
 ghost use Rattle.merge_resolve.specs.Asked.{says_at, tallies_after};
 ghost use Rattle.merge_site.specs.Drafting.{IsFit, IsWorked};
+ghost use Rattle.merge_site.specs.Publishers.{IsKeptPublisher};
 
 use crate::drafting::draft_request;
 use crate::publisher::KeptPublisher;
@@ -76,6 +77,14 @@ impl<K: Keeper> HeldPublisher<K> {
             keeper,
             publisher,
         }
+    }
+
+    /// The keeper, which has the records of the tables.
+    pub(crate) fn into_keeper(self) -> K
+        ensures kept { IsKeptPublisher (tables_of self.held) (K.told result) }
+        ensures faults { K.count result ≡ self.faults }
+    {
+        self.keeper
     }
 
     /// Works a request out, with the decisions of the resolvers on its conflicts.
