@@ -2,6 +2,8 @@
 #![tactic(auto)]
 
 #[cfg(test)]
+mod files;
+#[cfg(test)]
 mod json;
 #[cfg(test)]
 mod keeper;
@@ -9,8 +11,6 @@ mod keeper;
 mod outside;
 #[cfg(test)]
 mod record;
-#[cfg(test)]
-mod sqlite;
 #[cfg(test)]
 mod start;
 #[cfg(test)]
