@@ -20,3 +20,6 @@ returns-in-TooLong g c = told _ _ _ _ _ _ c.in-TooLong.is c.write_note-in-TooLon
 
 pub returns-in-UnknownArticle : goal.returns-in-UnknownArticle
 returns-in-UnknownArticle g c = told _ _ _ _ _ _ c.in-UnknownArticle.is c.write_note-in-UnknownArticle.ensures
+
+pub returns-in-LinkFault : goal.returns-in-LinkFault
+returns-in-LinkFault g c = told _ _ _ _ _ _ c.in-LinkFault.is c.write_note-in-LinkFault.ensures

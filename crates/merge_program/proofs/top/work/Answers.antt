@@ -12,7 +12,7 @@ pub returns-in-Ok-None-clause-played : goal.returns-in-Ok-None-clause-played
 returns-in-Ok-None-clause-played g c = λ play. nothing-written _ _ _ refl
 
 pub obey-requires : goal.obey-requires
-obey-requires g c = let said = rw c.in-Ok-Some.field-0-is at c.in-Ok-Some.ensures.ok in meant _ _ said
+obey-requires g c = let said = rw c.in-Ok-Some.field-0-is at c.in-Ok-Some.ensures.ok in meant c.args.words.now _ said
 
 pub returns-in-Ok-Some-clause-ends : goal.returns-in-Ok-Some-clause-ends
 returns-in-Ok-Some-clause-ends g c = let said = rw c.in-Ok-Some.field-0-is at c.in-Ok-Some.ensures.ok in by-words _ _ _ _ _ said c.obey.ensures.ends
