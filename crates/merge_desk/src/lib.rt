@@ -11,6 +11,8 @@ mod opening;
 mod seat;
 mod state;
 mod telling;
+#[cfg(test)]
+mod tests;
 mod working;
 
 pub use desk::{Desk, DeskStart};

@@ -7,6 +7,8 @@ mod run;
 mod script;
 mod step;
 mod tally;
+#[cfg(test)]
+mod tests;
 mod worked;
 
 pub use part::Part;

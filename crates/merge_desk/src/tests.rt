@@ -5,8 +5,8 @@ ghost use Rattle.merge_model.specs.Publisher.{empty_publisher};
 ghost use Rattle.merge_desk.specs.Replay.{no_publication};
 ghost use Rattle.merge_desk.specs.Views.{SeatView, seat_call_parts, seat_fault_parts};
 
+use super::*;
 use merge_batch::{Join, Kind, Refusal, Request};
-use merge_desk::{Closed, Desk, Opening, Seat, summary};
 use merge_draft::{Drafted, DraftingPublisher};
 use merge_ports::KeepFault;
 use merge_types::{Moment, SiteId};

@@ -1,4 +1,4 @@
-use merge_command::is_taken;
+use crate::is_taken;
 use merge_model::Line;
 use merge_reading::read_line;
 use merge_types::SiteId;

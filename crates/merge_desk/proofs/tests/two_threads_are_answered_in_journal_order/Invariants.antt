@@ -1,7 +1,7 @@
 use Rattle.std.proofs.Common.{None}
 use Rattle.merge_model.specs.Publisher.{empty_publisher}
 use Rattle.merge_desk.specs.Replay.{no_publication}
-use Rattle.merge_sites_tests.proofs.desk.two_threads_are_answered_in_journal_order.Given as goal
+use Rattle.merge_desk.proofs.tests.two_threads_are_answered_in_journal_order.Given as goal
 
 abbrev pub ghosts-day-L-Ledger : goal.ghosts-day-L-Ledger
 ghosts-day-L-Ledger g a = record { name = a.calls.name; parts = a.calls.parts }
