@@ -9,6 +9,8 @@ mod places;
 mod ranges;
 mod rows;
 mod stop;
+#[cfg(test)]
+mod tests;
 mod values;
 mod versions;
 

@@ -2,5 +2,7 @@
 #![tactic(auto)]
 
 mod keeper;
+#[cfg(test)]
+mod tests;
 
 pub use keeper::{SqliteKeeper, Stop};

@@ -9,6 +9,8 @@ mod laws;
 mod message;
 mod request;
 mod response;
+#[cfg(test)]
+mod tests;
 mod write;
 
 pub use fault::WireFault;
