@@ -1,0 +1,132 @@
+//! How the program ends, over an input, an output, stores and a file in memory.
+use merge_keeper::MemoryKeeper;
+use merge_outside::{MemoryCommands, MemoryText};
+use merge_ports::{Entries, MemoryOutside, MemorySink, MemorySource};
+use merge_program::{Host, Status, run};
+use merge_resolve::{Handed, Priority};
+use merge_table::Table;
+use merge_types::{Listing, Moment, NoMemory, Octets, Words};
+use std::alloc::Global;
+use std::test::Fail;
+
+pub(crate) type MemoryHost = Host<
+    MemorySource,
+    MemorySink,
+    MemorySink,
+    MemoryCommands<MemoryKeeper>,
+>;
+
+// One article with one column.
+const P1: &str =
+    "name = \"p\"\n[[article]]\nname = \"item\"\n[[article.column]]\nname = \"qty\"\ntype = \"int\"\n[[subscription]]\nsite = 1\nhost = \"h\"\n";
+
+// Stores in memory that start empty, one for each site that a publication may have.
+fn memory_stores(
+    alloc: Global,
+    failing: Listing<u64>,
+) -> Result<MemoryOutside<MemoryKeeper>, NoMemory> {
+    let mut stores = Table::new(alloc);
+    for site in 0..64u16 {
+        let none = Listing::empty(alloc);
+        let keeper = MemoryKeeper::new(alloc, Entries::empty(alloc), none, Listing::empty(alloc));
+        stores.insert(site, keeper)?;
+    }
+    Ok(MemoryOutside::new(stores, failing))
+}
+
+fn text(alloc: Global, path: &str, bytes: &str) -> Result<MemoryText, Fail> {
+    Ok(MemoryText {
+        path: Words::of(alloc, path)?,
+        bytes: Octets::new(bytes.as_bytes().to_vec(alloc)?),
+        failing: Listing::empty(alloc),
+    })
+}
+
+/// An outside with such stores, of which the openings with these numbers fail, the file "p1", and a
+/// clock.
+pub(crate) fn outside(
+    alloc: Global,
+    openings: &[u64],
+) -> Result<MemoryCommands<MemoryKeeper>, Fail> {
+    let failing = Listing::new(openings.to_vec(alloc)?);
+    let mut outside = MemoryCommands::new(alloc, memory_stores(alloc, failing)?);
+    outside.texts.push(text(alloc, "p1", P1)?)?;
+    outside.moments.push(Moment(5))?;
+    Ok(outside)
+}
+
+/// The calls that fail at the input, the output and the notes, by their numbers.
+pub(crate) type Failing = [&'static [u64]; 3];
+
+fn host(
+    alloc: Global,
+    input: &[u8],
+    failing: &Failing,
+    outside: MemoryCommands<MemoryKeeper>,
+) -> Result<MemoryHost, Fail> {
+    let [reads, writes, notes] = *failing;
+    Ok(Host {
+        input: MemorySource::new(
+            Octets::new(input.to_vec(alloc)?),
+            Listing::new(reads.to_vec(alloc)?),
+        ),
+        output: MemorySink::new(alloc, Listing::new(writes.to_vec(alloc)?)),
+        notes: MemorySink::new(alloc, Listing::new(notes.to_vec(alloc)?)),
+        outside,
+    })
+}
+
+fn words(alloc: Global, line: &str) -> Result<Vec<Words>, Fail> {
+    let mut words = Vec::new(alloc);
+    for word in line.split(' ') {
+        words.push(Words::of(alloc, word)?)?;
+    }
+    Ok(words)
+}
+
+fn resolvers(alloc: Global) -> Result<Vec<Handed>, Fail> {
+    let mut resolvers: Vec<Handed> = Vec::new(alloc);
+    resolvers.push(Box::new(alloc, Priority::new())?)?;
+    Ok(resolvers)
+}
+
+fn status(
+    alloc: Global,
+    words: &[Words],
+    host: &mut MemoryHost,
+    resolvers: &mut Vec<Handed>,
+) -> u8 {
+    let Status(status) = run(alloc, words, host, resolvers);
+    status
+}
+
+/// Runs the words of a line, with an input.
+pub(crate) fn end(
+    alloc: Global,
+    line: &str,
+    input: &[u8],
+    failing: &Failing,
+    outside: MemoryCommands<MemoryKeeper>,
+) -> Result<(u8, MemoryHost), Fail> {
+    let words = words(alloc, line)?;
+    let mut resolvers = resolvers(alloc)?;
+    let mut host = host(alloc, input, failing, outside)?;
+    let status = status(alloc, words.as_slice(), &mut host, &mut resolvers);
+    Ok((status, host))
+}
+
+/// No call fails.
+pub(crate) const NONE: Failing = [&[], &[], &[]];
+
+/// Whether a run ended so: its status, what it wrote, and the note.
+pub(crate) fn is_ended(
+    ended: u8,
+    host: &MemoryHost,
+    status: u8,
+    output: &str,
+    notes: &str,
+) -> bool {
+    ended == status
+        && host.output.bytes.as_slice() == output.as_bytes()
+        && host.notes.bytes.as_slice() == notes.as_bytes()
+}
