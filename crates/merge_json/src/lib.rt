@@ -13,8 +13,6 @@ mod reply;
 mod request;
 mod rows;
 mod stop;
-#[cfg(test)]
-mod tests;
 mod texts;
 mod uploads;
 mod values;

@@ -9,14 +9,10 @@ mod memory;
 mod publisher_record;
 mod publisher_start;
 mod start;
-#[cfg(test)]
-mod start_tests;
 mod states;
 mod stored;
 mod subscriber_record;
 mod subscriber_start;
-#[cfg(test)]
-mod tests;
 
 pub use laws::{
     damage_is_first, edits_follow, loaded_has_no_other_record, loaded_keeps_rules,

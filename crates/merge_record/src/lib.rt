@@ -9,8 +9,6 @@ mod places;
 mod ranges;
 mod rows;
 mod stop;
-#[cfg(test)]
-mod tests;
 mod values;
 mod versions;
 

@@ -2,7 +2,5 @@
 #![tactic(auto)]
 
 mod keeper;
-#[cfg(test)]
-mod tests;
 
 pub use keeper::{SqliteKeeper, Stop};

@@ -9,8 +9,6 @@ mod laws;
 mod message;
 mod request;
 mod response;
-#[cfg(test)]
-mod tests;
 mod write;
 
 pub use fault::WireFault;

@@ -1,6 +1,8 @@
-//! Which files are refused, and that the holder of one goes on.
-use crate::SqliteKeeper;
+//! What commits leave, which files are refused, and that the holder of one goes on.
+mod commits;
+
 use merge_ports::{EntryEdit, KeepFault, Keeper};
+use merge_sqlite::SqliteKeeper;
 use merge_types::{Listing, Octets};
 use sqlite::Connection;
 use std::alloc::{AllocError, Global};

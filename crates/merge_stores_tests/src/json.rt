@@ -1,8 +1,8 @@
 //! The examples of the format, each message there and back, and bodies of strangers.
-use crate::{
+use merge_batch::{Download, Join, Kind, Request};
+use merge_json::{
     BodyFault, kind_of_path, path_of, read_reply, read_request, write_reply, write_request,
 };
-use merge_batch::{Download, Join, Kind, Request};
 use merge_types::{Octets, SiteId};
 use std::alloc::Global;
 use std::test::Fail;

@@ -1,9 +1,9 @@
-use crate::{
+use merge_gens::Filling;
+use merge_ident::{Grant, Range, Ranges};
+use merge_keeper::{
     ConflictValue, MemoryKeeper, PublisherChanges, PublisherState, Stop, SubscriberChanges,
     SubscriberState,
 };
-use merge_gens::Filling;
-use merge_ident::{Grant, Range, Ranges};
 use merge_ports::{Entries, EntryEdit, KeepFault, Keeper};
 use merge_record::Field;
 use merge_table::Edit;

@@ -1,8 +1,8 @@
 //! How messages are at fault, over tables of heads.
 use super::{octets, request_fault, response_fault, source};
-use crate::WireFault::{BadHead, BadLength, Ended, TooLong};
-use crate::{WireFault, read_message};
 use merge_types::Octets;
+use merge_wire::WireFault::{BadHead, BadLength, Ended, TooLong};
+use merge_wire::{WireFault, read_message};
 use std::alloc::Global;
 use std::test::Fail;
 

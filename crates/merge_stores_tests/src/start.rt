@@ -1,6 +1,6 @@
 //! Stores that break one rule each.
-use crate::{StartFault, start_publisher, start_subscriber};
 use merge_ident::Ranges;
+use merge_keeper::{StartFault, start_publisher, start_subscriber};
 use merge_ports::{Entries, EntryKey};
 use merge_schema::{Article, Identity, Publication, SubKind, Subscription};
 use merge_types::{ColType, Column, HostName, Listing, Octets, SiteId, Tracking, Words};
