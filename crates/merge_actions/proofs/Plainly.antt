@@ -3,13 +3,13 @@ use Rattle.std.specs.List.{list_any}
 use Rattle.std.specs.Prelude.{◌≡◌, List, false, refl}
 use Rattle.merge_schema.specs.declared.publication.Publication.{Publication}
 use Rattle.merge_model.specs.Failing.{Slips, failing, faulty}
-use Rattle.merge_model.specs.Reach.{AreNone}
-use Rattle.merge_model.specs.Runs.{outcomes}
-use Rattle.merge_model.specs.Session.{Stepping}
-use Rattle.merge_model.specs.SlipLaws.{is_slip, refused_for}
-use Rattle.merge_model.specs.Steps.{Action}
-use Rattle.merge_model.proofs.Actions.{actions-alike, actions-or}
-use Rattle.merge_model.proofs.NoSlips.{Plain, Same, acts-or, acts-plain}
+use Rattle.merge_model.specs.Failing.Reach.{AreNone}
+use Rattle.merge_model.specs.Failing.Runs.{outcomes}
+use Rattle.merge_model.specs.World.Session.{Stepping}
+use Rattle.merge_model.specs.Laws.SlipLaws.{is_slip, refused_for}
+use Rattle.merge_model.specs.World.Steps.{Action}
+use Rattle.merge_model.proofs.Runs.Actions.{actions-alike, actions-or}
+use Rattle.merge_model.proofs.Failing.NoSlips.{Plain, Same, acts-or, acts-plain}
 use Rattle.merge_actions.specs.Actions.{DoesPlainly}
 
 module _ {W : Type 0} (publication : Publication) (stepping : Stepping W) (w : W) (slips : Slips) (actions : List Action) where

@@ -1,9 +1,9 @@
 -- All promises, of the model behind a list of actions.
 use Rattle.std.specs.Prelude.{All}
 use Rattle.merge_ident.specs.Books.{IsRule}
-use Rattle.merge_model.specs.Publications.{rules_of}
-use Rattle.merge_model.specs.Runs.{model_behind_actions}
-use Rattle.merge_model.proofs.Downloads.{replies-stay}
+use Rattle.merge_model.specs.Tables.Publications.{rules_of}
+use Rattle.merge_model.specs.Failing.Runs.{model_behind_actions}
+use Rattle.merge_model.proofs.Entries.Downloads.{replies-stay}
 use Rattle.merge_laws.specs.Laws.{OfEveryValidActions}
 use Rattle.merge_laws.specs.Promised.{Promised}
 use Rattle.merge_laws.proofs.AccountsAlways.{no-change-is-lost}

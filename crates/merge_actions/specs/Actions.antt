@@ -4,13 +4,13 @@ use Rattle.std.specs.Prelude.{List, false, ℕ, ◌≡◌}
 use Rattle.merge_schema.specs.Valid.{IsValid}
 use Rattle.merge_schema.specs.declared.publication.Publication.{Publication}
 use Rattle.merge_model.specs.Failing.{Slips, failing, faulty}
-use Rattle.merge_model.specs.Model.{Model}
-use Rattle.merge_model.specs.Promises.{AllAccounted, OldIsPast, RepliesStayInside, SettledHoldsPartition}
-use Rattle.merge_model.specs.Reach.{AreNone}
-use Rattle.merge_model.specs.Runs.{after_actions, machine_does, model_behind_actions, model_does, outcomes, world_behind_actions}
-use Rattle.merge_model.specs.Session.{Stepping}
-use Rattle.merge_model.specs.SlipLaws.{is_slip, refused_for}
-use Rattle.merge_model.specs.Steps.{Action}
+use Rattle.merge_model.specs.History.Model.{Model}
+use Rattle.merge_model.specs.Laws.Promises.{AllAccounted, OldIsPast, RepliesStayInside, SettledHoldsPartition}
+use Rattle.merge_model.specs.Failing.Reach.{AreNone}
+use Rattle.merge_model.specs.Failing.Runs.{after_actions, machine_does, model_behind_actions, model_does, outcomes, world_behind_actions}
+use Rattle.merge_model.specs.World.Session.{Stepping}
+use Rattle.merge_model.specs.Laws.SlipLaws.{is_slip, refused_for}
+use Rattle.merge_model.specs.World.Steps.{Action}
 use Rattle.merge_model.specs.World.{Saying}
 use Rattle.merge_laws.specs.Promised.{HasPromises}
 

@@ -2,8 +2,8 @@
 ghost use Rattle.merge_laws.specs.Deciding.{CasesDecideAlike, EachStepAlike};
 ghost use Rattle.merge_laws.specs.Laws.{OfEveryActions, OfEveryValidActions};
 ghost use Rattle.merge_laws.specs.RestsOn.{AcceptedIsKnown, ChainsAreAccounted, HeldWereGranted, KnownIsAccepted, MomentsAreInStep, ReceivedIsInStep, RepliesAreTrue, SitesAreEqual};
-ghost use Rattle.merge_model.specs.Bridge.{PublisherDecidesAlike};
-ghost use Rattle.merge_model.specs.Promises.{AllStand};
+ghost use Rattle.merge_model.specs.Laws.Bridge.{PublisherDecidesAlike};
+ghost use Rattle.merge_model.specs.Laws.Promises.{AllStand};
 
 /// Where a publication can be said by a file, lineages decide as histories do, whatever actions came:
 /// each lineage stands for what its version knows, the publisher decides by its numbers and mappings

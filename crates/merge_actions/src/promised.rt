@@ -5,7 +5,7 @@ ghost use Rattle.merge_laws.specs.Identities.{OfEveryRuledActions, TakenWereGran
 ghost use Rattle.merge_laws.specs.Laws.{OfEveryActions, OfEveryValidActions};
 ghost use Rattle.merge_laws.specs.Promised.{Promised};
 ghost use Rattle.merge_laws.specs.Rounds.{RoundSettles};
-ghost use Rattle.merge_model.specs.Promises.{IdentitiesApart, RangesApart, SessionSettles};
+ghost use Rattle.merge_model.specs.Laws.Promises.{IdentitiesApart, RangesApart, SessionSettles};
 
 /// Where a publication can be said by a file, all promises hold of the model behind every list of
 /// actions, in whatever order they come and whichever fail. So they hold of the machine, which has

@@ -1,7 +1,7 @@
 //! What the machine does, and what fails.
 ghost use Rattle.merge_actions.specs.Actions.{FailuresShowInOutcomes, MachineDoesAlike, NoActionFails, TablesAlikeBehindActions};
-ghost use Rattle.merge_model.specs.Events.{machine};
-ghost use Rattle.merge_model.specs.Model.{model};
+ghost use Rattle.merge_model.specs.World.Events.{machine};
+ghost use Rattle.merge_model.specs.History.Model.{model};
 
 /// Where a publication can be said by a file, the same comes of each action of the machine, which has
 /// tables alone, as of the model, which decides by histories, where the same steps fail; and the

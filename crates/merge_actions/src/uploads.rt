@@ -2,7 +2,7 @@
 ghost use Rattle.merge_laws.specs.ActsOnce.{DoneStaysByActions, LettersStayByActions, TakenHaveActed, TakenOnlyAnswerByActions};
 ghost use Rattle.merge_laws.specs.Effects.{NewsIsUnmet, NumbersTakeEffect};
 ghost use Rattle.merge_laws.specs.Laws.{OfEveryActions};
-ghost use Rattle.merge_model.specs.Promises.{NoneActsTwice};
+ghost use Rattle.merge_model.specs.Laws.Promises.{NoneActsTwice};
 
 /// An upload takes effect once, whatever actions come. After a delivery that was not refused each of
 /// its generations has acted; what has acted stays so, and the pool keeps each letter at its number,

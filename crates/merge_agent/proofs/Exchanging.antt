@@ -11,8 +11,8 @@ use Rattle.merge_batch.specs.declared.reply.Reply.{Reply}
 use Rattle.merge_batch.specs.declared.request.Kind.{Kind}
 use Rattle.merge_batch.specs.declared.request.Request.{Request}
 use Rattle.merge_json.specs.Sendable.{IsSendableRequest}
-use Rattle.merge_model.specs.Calls.{message_commits, message_or_none}
-use Rattle.merge_model.specs.Steps.{Sending}
+use Rattle.merge_model.specs.World.Calls.{message_commits, message_or_none}
+use Rattle.merge_model.specs.World.Steps.{Sending}
 use Rattle.merge_model.specs.Tables.{SubscriberTables}
 use Rattle.merge_ports.specs.Faults.{Rose}
 use Rattle.merge_world.specs.Messages.{requested}

@@ -15,16 +15,16 @@ use Rattle.merge_batch.specs.declared.request.Outstanding.TheVariants as outstan
 use Rattle.merge_batch.specs.declared.request.Request.{Request}
 use Rattle.merge_batch.specs.declared.request.Request.TheVariants as request
 use Rattle.merge_batch.specs.declared.rules.BrokenRule.{BrokenRule}
-use Rattle.merge_model.specs.ByNumbers.{by_rows}
-use Rattle.merge_model.specs.Faults.{heard_by, reply_fault, standing_of}
-use Rattle.merge_model.specs.Faults.{fault_of as refusal_of}
+use Rattle.merge_model.specs.Judge.ByNumbers.{by_rows}
+use Rattle.merge_model.specs.World.Faults.{heard_by, reply_fault, standing_of}
+use Rattle.merge_model.specs.World.Faults.{fault_of as refusal_of}
 use Rattle.merge_model.specs.Judge.{SubscriberJudge}
-use Rattle.merge_model.specs.Refusals.{counter_end, first_refusal, refused_if, unless}
-use Rattle.merge_model.specs.Sending.{join_made, make_ask, make_join, make_ranges, make_upload, ranges_made, sending_refusal, upload_made, with_message}
-use Rattle.merge_model.specs.Steps.{SendDownload, SendJoin, SendRanges, SendUpload, Sending}
+use Rattle.merge_model.specs.Tables.Refusals.{counter_end, first_refusal, refused_if, unless}
+use Rattle.merge_model.specs.Subscriber.Sending.{join_made, make_ask, make_join, make_ranges, make_upload, ranges_made, sending_refusal, upload_made, with_message}
+use Rattle.merge_model.specs.World.Steps.{SendDownload, SendJoin, SendRanges, SendUpload, Sending}
 use Rattle.merge_model.specs.Subscriber.{is_joining, sub_counters, sub_last_closed}
 use Rattle.merge_model.specs.Tables.{SubscriberTables}
-use Rattle.merge_model.specs.Taking.{met_by, seq_of, take_reply, taken}
+use Rattle.merge_model.specs.Subscriber.Taking.{met_by, seq_of, take_reply, taken}
 use Rattle.merge_model.specs.declared.outcome.Taken.{Taken}
 use Rattle.merge_model.specs.declared.outcome.Taken.TheVariants.{Acted, Missed}
 use Rattle.merge_world.specs.Messages.{always, as_request, requested}

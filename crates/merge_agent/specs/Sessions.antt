@@ -5,7 +5,7 @@ use Rattle.merge_types.specs.declared.identifiers.Moment.{Moment}
 use Rattle.merge_schema.specs.declared.publication.Publication.{Publication}
 use Rattle.merge_batch.specs.declared.reply.Downloaded.{Downloaded}
 use Rattle.merge_batch.specs.declared.reply.Reply.{Reply}
-use Rattle.merge_model.specs.Steps.{Sending, SendDownload, SendJoin, SendRanges, SendUpload}
+use Rattle.merge_model.specs.World.Steps.{Sending, SendDownload, SendJoin, SendRanges, SendUpload}
 use Rattle.merge_model.specs.Tables.{SubscriberTables}
 use Rattle.merge_model.specs.declared.letter.Message.TheVariants.{Replies}
 use Rattle.merge_world.specs.Messages.{requested}

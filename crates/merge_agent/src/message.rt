@@ -2,7 +2,7 @@
 ghost use Rattle.std.specs.Prelude.{◌≡◌, IfOk, IfSome, option_map};
 ghost use Rattle.merge_batch.specs.declared.request.Request.TheVariants as request;
 ghost use Rattle.merge_json.specs.Sendable.{IsSendableRequest};
-ghost use Rattle.merge_model.specs.Calls.{message_commits, message_or_none};
+ghost use Rattle.merge_model.specs.World.Calls.{message_commits, message_or_none};
 ghost use Rattle.merge_wire.specs.Written.{IsVisible};
 ghost use Rattle.merge_world.specs.Messages.{requested, sending_of};
 ghost use Rattle.merge_world.specs.Printable.{ArePrintable};

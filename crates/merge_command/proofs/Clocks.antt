@@ -9,7 +9,7 @@ use Rattle.merge_model.specs.Failing.{Faulty, faulty}
 use Rattle.merge_model.specs.World.{Saying, World}
 use Rattle.merge_model.specs.declared.answer.Answer.{Answer}
 use Rattle.merge_model.specs.declared.event.Event.{Event}
-use Rattle.merge_model.proofs.Reached.{same-start, stays, then, under}
+use Rattle.merge_model.proofs.Failing.Reached.{same-start, stays, then, under}
 use Rattle.merge_world.proofs.Happenings.{event-so}
 use Rattle.merge_world.proofs.Shows.{nobody}
 use Rattle.merge_world.specs.Happenings.{Comes, Happened}

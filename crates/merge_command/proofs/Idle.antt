@@ -2,7 +2,7 @@
 use Rattle.std.proofs.Common.{Bool, Err, List, Result, inl, inr, refl, ℕ, arith}
 use Rattle.merge_batch.specs.declared.refusal.Refusal.{Refusal}
 use Rattle.merge_batch.specs.declared.refusal.Refusal.TheVariants as refusal
-use Rattle.merge_model.specs.Calls.{Called, Counted}
+use Rattle.merge_model.specs.World.Calls.{Called, Counted}
 
 pub called-not : {T A : Type 0} (by : Result (T × A) Refusal) (commits : A → Bool) (t : T) (n : ℕ) → Called by commits t t n n (Err refusal.NoMemory)
 called-not by commits t n = (refl, inr (inl (refl, omega arith)))

@@ -3,11 +3,11 @@ use Rattle.std.proofs.Common.{◌≡◌, ◌⊎◌, ◌++◌, ◌∷◌, Bool, L
 use Rattle.merge_types.specs.declared.identifiers.SiteId.{SiteId}
 use Rattle.merge_schema.specs.declared.publication.Publication.{Publication}
 use Rattle.merge_batch.specs.declared.refusal.Refusal.{Refusal}
-use Rattle.merge_model.specs.Events.{happens, is_site, looked, looking, machine, reported, showing}
+use Rattle.merge_model.specs.World.Events.{happens, is_site, looked, looking, machine, reported, showing}
 use Rattle.merge_model.specs.Failing.{Faulty, Slip, Slips, faulty, is_allowed, slip_if, slip_refusal}
-use Rattle.merge_model.specs.Naming.{article_by}
-use Rattle.merge_model.specs.Reach.{stepping}
-use Rattle.merge_model.specs.Steps.{Look}
+use Rattle.merge_model.specs.World.Naming.{article_by}
+use Rattle.merge_model.specs.Failing.Reach.{stepping}
+use Rattle.merge_model.specs.World.Steps.{Look}
 use Rattle.merge_model.specs.Tables.{PublisherTables, SubscriberTables}
 use Rattle.merge_model.specs.World.{Saying, World}
 use Rattle.merge_model.specs.declared.answer.Answer.{Answer}
@@ -15,8 +15,8 @@ use Rattle.merge_model.specs.declared.answer.Answer.TheVariants.{Refused, Rows a
 use Rattle.merge_model.specs.declared.answer.ShownRow.{ShownRow}
 use Rattle.merge_model.specs.declared.event.Event.TheVariants as event
 use Rattle.merge_model.specs.declared.outcome.Outcome.TheVariants.{Passed}
-use Rattle.merge_model.specs.Play.{names_of}
-use Rattle.merge_model.specs.Text.{text_of}
+use Rattle.merge_model.specs.Script.Play.{names_of}
+use Rattle.merge_model.specs.Script.Text.{text_of}
 use Rattle.merge_world.proofs.Happenings.{where-if}
 use Rattle.merge_world.proofs.Shows.{nobody}
 use Rattle.merge_world.specs.Happenings.{Comes, Happened}

@@ -4,9 +4,9 @@ use Rattle.merge_types.specs.declared.identifiers.Moment.{Moment}
 use Rattle.merge_types.specs.declared.identifiers.SiteId.{SiteId}
 use Rattle.merge_link.specs.Moments.{Moments, later_moments, next_moment}
 use Rattle.merge_schema.specs.declared.publication.Publication.{Publication}
-use Rattle.merge_model.specs.Events.{happens}
+use Rattle.merge_model.specs.World.Events.{happens}
 use Rattle.merge_model.specs.Failing.{Faulty, faulty}
-use Rattle.merge_model.specs.Reach.{Reaches, stepping}
+use Rattle.merge_model.specs.Failing.Reach.{Reaches, stepping}
 use Rattle.merge_model.specs.World.{Saying, World}
 use Rattle.merge_model.specs.declared.answer.Answer.{Answer}
 use Rattle.merge_model.specs.declared.event.Event.{Event}

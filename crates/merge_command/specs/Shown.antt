@@ -1,8 +1,8 @@
 -- What is written of the rows of one article.
 use Rattle.std.specs.Prelude.{List, ℕ}
 use Rattle.merge_types.specs.declared.identifiers.SiteId.{SiteId}
-use Rattle.merge_model.specs.Play.{names_of}
-use Rattle.merge_model.specs.Text.{text_of}
+use Rattle.merge_model.specs.Script.Play.{names_of}
+use Rattle.merge_model.specs.Script.Text.{text_of}
 use Rattle.merge_world.specs.Reports.{told_at}
 use Rattle.merge_world.specs.Views.{SitesView}
 use Rattle.merge_world.specs.declared.reports.Report.TheVariants.{Rows}

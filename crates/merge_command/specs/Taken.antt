@@ -1,7 +1,7 @@
 -- What a script has that changes one site: the events of its lines, and why it ends before its last line.
 use Rattle.std.specs.Prelude.{Bool, List, None, Option, Some, [], false, true, if◌then◌else◌, ℕ, ◌+◌, ◌==◌, ◌∷◌}
 use Rattle.merge_types.specs.declared.identifiers.SiteId.{SiteId}
-use Rattle.merge_model.specs.Reading.{line_of}
+use Rattle.merge_model.specs.Script.Reading.{line_of}
 use Rattle.merge_model.specs.declared.event.Event.{Event}
 use Rattle.merge_model.specs.declared.event.Event.TheVariants as event
 use Rattle.merge_model.specs.declared.event.Line.{Line}

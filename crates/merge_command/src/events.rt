@@ -1,6 +1,6 @@
 //! The events of one site.
 ghost use Rattle.std.specs.Prelude.{◌≡◌, IfSome, None, false};
-ghost use Rattle.merge_model.specs.Proper.{IsProperAnswer};
+ghost use Rattle.merge_model.specs.Script.Proper.{IsProperAnswer};
 ghost use Rattle.merge_world.specs.Views.{IsOrdered};
 ghost use Rattle.merge_command.specs.Clocked.{IsIdle, Took};
 ghost use Rattle.merge_command.specs.Taken.{is_taken};

@@ -2,7 +2,7 @@
 ghost use Rattle.std.specs.Prelude.{◌≡◌, ◌≤◌, Err, None, OnErr, OnOk, Some, false, length, true, ℕ};
 ghost use Rattle.merge_ports.specs.Faults.{Rose};
 ghost use Rattle.merge_script.specs.Lines.{lines_of};
-ghost use Rattle.merge_model.specs.Reading.{line_of};
+ghost use Rattle.merge_model.specs.Script.Reading.{line_of};
 ghost use Rattle.merge_model.specs.declared.event.Line.TheVariants.{Event as Does, NoEvent};
 ghost use Rattle.merge_world.specs.Views.{IsOrdered};
 ghost use Rattle.merge_command.specs.Changed.{Changed, ChangedInPart, LineAnswered, LineInPart};

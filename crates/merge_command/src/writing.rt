@@ -3,9 +3,9 @@ ghost use Rattle.std.specs.Io.KnownBytes.{Appends};
 ghost use Rattle.std.specs.Prelude.{◌≡◌, ◌≤◌, Err, OnErr, OnOk};
 ghost use Rattle.merge_ports.specs.Faults.{Rose};
 ghost use Rattle.merge_ports.specs.Parts.{AppendsFront};
-ghost use Rattle.merge_model.specs.Play.{names_of};
-ghost use Rattle.merge_model.specs.Proper.{IsProperAnswer};
-ghost use Rattle.merge_model.specs.Text.{text_of};
+ghost use Rattle.merge_model.specs.Script.Play.{names_of};
+ghost use Rattle.merge_model.specs.Script.Proper.{IsProperAnswer};
+ghost use Rattle.merge_model.specs.Script.Text.{text_of};
 ghost use Rattle.merge_command.specs.declared.stop.Unwritten.TheVariants as unwritten;
 
 use crate::stop::Unwritten;

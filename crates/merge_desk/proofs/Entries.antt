@@ -7,7 +7,7 @@ use Rattle.merge_schema.specs.declared.publication.Publication.{Publication}
 use Rattle.merge_batch.specs.declared.refusal.Refusal.{Refusal}
 use Rattle.merge_batch.specs.declared.reply.Reply.{Reply}
 use Rattle.merge_batch.specs.declared.request.Request.{Request}
-use Rattle.merge_model.specs.Calls.{handled}
+use Rattle.merge_model.specs.World.Calls.{handled}
 use Rattle.merge_model.specs.Tables.{PublisherTables}
 use Rattle.merge_model.specs.World.{Saying}
 use Rattle.merge_draft.specs.Drafting.{DraftingView, decided, decisions_on}

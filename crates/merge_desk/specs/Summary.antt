@@ -4,7 +4,7 @@ use Rattle.std.specs.Prelude.{Bool, List, [], codes, count_by, false, length, tr
 use Rattle.merge_batch.specs.Heads.{kind_of}
 use Rattle.merge_batch.specs.declared.request.Kind.{Kind}
 use Rattle.merge_batch.specs.declared.request.Kind.TheVariants as kind
-use Rattle.merge_model.specs.Text.{line}
+use Rattle.merge_model.specs.Script.Text.{line}
 use Rattle.merge_desk.specs.declared.entry.Entry.{Entry}
 
 abbrev pub same_kind : Kind → Kind → Bool

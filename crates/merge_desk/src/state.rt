@@ -1,7 +1,7 @@
 //! What the lock of a desk holds.
 ghost use Rattle.std.specs.Prelude.{◌≡◌, ◌+◌, ◌<◌, ◌≤◌, ◌++◌, ◌∷◌, [], ℕ, Err, IfOk, OnErr, OnOk, length};
 ghost use Rattle.merge_json.specs.Sendable.{IsSendableReply, IsSendableRequest};
-ghost use Rattle.merge_model.specs.Calls.{handled};
+ghost use Rattle.merge_model.specs.World.Calls.{handled};
 ghost use Rattle.merge_desk.specs.Marks.{mark_on};
 ghost use Rattle.merge_desk.specs.Replay.{answered, entry_decisions};
 ghost use Rattle.merge_desk.specs.declared.fault.DeskFault.TheVariants as fault;

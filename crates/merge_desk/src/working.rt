@@ -2,7 +2,7 @@
 ghost use Rattle.std.specs.Prelude.{◌≡◌, ◌≤◌, ◌+◌, Err, IfOk, IfSome, OnErr, OnOk, ℕ};
 ghost use Rattle.merge_batch.specs.Refusals.{reply_to};
 ghost use Rattle.merge_json.specs.Sendable.{IsSendableReply};
-ghost use Rattle.merge_model.specs.Calls.{handled};
+ghost use Rattle.merge_model.specs.World.Calls.{handled};
 ghost use Rattle.merge_ports.specs.declared.keeper.KeepFault.TheVariants.{Failed};
 ghost use Rattle.merge_desk.specs.Replay.{answered, decisions_if_made, entry_decisions, told};
 ghost use Rattle.merge_desk.specs.Working.{left_by};

@@ -9,10 +9,10 @@ use Rattle.merge_batch.specs.declared.reply.Reply.TheVariants as reply
 use Rattle.merge_batch.specs.declared.reply.Uploaded.{Uploaded}
 use Rattle.merge_batch.specs.declared.request.Request.{Request}
 use Rattle.merge_batch.specs.declared.request.Request.TheVariants as request
-use Rattle.merge_model.specs.ByNumbers.{by_numbers}
-use Rattle.merge_model.specs.Calls.{as_reply, handled}
-use Rattle.merge_model.specs.PublisherUpload.{upload_refusal}
-use Rattle.merge_model.specs.Refusals.{unless}
+use Rattle.merge_model.specs.Judge.ByNumbers.{by_numbers}
+use Rattle.merge_model.specs.World.Calls.{as_reply, handled}
+use Rattle.merge_model.specs.Publisher.PublisherUpload.{upload_refusal}
+use Rattle.merge_model.specs.Tables.Refusals.{unless}
 use Rattle.merge_model.specs.Tables.{PublisherTables}
 use Rattle.merge_model.specs.World.{Saying}
 use Rattle.merge_draft.specs.Drafting.{decided, decisions_on}

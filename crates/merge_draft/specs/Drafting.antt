@@ -8,13 +8,13 @@ use Rattle.merge_batch.specs.declared.reply.Reply.{Reply}
 use Rattle.merge_batch.specs.declared.reply.Reply.TheVariants as reply
 use Rattle.merge_batch.specs.declared.request.Request.{Request}
 use Rattle.merge_batch.specs.declared.request.Request.TheVariants as request
-use Rattle.merge_model.specs.ByNumbers.{by_numbers}
-use Rattle.merge_model.specs.Calls.{as_reply}
-use Rattle.merge_model.specs.PublisherDownload.{download}
-use Rattle.merge_model.specs.PublisherJoin.{join}
-use Rattle.merge_model.specs.PublisherRanges.{ranges}
-use Rattle.merge_model.specs.PublisherUpload.{upload}
-use Rattle.merge_model.specs.Steps.{kept_decisions, upload_questions}
+use Rattle.merge_model.specs.Judge.ByNumbers.{by_numbers}
+use Rattle.merge_model.specs.World.Calls.{as_reply}
+use Rattle.merge_model.specs.Publisher.PublisherDownload.{download}
+use Rattle.merge_model.specs.Publisher.PublisherJoin.{join}
+use Rattle.merge_model.specs.Publisher.PublisherRanges.{ranges}
+use Rattle.merge_model.specs.Publisher.PublisherUpload.{upload}
+use Rattle.merge_model.specs.World.Steps.{kept_decisions, upload_questions}
 use Rattle.merge_model.specs.Tables.{PublisherTables}
 use Rattle.merge_model.specs.World.{Saying}
 

@@ -21,7 +21,7 @@ pub trait DraftingPublisher: Drop {
     ghost use Rattle.merge_batch.specs.declared.refusal.Refusal.{Refusal as OneRefusal};
     ghost use Rattle.merge_batch.specs.declared.refusal.Refusal.TheVariants.{NoMemory as no_memory};
     ghost use Rattle.merge_json.specs.Sendable.{IsSendableReply};
-    ghost use Rattle.merge_model.specs.Calls.{handled, questions_on, request_commits};
+    ghost use Rattle.merge_model.specs.World.Calls.{handled, questions_on, request_commits};
     ghost use Rattle.merge_model.specs.Tables.{PublisherTables};
     ghost use Rattle.merge_ports.specs.declared.keeper.KeepFault.TheVariants.{Failed};
     ghost use Rattle.merge_resolve.specs.Asked.{tallies_after};

@@ -1,6 +1,6 @@
 //! A request in one call.
 ghost use Rattle.std.specs.Prelude.{◌≡◌, ℕ};
-ghost use Rattle.merge_model.specs.Calls.{Called, Counted, handled, questions_on, request_commits};
+ghost use Rattle.merge_model.specs.World.Calls.{Called, Counted, handled, questions_on, request_commits};
 
 use crate::drafting::{Drafted, DraftingPublisher};
 use merge_batch::{Refusal, Reply, Request};

@@ -3,7 +3,7 @@
 ghost use Rattle.std.specs.Prelude.{◌≡◌, Err, List, ℕ};
 ghost use Rattle.merge_batch.specs.declared.refusal.Refusal.{Refusal};
 ghost use Rattle.merge_batch.specs.declared.request.Request.{Request};
-ghost use Rattle.merge_model.specs.Calls.{handled};
+ghost use Rattle.merge_model.specs.World.Calls.{handled};
 ghost use Rattle.merge_model.specs.Tables.{PublisherTables};
 ghost use Rattle.merge_model.specs.World.{Saying};
 ghost use Rattle.merge_schema.specs.declared.publication.Publication.{Publication};

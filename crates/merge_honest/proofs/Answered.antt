@@ -28,17 +28,17 @@ use Rattle.merge_batch.specs.declared.request.Request.{Request}
 use Rattle.merge_batch.specs.declared.request.Request.TheVariants as request
 use Rattle.merge_batch.specs.declared.request.Upload.{Upload}
 use Rattle.merge_batch.specs.declared.request.Want.{Want}
-use Rattle.merge_model.specs.Faults.{heard_by}
+use Rattle.merge_model.specs.World.Faults.{heard_by}
 use Rattle.merge_model.specs.Judge.{SubscriberJudge}
-use Rattle.merge_model.specs.Keys.{at_number, put_number}
-use Rattle.merge_model.specs.Sending.{want_of, with_message}
+use Rattle.merge_model.specs.Tables.Keys.{at_number, put_number}
+use Rattle.merge_model.specs.Subscriber.Sending.{want_of, with_message}
 use Rattle.merge_model.specs.Subscriber.{sub_at_moment, sub_drawn, taken_value, with_version_if}
 use Rattle.merge_model.specs.Tables.{SubscriberTables}
-use Rattle.merge_model.specs.Taking.{taken}
+use Rattle.merge_model.specs.Subscriber.Taking.{taken}
 use Rattle.merge_model.specs.declared.letter.Letter.{Letter}
 use Rattle.merge_model.specs.declared.letter.Message.{Message}
 use Rattle.merge_model.specs.declared.letter.Message.TheVariants.{Asks, Replies}
-use Rattle.merge_model.proofs.Finding.{all-weaker, at_put_other, at_put_same, some_same}
+use Rattle.merge_model.proofs.Lists.Finding.{all-weaker, at_put_other, at_put_same, some_same}
 use Rattle.merge_laws.proofs.Subscribing.{number-decided, same_number}
 use Rattle.merge_honest.specs.Answered.{Answered, IsHeard, IsNextOf, IsOutstanding, LetterAnswers, MessageAnswers, TakesAll, number_in}
 

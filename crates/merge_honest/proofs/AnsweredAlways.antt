@@ -22,28 +22,28 @@ use Rattle.merge_batch.specs.declared.request.Request.{Request}
 use Rattle.merge_batch.specs.declared.request.Request.TheVariants as request
 use Rattle.merge_batch.specs.declared.request.Upload.{Upload}
 use Rattle.merge_batch.specs.declared.request.Want.{Want}
-use Rattle.merge_model.specs.ByHistory.{by_made, by_past, received_by_done}
-use Rattle.merge_model.specs.ByNumbers.{received_by_number}
-use Rattle.merge_model.specs.Changes.{key_of, version_after}
+use Rattle.merge_model.specs.Judge.ByHistory.{by_made, by_past, received_by_done}
+use Rattle.merge_model.specs.Judge.ByNumbers.{received_by_number}
+use Rattle.merge_model.specs.Tables.Changes.{key_of, version_after}
 use Rattle.merge_model.specs.Failing.{Slips}
 use Rattle.merge_model.specs.History.{History, pasts_with}
-use Rattle.merge_model.specs.Keys.{at_number, put_number}
-use Rattle.merge_model.specs.Model.{Model}
-use Rattle.merge_model.specs.Publications.{rules_of}
-use Rattle.merge_model.specs.PublisherDownload.{asked, reply_to}
-use Rattle.merge_model.specs.PublisherRanges.{plans, ranged}
-use Rattle.merge_model.specs.Reinit.{reinitialised}
-use Rattle.merge_model.specs.Runs.{model_behind}
-use Rattle.merge_model.specs.Sending.{join_of, upload_end, upload_sent, want_of, with_message}
+use Rattle.merge_model.specs.Tables.Keys.{at_number, put_number}
+use Rattle.merge_model.specs.History.Model.{Model}
+use Rattle.merge_model.specs.Tables.Publications.{rules_of}
+use Rattle.merge_model.specs.Publisher.PublisherDownload.{asked, reply_to}
+use Rattle.merge_model.specs.Publisher.PublisherRanges.{plans, ranged}
+use Rattle.merge_model.specs.Subscriber.Reinit.{reinitialised}
+use Rattle.merge_model.specs.Failing.Runs.{model_behind}
+use Rattle.merge_model.specs.Subscriber.Sending.{join_of, upload_end, upload_sent, want_of, with_message}
 use Rattle.merge_model.specs.Subscriber.{sub_at_moment, sub_closed, sub_drawn, sub_made_locally, sub_next_dot, sub_version_at}
 use Rattle.merge_model.specs.Tables.{SubscriberTables}
-use Rattle.merge_model.specs.Taking.{taken}
+use Rattle.merge_model.specs.Subscriber.Taking.{taken}
 use Rattle.merge_model.specs.World.{Saying, World, subscriber_at}
 use Rattle.merge_model.specs.declared.event.Event.{Event}
 use Rattle.merge_model.specs.declared.letter.Letter.{Letter}
 use Rattle.merge_model.specs.declared.letter.Message.{Message}
 use Rattle.merge_model.specs.declared.letter.Message.TheVariants.{Asks, Replies}
-use Rattle.merge_model.proofs.Finding.{all-more, all-weaker, at_put_same, pool-at}
+use Rattle.merge_model.proofs.Lists.Finding.{all-more, all-weaker, at_put_same, pool-at}
 use Rattle.merge_laws.specs.Behind.{TellsActed}
 use Rattle.merge_laws.specs.Received.{Received}
 use Rattle.merge_laws.proofs.AlikeFields.{received-alike}

@@ -18,22 +18,22 @@ use Rattle.merge_batch.specs.declared.request.Join.{Join}
 use Rattle.merge_batch.specs.declared.request.Request.{Request}
 use Rattle.merge_batch.specs.declared.request.Request.TheVariants as request
 use Rattle.merge_batch.specs.declared.request.Upload.{Upload}
-use Rattle.merge_model.specs.Acts.{acts_of}
-use Rattle.merge_model.specs.ByHistory.{by_history}
+use Rattle.merge_model.specs.Publisher.Acts.{acts_of}
+use Rattle.merge_model.specs.Judge.ByHistory.{by_history}
 use Rattle.merge_model.specs.Failing.{Slips, faulty}
 use Rattle.merge_model.specs.History.{History, Line, MadeChange, Past, past_at, pasts_with}
 use Rattle.merge_model.specs.Judge.{PublisherJudge}
-use Rattle.merge_model.specs.Keys.{put_number}
-use Rattle.merge_model.specs.Model.{Model, did_something, empty_model, model, model_step, noted, noted_anew_at, noted_if, noted_letter, noted_make, noted_request, pasts_in, with_posted}
-use Rattle.merge_model.specs.Noting
-use Rattle.merge_model.specs.Pasts.{past_after}
-use Rattle.merge_model.specs.Publications.{by_site}
+use Rattle.merge_model.specs.Tables.Keys.{put_number}
+use Rattle.merge_model.specs.History.Model.{Model, did_something, empty_model, model, model_step, noted, noted_anew_at, noted_if, noted_letter, noted_make, noted_request, pasts_in, with_posted}
+use Rattle.merge_model.specs.History.Noting
+use Rattle.merge_model.specs.History.Pasts.{past_after}
+use Rattle.merge_model.specs.Tables.Publications.{by_site}
 use Rattle.merge_model.specs.Publisher.{at_moment, last_closed}
-use Rattle.merge_model.specs.PublisherJoin.{join_acts}
-use Rattle.merge_model.specs.PublisherLocal.{Drawn, drawn, next_dot}
-use Rattle.merge_model.specs.PublisherUpload.{brings_news}
-use Rattle.merge_model.specs.Runs.{model_behind}
-use Rattle.merge_model.specs.Steps.{Action, CloseAt, Deliver, Forget, Look, Make, MakeAnew, Pass, Send, kept_decisions, step_by, upload_questions}
+use Rattle.merge_model.specs.Publisher.PublisherJoin.{join_acts}
+use Rattle.merge_model.specs.Publisher.PublisherLocal.{Drawn, drawn, next_dot}
+use Rattle.merge_model.specs.Publisher.PublisherUpload.{brings_news}
+use Rattle.merge_model.specs.Failing.Runs.{model_behind}
+use Rattle.merge_model.specs.World.Steps.{Action, CloseAt, Deliver, Forget, Look, Make, MakeAnew, Pass, Send, kept_decisions, step_by, upload_questions}
 use Rattle.merge_model.specs.Subscriber.{sub_drawn, sub_last_closed, sub_next_dot}
 use Rattle.merge_model.specs.Tables.{PublisherTables, SubscriberTables}
 use Rattle.merge_model.specs.World.{Judges, Saying, World, letter_at, subscriber_at}

@@ -12,11 +12,11 @@ use Rattle.merge_batch.specs.declared.request.RangeAsk.{RangeAsk}
 use Rattle.merge_batch.specs.declared.request.Request.TheVariants as request
 use Rattle.merge_batch.specs.declared.request.UploadItem.{UploadItem}
 use Rattle.merge_batch.specs.declared.request.Want.{Want}
-use Rattle.merge_model.specs.Faults.{ranges_fault}
-use Rattle.merge_model.specs.Model.{Model}
+use Rattle.merge_model.specs.World.Faults.{ranges_fault}
+use Rattle.merge_model.specs.History.Model.{Model}
 use Rattle.merge_model.specs.declared.letter.Letter.{Letter}
 use Rattle.merge_model.specs.declared.letter.Message.TheVariants.{Asks}
-use Rattle.merge_model.proofs.Finding.{all-weaker, pool-at}
+use Rattle.merge_model.proofs.Lists.Finding.{all-weaker, pool-at}
 use Rattle.merge_model.proofs.Lists.{all-unit}
 use Rattle.merge_laws.specs.Effects.{history_judge}
 use Rattle.merge_laws.specs.Laws.{OfEveryValidRun}

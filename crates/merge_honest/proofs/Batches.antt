@@ -4,7 +4,7 @@ use Rattle.std.specs.Prelude.{Bool, List, None, Option, Some, cond, filter, min,
 use Rattle.std.proofs.Common.{arith}
 use Rattle.std.proofs.lemmas.Bool.Decides.{nat_tests}
 use Rattle.merge_types.specs.Limits.{generation_limit, item_limit}
-use Rattle.merge_model.specs.PublisherDownload.{batch_end}
+use Rattle.merge_model.specs.Publisher.PublisherDownload.{batch_end}
 
 last-step : (P : ℕ → Type 0) (b : Bool) (from d : ℕ) (o : Option ℕ) (kept : List ℕ) → (b ≡ true → P from) → P (unwrap_or o d) → ((other : Option ℕ) → P (unwrap_or other d) → P (unwrap_or (last_or other kept) d))
     → P (unwrap_or (last_or o (cond b (from ∷ kept) kept)) d)

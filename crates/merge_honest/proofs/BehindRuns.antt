@@ -10,12 +10,12 @@ use Rattle.merge_schema.specs.Valid.{IsValid}
 use Rattle.merge_schema.specs.declared.publication.Publication.{Publication}
 use Rattle.merge_model.specs.declared.outcome.Outcome.TheVariants.{Passed}
 use Rattle.merge_batch.specs.declared.refusal.Refusal.TheVariants.{UnknownSite}
-use Rattle.merge_model.specs.Events.{acting, after, happens, looked, looking}
+use Rattle.merge_model.specs.World.Events.{acting, after, happens, looked, looking}
 use Rattle.merge_model.specs.Failing.{Faulty, Slip, Slips, failing, faulty, is_allowed, slip_if}
-use Rattle.merge_model.specs.Model.{Model, empty_model, model, model_step}
-use Rattle.merge_model.specs.Runs.{model_behind}
-use Rattle.merge_model.specs.Session.{Stepping}
-use Rattle.merge_model.specs.Steps.{Deliver, Look, Send, SendDownload, SendJoin, SendRanges, SendUpload, Sending}
+use Rattle.merge_model.specs.History.Model.{Model, empty_model, model, model_step}
+use Rattle.merge_model.specs.Failing.Runs.{model_behind}
+use Rattle.merge_model.specs.World.Session.{Stepping}
+use Rattle.merge_model.specs.World.Steps.{Deliver, Look, Send, SendDownload, SendJoin, SendRanges, SendUpload, Sending}
 use Rattle.merge_model.specs.World.{Saying}
 use Rattle.merge_model.specs.declared.answer.Answer.{Answer}
 use Rattle.merge_model.specs.declared.answer.Answer.TheVariants.{Fine, Refused}

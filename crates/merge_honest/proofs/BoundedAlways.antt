@@ -3,12 +3,12 @@ use Rattle.std.specs.Prelude.{List, ℕ}
 use Rattle.std.proofs.Common.{arith}
 use Rattle.merge_schema.specs.Valid.{IsValid}
 use Rattle.merge_schema.specs.declared.publication.Publication.{Publication}
-use Rattle.merge_model.specs.ByHistory.{by_history}
+use Rattle.merge_model.specs.Judge.ByHistory.{by_history}
 use Rattle.merge_model.specs.Failing.{Slips}
 use Rattle.merge_model.specs.History.{History}
-use Rattle.merge_model.specs.Model.{Model, model_step}
-use Rattle.merge_model.specs.Runs.{model_behind}
-use Rattle.merge_model.specs.Steps.{Action}
+use Rattle.merge_model.specs.History.Model.{Model, model_step}
+use Rattle.merge_model.specs.Failing.Runs.{model_behind}
+use Rattle.merge_model.specs.World.Steps.{Action}
 use Rattle.merge_model.specs.Tables.{SubscriberTables}
 use Rattle.merge_model.specs.World.{Saying, World, empty_world}
 use Rattle.merge_model.specs.declared.event.Event.{Event}

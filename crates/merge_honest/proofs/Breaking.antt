@@ -12,8 +12,8 @@ use Rattle.merge_batch.specs.declared.refusal.Refusal.TheVariants.{BadBatch}
 use Rattle.merge_batch.specs.declared.request.Upload.{Upload}
 use Rattle.merge_batch.specs.declared.request.UploadItem.{UploadItem}
 use Rattle.merge_batch.specs.declared.rules.BrokenRule.{BrokenRule}
-use Rattle.merge_model.specs.Faults.{fault_of}
-use Rattle.merge_model.proofs.Finding.{some_same}
+use Rattle.merge_model.specs.World.Faults.{fault_of}
+use Rattle.merge_model.proofs.Lists.Finding.{some_same}
 use Rattle.merge_honest.specs.Delivered.{breaks}
 use Rattle.merge_honest.proofs.Refusing.{Never, none-never, some-never}
 

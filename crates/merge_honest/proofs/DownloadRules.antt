@@ -22,16 +22,16 @@ use Rattle.merge_batch.specs.declared.reply.Reply.TheVariants as reply
 use Rattle.merge_batch.specs.declared.request.Outstanding.{Outstanding}
 use Rattle.merge_batch.specs.declared.request.Outstanding.TheVariants as ask
 use Rattle.merge_batch.specs.declared.standing.Standing.{Standing}
-use Rattle.merge_model.specs.ByNumbers.{received_by_number}
-use Rattle.merge_model.specs.Faults.{reply_fault, standing_of}
-use Rattle.merge_model.specs.Model.{Model}
+use Rattle.merge_model.specs.Judge.ByNumbers.{received_by_number}
+use Rattle.merge_model.specs.World.Faults.{reply_fault, standing_of}
+use Rattle.merge_model.specs.History.Model.{Model}
 use Rattle.merge_model.specs.Subscriber.{sub_last_closed}
 use Rattle.merge_model.specs.Tables.{SubscriberTables}
-use Rattle.merge_model.specs.Taking.{key_of_download}
+use Rattle.merge_model.specs.Subscriber.Taking.{key_of_download}
 use Rattle.merge_model.specs.World.{subscriber_at}
 use Rattle.merge_model.specs.declared.letter.Letter.{Letter}
 use Rattle.merge_model.specs.declared.letter.Message.TheVariants.{Replies}
-use Rattle.merge_model.proofs.Finding.{pool-at}
+use Rattle.merge_model.proofs.Lists.Finding.{pool-at}
 use Rattle.merge_laws.specs.Behind.{TellsActed}
 use Rattle.merge_honest.specs.Answered.{IsOutstanding}
 use Rattle.merge_honest.specs.Replied.{IsReply, put_fits, removal_fits}

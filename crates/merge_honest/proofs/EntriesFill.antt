@@ -16,19 +16,19 @@ use Rattle.merge_gens.specs.declared.moves.RowSite.{RowSite}
 use Rattle.merge_schema.specs.declared.publication.Publication.{Publication}
 use Rattle.merge_batch.specs.declared.request.Join.{Join}
 use Rattle.merge_batch.specs.declared.request.Upload.{Upload}
-use Rattle.merge_model.specs.Acts.{Act}
-use Rattle.merge_model.specs.ByHistory.{by_history, by_made, by_past}
-use Rattle.merge_model.specs.Entries as entry
-use Rattle.merge_model.specs.Entries.{Changing, Entries, Parts, Touched, changing_entries, entry_count, moves_of, parts_of, returned, rows_after, touched_by, with_entries}
+use Rattle.merge_model.specs.Publisher.Acts.{Act}
+use Rattle.merge_model.specs.Judge.ByHistory.{by_history, by_made, by_past}
+use Rattle.merge_model.specs.Publisher.Entries as entry
+use Rattle.merge_model.specs.Publisher.Entries.{Changing, Entries, Parts, Touched, changing_entries, entry_count, moves_of, parts_of, returned, rows_after, touched_by, with_entries}
 use Rattle.merge_model.specs.History.{History, Line, Past, no_history, pasts_with}
 use Rattle.merge_model.specs.Judge.{PublisherJudge}
-use Rattle.merge_model.specs.Keys.{put_number}
-use Rattle.merge_model.specs.Noting
-use Rattle.merge_model.specs.Noting.{changed_line, gone_line, lines_of_entries, moved_line}
-use Rattle.merge_model.specs.Publications.{by_site}
+use Rattle.merge_model.specs.Tables.Keys.{put_number}
+use Rattle.merge_model.specs.History.Noting
+use Rattle.merge_model.specs.History.Noting.{changed_line, gone_line, lines_of_entries, moved_line}
+use Rattle.merge_model.specs.Tables.Publications.{by_site}
 use Rattle.merge_model.specs.Publisher.{last_closed}
-use Rattle.merge_model.specs.PublisherLocal.{Drawn, changing_locally, made_locally, next_dot, with_draw}
-use Rattle.merge_model.specs.PublisherUpload.{changing_by, taken_in, with_acts}
+use Rattle.merge_model.specs.Publisher.PublisherLocal.{Drawn, changing_locally, made_locally, next_dot, with_draw}
+use Rattle.merge_model.specs.Publisher.PublisherUpload.{changing_by, taken_in, with_acts}
 use Rattle.merge_model.specs.Tables.{PublisherTables}
 use Rattle.merge_model.specs.World.{Saying, World, empty_world}
 use Rattle.merge_units.specs.declared.site_row.PublisherRow.{PublisherRow}

@@ -16,16 +16,16 @@ use Rattle.merge_gens.specs.declared.moves.Mapping.{Mapping}
 use Rattle.merge_gens.specs.declared.moves.MoveKind.{MoveKind}
 use Rattle.merge_gens.specs.declared.moves.RowSite.{RowSite}
 use Rattle.merge_schema.specs.declared.publication.Publication.{Publication}
-use Rattle.merge_model.specs.Entries as entry
-use Rattle.merge_model.specs.Entries.{Changing, Parts, Touched, changed_by, changing_entries, move_at, move_of, moves_of, parts_of, rows_after, touched_by, with_move, with_rows}
+use Rattle.merge_model.specs.Publisher.Entries as entry
+use Rattle.merge_model.specs.Publisher.Entries.{Changing, Parts, Touched, changed_by, changing_entries, move_at, move_of, moves_of, parts_of, rows_after, touched_by, with_move, with_rows}
 use Rattle.merge_model.specs.Judge.{PublisherJudge}
-use Rattle.merge_model.specs.Keys.{at_row_site, drop_row_site, has_key, put_row, put_row_site, row_at, same_key}
+use Rattle.merge_model.specs.Tables.Keys.{at_row_site, drop_row_site, has_key, put_row, put_row_site, row_at, same_key}
 use Rattle.merge_model.specs.Tables.{PublisherTables}
-use Rattle.merge_model.proofs.EntryLists.{all-dropped, all-put}
-use Rattle.merge_model.proofs.KeyLists.{some-head}
-use Rattle.merge_model.proofs.KeyLookUps.{key-test, keys-same, keys-tied}
+use Rattle.merge_model.proofs.Entries.EntryLists.{all-dropped, all-put}
+use Rattle.merge_model.proofs.Lists.KeyLists.{some-head}
+use Rattle.merge_model.proofs.Lists.KeyLookUps.{key-test, keys-same, keys-tied}
 use Rattle.merge_model.proofs.Lists.{OfSome, all-append, all-filter_map, all-unit}
-use Rattle.merge_model.proofs.PlaceLookUps.{place-is, places-exact}
+use Rattle.merge_model.proofs.Lists.PlaceLookUps.{place-is, places-exact}
 
 module _ (P : Key → Type 0) where
   abbrev pub RowsHave : {A : Type 0} → List (Key × A) → Type 0

@@ -7,19 +7,19 @@ use Rattle.merge_schema.specs.Places.{is_subscription}
 use Rattle.merge_schema.specs.declared.publication.Publication.{Publication}
 use Rattle.merge_batch.specs.declared.refusal.Refusal.{Refusal}
 use Rattle.merge_batch.specs.declared.refusal.Refusal.TheVariants.{UnknownSite}
-use Rattle.merge_model.specs.Events.{after, answers, happens, looking, session_answer, syncing, watermark_in}
+use Rattle.merge_model.specs.World.Events.{after, answers, happens, looking, session_answer, syncing, watermark_in}
 use Rattle.merge_model.specs.Failing.{Faulty, Slips, failing, faulty}
-use Rattle.merge_model.specs.Model.{Model, model}
-use Rattle.merge_model.specs.Promises.{IsSettled}
-use Rattle.merge_model.specs.Runs.{model_behind}
-use Rattle.merge_model.specs.Session.{Session, Stepping, session}
-use Rattle.merge_model.specs.SlipLaws.{is_slip, shown}
+use Rattle.merge_model.specs.History.Model.{Model, model}
+use Rattle.merge_model.specs.Laws.Promises.{IsSettled}
+use Rattle.merge_model.specs.Failing.Runs.{model_behind}
+use Rattle.merge_model.specs.World.Session.{Session, Stepping, session}
+use Rattle.merge_model.specs.Laws.SlipLaws.{is_slip, shown}
 use Rattle.merge_model.specs.Tables.{SubscriberTables}
 use Rattle.merge_model.specs.World.{Saying, subscriber_at}
 use Rattle.merge_model.specs.declared.answer.Answer.{Answer}
 use Rattle.merge_model.specs.declared.answer.Answer.TheVariants.{Done, Refused, Stopped}
 use Rattle.merge_model.specs.declared.event.Event.TheVariants as event
-use Rattle.merge_model.proofs.NoSlips.{failures-show}
+use Rattle.merge_model.proofs.Failing.NoSlips.{failures-show}
 use Rattle.merge_laws.specs.Laws.{OfEveryValidRun}
 use Rattle.merge_laws.proofs.SessionLaw.{sessions-settle}
 use Rattle.merge_honest.specs.Finished.{EndsBy, EndsOrFails, FailingSessionFinishes, FailingSessionSettles, SessionFinishes}

@@ -9,7 +9,7 @@ use Rattle.merge_batch.specs.declared.request.UploadItem.{UploadItem}
 use Rattle.merge_laws.specs.Laws.{OfEveryValidRun}
 use Rattle.merge_laws.proofs.AccountElements.{any-out, all-in}
 use Rattle.merge_model.proofs.Lists.{all-unit}
-use Rattle.merge_model.proofs.Tests.{numbers-same}
+use Rattle.merge_model.proofs.Lists.Tests.{numbers-same}
 use Rattle.merge_honest.specs.Delivered.{FirstReasonIsTold, NoneIsRefusedFor, breaks, is_unexpected}
 use Rattle.merge_honest.proofs.AskRules.{no-ask-misfits}
 use Rattle.merge_honest.proofs.Breaking.{follows-all}

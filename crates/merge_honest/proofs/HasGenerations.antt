@@ -12,15 +12,15 @@ use Rattle.merge_schema.specs.Valid.{IsValid}
 use Rattle.merge_schema.specs.declared.publication.Publication.{Publication}
 use Rattle.merge_batch.specs.declared.refusal.Refusal.{Refusal}
 use Rattle.merge_batch.specs.declared.request.Upload.{Upload}
-use Rattle.merge_model.specs.ByHistory.{by_history, by_made, changed_between_by_made, is_between_made, with_change_of}
+use Rattle.merge_model.specs.Judge.ByHistory.{by_history, by_made, changed_between_by_made, is_between_made, with_change_of}
 use Rattle.merge_model.specs.Failing.{Slips}
 use Rattle.merge_model.specs.History.{History, MadeChange, made_at}
 use Rattle.merge_model.specs.Judge.{SubscriberJudge}
-use Rattle.merge_model.specs.Keys.{row_at}
-use Rattle.merge_model.specs.Model.{Model}
-use Rattle.merge_model.specs.Refusals.{unless}
-use Rattle.merge_model.specs.Runs.{model_behind}
-use Rattle.merge_model.specs.Sending.{make_upload, sending_refusal, unsent_rows, upload_sent}
+use Rattle.merge_model.specs.Tables.Keys.{row_at}
+use Rattle.merge_model.specs.History.Model.{Model}
+use Rattle.merge_model.specs.Tables.Refusals.{unless}
+use Rattle.merge_model.specs.Failing.Runs.{model_behind}
+use Rattle.merge_model.specs.Subscriber.Sending.{make_upload, sending_refusal, unsent_rows, upload_sent}
 use Rattle.merge_model.specs.Subscriber.{sub_at_moment, sub_closed, sub_last_closed}
 use Rattle.merge_model.specs.Tables.{SubscriberTables}
 use Rattle.merge_model.specs.World.{Saying, World, subscriber_at}

@@ -48,30 +48,30 @@ use Rattle.merge_batch.specs.declared.request.Outstanding.{Outstanding}
 use Rattle.merge_batch.specs.declared.request.Outstanding.TheVariants as ask
 use Rattle.merge_batch.specs.declared.request.RangeAsk.{RangeAsk}
 use Rattle.merge_batch.specs.declared.request.Request.TheVariants as request
-use Rattle.merge_model.specs.ByHistory.{by_made, by_past}
-use Rattle.merge_model.specs.Changes.{key_of, version_after}
-use Rattle.merge_model.specs.Faults.{reply_fault}
+use Rattle.merge_model.specs.Judge.ByHistory.{by_made, by_past}
+use Rattle.merge_model.specs.Tables.Changes.{key_of, version_after}
+use Rattle.merge_model.specs.World.Faults.{reply_fault}
 use Rattle.merge_model.specs.History.{History, no_history, pasts_with}
 use Rattle.merge_model.specs.Judge.{SubscriberJudge}
-use Rattle.merge_model.specs.Keys.{at_number, put_number}
-use Rattle.merge_model.specs.Model.{Model, model_step}
-use Rattle.merge_model.specs.Publications.{identities, identity_of, rules_of}
+use Rattle.merge_model.specs.Tables.Keys.{at_number, put_number}
+use Rattle.merge_model.specs.History.Model.{Model, model_step}
+use Rattle.merge_model.specs.Tables.Publications.{identities, identity_of, rules_of}
 use Rattle.merge_model.specs.Publisher.{holder_for, new_holders}
-use Rattle.merge_model.specs.PublisherDownload.{asked, reply_to}
-use Rattle.merge_model.specs.PublisherLocal.{Drawn, after_answer, drawn, drawn_from, no_draw, own_ask, taken_from}
-use Rattle.merge_model.specs.PublisherRanges.{ask_by, plans, ranged}
-use Rattle.merge_model.specs.Reinit.{reinitialised}
-use Rattle.merge_model.specs.Sending.{join_of, upload_sent, want_of, with_message}
-use Rattle.merge_model.specs.Steps.{Action}
+use Rattle.merge_model.specs.Publisher.PublisherDownload.{asked, reply_to}
+use Rattle.merge_model.specs.Publisher.PublisherLocal.{Drawn, after_answer, drawn, drawn_from, no_draw, own_ask, taken_from}
+use Rattle.merge_model.specs.Publisher.PublisherRanges.{ask_by, plans, ranged}
+use Rattle.merge_model.specs.Subscriber.Reinit.{reinitialised}
+use Rattle.merge_model.specs.Subscriber.Sending.{join_of, upload_sent, want_of, with_message}
+use Rattle.merge_model.specs.World.Steps.{Action}
 use Rattle.merge_model.specs.Subscriber.{sub_at_moment, sub_closed, sub_drawn, sub_made_locally, sub_next_dot, sub_version_at, taken_value, with_version_if}
 use Rattle.merge_model.specs.Tables.{PublisherTables, SubscriberTables}
-use Rattle.merge_model.specs.Taking.{taken, with_grant}
+use Rattle.merge_model.specs.Subscriber.Taking.{taken, with_grant}
 use Rattle.merge_model.specs.World.{Saying, World, empty_world, subscriber_at}
 use Rattle.merge_model.specs.declared.letter.Letter.{Letter}
 use Rattle.merge_model.specs.declared.letter.Message.{Message}
 use Rattle.merge_model.specs.declared.letter.Message.TheVariants.{Asks, Replies}
-use Rattle.merge_model.proofs.EntryLists.{all-put}
-use Rattle.merge_model.proofs.Finding.{all-more, all-weaker, at_put_other, pool-at, some_same}
+use Rattle.merge_model.proofs.Entries.EntryLists.{all-put}
+use Rattle.merge_model.proofs.Lists.Finding.{all-more, all-weaker, at_put_other, pool-at, some_same}
 use Rattle.merge_model.proofs.Lists.{all-map}
 use Rattle.merge_laws.specs.Identities.{told_range}
 use Rattle.merge_laws.specs.Received.{Received}

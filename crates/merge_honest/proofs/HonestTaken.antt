@@ -12,17 +12,17 @@ use Rattle.merge_batch.specs.declared.refusal.Refusal.TheVariants.{BadBatch, Exp
 use Rattle.merge_batch.specs.declared.request.Request.{Request}
 use Rattle.merge_batch.specs.declared.request.Request.TheVariants as request
 use Rattle.merge_batch.specs.declared.rules.BrokenRule.{BrokenRule}
-use Rattle.merge_model.specs.Acts.{acts_of}
-use Rattle.merge_model.specs.ByHistory.{by_history}
-use Rattle.merge_model.specs.Faults.{fault_of, join_fault, ranges_fault, upload_fault}
+use Rattle.merge_model.specs.Publisher.Acts.{acts_of}
+use Rattle.merge_model.specs.Judge.ByHistory.{by_history}
+use Rattle.merge_model.specs.World.Faults.{fault_of, join_fault, ranges_fault, upload_fault}
 use Rattle.merge_model.specs.Judge.{PublisherJudge}
-use Rattle.merge_model.specs.Keys.{at_number}
-use Rattle.merge_model.specs.Model.{Model}
+use Rattle.merge_model.specs.Tables.Keys.{at_number}
+use Rattle.merge_model.specs.History.Model.{Model}
 use Rattle.merge_model.specs.Publisher.{counters, last_closed, later, no_state, site_refusal, state_of, state_refusal, unknown_site}
-use Rattle.merge_model.specs.PublisherUpload.{too_many_new}
-use Rattle.merge_model.specs.Refusals.{counter_end, first_refusal, refused_if, unless}
-use Rattle.merge_model.specs.Runs.{model_behind}
-use Rattle.merge_model.specs.Steps.{deliver_letter, deliver_request, unless_refused}
+use Rattle.merge_model.specs.Publisher.PublisherUpload.{too_many_new}
+use Rattle.merge_model.specs.Tables.Refusals.{counter_end, first_refusal, refused_if, unless}
+use Rattle.merge_model.specs.Failing.Runs.{model_behind}
+use Rattle.merge_model.specs.World.Steps.{deliver_letter, deliver_request, unless_refused}
 use Rattle.merge_model.specs.Tables.{PublisherTables}
 use Rattle.merge_model.specs.World.{Saying, World}
 use Rattle.merge_model.specs.declared.letter.Letter.{Letter}

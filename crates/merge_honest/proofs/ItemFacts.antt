@@ -15,16 +15,16 @@ use Rattle.merge_batch.specs.Lineages.{is_site}
 use Rattle.merge_batch.specs.declared.request.Request.TheVariants as request
 use Rattle.merge_batch.specs.declared.request.Upload.{Upload}
 use Rattle.merge_batch.specs.declared.request.UploadItem.{UploadItem}
-use Rattle.merge_model.specs.Acts.{key_of_item}
+use Rattle.merge_model.specs.Publisher.Acts.{key_of_item}
 use Rattle.merge_model.specs.History.{History, MadeChange, Past, has, is_accepted, made_at, no_past, past_in, pasts_with}
-use Rattle.merge_model.specs.Keys.{at_number, row_at, same_key}
-use Rattle.merge_model.specs.Model.{Model}
+use Rattle.merge_model.specs.Tables.Keys.{at_number, row_at, same_key}
+use Rattle.merge_model.specs.History.Model.{Model}
 use Rattle.merge_model.specs.Tables.{SubscriberTables}
 use Rattle.merge_model.specs.declared.letter.Letter.{Letter}
 use Rattle.merge_model.specs.declared.letter.Message.TheVariants.{Asks}
-use Rattle.merge_model.proofs.Finding.{all-weaker, letter-zip}
+use Rattle.merge_model.proofs.Lists.Finding.{all-weaker, letter-zip}
 use Rattle.merge_model.proofs.Lists.{all-both}
-use Rattle.merge_model.proofs.Tests.{number-itself, numbers-same}
+use Rattle.merge_model.proofs.Lists.Tests.{number-itself, numbers-same}
 use Rattle.merge_laws.specs.Accepted.{SendsAccepted}
 use Rattle.merge_laws.specs.Knowledge.{Knows, is_made, same_dot}
 use Rattle.merge_laws.specs.LineagesStand.{OthersAccepted, counts_in}

@@ -19,14 +19,14 @@ use Rattle.merge_batch.specs.Uploads.{lineage_is_honest, tops_are_known, was_see
 use Rattle.merge_batch.specs.declared.request.Request.TheVariants as request
 use Rattle.merge_batch.specs.declared.request.Upload.{Upload}
 use Rattle.merge_batch.specs.declared.request.UploadItem.{UploadItem}
-use Rattle.merge_model.specs.ByHistory.{greatest_accepted, seen_by_accepted}
-use Rattle.merge_model.specs.Faults.{judged_state}
+use Rattle.merge_model.specs.Judge.ByHistory.{greatest_accepted, seen_by_accepted}
+use Rattle.merge_model.specs.World.Faults.{judged_state}
 use Rattle.merge_model.specs.History.{has, is_accepted}
-use Rattle.merge_model.specs.Keys.{at_number}
-use Rattle.merge_model.specs.Model.{Model}
-use Rattle.merge_model.proofs.Finding.{all-weaker, pool-at}
+use Rattle.merge_model.specs.Tables.Keys.{at_number}
+use Rattle.merge_model.specs.History.Model.{Model}
+use Rattle.merge_model.proofs.Lists.Finding.{all-weaker, pool-at}
 use Rattle.merge_model.proofs.Lists.{all-both}
-use Rattle.merge_model.proofs.Tests.{numbers-same}
+use Rattle.merge_model.proofs.Lists.Tests.{numbers-same}
 use Rattle.merge_laws.specs.Effects.{history_judge}
 use Rattle.merge_laws.specs.Knowledge.{changes_of}
 use Rattle.merge_laws.specs.Laws.{OfEveryValidRun}

@@ -15,19 +15,19 @@ use Rattle.merge_batch.specs.declared.request.Request.TheVariants as request
 use Rattle.merge_batch.specs.declared.request.Upload.{Upload}
 use Rattle.merge_batch.specs.declared.rules.BrokenRule.{BrokenRule}
 use Rattle.merge_model.specs.Failing.{Slips}
-use Rattle.merge_model.specs.Faults.{fault_of, join_fault, ranges_fault, upload_fault}
-use Rattle.merge_model.specs.ByNumbers.{received_by_number}
+use Rattle.merge_model.specs.World.Faults.{fault_of, join_fault, ranges_fault, upload_fault}
+use Rattle.merge_model.specs.Judge.ByNumbers.{received_by_number}
 use Rattle.merge_model.specs.Judge.{PublisherJudge}
-use Rattle.merge_model.specs.Keys.{at_number}
-use Rattle.merge_model.specs.Model.{Model}
+use Rattle.merge_model.specs.Tables.Keys.{at_number}
+use Rattle.merge_model.specs.History.Model.{Model}
 use Rattle.merge_model.specs.Publisher.{last_closed, site_refusal}
-use Rattle.merge_model.specs.Runs.{model_behind}
+use Rattle.merge_model.specs.Failing.Runs.{model_behind}
 use Rattle.merge_model.specs.Tables.{PublisherTables}
 use Rattle.merge_model.specs.World.{Saying}
 use Rattle.merge_model.specs.declared.event.Event.{Event}
 use Rattle.merge_model.specs.declared.letter.Letter.{Letter}
 use Rattle.merge_model.specs.declared.letter.Message.TheVariants.{Asks}
-use Rattle.merge_model.proofs.Finding.{pool-at}
+use Rattle.merge_model.proofs.Lists.Finding.{pool-at}
 use Rattle.merge_laws.specs.Effects.{history_judge}
 use Rattle.merge_laws.specs.Laws.{OfEveryValidRun}
 use Rattle.merge_laws.proofs.Models.{gap-is}

@@ -30,41 +30,41 @@ use Rattle.merge_batch.specs.declared.request.Outstanding.TheVariants as ask
 use Rattle.merge_batch.specs.declared.request.Request.TheVariants as request
 use Rattle.merge_batch.specs.declared.request.Upload.{Upload}
 use Rattle.merge_batch.specs.declared.request.UploadItem.{UploadItem}
-use Rattle.merge_model.specs.Acts.{Act, act_of, acting_items, acts_from, acts_of, key_of_item, left_by, made_by, version_by, version_of_act, versions_of}
-use Rattle.merge_model.specs.ByHistory.{by_made, by_past, last_line, touch_by_line, touched_outside}
-use Rattle.merge_model.specs.Entries as entry
+use Rattle.merge_model.specs.Publisher.Acts.{Act, act_of, acting_items, acts_from, acts_of, key_of_item, left_by, made_by, version_by, version_of_act, versions_of}
+use Rattle.merge_model.specs.Judge.ByHistory.{by_made, by_past, last_line, touch_by_line, touched_outside}
+use Rattle.merge_model.specs.Publisher.Entries as entry
 use Rattle.merge_model.specs.Failing.{Slips, faulty}
 use Rattle.merge_model.specs.History.{History, Line, MadeChange, Past, has, past_at, past_in, pasts_with}
 use Rattle.merge_model.specs.Judge.{PublisherJudge, SubscriberJudge}
-use Rattle.merge_model.specs.Keys.{at_row_site, has_key, row_at, same_key}
-use Rattle.merge_model.specs.Model.{Model, empty_model, model}
-use Rattle.merge_model.specs.Noting
-use Rattle.merge_model.specs.Pasts.{past_after}
-use Rattle.merge_model.specs.Publications.{by_site}
+use Rattle.merge_model.specs.Tables.Keys.{at_row_site, has_key, row_at, same_key}
+use Rattle.merge_model.specs.History.Model.{Model, empty_model, model}
+use Rattle.merge_model.specs.History.Noting
+use Rattle.merge_model.specs.History.Pasts.{past_after}
+use Rattle.merge_model.specs.Tables.Publications.{by_site}
 use Rattle.merge_model.specs.Publisher.{closed, last_closed}
-use Rattle.merge_model.specs.PublisherDownload.{TouchedRow, asked, batch_end, inside_keys, is_between, item_of, reply_to, touched_row, touched_rows}
-use Rattle.merge_model.specs.PublisherJoin.{is_left_of, join_taken}
-use Rattle.merge_model.specs.PublisherLocal.{Drawn, changing_locally, drawn, local_refusal, made_locally, next_dot, version_at, with_draw}
-use Rattle.merge_model.specs.PublisherPurge.{is_old_left, purge}
-use Rattle.merge_model.specs.PublisherRanges.{plans, ranged, with_grants}
-use Rattle.merge_model.specs.PublisherUpload.{changing_by, taken_in, with_acts}
-use Rattle.merge_model.specs.Reinit.{discarded, reinitialised}
-use Rattle.merge_model.specs.Runs.{model_behind}
-use Rattle.merge_model.specs.Sending.{join_of, upload_sent, want_of, with_message}
-use Rattle.merge_model.specs.Steps.{kept_decisions, upload_questions}
+use Rattle.merge_model.specs.Publisher.PublisherDownload.{TouchedRow, asked, batch_end, inside_keys, is_between, item_of, reply_to, touched_row, touched_rows}
+use Rattle.merge_model.specs.Publisher.PublisherJoin.{is_left_of, join_taken}
+use Rattle.merge_model.specs.Publisher.PublisherLocal.{Drawn, changing_locally, drawn, local_refusal, made_locally, next_dot, version_at, with_draw}
+use Rattle.merge_model.specs.Publisher.PublisherPurge.{is_old_left, purge}
+use Rattle.merge_model.specs.Publisher.PublisherRanges.{plans, ranged, with_grants}
+use Rattle.merge_model.specs.Publisher.PublisherUpload.{changing_by, taken_in, with_acts}
+use Rattle.merge_model.specs.Subscriber.Reinit.{discarded, reinitialised}
+use Rattle.merge_model.specs.Failing.Runs.{model_behind}
+use Rattle.merge_model.specs.Subscriber.Sending.{join_of, upload_sent, want_of, with_message}
+use Rattle.merge_model.specs.World.Steps.{kept_decisions, upload_questions}
 use Rattle.merge_model.specs.Subscriber.{sub_at_moment, sub_closed, sub_last_closed, sub_made_locally, sub_next_dot}
 use Rattle.merge_model.specs.Tables.{PublisherTables, SubscriberTables}
-use Rattle.merge_model.specs.Taking.{key_of_download, taken}
+use Rattle.merge_model.specs.Subscriber.Taking.{key_of_download, taken}
 use Rattle.merge_model.specs.World.{Saying, World, with_publisher, with_subscriber}
 use Rattle.merge_model.specs.declared.event.Event.{Event}
 use Rattle.merge_model.specs.declared.letter.Letter.{Letter}
 use Rattle.merge_model.specs.declared.letter.Message.{Message}
 use Rattle.merge_model.specs.declared.letter.Message.TheVariants.{Asks, Replies}
-use Rattle.merge_model.proofs.Downloads.{inside-held}
-use Rattle.merge_model.proofs.Finding.{all-more, all-weaker, letter-zip}
-use Rattle.merge_model.proofs.KeptFailing.{runs-keep}
-use Rattle.merge_model.proofs.KeyLists.{some-head}
-use Rattle.merge_model.proofs.KeyLookUps.{key-itself, key-test}
+use Rattle.merge_model.proofs.Entries.Downloads.{inside-held}
+use Rattle.merge_model.proofs.Lists.Finding.{all-more, all-weaker, letter-zip}
+use Rattle.merge_model.proofs.Failing.KeptFailing.{runs-keep}
+use Rattle.merge_model.proofs.Lists.KeyLists.{some-head}
+use Rattle.merge_model.proofs.Lists.KeyLookUps.{key-itself, key-test}
 use Rattle.merge_model.proofs.Lists.{OfSome, all-both, all-filter, all-filter_map, all-unit}
 use Rattle.merge_laws.specs.Knowledge.{Knows, is_made, same_dot}
 use Rattle.merge_laws.specs.KnownMakers.{KnowsMaker}

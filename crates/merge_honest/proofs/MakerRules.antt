@@ -19,19 +19,19 @@ use Rattle.merge_batch.specs.Uploads.{has_maker, maker_is_heard_of}
 use Rattle.merge_batch.specs.declared.request.Request.TheVariants as request
 use Rattle.merge_batch.specs.declared.request.Upload.{Upload}
 use Rattle.merge_batch.specs.declared.request.UploadItem.{UploadItem}
-use Rattle.merge_model.specs.Acts.{key_of_item}
-use Rattle.merge_model.specs.ByNumbers.{received_by_number, received_number_by_number}
-use Rattle.merge_model.specs.Faults.{judged_state}
+use Rattle.merge_model.specs.Publisher.Acts.{key_of_item}
+use Rattle.merge_model.specs.Judge.ByNumbers.{received_by_number, received_number_by_number}
+use Rattle.merge_model.specs.World.Faults.{judged_state}
 use Rattle.merge_model.specs.History.{History, MadeChange, Past, has, is_accepted, is_done, made_at, past_in, pasts_with}
-use Rattle.merge_model.specs.Keys.{at_number, same_key}
-use Rattle.merge_model.specs.Model.{Model}
+use Rattle.merge_model.specs.Tables.Keys.{at_number, same_key}
+use Rattle.merge_model.specs.History.Model.{Model}
 use Rattle.merge_model.specs.Tables.{PublisherTables}
 use Rattle.merge_model.specs.declared.letter.Letter.{Letter}
 use Rattle.merge_model.specs.declared.letter.Message.TheVariants.{Asks}
-use Rattle.merge_model.proofs.Finding.{letter-zip}
-use Rattle.merge_model.proofs.KeyLookUps.{keys-same}
+use Rattle.merge_model.proofs.Lists.Finding.{letter-zip}
+use Rattle.merge_model.proofs.Lists.KeyLookUps.{keys-same}
 use Rattle.merge_model.proofs.Lists.{all-both, all-three}
-use Rattle.merge_model.proofs.Tests.{numbers-same}
+use Rattle.merge_model.proofs.Lists.Tests.{numbers-same}
 use Rattle.merge_laws.specs.Effects.{history_judge}
 use Rattle.merge_laws.specs.Knowledge.{changes_of, is_made, same_dot}
 use Rattle.merge_laws.specs.KnownMakers.{KnowsMaker}

@@ -21,9 +21,9 @@ use Rattle.merge_batch.specs.Makers.{maker_of}
 use Rattle.merge_batch.proofs.Makers.{maker_of-made}
 use Rattle.merge_model.specs.Failing.{Slips}
 use Rattle.merge_model.specs.History.{History, Past, has}
-use Rattle.merge_model.specs.Model.{Model}
-use Rattle.merge_model.specs.Pasts.{decided_dots, past_after, past_by}
-use Rattle.merge_model.specs.Runs.{model_behind}
+use Rattle.merge_model.specs.History.Model.{Model}
+use Rattle.merge_model.specs.History.Pasts.{decided_dots, past_after, past_by}
+use Rattle.merge_model.specs.Failing.Runs.{model_behind}
 use Rattle.merge_model.specs.World.{Saying, World}
 use Rattle.merge_model.specs.declared.event.Event.{Event}
 use Rattle.merge_laws.specs.LineagesStand.{EveryVersion}

@@ -21,17 +21,17 @@ use Rattle.merge_batch.specs.declared.request.Upload.{Upload}
 use Rattle.merge_batch.specs.declared.request.UploadItem.{UploadItem}
 use Rattle.merge_batch.specs.declared.rules.BrokenRule.{BrokenRule}
 use Rattle.merge_batch.proofs.Ascending.{sites_ascend-ascending}
-use Rattle.merge_model.specs.ByHistory.{received_by_done, received_number_by_done}
-use Rattle.merge_model.specs.ByNumbers.{received_by_number}
-use Rattle.merge_model.specs.Faults.{join_fault, judged_state}
+use Rattle.merge_model.specs.Judge.ByHistory.{received_by_done, received_number_by_done}
+use Rattle.merge_model.specs.Judge.ByNumbers.{received_by_number}
+use Rattle.merge_model.specs.World.Faults.{join_fault, judged_state}
 use Rattle.merge_model.specs.History.{History, made_at}
-use Rattle.merge_model.specs.Keys.{at_number}
-use Rattle.merge_model.specs.Model.{Model}
+use Rattle.merge_model.specs.Tables.Keys.{at_number}
+use Rattle.merge_model.specs.History.Model.{Model}
 use Rattle.merge_model.specs.Subscriber.{sub_last_closed}
 use Rattle.merge_model.specs.Tables.{PublisherTables, SubscriberTables}
 use Rattle.merge_model.specs.declared.letter.Letter.{Letter}
 use Rattle.merge_model.specs.declared.letter.Message.TheVariants.{Asks}
-use Rattle.merge_model.proofs.Finding.{all-weaker, found-named, pool-at}
+use Rattle.merge_model.proofs.Lists.Finding.{all-weaker, found-named, pool-at}
 use Rattle.merge_model.proofs.Lists.{all-three, all-unit}
 use Rattle.merge_laws.specs.Effects.{history_judge}
 use Rattle.merge_laws.specs.Knowledge.{changes_of}

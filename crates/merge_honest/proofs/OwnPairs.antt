@@ -30,27 +30,27 @@ use Rattle.merge_batch.specs.declared.request.Outstanding.TheVariants as ask
 use Rattle.merge_batch.specs.declared.request.Request.TheVariants as request
 use Rattle.merge_batch.specs.declared.request.Upload.{Upload}
 use Rattle.merge_batch.specs.declared.request.UploadItem.{UploadItem}
-use Rattle.merge_model.specs.ByHistory.{by_made, changed_between_by_made}
-use Rattle.merge_model.specs.ByNumbers.{changed_between_by_rows, last_between}
-use Rattle.merge_model.specs.Changes.{key_of, version_after}
+use Rattle.merge_model.specs.Judge.ByHistory.{by_made, changed_between_by_made}
+use Rattle.merge_model.specs.Judge.ByNumbers.{changed_between_by_rows, last_between}
+use Rattle.merge_model.specs.Tables.Changes.{key_of, version_after}
 use Rattle.merge_model.specs.Failing.{Slips}
 use Rattle.merge_model.specs.History.{History}
 use Rattle.merge_model.specs.Judge.{SubscriberJudge}
-use Rattle.merge_model.specs.Keys.{drop_row, put_number, put_row, row_at}
+use Rattle.merge_model.specs.Tables.Keys.{drop_row, put_number, put_row, row_at}
 use Rattle.merge_model.specs.Laws.{AreSubSorted}
-use Rattle.merge_model.specs.Reinit.{reinitialised}
-use Rattle.merge_model.specs.Runs.{model_behind}
-use Rattle.merge_model.specs.Sending.{upload_end, upload_item, upload_sent, with_message}
+use Rattle.merge_model.specs.Subscriber.Reinit.{reinitialised}
+use Rattle.merge_model.specs.Failing.Runs.{model_behind}
+use Rattle.merge_model.specs.Subscriber.Sending.{upload_end, upload_item, upload_sent, with_message}
 use Rattle.merge_model.specs.Subscriber.{generations_at, sub_at_moment, sub_closed, sub_last_closed, sub_made_locally, sub_next_dot, sub_version_at, with_open, with_version_if}
 use Rattle.merge_model.specs.Tables.{SubscriberTables}
-use Rattle.merge_model.specs.Taking.{key_of_download, row_above, taken, with_item, with_order}
+use Rattle.merge_model.specs.Subscriber.Taking.{key_of_download, row_above, taken, with_item, with_order}
 use Rattle.merge_model.specs.World.{Saying, World, empty_world, subscriber_at}
 use Rattle.merge_model.specs.declared.event.Event.{Event}
 use Rattle.merge_model.specs.declared.letter.Letter.{Letter}
 use Rattle.merge_model.specs.declared.letter.Message.{Message}
 use Rattle.merge_model.specs.declared.letter.Message.TheVariants.{Asks, Replies}
-use Rattle.merge_model.proofs.EntryLists.{all-put}
-use Rattle.merge_model.proofs.Finding.{all-more, found-named}
+use Rattle.merge_model.proofs.Entries.EntryLists.{all-put}
+use Rattle.merge_model.proofs.Lists.Finding.{all-more, found-named}
 use Rattle.merge_model.proofs.Lists.{OfSome, all-filter_map, all-map}
 use Rattle.merge_laws.proofs.Changed.{gens_of, rows-changed}
 use Rattle.merge_laws.proofs.Ground.{Ground, grounded-always}

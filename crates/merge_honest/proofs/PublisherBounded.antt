@@ -25,26 +25,26 @@ use Rattle.merge_batch.specs.declared.refusal.Refusal.TheVariants.{Gap, TooManyR
 use Rattle.merge_batch.specs.declared.reply.Uploaded.{Uploaded}
 use Rattle.merge_batch.specs.declared.request.Download.{Download}
 use Rattle.merge_batch.specs.declared.request.Upload.{Upload}
-use Rattle.merge_model.specs.Acts.{Act, acts_of}
-use Rattle.merge_model.specs.Changes.{article_of, change_refusal, key_of, long_row, long_value, no_row, sets_identity, settings_of, too_many_rows, version_after, wrong_type}
-use Rattle.merge_model.specs.Entries.{Changing, changed_by}
-use Rattle.merge_model.specs.Faults.{upload_fault}
+use Rattle.merge_model.specs.Publisher.Acts.{Act, acts_of}
+use Rattle.merge_model.specs.Tables.Changes.{article_of, change_refusal, key_of, long_row, long_value, no_row, sets_identity, settings_of, too_many_rows, version_after, wrong_type}
+use Rattle.merge_model.specs.Publisher.Entries.{Changing, changed_by}
+use Rattle.merge_model.specs.World.Faults.{upload_fault}
 use Rattle.merge_model.specs.Judge.{PublisherJudge}
-use Rattle.merge_model.specs.Keys.{row_at}
-use Rattle.merge_model.specs.Publications.{identity_column, types_at}
+use Rattle.merge_model.specs.Tables.Keys.{row_at}
+use Rattle.merge_model.specs.Tables.Publications.{identity_column, types_at}
 use Rattle.merge_model.specs.Publisher.{at_moment, closed, counters, last_closed, site_refusal}
-use Rattle.merge_model.specs.PublisherDownload.{asked, download_refusal, reply_to}
-use Rattle.merge_model.specs.PublisherLocal.{Drawn, changing_locally, drawn, local_refusal, made_locally, next_dot, version_at, with_draw}
-use Rattle.merge_model.specs.PublisherPurge.{is_old_tombstone}
-use Rattle.merge_model.specs.PublisherUpload.{brings_news, changing_by, taken_in, too_many_new, upload_refusal, uploaded, with_acts}
-use Rattle.merge_model.specs.Refusals.{counter_end, refused_if, unless}
-use Rattle.merge_model.specs.Steps.{Action, step_by}
+use Rattle.merge_model.specs.Publisher.PublisherDownload.{asked, download_refusal, reply_to}
+use Rattle.merge_model.specs.Publisher.PublisherLocal.{Drawn, changing_locally, drawn, local_refusal, made_locally, next_dot, version_at, with_draw}
+use Rattle.merge_model.specs.Publisher.PublisherPurge.{is_old_tombstone}
+use Rattle.merge_model.specs.Publisher.PublisherUpload.{brings_news, changing_by, taken_in, too_many_new, upload_refusal, uploaded, with_acts}
+use Rattle.merge_model.specs.Tables.Refusals.{counter_end, refused_if, unless}
+use Rattle.merge_model.specs.World.Steps.{Action, step_by}
 use Rattle.merge_model.specs.Tables.{PublisherTables}
 use Rattle.merge_model.specs.World.{Judges, Saying, World}
-use Rattle.merge_model.proofs.PublisherSteps.{step-holds}
+use Rattle.merge_model.proofs.Publishers.PublisherSteps.{step-holds}
 use Rattle.merge_model.proofs.Publishers.{join-ok, ranges-ok}
-use Rattle.merge_model.proofs.Refusals.{first-none}
-use Rattle.merge_model.proofs.Sorted.{key_total}
+use Rattle.merge_model.proofs.Runs.Refusals.{first-none}
+use Rattle.merge_model.proofs.Publishers.Sorted.{key_total}
 use Rattle.merge_honest.specs.Bounded.{PublisherIsBounded}
 use Rattle.merge_honest.proofs.Bounded.{closed-unfilled, closed-up, publisher-low}
 use Rattle.merge_honest.proofs.RowCounts.{ascends-after, closings-few, is_fresh, rows-after}

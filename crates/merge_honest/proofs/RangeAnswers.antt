@@ -28,8 +28,8 @@ use Rattle.merge_batch.specs.Replies.{granted_article}
 use Rattle.merge_batch.specs.Search.{are_distinct}
 use Rattle.merge_batch.specs.declared.reply.RangeGrant.{RangeGrant}
 use Rattle.merge_batch.specs.declared.request.Want.{Want}
-use Rattle.merge_model.specs.PublisherRanges.{ask_by, grant_of, granted_by}
-use Rattle.merge_model.proofs.Finding.{some_same}
+use Rattle.merge_model.specs.Publisher.PublisherRanges.{ask_by, grant_of, granted_by}
+use Rattle.merge_model.proofs.Lists.Finding.{some_same}
 
 -- The counts of grants only rise.
 

@@ -10,9 +10,9 @@ use Rattle.merge_batch.specs.declared.request.RangeAsk.{RangeAsk}
 use Rattle.merge_batch.specs.declared.request.Request.TheVariants as request
 use Rattle.merge_batch.proofs.Values.{slice_get-append_past}
 use Rattle.merge_model.specs.History.{History}
-use Rattle.merge_model.specs.Model.{Model, model_step}
-use Rattle.merge_model.specs.PublisherRanges.{plans, ranged, with_grants}
-use Rattle.merge_model.specs.Steps.{Action, post}
+use Rattle.merge_model.specs.History.Model.{Model, model_step}
+use Rattle.merge_model.specs.Publisher.PublisherRanges.{plans, ranged, with_grants}
+use Rattle.merge_model.specs.World.Steps.{Action, post}
 use Rattle.merge_model.specs.World.{Saying, World, with_publisher, with_subscriber}
 use Rattle.merge_model.specs.declared.letter.Letter.{Letter}
 use Rattle.merge_model.specs.declared.letter.Message.{Message}

@@ -19,22 +19,22 @@ use Rattle.merge_batch.specs.declared.reply.Reply.TheVariants as reply
 use Rattle.merge_batch.specs.declared.request.Request.{Request}
 use Rattle.merge_batch.specs.declared.request.Request.TheVariants as request
 use Rattle.merge_batch.specs.declared.request.Upload.{Upload}
-use Rattle.merge_model.specs.Acts.{Act, acts_of}
-use Rattle.merge_model.specs.Faults.{join_fault, ranges_fault, upload_fault}
+use Rattle.merge_model.specs.Publisher.Acts.{Act, acts_of}
+use Rattle.merge_model.specs.World.Faults.{join_fault, ranges_fault, upload_fault}
 use Rattle.merge_model.specs.Judge.{PublisherJudge}
-use Rattle.merge_model.specs.Keys.{at_number}
-use Rattle.merge_model.specs.Model.{Model}
+use Rattle.merge_model.specs.Tables.Keys.{at_number}
+use Rattle.merge_model.specs.History.Model.{Model}
 use Rattle.merge_model.specs.Publisher.{counters, last_closed, later, site_refusal, state_of, state_refusal, unknown_site}
-use Rattle.merge_model.specs.PublisherUpload.{too_many_new}
-use Rattle.merge_model.specs.Refusals.{counter_end, unless}
-use Rattle.merge_model.specs.Steps.{answered, deliver_letter, deliver_request, unless_refused}
+use Rattle.merge_model.specs.Publisher.PublisherUpload.{too_many_new}
+use Rattle.merge_model.specs.Tables.Refusals.{counter_end, unless}
+use Rattle.merge_model.specs.World.Steps.{answered, deliver_letter, deliver_request, unless_refused}
 use Rattle.merge_model.specs.Tables.{PublisherTables}
 use Rattle.merge_model.specs.World.{Saying, World, letter_at}
-use Rattle.merge_model.specs.ByHistory.{by_history}
+use Rattle.merge_model.specs.Judge.ByHistory.{by_history}
 use Rattle.merge_model.specs.declared.letter.Letter.{Letter}
 use Rattle.merge_model.specs.declared.outcome.Outcome.{Outcome}
 use Rattle.merge_model.specs.declared.outcome.Outcome.TheVariants.{NoLetter, Posted, Refuses}
-use Rattle.merge_model.proofs.Finding.{some_same}
+use Rattle.merge_model.proofs.Lists.Finding.{some_same}
 use Rattle.merge_laws.specs.ActsOnce.{delivered}
 use Rattle.merge_laws.specs.Effects.{history_judge}
 use Rattle.merge_honest.specs.Delivered.{IsRequest, NoneIsRefusedFor, refusal_of}

@@ -9,15 +9,15 @@ use Rattle.merge_batch.specs.declared.refusal.Refusal.TheVariants.{UnknownSite}
 use Rattle.merge_batch.specs.declared.reply.Reply.{Reply}
 use Rattle.merge_batch.specs.declared.reply.Reply.TheVariants as reply
 use Rattle.merge_batch.specs.declared.request.Outstanding.{Outstanding}
-use Rattle.merge_model.specs.ByHistory.{by_history, by_made}
-use Rattle.merge_model.specs.Faults.{reply_fault}
+use Rattle.merge_model.specs.Judge.ByHistory.{by_history, by_made}
+use Rattle.merge_model.specs.World.Faults.{reply_fault}
 use Rattle.merge_model.specs.Judge.{SubscriberJudge}
-use Rattle.merge_model.specs.Model.{Model}
-use Rattle.merge_model.specs.Refusals.{unless}
-use Rattle.merge_model.specs.Runs.{model_behind}
-use Rattle.merge_model.specs.Steps.{deliver_letter, deliver_reply, unless_refused}
+use Rattle.merge_model.specs.History.Model.{Model}
+use Rattle.merge_model.specs.Tables.Refusals.{unless}
+use Rattle.merge_model.specs.Failing.Runs.{model_behind}
+use Rattle.merge_model.specs.World.Steps.{deliver_letter, deliver_reply, unless_refused}
 use Rattle.merge_model.specs.Tables.{SubscriberTables}
-use Rattle.merge_model.specs.Taking.{met_by, seq_of, take_reply, taken}
+use Rattle.merge_model.specs.Subscriber.Taking.{met_by, seq_of, take_reply, taken}
 use Rattle.merge_model.specs.World.{Saying, World, subscriber_at, with_subscriber}
 use Rattle.merge_model.specs.declared.letter.Letter.{Letter}
 use Rattle.merge_model.specs.declared.letter.Message.TheVariants.{Replies}

@@ -14,20 +14,20 @@ use Rattle.merge_batch.specs.declared.reply.Reply.TheVariants as reply
 use Rattle.merge_batch.specs.declared.reply.Uploaded.{Uploaded}
 use Rattle.merge_batch.specs.declared.request.Outstanding.{Outstanding}
 use Rattle.merge_batch.specs.declared.request.Outstanding.TheVariants as ask
-use Rattle.merge_model.specs.Faults.{heard_by, reply_fault, standing_of}
-use Rattle.merge_model.specs.Model.{Model}
-use Rattle.merge_model.specs.Runs.{model_behind}
+use Rattle.merge_model.specs.World.Faults.{heard_by, reply_fault, standing_of}
+use Rattle.merge_model.specs.History.Model.{Model}
+use Rattle.merge_model.specs.Failing.Runs.{model_behind}
 use Rattle.merge_model.specs.Subscriber.{sub_last_closed}
 use Rattle.merge_model.specs.Tables.{SubscriberTables}
-use Rattle.merge_model.specs.Taking.{seq_of, taken}
+use Rattle.merge_model.specs.Subscriber.Taking.{seq_of, taken}
 use Rattle.merge_model.specs.World.{subscriber_at}
 use Rattle.merge_model.specs.declared.letter.Letter.{Letter}
 use Rattle.merge_model.specs.declared.letter.Message.TheVariants.{Replies}
-use Rattle.merge_model.proofs.Finding.{pool-at}
+use Rattle.merge_model.proofs.Lists.Finding.{pool-at}
 use Rattle.merge_model.proofs.Lists.{all-both}
 use Rattle.merge_laws.specs.Behind.{TellsActed}
 use Rattle.merge_laws.specs.Laws.{OfEveryValidRun}
-use Rattle.merge_model.specs.ByNumbers.{received_by_number}
+use Rattle.merge_model.specs.Judge.ByNumbers.{received_by_number}
 use Rattle.merge_honest.specs.Answered.{HasRanges, HasValue, IsNextOf, IsOutstanding, LetterAnswers, MessageAnswers, TakesAll}
 use Rattle.merge_honest.specs.Replied.{IsReply, RepliesAnswer, answers}
 use Rattle.merge_honest.proofs.KnownItems.{all-true}

@@ -9,16 +9,16 @@ use Rattle.merge_schema.specs.declared.publication.Publication.{Publication}
 use Rattle.merge_batch.specs.declared.request.Download.{Download}
 use Rattle.merge_batch.specs.declared.request.Join.{Join}
 use Rattle.merge_batch.specs.declared.request.Upload.{Upload}
-use Rattle.merge_model.specs.Acts.{Act}
-use Rattle.merge_model.specs.ByNumbers.{received_by_number}
+use Rattle.merge_model.specs.Publisher.Acts.{Act}
+use Rattle.merge_model.specs.Judge.ByNumbers.{received_by_number}
 use Rattle.merge_model.specs.Judge.{PublisherJudge}
-use Rattle.merge_model.specs.Keys.{at_number, put_number}
+use Rattle.merge_model.specs.Tables.Keys.{at_number, put_number}
 use Rattle.merge_model.specs.Publisher.{last_closed, no_state, state_of}
-use Rattle.merge_model.specs.PublisherDownload.{asked, synced}
-use Rattle.merge_model.specs.PublisherJoin.{join_acts, join_taken, joined_state}
-use Rattle.merge_model.specs.PublisherUpload.{state_seeing, taken_in, with_taken}
+use Rattle.merge_model.specs.Publisher.PublisherDownload.{asked, synced}
+use Rattle.merge_model.specs.Publisher.PublisherJoin.{join_acts, join_taken, joined_state}
+use Rattle.merge_model.specs.Publisher.PublisherUpload.{state_seeing, taken_in, with_taken}
 use Rattle.merge_model.specs.Tables.{PublisherTables}
-use Rattle.merge_model.proofs.Finding.{at_put, at_put_same}
+use Rattle.merge_model.proofs.Lists.Finding.{at_put, at_put_same}
 use Rattle.merge_laws.proofs.Publishing.{asked-same, joined-received, same-sites, seeing-some, sites_taken, upload-received}
 use Rattle.merge_laws.proofs.Subscribing.{filling-rises, number-decided, same_number}
 use Rattle.merge_honest.specs.SentWell.{IsRemembered}

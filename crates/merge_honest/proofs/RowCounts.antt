@@ -19,15 +19,15 @@ use Rattle.merge_units.specs.declared.site_row.PublisherRow.{PublisherRow}
 use Rattle.merge_units.specs.declared.version.Version.{Version}
 use Rattle.merge_schema.specs.declared.publication.Publication.{Publication}
 use Rattle.merge_schema.specs.declared.publication.Subscription.{Subscription}
-use Rattle.merge_model.specs.Entries as entry
-use Rattle.merge_model.specs.Entries.{Changing, Entries, Parts, Touched, changed_by, changing_entries, entry_count, move_at, parts_of, partition_keys, rows_after, touched_by, with_rows}
+use Rattle.merge_model.specs.Publisher.Entries as entry
+use Rattle.merge_model.specs.Publisher.Entries.{Changing, Entries, Parts, Touched, changed_by, changing_entries, entry_count, move_at, parts_of, partition_keys, rows_after, touched_by, with_rows}
 use Rattle.merge_model.specs.Judge.{PublisherJudge}
-use Rattle.merge_model.specs.Keys.{put_number, put_row, row_at, same_key}
-use Rattle.merge_model.specs.Publications.{by_site}
+use Rattle.merge_model.specs.Tables.Keys.{put_number, put_row, row_at, same_key}
+use Rattle.merge_model.specs.Tables.Publications.{by_site}
 use Rattle.merge_model.specs.Publisher.{last_closed}
 use Rattle.merge_model.specs.Tables.{PublisherTables}
-use Rattle.merge_model.proofs.KeyLookUps.{row-put}
-use Rattle.merge_model.proofs.Sorted.{key_total}
+use Rattle.merge_model.proofs.Lists.KeyLookUps.{row-put}
+use Rattle.merge_model.proofs.Publishers.Sorted.{key_total}
 use Rattle.merge_honest.specs.Bounded.{closing_limit}
 use Rattle.merge_honest.proofs.EntriesFill.{all-counted, step_moves}
 

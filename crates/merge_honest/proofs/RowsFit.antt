@@ -53,15 +53,15 @@ use Rattle.merge_batch.specs.Uploads.{whole_number}
 use Rattle.merge_batch.specs.declared.refusal.Refusal.{Refusal}
 use Rattle.merge_batch.specs.declared.refusal.Refusal.TheVariants.{IdentityColumn, RowTooLong}
 use Rattle.merge_batch.proofs.Makers.{maker_of-made}
-use Rattle.merge_model.specs.Acts.{Met, meeting_of}
+use Rattle.merge_model.specs.Publisher.Acts.{Met, meeting_of}
 use Rattle.merge_model.specs.History.{MadeChange, Past, has}
 use Rattle.merge_model.specs.Judge.{PublisherJudge}
-use Rattle.merge_model.specs.Noting
-use Rattle.merge_model.specs.Pasts.{past_after}
-use Rattle.merge_model.specs.Publications.{resolver_at, resolver_column}
+use Rattle.merge_model.specs.History.Noting
+use Rattle.merge_model.specs.History.Pasts.{past_after}
+use Rattle.merge_model.specs.Tables.Publications.{resolver_at, resolver_column}
 use Rattle.merge_model.specs.Tables.{PublisherTables}
-use Rattle.merge_model.proofs.Finding.{some_same}
-use Rattle.merge_model.proofs.Refusals.{first-none}
+use Rattle.merge_model.proofs.Lists.Finding.{some_same}
+use Rattle.merge_model.proofs.Runs.Refusals.{first-none}
 use Rattle.merge_laws.proofs.AccountElements.{all-in, each-in}
 use Rattle.merge_laws.proofs.Arrivals.{not-refused}
 use Rattle.merge_laws.proofs.Telling.{no-refusal}

@@ -16,13 +16,13 @@ use Rattle.merge_batch.specs.LocalChanges.{article_of}
 use Rattle.merge_batch.specs.declared.refusal.Refusal.{Refusal}
 use Rattle.merge_batch.specs.declared.refusal.Refusal.TheVariants.{UnknownName, UnknownSite}
 use Rattle.merge_batch.specs.declared.reply.Downloaded.{Downloaded}
-use Rattle.merge_model.specs.Events.{acting, after, changing, happens, is_site, looking, syncing, where_site, where_subscriber}
+use Rattle.merge_model.specs.World.Events.{acting, after, changing, happens, is_site, looking, syncing, where_site, where_subscriber}
 use Rattle.merge_model.specs.Failing.{Faulty, Slip, Slips, acting_with, failing, fails, is_allowed, questions_by, slip_if}
 use Rattle.merge_model.specs.Laws.{is_report}
-use Rattle.merge_model.specs.Naming.{and_then, article_by, delete_by, insert_by, place_from, same_name, settings_by, update_by}
-use Rattle.merge_model.specs.Publications.{columns_at}
-use Rattle.merge_model.specs.Session.{Session, Stepping, after_download, all_downloads, all_ranges, all_uploads, answered_as, arrived, as_it_is, ask, asking_ranges, downloaded_in, downloading, exchange, has_grant, is_joined_in, joining, last_message, range_asks, session, then_deliver, unless_stopped, unsent_generations, uploading, with_answer, with_download, with_upload}
-use Rattle.merge_model.specs.Steps.{Action, CloseAt, Deliver, Forget, Look, Make, MakeAnew, Pass, Send, SendDownload, SendJoin, SendRanges, SendUpload, Sending}
+use Rattle.merge_model.specs.World.Naming.{and_then, article_by, delete_by, insert_by, place_from, same_name, settings_by, update_by}
+use Rattle.merge_model.specs.Tables.Publications.{columns_at}
+use Rattle.merge_model.specs.World.Session.{Session, Stepping, after_download, all_downloads, all_ranges, all_uploads, answered_as, arrived, as_it_is, ask, asking_ranges, downloaded_in, downloading, exchange, has_grant, is_joined_in, joining, last_message, range_asks, session, then_deliver, unless_stopped, unsent_generations, uploading, with_answer, with_download, with_upload}
+use Rattle.merge_model.specs.World.Steps.{Action, CloseAt, Deliver, Forget, Look, Make, MakeAnew, Pass, Send, SendDownload, SendJoin, SendRanges, SendUpload, Sending}
 use Rattle.merge_model.specs.declared.answer.Answer.{Answer}
 use Rattle.merge_model.specs.declared.answer.Answer.TheVariants.{Refused}
 use Rattle.merge_model.specs.declared.event.Event.{Event}
@@ -30,7 +30,7 @@ use Rattle.merge_model.specs.declared.event.Event.TheVariants as event
 use Rattle.merge_model.specs.declared.event.NamedValue.{NamedValue}
 use Rattle.merge_model.specs.declared.outcome.Outcome.{Outcome}
 use Rattle.merge_model.specs.declared.outcome.Outcome.TheVariants.{Posted, Refuses, Took}
-use Rattle.merge_model.proofs.Reports.{looking-leaves, report-looks}
+use Rattle.merge_model.proofs.Runs.Reports.{looking-leaves, report-looks}
 
 -- a step that an event can say
 abbrev pub IsSaid : Publication → Action → Type 0

@@ -19,19 +19,19 @@ use Rattle.merge_units.specs.declared.site_row.PublisherRow.{PublisherRow}
 use Rattle.merge_schema.specs.declared.publication.Publication.{Publication}
 use Rattle.merge_batch.specs.declared.refusal.Refusal.TheVariants.{WrongWatermark}
 use Rattle.merge_batch.specs.declared.request.Download.{Download}
-use Rattle.merge_model.specs.Entries as entry
-use Rattle.merge_model.specs.ByHistory.{by_past}
+use Rattle.merge_model.specs.Publisher.Entries as entry
+use Rattle.merge_model.specs.Judge.ByHistory.{by_past}
 use Rattle.merge_model.specs.History.{History, Past}
 use Rattle.merge_model.specs.Judge.{PublisherJudge}
-use Rattle.merge_model.specs.Keys.{has_key, put_row}
+use Rattle.merge_model.specs.Tables.Keys.{has_key, put_row}
 use Rattle.merge_model.specs.Publisher.{last_closed, site_refusal}
-use Rattle.merge_model.specs.PublisherDownload.{TouchedRow, asked, batch_end, download_refusal, inside_keys, is_between, item_of, reply_to, touched_row, touched_rows}
-use Rattle.merge_model.specs.Refusals.{refused_if}
+use Rattle.merge_model.specs.Publisher.PublisherDownload.{TouchedRow, asked, batch_end, download_refusal, inside_keys, is_between, item_of, reply_to, touched_row, touched_rows}
+use Rattle.merge_model.specs.Tables.Refusals.{refused_if}
 use Rattle.merge_model.specs.Tables.{PublisherTables}
-use Rattle.merge_model.specs.Taking.{key_of_download}
+use Rattle.merge_model.specs.Subscriber.Taking.{key_of_download}
 use Rattle.merge_model.specs.World.{World}
-use Rattle.merge_model.proofs.Refusals.{first-none}
-use Rattle.merge_model.proofs.Sorted.{key_total}
+use Rattle.merge_model.proofs.Runs.Refusals.{first-none}
+use Rattle.merge_model.proofs.Publishers.Sorted.{key_total}
 use Rattle.merge_laws.proofs.Sendings.{batch-begin, batch-bound}
 use Rattle.merge_laws.proofs.Subscribing.{filling-rises}
 use Rattle.merge_laws.proofs.Walking.{here}

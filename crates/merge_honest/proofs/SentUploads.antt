@@ -14,17 +14,17 @@ use Rattle.merge_types.specs.declared.row_key.RowKey.{RowKey as Key}
 use Rattle.merge_units.specs.declared.version.Version.{Version}
 use Rattle.merge_batch.specs.declared.request.Upload.{Upload}
 use Rattle.merge_batch.specs.declared.request.UploadItem.{UploadItem}
-use Rattle.merge_model.specs.Acts.{key_of_item}
-use Rattle.merge_model.specs.ByHistory.{by_made, changed_between_by_made, is_between_made, with_change_of}
+use Rattle.merge_model.specs.Publisher.Acts.{key_of_item}
+use Rattle.merge_model.specs.Judge.ByHistory.{by_made, changed_between_by_made, is_between_made, with_change_of}
 use Rattle.merge_model.specs.History.{History, MadeChange, made_at}
-use Rattle.merge_model.specs.Keys.{put_row, row_at}
-use Rattle.merge_model.specs.Sending.{upload_end, upload_item, upload_sent}
+use Rattle.merge_model.specs.Tables.Keys.{put_row, row_at}
+use Rattle.merge_model.specs.Subscriber.Sending.{upload_end, upload_item, upload_sent}
 use Rattle.merge_model.specs.Subscriber.{sub_last_closed, sub_version_at}
 use Rattle.merge_model.specs.Tables.{SubscriberTables}
-use Rattle.merge_model.proofs.EntryLists.{all-put}
-use Rattle.merge_model.proofs.KeyLookUps.{keys-tied}
+use Rattle.merge_model.proofs.Entries.EntryLists.{all-put}
+use Rattle.merge_model.proofs.Lists.KeyLookUps.{keys-tied}
 use Rattle.merge_model.proofs.Lists.{OfSome, all-filter_map, all-kept, all-of}
-use Rattle.merge_model.proofs.Sorted.{key_total}
+use Rattle.merge_model.proofs.Publishers.Sorted.{key_total}
 use Rattle.merge_honest.specs.SentWell.{IsMadeWell, StandsIn}
 use Rattle.merge_honest.proofs.Batches.{batch-holds}
 

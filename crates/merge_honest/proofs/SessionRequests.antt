@@ -27,21 +27,21 @@ use Rattle.merge_batch.specs.declared.request.RangeAsk.{RangeAsk}
 use Rattle.merge_batch.specs.declared.request.Request.{Request}
 use Rattle.merge_batch.specs.declared.request.Request.TheVariants as request
 use Rattle.merge_batch.specs.declared.request.Upload.{Upload}
-use Rattle.merge_model.specs.Acts.{Act, acts_of}
-use Rattle.merge_model.specs.ByHistory.{by_history, by_made}
+use Rattle.merge_model.specs.Publisher.Acts.{Act, acts_of}
+use Rattle.merge_model.specs.Judge.ByHistory.{by_history, by_made}
 use Rattle.merge_model.specs.History.{History}
 use Rattle.merge_model.specs.Judge.{PublisherJudge, SubscriberJudge}
-use Rattle.merge_model.specs.Keys.{at_number}
-use Rattle.merge_model.specs.Model.{Model, did_something, model_step, noted, noted_if, noted_letter, with_posted}
-use Rattle.merge_model.specs.Promises.{is_expired_at}
+use Rattle.merge_model.specs.Tables.Keys.{at_number}
+use Rattle.merge_model.specs.History.Model.{Model, did_something, model_step, noted, noted_if, noted_letter, with_posted}
+use Rattle.merge_model.specs.Laws.Promises.{is_expired_at}
 use Rattle.merge_model.specs.Publisher.{counters, later, no_state, state_of}
-use Rattle.merge_model.specs.PublisherDownload.{asked, download_refusal, reply_to}
-use Rattle.merge_model.specs.PublisherJoin.{join_refusal, joined}
-use Rattle.merge_model.specs.PublisherRanges.{plans, ranged, ranges_refusal, with_grants}
-use Rattle.merge_model.specs.PublisherUpload.{is_new, too_many_new, upload_refusal, uploaded}
-use Rattle.merge_model.specs.Refusals.{counter_end, first_refusal, refused_if, unless}
-use Rattle.merge_model.specs.Sending.{join_made, join_of, ranges_made, sending_refusal, unsent_rows, upload_made, upload_sent, want_of, with_message}
-use Rattle.merge_model.specs.Steps.{Deliver, Send, SendDownload, SendJoin, SendRanges, SendUpload, Sending, deliver_letter, deliver_request, kept_decisions, post, posted, send_from, step_by, unless_refused, upload_questions}
+use Rattle.merge_model.specs.Publisher.PublisherDownload.{asked, download_refusal, reply_to}
+use Rattle.merge_model.specs.Publisher.PublisherJoin.{join_refusal, joined}
+use Rattle.merge_model.specs.Publisher.PublisherRanges.{plans, ranged, ranges_refusal, with_grants}
+use Rattle.merge_model.specs.Publisher.PublisherUpload.{is_new, too_many_new, upload_refusal, uploaded}
+use Rattle.merge_model.specs.Tables.Refusals.{counter_end, first_refusal, refused_if, unless}
+use Rattle.merge_model.specs.Subscriber.Sending.{join_made, join_of, ranges_made, sending_refusal, unsent_rows, upload_made, upload_sent, want_of, with_message}
+use Rattle.merge_model.specs.World.Steps.{Deliver, Send, SendDownload, SendJoin, SendRanges, SendUpload, Sending, deliver_letter, deliver_request, kept_decisions, post, posted, send_from, step_by, unless_refused, upload_questions}
 use Rattle.merge_model.specs.Subscriber.{sub_at_moment, sub_closed, sub_counters}
 use Rattle.merge_model.specs.Tables.{PublisherTables, SubscriberTables}
 use Rattle.merge_model.specs.World.{Saying, World, letter_at, subscriber_at, with_publisher, with_subscriber}
@@ -50,7 +50,7 @@ use Rattle.merge_model.specs.declared.letter.Message.{Message}
 use Rattle.merge_model.specs.declared.letter.Message.TheVariants.{Asks, Replies}
 use Rattle.merge_model.specs.declared.outcome.Outcome.{Outcome}
 use Rattle.merge_model.specs.declared.outcome.Outcome.TheVariants.{NoLetter, Posted, Refuses}
-use Rattle.merge_model.proofs.Refused.{step_by-leaves}
+use Rattle.merge_model.proofs.Runs.Refused.{step_by-leaves}
 use Rattle.merge_laws.specs.Effects.{history_judge}
 use Rattle.merge_laws.proofs.SessionSteps.{After, post-step, posted_model, unless-step}
 use Rattle.merge_laws.proofs.SettledExpired.{expired_in}

@@ -20,25 +20,25 @@ use Rattle.merge_batch.specs.declared.request.Outstanding.TheVariants as ask
 use Rattle.merge_batch.specs.declared.request.Request.{Request}
 use Rattle.merge_batch.specs.declared.request.Request.TheVariants as request
 use Rattle.merge_batch.specs.declared.request.Upload.{Upload}
-use Rattle.merge_model.specs.PublisherRanges.{ranges}
-use Rattle.merge_model.specs.Taking.{take_reply}
+use Rattle.merge_model.specs.Publisher.PublisherRanges.{ranges}
+use Rattle.merge_model.specs.Subscriber.Taking.{take_reply}
 use Rattle.merge_batch.specs.declared.request.RangeAsk.{RangeAsk}
-use Rattle.merge_model.specs.Acts.{Act, acts_of}
-use Rattle.merge_model.specs.ByHistory.{by_history, by_made, by_past}
+use Rattle.merge_model.specs.Publisher.Acts.{Act, acts_of}
+use Rattle.merge_model.specs.Judge.ByHistory.{by_history, by_made, by_past}
 use Rattle.merge_model.specs.History.{History, pasts_with}
 use Rattle.merge_model.specs.Judge.{PublisherJudge, SubscriberJudge}
-use Rattle.merge_model.specs.Keys.{at_number, put_number}
-use Rattle.merge_model.specs.Model.{Model, model, model_step}
-use Rattle.merge_model.specs.Noting
+use Rattle.merge_model.specs.Tables.Keys.{at_number, put_number}
+use Rattle.merge_model.specs.History.Model.{Model, model, model_step}
+use Rattle.merge_model.specs.History.Noting
 use Rattle.merge_model.specs.Publisher.{at_moment, later, no_state, state_of}
-use Rattle.merge_model.specs.PublisherDownload.{asked, download, in_step, synced}
-use Rattle.merge_model.specs.PublisherJoin.{join, join_acts, join_refusal, join_taken, joined, joined_state}
-use Rattle.merge_model.specs.PublisherLocal.{Drawn, drawn, made_locally}
-use Rattle.merge_model.specs.PublisherUpload.{state_seeing, taken_in, upload}
-use Rattle.merge_model.specs.Refusals.{counter_end}
-use Rattle.merge_model.specs.Sending.{join_made, join_of, make_ask, make_join, make_ranges, make_upload, with_message}
-use Rattle.merge_model.specs.Session.{ask as asking}
-use Rattle.merge_model.specs.Steps.{Action, Deliver, Send, SendDownload, SendJoin, SendRanges, SendUpload, Sending, deliver_letter, deliver_reply, deliver_request, kept_decisions, post, posted, send_from, step_by, unless_refused, upload_questions}
+use Rattle.merge_model.specs.Publisher.PublisherDownload.{asked, download, in_step, synced}
+use Rattle.merge_model.specs.Publisher.PublisherJoin.{join, join_acts, join_refusal, join_taken, joined, joined_state}
+use Rattle.merge_model.specs.Publisher.PublisherLocal.{Drawn, drawn, made_locally}
+use Rattle.merge_model.specs.Publisher.PublisherUpload.{state_seeing, taken_in, upload}
+use Rattle.merge_model.specs.Tables.Refusals.{counter_end}
+use Rattle.merge_model.specs.Subscriber.Sending.{join_made, join_of, make_ask, make_join, make_ranges, make_upload, with_message}
+use Rattle.merge_model.specs.World.Session.{ask as asking}
+use Rattle.merge_model.specs.World.Steps.{Action, Deliver, Send, SendDownload, SendJoin, SendRanges, SendUpload, Sending, deliver_letter, deliver_reply, deliver_request, kept_decisions, post, posted, send_from, step_by, unless_refused, upload_questions}
 use Rattle.merge_model.specs.Subscriber.{sub_counters}
 use Rattle.merge_model.specs.Tables.{PublisherTables, SubscriberTables}
 use Rattle.merge_model.specs.World.{Judges, Saying, World, letter_at, subscriber_at, with_publisher, with_subscriber}
@@ -47,8 +47,8 @@ use Rattle.merge_model.specs.declared.letter.Message.{Message}
 use Rattle.merge_model.specs.declared.letter.Message.TheVariants.{Asks, Replies}
 use Rattle.merge_model.specs.declared.outcome.Outcome.{Outcome}
 use Rattle.merge_model.specs.declared.outcome.Outcome.TheVariants.{NoLetter, Refuses}
-use Rattle.merge_model.proofs.Finding.{at_put_other, at_put_same}
-use Rattle.merge_model.proofs.PublisherSteps.{step-holds}
+use Rattle.merge_model.proofs.Lists.Finding.{at_put_other, at_put_same}
+use Rattle.merge_model.proofs.Publishers.PublisherSteps.{step-holds}
 use Rattle.merge_model.proofs.Publishers.{close-ok, download-ok, join-ok, local-ok, ranges-ok, upload-ok}
 use Rattle.merge_laws.proofs.Ground.{Ground}
 use Rattle.merge_laws.proofs.PurgeSteps.{if-entry, taken_entry}

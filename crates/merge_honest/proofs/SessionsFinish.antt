@@ -7,14 +7,14 @@ use Rattle.merge_schema.specs.Valid.{IsValid}
 use Rattle.merge_schema.specs.declared.publication.Publication.{Publication}
 use Rattle.merge_batch.specs.declared.refusal.Refusal.{Refusal}
 use Rattle.merge_batch.specs.declared.reply.Downloaded.{Downloaded}
-use Rattle.merge_model.specs.Model.{Model, model, model_step}
-use Rattle.merge_model.specs.Runs.{model_behind}
-use Rattle.merge_model.specs.Session.{Session, after_download, all_downloads, all_ranges, all_uploads, answered_as, arrived, as_it_is, ask, asking_ranges, downloaded_in, downloading, exchange, has_grant, is_joined_in, joining, last_message, range_asks, session, then_deliver, unless_stopped, unsent_generations, uploading, with_answer, with_download, with_upload}
-use Rattle.merge_model.specs.Steps.{Deliver, Send, SendDownload, SendJoin, SendRanges, SendUpload, Sending}
+use Rattle.merge_model.specs.History.Model.{Model, model, model_step}
+use Rattle.merge_model.specs.Failing.Runs.{model_behind}
+use Rattle.merge_model.specs.World.Session.{Session, after_download, all_downloads, all_ranges, all_uploads, answered_as, arrived, as_it_is, ask, asking_ranges, downloaded_in, downloading, exchange, has_grant, is_joined_in, joining, last_message, range_asks, session, then_deliver, unless_stopped, unsent_generations, uploading, with_answer, with_download, with_upload}
+use Rattle.merge_model.specs.World.Steps.{Deliver, Send, SendDownload, SendJoin, SendRanges, SendUpload, Sending}
 use Rattle.merge_model.specs.Tables.{SubscriberTables}
 use Rattle.merge_model.specs.Publisher.{state_of}
 use Rattle.merge_model.specs.World.{Saying, World, subscriber_at}
-use Rattle.merge_model.specs.Keys.{at_number}
+use Rattle.merge_model.specs.Tables.Keys.{at_number}
 use Rattle.merge_model.specs.declared.outcome.Outcome.{Outcome}
 use Rattle.merge_model.specs.declared.outcome.Outcome.TheVariants.{NoPost, Posted, Refuses, Took}
 use Rattle.merge_laws.specs.Laws.{OfEveryValidRun}

@@ -11,11 +11,11 @@ use Rattle.merge_table.proofs.Room.{AreAbove}
 use Rattle.merge_types.specs.RowKeys.{key_cmp}
 use Rattle.merge_types.specs.declared.identifiers.SiteId.{SiteId}
 use Rattle.merge_types.specs.declared.row_key.RowKey.{RowKey as Key}
-use Rattle.merge_model.specs.ByHistory.{is_change_of, is_line_for, last_line, touch_by_line, touched_inside, touched_outside}
+use Rattle.merge_model.specs.Judge.ByHistory.{is_change_of, is_line_for, last_line, touch_by_line, touched_inside, touched_outside}
 use Rattle.merge_model.specs.History.{Changed, EnteredFor, GoneFor, History, LeftFor, Line, LineKind}
 use Rattle.merge_model.specs.Judge.{PublisherJudge}
-use Rattle.merge_model.specs.Keys.{has_key, same_key}
-use Rattle.merge_model.specs.PublisherDownload.{TouchedRow, is_between, touched_row}
+use Rattle.merge_model.specs.Tables.Keys.{has_key, same_key}
+use Rattle.merge_model.specs.Publisher.PublisherDownload.{TouchedRow, is_between, touched_row}
 use Rattle.merge_honest.specs.Entered.{entries_in, is_entry, stands_in}
 use Rattle.merge_honest.proofs.EntriesFill.{entries-cons}
 

@@ -21,12 +21,12 @@ use Rattle.merge_batch.specs.declared.refusal.Refusal.TheVariants.{TooManyRows}
 use Rattle.merge_batch.specs.declared.request.Upload.{Upload}
 use Rattle.merge_batch.specs.declared.request.UploadItem.{UploadItem}
 use Rattle.merge_batch.proofs.Valid.{valid_upload}
-use Rattle.merge_model.specs.Acts.{Act, Fate, Met, New, Unknown, act_of, acting_items, acts_from, acts_of, case_met, changes_by, decided_changes, decision_for, fate_by, is_new_row, key_of_item, left_by, made_by, version_of_act, versions_of}
-use Rattle.merge_model.specs.Faults.{known_by, upload_fault}
+use Rattle.merge_model.specs.Publisher.Acts.{Act, Fate, Met, New, Unknown, act_of, acting_items, acts_from, acts_of, case_met, changes_by, decided_changes, decision_for, fate_by, is_new_row, key_of_item, left_by, made_by, version_of_act, versions_of}
+use Rattle.merge_model.specs.World.Faults.{known_by, upload_fault}
 use Rattle.merge_model.specs.Judge.{PublisherJudge}
-use Rattle.merge_model.specs.Keys.{row_at}
-use Rattle.merge_model.specs.PublisherUpload.{is_new, too_many_new}
-use Rattle.merge_model.specs.Refusals.{refused_if}
+use Rattle.merge_model.specs.Tables.Keys.{row_at}
+use Rattle.merge_model.specs.Publisher.PublisherUpload.{is_new, too_many_new}
+use Rattle.merge_model.specs.Tables.Refusals.{refused_if}
 use Rattle.merge_model.specs.Tables.{PublisherTables}
 use Rattle.merge_laws.proofs.ToldItems.{fault-none}
 use Rattle.merge_honest.proofs.RowCounts.{given-short, is_fresh}

@@ -9,9 +9,9 @@ use Rattle.merge_schema.specs.declared.publication.Publication.{Publication}
 use Rattle.merge_batch.specs.Makers.{maker_of}
 use Rattle.merge_batch.specs.Uploads.{identity_value}
 use Rattle.merge_model.specs.History.{MadeChange, Past}
-use Rattle.merge_model.specs.Model.{Model}
-use Rattle.merge_model.specs.Runs.{model_behind}
-use Rattle.merge_model.proofs.KeyLookUps.{keys-same}
+use Rattle.merge_model.specs.History.Model.{Model}
+use Rattle.merge_model.specs.Failing.Runs.{model_behind}
+use Rattle.merge_model.proofs.Lists.KeyLookUps.{keys-same}
 use Rattle.merge_laws.specs.Laws.{OfEveryValidRun}
 use Rattle.merge_laws.proofs.AccountElements.{all-in}
 use Rattle.merge_owed.specs.Identity.{HasIdentity, IsMaker, ValueWasTaken}

@@ -11,10 +11,10 @@ use Rattle.merge_batch.specs.declared.request.Outstanding.{Outstanding}
 use Rattle.merge_batch.specs.declared.request.Outstanding.TheVariants as ask
 use Rattle.merge_batch.specs.declared.request.Request.TheVariants as request
 use Rattle.merge_batch.specs.declared.request.Want.{Want}
-use Rattle.merge_model.specs.Faults.{heard_by}
-use Rattle.merge_model.specs.Keys.{at_number}
+use Rattle.merge_model.specs.World.Faults.{heard_by}
+use Rattle.merge_model.specs.Tables.Keys.{at_number}
 use Rattle.merge_model.specs.Tables.{SubscriberTables}
-use Rattle.merge_model.specs.Taking.{seq_of}
+use Rattle.merge_model.specs.Subscriber.Taking.{seq_of}
 use Rattle.merge_model.specs.declared.letter.Letter.{Letter}
 use Rattle.merge_model.specs.declared.letter.Message.{Message}
 use Rattle.merge_model.specs.declared.letter.Message.TheVariants.{Asks, Replies}

@@ -2,7 +2,7 @@
 -- it. Beside it stands how many rows the publisher holds, which bounds how many generations a step closes.
 use Rattle.std.specs.Prelude.{Some, length, ◌+◌, ◌<◌, ◌≡◌, ◌≤◌, ℕ}
 use Rattle.merge_types.specs.Limits.{counter_limit, entry_limit, item_limit, rows_limit}
-use Rattle.merge_model.specs.Keys.{at_number}
+use Rattle.merge_model.specs.Tables.Keys.{at_number}
 use Rattle.merge_model.specs.Publisher.{last_closed}
 use Rattle.merge_model.specs.Subscriber.{sub_last_closed}
 use Rattle.merge_model.specs.Tables.{PublisherTables, SubscriberTables}

@@ -8,11 +8,11 @@ use Rattle.merge_batch.specs.declared.refusal.Refusal.TheVariants.{BadBatch, Cou
 use Rattle.merge_batch.specs.declared.request.Request.{Request}
 use Rattle.merge_batch.specs.declared.request.Request.TheVariants as request
 use Rattle.merge_model.specs.Judge.{PublisherJudge}
-use Rattle.merge_model.specs.Model.{Model}
-use Rattle.merge_model.specs.PublisherDownload.{download_refusal}
-use Rattle.merge_model.specs.PublisherJoin.{join_refusal}
-use Rattle.merge_model.specs.PublisherRanges.{ranges_refusal}
-use Rattle.merge_model.specs.PublisherUpload.{upload_refusal}
+use Rattle.merge_model.specs.History.Model.{Model}
+use Rattle.merge_model.specs.Publisher.PublisherDownload.{download_refusal}
+use Rattle.merge_model.specs.Publisher.PublisherJoin.{join_refusal}
+use Rattle.merge_model.specs.Publisher.PublisherRanges.{ranges_refusal}
+use Rattle.merge_model.specs.Publisher.PublisherUpload.{upload_refusal}
 use Rattle.merge_model.specs.Tables.{PublisherTables}
 use Rattle.merge_model.specs.World.{Saying, letter_at}
 use Rattle.merge_model.specs.declared.letter.Message.TheVariants.{Asks}

@@ -7,15 +7,15 @@ use Rattle.merge_batch.specs.declared.refusal.Refusal.{Refusal}
 use Rattle.merge_batch.specs.declared.refusal.Refusal.TheVariants.{CounterEnd, TooManyRows}
 use Rattle.merge_batch.specs.declared.request.Request.TheVariants as request
 use Rattle.merge_batch.specs.declared.request.Upload.{Upload}
-use Rattle.merge_model.specs.Acts.{acts_of}
+use Rattle.merge_model.specs.Publisher.Acts.{acts_of}
 use Rattle.merge_model.specs.Failing.{Faulty, Slips, failing, faulty}
-use Rattle.merge_model.specs.Model.{Model, model}
-use Rattle.merge_model.specs.Promises.{IsSettled, is_expired_at}
+use Rattle.merge_model.specs.History.Model.{Model, model}
+use Rattle.merge_model.specs.Laws.Promises.{IsSettled, is_expired_at}
 use Rattle.merge_model.specs.Publisher.{counters}
-use Rattle.merge_model.specs.PublisherUpload.{too_many_new}
-use Rattle.merge_model.specs.Refusals.{counter_end}
-use Rattle.merge_model.specs.Session.{Session, session}
-use Rattle.merge_model.specs.SlipLaws.{is_slip}
+use Rattle.merge_model.specs.Publisher.PublisherUpload.{too_many_new}
+use Rattle.merge_model.specs.Tables.Refusals.{counter_end}
+use Rattle.merge_model.specs.World.Session.{Session, session}
+use Rattle.merge_model.specs.Laws.SlipLaws.{is_slip}
 use Rattle.merge_model.specs.Subscriber.{sub_counters}
 use Rattle.merge_model.specs.Tables.{SubscriberTables}
 use Rattle.merge_model.specs.World.{Saying, subscriber_at}

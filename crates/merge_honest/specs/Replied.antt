@@ -16,10 +16,10 @@ use Rattle.merge_batch.specs.declared.reply.Reply.TheVariants as reply
 use Rattle.merge_batch.specs.declared.request.Outstanding.{Outstanding}
 use Rattle.merge_batch.specs.declared.request.Outstanding.TheVariants as ask
 use Rattle.merge_batch.specs.declared.standing.Standing.{Standing}
-use Rattle.merge_model.specs.Faults.{reply_fault, standing_of}
-use Rattle.merge_model.specs.Model.{Model}
+use Rattle.merge_model.specs.World.Faults.{reply_fault, standing_of}
+use Rattle.merge_model.specs.History.Model.{Model}
 use Rattle.merge_model.specs.Tables.{SubscriberTables}
-use Rattle.merge_model.specs.Taking.{seq_of}
+use Rattle.merge_model.specs.Subscriber.Taking.{seq_of}
 use Rattle.merge_model.specs.World.{Saying, letter_at, subscriber_at}
 use Rattle.merge_model.specs.declared.letter.Message.TheVariants.{Replies}
 use Rattle.merge_model.specs.declared.outcome.Outcome.TheVariants.{Refuses}

@@ -9,12 +9,12 @@ use Rattle.merge_batch.specs.declared.refusal.Refusal.TheVariants.{Expired, Stal
 use Rattle.merge_batch.specs.declared.request.Request.{Request}
 use Rattle.merge_batch.specs.declared.request.Request.TheVariants as request
 use Rattle.merge_gens.specs.Retention.{is_expired}
-use Rattle.merge_model.specs.Acts.{acts_of}
+use Rattle.merge_model.specs.Publisher.Acts.{acts_of}
 use Rattle.merge_model.specs.Judge.{PublisherJudge}
-use Rattle.merge_model.specs.Model.{Model}
+use Rattle.merge_model.specs.History.Model.{Model}
 use Rattle.merge_model.specs.Publisher.{counters, later, state_of}
-use Rattle.merge_model.specs.PublisherUpload.{too_many_new}
-use Rattle.merge_model.specs.Refusals.{counter_end, first_refusal, refused_if}
+use Rattle.merge_model.specs.Publisher.PublisherUpload.{too_many_new}
+use Rattle.merge_model.specs.Tables.Refusals.{counter_end, first_refusal, refused_if}
 use Rattle.merge_model.specs.Tables.{PublisherTables}
 use Rattle.merge_model.specs.World.{Saying}
 use Rattle.merge_model.specs.declared.outcome.Outcome.{Outcome}

@@ -8,7 +8,7 @@ use Rattle.merge_units.specs.declared.version.Version.{Version}
 use Rattle.merge_schema.specs.declared.publication.Publication.{Publication}
 use Rattle.merge_batch.specs.Uploads.{identity_value}
 use Rattle.merge_model.specs.History.{MadeChange, Past}
-use Rattle.merge_model.specs.Model.{Model}
+use Rattle.merge_model.specs.History.Model.{Model}
 use Rattle.merge_model.specs.World.{Saying}
 use Rattle.merge_laws.specs.LineagesStand.{EveryVersion}
 use Rattle.merge_owed.specs.Identity.{HasIdentity, IsMaker}

@@ -8,28 +8,28 @@ use Rattle.merge_schema.specs.declared.publication.Publication.{Publication}
 use Rattle.merge_batch.specs.declared.request.Request.TheVariants as request
 use Rattle.merge_batch.specs.declared.request.Upload.{Upload}
 use Rattle.merge_batch.specs.declared.request.UploadItem.{UploadItem}
-use Rattle.merge_model.specs.Acts.{acting_items, key_of_item}
-use Rattle.merge_model.specs.ByHistory.{by_past}
-use Rattle.merge_model.specs.ByNumbers.{received_by_number, received_number_by_number}
+use Rattle.merge_model.specs.Publisher.Acts.{acting_items, key_of_item}
+use Rattle.merge_model.specs.Judge.ByHistory.{by_past}
+use Rattle.merge_model.specs.Judge.ByNumbers.{received_by_number, received_number_by_number}
 use Rattle.merge_model.specs.History.{History, MadeChange, Past, has, is_accepted, made_at, past_in, pasts_with}
 use Rattle.merge_model.specs.Judge.{PublisherJudge}
-use Rattle.merge_model.specs.Keys.{at_number, same_key}
-use Rattle.merge_model.specs.Noting
-use Rattle.merge_model.specs.PublisherUpload.{brings_news, taken_in, upload_refusal}
+use Rattle.merge_model.specs.Tables.Keys.{at_number, same_key}
+use Rattle.merge_model.specs.History.Noting
+use Rattle.merge_model.specs.Publisher.PublisherUpload.{brings_news, taken_in, upload_refusal}
 use Rattle.merge_types.specs.declared.row_key.RowKey.{RowKey as Key}
 use Rattle.merge_model.specs.Tables.{PublisherTables}
 use Rattle.merge_model.specs.World.{Saying, World}
 use Rattle.merge_model.specs.declared.letter.Message.TheVariants.{Asks}
 use Rattle.merge_model.specs.declared.letter.Letter.{Letter}
 use Rattle.merge_laws.specs.Knowledge.{was_made}
-use Rattle.merge_model.specs.Promises.{is_given_up}
+use Rattle.merge_model.specs.Laws.Promises.{is_given_up}
 use Rattle.merge_laws.specs.LineagesStand.{OwnKnown, UploadSends, counts_in, is_of, is_sent}
 use Rattle.merge_laws.specs.Numbered.{last_of}
 use Rattle.merge_laws.proofs.AcceptedOrder.{StandsUpTo, last-within, of-made, of-site, order-numbers, order-up-to}
-use Rattle.merge_model.proofs.Finding.{letter-zip}
+use Rattle.merge_model.proofs.Lists.Finding.{letter-zip}
 use Rattle.merge_laws.proofs.GivenUp.{Reaches, knows_of, upload-accepts, upload-can-act, upload-number, upload-reaches}
 use Rattle.merge_laws.proofs.Ground.{Ground}
-use Rattle.merge_model.proofs.KeyLookUps.{keys-same}
+use Rattle.merge_model.proofs.Lists.KeyLookUps.{keys-same}
 use Rattle.merge_model.proofs.Lists.{all-three, any-behind, any-first}
 use Rattle.merge_laws.proofs.MessageFacts.{letter-fits, upload-sent}
 use Rattle.merge_laws.proofs.Walking.{acts_in, comes, here}

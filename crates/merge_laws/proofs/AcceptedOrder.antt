@@ -5,12 +5,12 @@ use Rattle.std.proofs.Common.{arith, subst, sym}
 use Rattle.std.proofs.lemmas.Bool.Decides.{nat_tests}
 use Rattle.merge_types.specs.declared.identifiers.Dot.{Dot}
 use Rattle.merge_model.specs.History.{History, MadeChange, made_at}
-use Rattle.merge_model.specs.Keys.{at_number}
+use Rattle.merge_model.specs.Tables.Keys.{at_number}
 use Rattle.merge_model.specs.Tables.{SubscriberTables}
 use Rattle.merge_model.specs.World.{World}
 use Rattle.merge_laws.specs.Knowledge.{AreNumbered, same_dot, was_made}
 use Rattle.merge_laws.specs.Numbered.{InOrder, Numbered, is_up_to, last_of}
-use Rattle.merge_model.proofs.Finding.{all-weaker}
+use Rattle.merge_model.proofs.Lists.Finding.{all-weaker}
 use Rattle.merge_laws.proofs.Knowing.{fresh-above, fresh-anywhere}
 use Rattle.merge_model.proofs.Lists.{all-both, all-passing}
 use Rattle.merge_laws.proofs.DotTests.{dots-same}

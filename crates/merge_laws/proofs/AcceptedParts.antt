@@ -13,24 +13,24 @@ use Rattle.merge_batch.specs.declared.reply.DownloadItem.{DownloadItem}
 use Rattle.merge_batch.specs.declared.reply.Reply.TheVariants as reply
 use Rattle.merge_batch.specs.declared.request.Request.TheVariants as request
 use Rattle.merge_batch.specs.declared.request.UploadItem.{UploadItem}
-use Rattle.merge_model.specs.Acts.{key_of_item}
+use Rattle.merge_model.specs.Publisher.Acts.{key_of_item}
 use Rattle.merge_model.specs.History.{History, Line, Past, has, is_accepted, no_past, past_in, pasts_at}
 use Rattle.merge_types.specs.RowKeys.{key_cmp}
-use Rattle.merge_model.specs.Keys.{put_number, row_at}
-use Rattle.merge_model.specs.Model.{past_of_item, pasts_in, put_past, with_letter}
-use Rattle.merge_model.specs.Noting
+use Rattle.merge_model.specs.Tables.Keys.{put_number, row_at}
+use Rattle.merge_model.specs.History.Model.{past_of_item, pasts_in, put_past, with_letter}
+use Rattle.merge_model.specs.History.Noting
 use Rattle.merge_types.specs.declared.row_key.RowKey.{RowKey as Key}
 use Rattle.merge_model.specs.Tables.{PublisherTables, SubscriberTables}
-use Rattle.merge_model.specs.Taking.{key_of_download}
+use Rattle.merge_model.specs.Subscriber.Taking.{key_of_download}
 use Rattle.merge_model.specs.World.{World, subscriber_at, with_publisher, with_subscriber}
 use Rattle.merge_model.specs.declared.letter.Message.TheVariants.{Asks, Replies}
 use Rattle.merge_model.specs.declared.letter.Letter.{Letter}
 use Rattle.merge_model.specs.declared.letter.Message.{Message}
 use Rattle.merge_laws.specs.Accepted.{Accepted, SendsAccepted, SendsInserts}
-use Rattle.merge_model.specs.Promises.{is_given_up}
+use Rattle.merge_model.specs.Laws.Promises.{is_given_up}
 use Rattle.merge_laws.specs.LineagesStand.{UploadCounts, can_act, OthersAccepted}
 use Rattle.merge_laws.specs.Received.{joined_at}
-use Rattle.merge_model.proofs.Finding.{all-more, all-weaker}
+use Rattle.merge_model.proofs.Lists.Finding.{all-more, all-weaker}
 use Rattle.merge_model.proofs.Lists.{zip-more, zip-weaker}
 use Rattle.merge_laws.proofs.Publishing.{SameNumbers}
 use Rattle.merge_laws.proofs.WorldLists.{all-subscribers}

@@ -11,16 +11,16 @@ use Rattle.merge_batch.specs.declared.reply.Reply.{Reply}
 use Rattle.merge_batch.specs.declared.reply.Reply.TheVariants as reply
 use Rattle.merge_batch.specs.declared.request.Outstanding.{Outstanding}
 use Rattle.merge_batch.specs.declared.request.Outstanding.TheVariants as ask
-use Rattle.merge_model.specs.ByHistory.{by_made}
-use Rattle.merge_model.specs.ByNumbers.{received_by_number}
-use Rattle.merge_model.specs.Faults.{reply_fault}
+use Rattle.merge_model.specs.Judge.ByHistory.{by_made}
+use Rattle.merge_model.specs.Judge.ByNumbers.{received_by_number}
+use Rattle.merge_model.specs.World.Faults.{reply_fault}
 use Rattle.merge_model.specs.History.{History, MadeChange, Past, has, is_accepted, past_in, pasts_at, pasts_with}
 use Rattle.merge_model.specs.Judge.{SubscriberJudge}
-use Rattle.merge_model.specs.Noting
+use Rattle.merge_model.specs.History.Noting
 use Rattle.merge_types.specs.declared.row_key.RowKey.{RowKey as Key}
 use Rattle.merge_units.specs.declared.site_row.SubscriberRow.{SubscriberRow}
 use Rattle.merge_model.specs.Tables.{PublisherTables, SubscriberTables}
-use Rattle.merge_model.specs.Taking.{row_above, seq_of, taken}
+use Rattle.merge_model.specs.Subscriber.Taking.{row_above, seq_of, taken}
 use Rattle.merge_model.specs.World.{World, subscriber_at, with_subscriber}
 use Rattle.merge_model.specs.declared.letter.Letter.{Letter}
 use Rattle.merge_model.specs.declared.letter.Message.TheVariants.{Replies}
@@ -31,7 +31,7 @@ use Rattle.merge_laws.specs.Behind.{StaysBehind}
 use Rattle.merge_laws.specs.KnownMakers.{Ascend, KnownMakers}
 use Rattle.merge_laws.specs.Received.{joined_at}
 use Rattle.merge_laws.proofs.AcceptedParts.{PastFits, SiteFits, accepted-fits, all-fit, count-on, fits-on, nothing-fits, others-zero, past-among, send-on, subscriber-accepted}
-use Rattle.merge_model.proofs.Finding.{all-weaker, letter-zip}
+use Rattle.merge_model.proofs.Lists.Finding.{all-weaker, letter-zip}
 use Rattle.merge_laws.proofs.Ground.{Ground}
 use Rattle.merge_laws.proofs.NotesLeave.{items-leave}
 use Rattle.merge_laws.proofs.OwnItems.{InsertActed}

@@ -14,15 +14,15 @@ use Rattle.merge_batch.specs.declared.request.Download.{Download}
 use Rattle.merge_batch.specs.declared.request.Request.TheVariants as request
 use Rattle.merge_batch.specs.declared.request.Upload.{Upload}
 use Rattle.merge_batch.specs.declared.request.UploadItem.{UploadItem}
-use Rattle.merge_model.specs.Acts.{key_of_item}
-use Rattle.merge_model.specs.ByHistory.{by_made, by_past, changed_between_by_made, is_between_made, with_change_of}
+use Rattle.merge_model.specs.Publisher.Acts.{key_of_item}
+use Rattle.merge_model.specs.Judge.ByHistory.{by_made, by_past, changed_between_by_made, is_between_made, with_change_of}
 use Rattle.merge_model.specs.History.{History, MadeChange, Past, has, made_at, past_in, pasts_at, pasts_with}
 use Rattle.merge_model.specs.Judge.{PublisherJudge}
 use Rattle.merge_types.specs.RowKeys.{key_cmp}
-use Rattle.merge_model.specs.Keys.{row_at, same_key}
-use Rattle.merge_model.specs.Model.{past_of_item, with_letter}
-use Rattle.merge_model.specs.PublisherDownload.{asked, reply_to}
-use Rattle.merge_model.specs.Sending.{upload_item, upload_sent}
+use Rattle.merge_model.specs.Tables.Keys.{row_at, same_key}
+use Rattle.merge_model.specs.History.Model.{past_of_item, with_letter}
+use Rattle.merge_model.specs.Publisher.PublisherDownload.{asked, reply_to}
+use Rattle.merge_model.specs.Subscriber.Sending.{upload_item, upload_sent}
 use Rattle.merge_model.specs.Subscriber.{sub_at_moment, sub_closed}
 use Rattle.merge_types.specs.declared.row_key.RowKey.{RowKey as Key}
 use Rattle.merge_units.specs.declared.site_row.SubscriberRow.{SubscriberRow}
@@ -32,14 +32,14 @@ use Rattle.merge_model.specs.declared.letter.Message.TheVariants.{Asks, Replies}
 use Rattle.merge_model.specs.declared.letter.Message.{Message}
 use Rattle.merge_laws.specs.Accepted.{Accepted, IsUpTo}
 use Rattle.merge_laws.specs.KnownMakers.{IsAfterMaker, KnownMakers}
-use Rattle.merge_model.specs.Promises.{is_given_up}
+use Rattle.merge_model.specs.Laws.Promises.{is_given_up}
 use Rattle.merge_laws.specs.LineagesStand.{OthersAccepted}
 use Rattle.merge_laws.proofs.AcceptedOrder.{StandsBelow, of-site, order-below}
 use Rattle.merge_laws.proofs.AcceptedParts.{PastFits, all-fit, nothing-fits, past-among, post-accepted, publisher-accepted, put-rows, sent-rows, subscriber-accepted}
-use Rattle.merge_model.proofs.Finding.{all-weaker, found-named}
+use Rattle.merge_model.proofs.Lists.Finding.{all-weaker, found-named}
 use Rattle.merge_laws.proofs.Ground.{Ground}
-use Rattle.merge_model.proofs.KeyLookUps.{key-itself, keys-same, keys-tied}
-use Rattle.merge_model.proofs.EntryLists.{all-put}
+use Rattle.merge_model.proofs.Lists.KeyLookUps.{key-itself, keys-same, keys-tied}
+use Rattle.merge_model.proofs.Entries.EntryLists.{all-put}
 use Rattle.merge_model.proofs.Lists.{all-filter, all-of, all-three, any-leads}
 use Rattle.merge_laws.proofs.Publishing.{asked-same}
 use Rattle.merge_laws.proofs.Walking.{here}

@@ -11,17 +11,17 @@ use Rattle.merge_batch.specs.Makers.{maker_of}
 use Rattle.merge_batch.specs.declared.request.Request.TheVariants as request
 use Rattle.merge_batch.specs.declared.request.Upload.{Upload}
 use Rattle.merge_batch.specs.declared.request.UploadItem.{UploadItem}
-use Rattle.merge_model.specs.Acts.{Act, Fate, Met, New, Unknown, acting_items, key_of_item}
-use Rattle.merge_model.specs.ByHistory.{by_past}
-use Rattle.merge_model.specs.ByNumbers.{received_by_number}
-use Rattle.merge_model.specs.Entries.{Entries}
+use Rattle.merge_model.specs.Publisher.Acts.{Act, Fate, Met, New, Unknown, acting_items, key_of_item}
+use Rattle.merge_model.specs.Judge.ByHistory.{by_past}
+use Rattle.merge_model.specs.Judge.ByNumbers.{received_by_number}
+use Rattle.merge_model.specs.Publisher.Entries.{Entries}
 use Rattle.merge_model.specs.History.{History, Line, MadeChange, Past, has, is_accepted, is_done, past_in, pasts_at, pasts_with}
 use Rattle.merge_model.specs.Judge.{PublisherJudge}
-use Rattle.merge_model.specs.Noting
-use Rattle.merge_model.specs.Pasts.{decided_dots, past_by}
+use Rattle.merge_model.specs.History.Noting
+use Rattle.merge_model.specs.History.Pasts.{decided_dots, past_by}
 use Rattle.merge_model.specs.Publisher.{last_closed}
-use Rattle.merge_model.specs.PublisherUpload.{brings_news, upload_refusal}
-use Rattle.merge_model.specs.Steps.{kept_decisions, upload_questions}
+use Rattle.merge_model.specs.Publisher.PublisherUpload.{brings_news, upload_refusal}
+use Rattle.merge_model.specs.World.Steps.{kept_decisions, upload_questions}
 use Rattle.merge_types.specs.declared.row_key.RowKey.{RowKey as Key}
 use Rattle.merge_model.specs.Tables.{PublisherTables}
 use Rattle.merge_model.specs.World.{Saying, World, letter_at, with_publisher}
@@ -31,13 +31,13 @@ use Rattle.merge_model.specs.declared.letter.Message.{Message}
 use Rattle.merge_laws.specs.Accepted.{Accepted, IsUpTo, SendsAccepted, SendsInserts}
 use Rattle.merge_laws.specs.Knowledge.{AllKnow, changes_of, was_made}
 use Rattle.merge_laws.specs.KnownMakers.{KnownMakers, KnowsMaker}
-use Rattle.merge_model.specs.Promises.{is_given_up}
+use Rattle.merge_model.specs.Laws.Promises.{is_given_up}
 use Rattle.merge_laws.specs.LineagesStand.{OwnKnown, UploadCounts, OthersAccepted}
 use Rattle.merge_laws.proofs.AcceptedChanges.{inserts-on, new-up-to}
 use Rattle.merge_laws.proofs.AcceptedNews.{accepts-items, accepts-more, after, noted, placed, reaches, upload-counts}
 use Rattle.merge_laws.proofs.AcceptedParts.{CountsGo, PastFits, SiteFits, accepted-fits, all-fit, counts-go, past-among, send-on}
 use Rattle.merge_laws.proofs.ChangeDots.{IsAlone, are-alone}
-use Rattle.merge_model.proofs.Finding.{all-at, all-weaker, found-named, letter-zip}
+use Rattle.merge_model.proofs.Lists.Finding.{all-at, all-weaker, found-named, letter-zip}
 use Rattle.merge_laws.proofs.GivenUp.{knows_of, upload-accepts}
 use Rattle.merge_laws.proofs.Ground.{Ground}
 use Rattle.merge_laws.proofs.Knowing.{made-was}
@@ -52,7 +52,7 @@ use Rattle.merge_laws.proofs.PastLookUps.{rows_in}
 use Rattle.merge_laws.proofs.PastNotes.{ActKeeps, acts-items, acts-pasts, by-knows, fate_past, put_by}
 use Rattle.merge_laws.proofs.Publishing.{done-joins, upload-joined}
 use Rattle.merge_laws.proofs.Tellings.{lined, uploaded-alike}
-use Rattle.merge_model.proofs.Tests.{either}
+use Rattle.merge_model.proofs.Lists.Tests.{either}
 use Rattle.merge_laws.proofs.Walking.{acts_in, comes, here}
 
 -- The publisher's pasts, as an item acts whose past is accepted.

@@ -12,16 +12,16 @@ use Rattle.merge_units.specs.declared.version.Body.{Body}
 use Rattle.merge_units.specs.declared.version.Version.{Version}
 use Rattle.merge_schema.specs.declared.publication.Publication.{Publication}
 use Rattle.merge_batch.specs.declared.request.UploadItem.{UploadItem}
-use Rattle.merge_model.specs.Acts.{Fate, Met, New, Unknown, case_met, decision_for, fate_by, is_new_row, key_of_item, version_by}
-use Rattle.merge_model.specs.ByHistory.{by_past}
+use Rattle.merge_model.specs.Publisher.Acts.{Fate, Met, New, Unknown, case_met, decision_for, fate_by, is_new_row, key_of_item, version_by}
+use Rattle.merge_model.specs.Judge.ByHistory.{by_past}
 use Rattle.merge_units.specs.Cases.{case_by, is_conflict}
 use Rattle.merge_units.specs.Results.{result_by}
 use Rattle.merge_units.specs.Version.{tops_of}
 use Rattle.merge_model.specs.History.{Chains, History, MadeChange, Past, has, past_at, past_in}
-use Rattle.merge_model.specs.Keys.{at_number, same_key}
-use Rattle.merge_model.specs.Noting
-use Rattle.merge_model.specs.Pasts.{cell_count, past_by}
-use Rattle.merge_model.specs.Promises.{InRow, Place}
+use Rattle.merge_model.specs.Tables.Keys.{at_number, same_key}
+use Rattle.merge_model.specs.History.Noting
+use Rattle.merge_model.specs.History.Pasts.{cell_count, past_by}
+use Rattle.merge_model.specs.Laws.Promises.{InRow, Place}
 use Rattle.merge_types.specs.declared.row_key.RowKey.{RowKey as Key}
 use Rattle.merge_units.specs.declared.site_row.PublisherRow.{PublisherRow}
 use Rattle.merge_model.specs.Tables.{SubscriberTables}
@@ -34,7 +34,7 @@ use Rattle.merge_laws.proofs.AccountLetters.{IsOfSite}
 use Rattle.merge_laws.proofs.AccountMeetings.{IsNew, decided_new, knows-either, lost-keeps, lost-last, lost_after, meeting-is, met-grown, met-holds, own_dot, past-stays}
 use Rattle.merge_laws.proofs.AccountRows.{KeepsLost, at-key, at-other, gone_on, in-new, lost-accounts, lost-goes, more-elsewhere, row-accounts, row-goes}
 use Rattle.merge_laws.proofs.ChangeDots.{AreDistinct, made-distinct}
-use Rattle.merge_model.proofs.KeyLookUps.{keys-same}
+use Rattle.merge_model.proofs.Lists.KeyLookUps.{keys-same}
 use Rattle.merge_laws.proofs.Knowing.{IsFresh, fresh-above}
 use Rattle.merge_laws.proofs.KnownNotes.{Reached}
 use Rattle.merge_laws.proofs.KnownRows.{held-knows, past-knows}

@@ -8,15 +8,15 @@ use Rattle.merge_types.specs.declared.identifiers.Dot.{Dot}
 use Rattle.merge_types.specs.declared.identifiers.SiteId.{SiteId}
 use Rattle.merge_units.specs.declared.version.Version.{Version}
 use Rattle.merge_schema.specs.declared.publication.Publication.{Publication}
-use Rattle.merge_model.specs.ByHistory.{by_made}
+use Rattle.merge_model.specs.Judge.ByHistory.{by_made}
 use Rattle.merge_model.specs.History.{History, MadeChange, Past, has, made_at, past_at, past_in}
 use Rattle.merge_model.specs.Judge.{SubscriberJudge}
 use Rattle.merge_types.specs.RowKeys.{key_cmp}
-use Rattle.merge_model.specs.Keys.{put_number, row_at, same_key}
-use Rattle.merge_model.specs.Noting
-use Rattle.merge_model.specs.Promises.{Place, descends}
-use Rattle.merge_model.specs.PublisherLocal.{version_at}
-use Rattle.merge_model.specs.Reinit.{discarded, reinitialised}
+use Rattle.merge_model.specs.Tables.Keys.{put_number, row_at, same_key}
+use Rattle.merge_model.specs.History.Noting
+use Rattle.merge_model.specs.Laws.Promises.{Place, descends}
+use Rattle.merge_model.specs.Publisher.PublisherLocal.{version_at}
+use Rattle.merge_model.specs.Subscriber.Reinit.{discarded, reinitialised}
 use Rattle.merge_model.specs.Subscriber.{sub_at_moment, sub_closed, sub_last_closed}
 use Rattle.merge_types.specs.declared.row_key.RowKey.{RowKey as Key}
 use Rattle.merge_units.specs.declared.site_row.SubscriberRow.{SubscriberRow}
@@ -35,12 +35,12 @@ use Rattle.merge_laws.proofs.AccountSending.{received-safe, site-away}
 use Rattle.merge_laws.proofs.AccountSites.{held-made, nothing-traced, sent-made, sub-accounts}
 use Rattle.merge_laws.proofs.Generations.{order-closed}
 use Rattle.merge_laws.proofs.Ground.{Ground}
-use Rattle.merge_model.proofs.KeyLookUps.{key-itself, key-test, keys-same}
+use Rattle.merge_model.proofs.Lists.KeyLookUps.{key-itself, key-test, keys-same}
 use Rattle.merge_laws.proofs.KnownMakers.{none-ascends}
 use Rattle.merge_laws.proofs.OwnSending.{gens-some}
 use Rattle.merge_laws.proofs.Subscribing.{filling-closed}
 use Rattle.merge_laws.proofs.Telling.{closing-tells}
-use Rattle.merge_model.proofs.Tests.{either, or-second}
+use Rattle.merge_model.proofs.Lists.Tests.{either, or-second}
 use Rattle.merge_laws.proofs.Unsending.{anew-rows}
 
 -- What is discarded, in the order of the rows.

@@ -18,31 +18,31 @@ use Rattle.merge_batch.specs.declared.reply.DownloadItem.{DownloadItem}
 use Rattle.merge_batch.specs.declared.reply.Downloaded.{Downloaded}
 use Rattle.merge_batch.specs.declared.reply.Reply.TheVariants as reply
 use Rattle.merge_batch.specs.declared.request.Download.{Download}
-use Rattle.merge_model.specs.ByHistory.{by_past}
-use Rattle.merge_model.specs.Entries.{key_of_live, keys_of as all_keys, live_row, live_rows, partition_keys}
+use Rattle.merge_model.specs.Judge.ByHistory.{by_past}
+use Rattle.merge_model.specs.Publisher.Entries.{key_of_live, keys_of as all_keys, live_row, live_rows, partition_keys}
 use Rattle.merge_model.specs.History.{Chains, History, OfCells, OfDead, Past, past_at, pasts_at, pasts_with}
 use Rattle.merge_model.specs.Judge.{PublisherJudge}
 use Rattle.merge_types.specs.RowKeys.{key_cmp}
-use Rattle.merge_model.specs.Keys.{has_key, row_at, same_key}
-use Rattle.merge_model.specs.Model.{put_past}
-use Rattle.merge_model.specs.Pasts.{cell_count}
+use Rattle.merge_model.specs.Tables.Keys.{has_key, row_at, same_key}
+use Rattle.merge_model.specs.History.Model.{put_past}
+use Rattle.merge_model.specs.History.Pasts.{cell_count}
 use Rattle.merge_resolve.specs.Priorities.{subscription_at}
-use Rattle.merge_model.specs.PublisherDownload.{TouchedRow, asked, inside_keys, item_of, reply_to, touched_row}
+use Rattle.merge_model.specs.Publisher.PublisherDownload.{TouchedRow, asked, inside_keys, item_of, reply_to, touched_row}
 use Rattle.merge_batch.specs.Orders.{order_by}
-use Rattle.merge_model.specs.PublisherLocal.{version_at}
+use Rattle.merge_model.specs.Publisher.PublisherLocal.{version_at}
 use Rattle.merge_types.specs.declared.row_key.RowKey.{RowKey as Key}
 use Rattle.merge_units.specs.declared.site_row.PublisherRow.{PublisherRow}
 use Rattle.merge_model.specs.Tables.{PublisherTables}
-use Rattle.merge_model.specs.Taking.{key_of_download}
+use Rattle.merge_model.specs.Subscriber.Taking.{key_of_download}
 use Rattle.merge_model.specs.World.{World, with_publisher}
 use Rattle.merge_model.specs.declared.letter.Message.TheVariants.{Replies}
 use Rattle.merge_laws.specs.Accounts.{Grown, GrownAlone, IsTraced, OfAccounts}
 use Rattle.merge_laws.specs.LineagesStand.{OfOrder}
 use Rattle.merge_laws.proofs.AccountBase.{Base}
 use Rattle.merge_laws.proofs.AccountNotes.{none-traced, post-accounts}
-use Rattle.merge_model.proofs.Downloads.{any-map, inside-live, live-held}
-use Rattle.merge_model.proofs.Finding.{some_same}
-use Rattle.merge_model.proofs.KeyLookUps.{key-test, none-behind}
+use Rattle.merge_model.proofs.Entries.Downloads.{any-map, inside-live, live-held}
+use Rattle.merge_model.proofs.Lists.Finding.{some_same}
+use Rattle.merge_model.proofs.Lists.KeyLookUps.{key-test, none-behind}
 use Rattle.merge_laws.proofs.LetterPasts.{orders-past, orders-sent, removed-order}
 use Rattle.merge_model.proofs.Lists.{OfSome, all-filter, all-filter_map, all-map, all-unit}
 use Rattle.merge_laws.proofs.Walking.{Sends, here}

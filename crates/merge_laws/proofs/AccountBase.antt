@@ -7,7 +7,7 @@ use Rattle.merge_units.specs.declared.version.Version.{Version}
 use Rattle.merge_schema.specs.declared.publication.Publication.{Publication}
 use Rattle.merge_units.specs.Version.{tops_of}
 use Rattle.merge_model.specs.History.{History, Past, has, past_at}
-use Rattle.merge_model.specs.PublisherLocal.{version_at}
+use Rattle.merge_model.specs.Publisher.PublisherLocal.{version_at}
 use Rattle.merge_types.specs.declared.row_key.RowKey.{RowKey as Key}
 use Rattle.merge_model.specs.World.{World}
 use Rattle.merge_laws.specs.LineagesStand.{AllTold, Owns}

@@ -14,7 +14,7 @@ use Rattle.merge_units.specs.declared.version.Cell.{Cell}
 use Rattle.merge_units.specs.Version.{Knowing}
 use Rattle.merge_units.specs.Cases.{side_of}
 use Rattle.merge_model.specs.History.{MadeChange, has}
-use Rattle.merge_model.specs.Pasts.{merged_chain, merged_chains}
+use Rattle.merge_model.specs.History.Pasts.{merged_chain, merged_chains}
 use Rattle.merge_laws.specs.Accounts.{CellGrown}
 use Rattle.merge_laws.proofs.AccountChains.{chain_at}
 

@@ -8,7 +8,7 @@ use Rattle.merge_units.specs.declared.version.Body.TheVariants.{Dead, Live}
 use Rattle.merge_units.specs.declared.version.Cell.{Cell}
 use Rattle.merge_units.specs.Version.{Knowing, has_news, tops_of}
 use Rattle.merge_model.specs.History.{Chains, MadeChange, OfCells, OfDead, has}
-use Rattle.merge_model.specs.Promises.{InCell, InRow, Place, descends}
+use Rattle.merge_model.specs.Laws.Promises.{InCell, InRow, Place, descends}
 use Rattle.merge_types.specs.declared.row_key.RowKey.{RowKey as Key}
 use Rattle.merge_laws.specs.Accounts.{CellGrown, Grown, GrownAlone, IsNotUnited, Rooted, is_made_at, is_set}
 use Rattle.merge_laws.specs.Knowledge.{KnowsItsPast, same_dot}

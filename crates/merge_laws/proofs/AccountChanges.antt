@@ -15,9 +15,9 @@ use Rattle.merge_units.specs.Changes.{cell_after, cells_after, new_cell, set_val
 use Rattle.merge_units.specs.declared.version.Body.TheVariants.{Dead, Live}
 use Rattle.merge_units.specs.declared.version.Cell.{Cell}
 use Rattle.merge_units.specs.Changes.{new_cells}
-use Rattle.merge_model.specs.Keys.{same_key}
+use Rattle.merge_model.specs.Tables.Keys.{same_key}
 use Rattle.merge_model.specs.History.{MadeChange, OfCells, OfDead, has}
-use Rattle.merge_model.specs.Pasts.{chain_after, set_cells}
+use Rattle.merge_model.specs.History.Pasts.{chain_after, set_cells}
 use Rattle.merge_types.specs.declared.row_key.RowKey.{RowKey as Key}
 use Rattle.merge_laws.specs.Accounts.{CellGrown, Grown, GrownAlone, is_set}
 use Rattle.merge_laws.specs.Knowledge.{KnowsItsPast, same_dot}

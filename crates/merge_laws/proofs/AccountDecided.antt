@@ -18,8 +18,8 @@ use Rattle.merge_resolve.specs.Questions.{both_place, conflicting_places}
 use Rattle.merge_units.specs.Version.{Knowing}
 use Rattle.merge_units.specs.Cases.{bodies_case, side_of, sides_of}
 use Rattle.merge_model.specs.History.{Chains, MadeChange, OfCells, OfDead, has}
-use Rattle.merge_model.specs.Pasts.{chains_by, merged_chain, merged_chains}
-use Rattle.merge_model.specs.Promises.{InCell, descends}
+use Rattle.merge_model.specs.History.Pasts.{chains_by, merged_chain, merged_chains}
+use Rattle.merge_model.specs.Laws.Promises.{InCell, descends}
 use Rattle.merge_types.specs.declared.row_key.RowKey.{RowKey as Key}
 use Rattle.merge_laws.specs.Accounts.{Grown}
 use Rattle.merge_laws.proofs.AccountCells.{AreFour, are-four}

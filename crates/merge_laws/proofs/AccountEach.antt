@@ -5,18 +5,18 @@ use Rattle.std.proofs.Common.{arith, sym, ap, ◌∙◌}
 use Rattle.std.proofs.lemmas.Bool.Decides.{nat_tests}
 use Rattle.std.proofs.lemmas.List.Elements.{All-from_recursion}
 use Rattle.merge_schema.specs.declared.publication.Publication.{Publication}
-use Rattle.merge_model.specs.ByHistory.{is_unsent_by_made}
+use Rattle.merge_model.specs.Judge.ByHistory.{is_unsent_by_made}
 use Rattle.merge_model.specs.History.{History, MadeChange, has, made_at, past_at}
-use Rattle.merge_model.specs.Keys.{at_number, same_key}
-use Rattle.merge_model.specs.Model.{Model}
-use Rattle.merge_model.specs.Promises.{AllAccounted, Place, descends, is_accounted, is_kept, received_at}
+use Rattle.merge_model.specs.Tables.Keys.{at_number, same_key}
+use Rattle.merge_model.specs.History.Model.{Model}
+use Rattle.merge_model.specs.Laws.Promises.{AllAccounted, Place, descends, is_accounted, is_kept, received_at}
 use Rattle.merge_model.specs.Tables.{SubscriberTables}
 use Rattle.merge_model.specs.World.{World}
 use Rattle.merge_laws.specs.Accounts.{IsSafe, OfAccounts, is_kept_elsewhere, is_made_at, is_settled, makes}
 use Rattle.merge_laws.specs.LineagesStand.{is_of}
 use Rattle.merge_laws.specs.Numbered.{Numbered}
 use Rattle.merge_laws.proofs.AccountElements.{IsIn, all-in, any-in, each-in, made-in, places-all}
-use Rattle.merge_model.proofs.KeyLookUps.{key-itself}
+use Rattle.merge_model.proofs.Lists.KeyLookUps.{key-itself}
 
 module _ (publication : Publication) (w : World) (h : History) (n : Numbered w h) (a : OfAccounts publication w h) where
   abbrev m : Model

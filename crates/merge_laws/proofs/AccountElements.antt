@@ -4,10 +4,10 @@ use Rattle.std.specs.List.{AllByRecursion, list_all, list_any}
 use Rattle.std.proofs.Common.{arith, subst, sym, ap, ◌∙◌, inl, inr}
 use Rattle.std.proofs.lemmas.Bool.Decides.{nat_tests}
 use Rattle.merge_model.specs.History.{MadeChange}
-use Rattle.merge_model.specs.Promises.{InCell, InRow, Place, places_of}
+use Rattle.merge_model.specs.Laws.Promises.{InCell, InRow, Place, places_of}
 use Rattle.merge_laws.specs.Accounts.{is_made_at, makes}
 use Rattle.merge_laws.proofs.AccountChains.{at-later}
-use Rattle.merge_model.proofs.KeyLookUps.{key-itself}
+use Rattle.merge_model.proofs.Lists.KeyLookUps.{key-itself}
 use Rattle.merge_model.proofs.Lists.{any-behind, any-first}
 use Rattle.merge_laws.proofs.DotTests.{dot-itself}
 

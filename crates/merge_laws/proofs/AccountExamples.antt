@@ -14,10 +14,10 @@ use Rattle.merge_batch.specs.Replies.{broken_by_reply}
 use Rattle.merge_batch.specs.Uploads.{broken_by_upload}
 use Rattle.merge_model.specs.declared.event.Event.{Event}
 use Rattle.merge_model.specs.declared.event.Event.TheVariants as event
-use Rattle.merge_model.specs.Events.{after}
-use Rattle.merge_model.specs.Keys.{put_number}
-use Rattle.merge_model.specs.Model.{Model, empty_model, model}
-use Rattle.merge_model.specs.Promises.{is_accounted}
+use Rattle.merge_model.specs.World.Events.{after}
+use Rattle.merge_model.specs.Tables.Keys.{put_number}
+use Rattle.merge_model.specs.History.Model.{Model, empty_model, model}
+use Rattle.merge_model.specs.Laws.Promises.{is_accounted}
 
 -- one article with one column, and one subscriber
 abbrev items : Publication

@@ -24,22 +24,22 @@ use Rattle.merge_units.specs.declared.version.Version.{Version}
 use Rattle.merge_schema.specs.declared.publication.Publication.{Publication}
 use Rattle.merge_units.specs.Version.{tops_of}
 use Rattle.merge_units.specs.Changes.{new_row}
-use Rattle.merge_model.specs.Changes.{change_refusal, fits_type, is_insert, key_of, new_value, new_values, no_row, sets_identity, settings_of, version_after, wrong_type}
+use Rattle.merge_model.specs.Tables.Changes.{change_refusal, fits_type, is_insert, key_of, new_value, new_values, no_row, sets_identity, settings_of, version_after, wrong_type}
 use Rattle.merge_model.specs.History.{Chains, History, MadeChange, OfCells, OfDead, Past, has, past_at}
-use Rattle.merge_model.specs.Noting
-use Rattle.merge_model.specs.Pasts.{all_chains, cell_chains, cell_count, past_after, set_cells}
-use Rattle.merge_model.specs.Promises.{InRow}
-use Rattle.merge_model.specs.Publications.{columns_at, identity_column, tracking_at, types_at}
+use Rattle.merge_model.specs.History.Noting
+use Rattle.merge_model.specs.History.Pasts.{all_chains, cell_chains, cell_count, past_after, set_cells}
+use Rattle.merge_model.specs.Laws.Promises.{InRow}
+use Rattle.merge_model.specs.Tables.Publications.{columns_at, identity_column, tracking_at, types_at}
 use Rattle.merge_types.specs.declared.row_key.RowKey.{RowKey as Key}
 use Rattle.merge_laws.specs.Accounts.{CellGrown, Ends, Grown, GrownAlone, Holds, Traced, is_made_at, is_past}
 use Rattle.merge_laws.specs.Knowledge.{KnowsItsPast}
 use Rattle.merge_laws.proofs.AccountChains.{cells-known, chain_at}
 use Rattle.merge_laws.proofs.AccountChanges.{count_by_tracking, deleted-grown, inserted-grown, updated-grown}
 use Rattle.merge_laws.proofs.AccountHolds.{AreCells, deleted-ends, deleted-holds, held-past, inserted-ends, inserted-holds, updated-ends, updated-holds, updated-past}
-use Rattle.merge_model.proofs.Refusals.{first-none}
+use Rattle.merge_model.proofs.Runs.Refusals.{first-none}
 use Rattle.merge_laws.proofs.ChangeDots.{AreDistinct}
-use Rattle.merge_model.proofs.Finding.{some_same}
-use Rattle.merge_model.proofs.KeyLookUps.{key-itself}
+use Rattle.merge_model.proofs.Lists.Finding.{some_same}
+use Rattle.merge_model.proofs.Lists.KeyLookUps.{key-itself}
 use Rattle.merge_laws.proofs.Knowing.{IsFresh}
 use Rattle.merge_laws.proofs.Telling.{no-refusal}
 

@@ -8,11 +8,11 @@ use Rattle.std.proofs.lemmas.Bool.Decides.{nat_tests}
 use Rattle.merge_types.specs.declared.identifiers.Dot.{Dot}
 use Rattle.merge_units.specs.declared.version.Body.{Body}
 use Rattle.merge_table.proofs.Sorted.{sorted_put}
-use Rattle.merge_model.proofs.Sorted.{key_total}
+use Rattle.merge_model.proofs.Publishers.Sorted.{key_total}
 use Rattle.merge_model.specs.History.{Chains, History, MadeChange, Past, has, past_at, past_in, pasts_at}
 use Rattle.merge_types.specs.RowKeys.{key_cmp}
-use Rattle.merge_model.specs.Keys.{at_number, has_key, put_number, put_row}
-use Rattle.merge_model.specs.Promises.{InRow, Place}
+use Rattle.merge_model.specs.Tables.Keys.{at_number, has_key, put_number, put_row}
+use Rattle.merge_model.specs.Laws.Promises.{InRow, Place}
 use Rattle.merge_types.specs.declared.row_key.RowKey.{RowKey as Key}
 use Rattle.merge_laws.specs.Accounts.{Grown, GrownAlone, IsSafe, IsTraced, Traced, is_kept_elsewhere, is_made_at, is_past}
 use Rattle.merge_laws.specs.Knowledge.{is_made, same_dot}

@@ -6,9 +6,9 @@ use Rattle.std.proofs.lemmas.Bool.Decides.{nat_tests}
 use Rattle.merge_types.specs.declared.identifiers.Dot.{Dot}
 use Rattle.merge_units.specs.declared.version.Cell.{Cell}
 use Rattle.merge_model.specs.History.{Chains, MadeChange, OfCells, OfDead, Past, has}
-use Rattle.merge_model.specs.Keys.{has_key}
-use Rattle.merge_model.specs.Pasts.{all_chains, cell_chains, chain_after, deleted_past, inserted_past, updated_past}
-use Rattle.merge_model.specs.Promises.{InCell, InRow, Place, descends}
+use Rattle.merge_model.specs.Tables.Keys.{has_key}
+use Rattle.merge_model.specs.History.Pasts.{all_chains, cell_chains, chain_after, deleted_past, inserted_past, updated_past}
+use Rattle.merge_model.specs.Laws.Promises.{InCell, InRow, Place, descends}
 use Rattle.merge_types.specs.declared.row_key.RowKey.{RowKey as Key}
 use Rattle.merge_laws.specs.Accounts.{CellGrown, Ends, Holds, is_kept_elsewhere, is_made_at, is_past, makes}
 use Rattle.merge_laws.specs.Knowledge.{same_dot}

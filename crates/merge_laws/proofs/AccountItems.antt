@@ -8,17 +8,17 @@ use Rattle.merge_units.specs.declared.result.Decision.{Decision}
 use Rattle.merge_units.specs.declared.version.Version.{Version}
 use Rattle.merge_schema.specs.declared.publication.Publication.{Publication}
 use Rattle.merge_batch.specs.declared.request.UploadItem.{UploadItem}
-use Rattle.merge_model.specs.Acts.{Act, act_of, acts_from, key_of_item, left_by, made_by, version_by, versions_of}
-use Rattle.merge_model.specs.ByHistory.{by_past}
+use Rattle.merge_model.specs.Publisher.Acts.{Act, act_of, acts_from, key_of_item, left_by, made_by, version_by, versions_of}
+use Rattle.merge_model.specs.Judge.ByHistory.{by_past}
 use Rattle.merge_units.specs.Version.{tops_of}
-use Rattle.merge_model.specs.Entries.{Entries}
+use Rattle.merge_model.specs.Publisher.Entries.{Entries}
 use Rattle.merge_model.specs.History.{History, MadeChange, Past, has, past_at, past_in}
 use Rattle.merge_model.specs.Judge.{PublisherJudge}
-use Rattle.merge_model.specs.Keys.{at_number, row_at, same_key}
-use Rattle.merge_model.specs.Noting
-use Rattle.merge_model.specs.Pasts.{cell_count}
-use Rattle.merge_model.specs.Promises.{InRow, Place}
-use Rattle.merge_model.specs.PublisherLocal.{version_at}
+use Rattle.merge_model.specs.Tables.Keys.{at_number, row_at, same_key}
+use Rattle.merge_model.specs.History.Noting
+use Rattle.merge_model.specs.History.Pasts.{cell_count}
+use Rattle.merge_model.specs.Laws.Promises.{InRow, Place}
+use Rattle.merge_model.specs.Publisher.PublisherLocal.{version_at}
 use Rattle.merge_types.specs.declared.row_key.RowKey.{RowKey as Key}
 use Rattle.merge_model.specs.Tables.{PublisherTables, SubscriberTables}
 use Rattle.merge_model.specs.declared.letter.Letter.{Letter}
@@ -27,7 +27,7 @@ use Rattle.merge_laws.proofs.AccountActs.{Acted, fate-acted, put_by}
 use Rattle.merge_laws.proofs.AccountElements.{IsIn}
 use Rattle.merge_laws.proofs.AccountHistory.{Goes, goes-nowhere, goes-on, goes-safe}
 use Rattle.merge_laws.proofs.AccountLetters.{IsOfSite}
-use Rattle.merge_model.proofs.Finding.{all-weaker}
+use Rattle.merge_model.proofs.Lists.Finding.{all-weaker}
 use Rattle.merge_laws.proofs.KnownNotes.{Reached, acts-reached, raised}
 use Rattle.merge_laws.proofs.KnownRows.{past-knows}
 use Rattle.merge_model.proofs.Lists.{all-both}

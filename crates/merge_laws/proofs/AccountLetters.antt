@@ -11,19 +11,19 @@ use Rattle.merge_batch.specs.declared.reply.DownloadItem.{DownloadItem}
 use Rattle.merge_batch.specs.declared.reply.Reply.TheVariants as reply
 use Rattle.merge_batch.specs.declared.request.Request.TheVariants as request
 use Rattle.merge_batch.specs.declared.request.UploadItem.{UploadItem}
-use Rattle.merge_model.specs.Acts.{key_of_item}
+use Rattle.merge_model.specs.Publisher.Acts.{key_of_item}
 use Rattle.merge_model.specs.History.{History, Past, past_in, pasts_with}
 use Rattle.merge_types.specs.declared.row_key.RowKey.{RowKey as Key}
 use Rattle.merge_model.specs.Tables.{SubscriberTables}
-use Rattle.merge_model.specs.Keys.{at_number}
-use Rattle.merge_model.specs.Taking.{key_of_download}
+use Rattle.merge_model.specs.Tables.Keys.{at_number}
+use Rattle.merge_model.specs.Subscriber.Taking.{key_of_download}
 use Rattle.merge_model.specs.World.{World}
 use Rattle.merge_model.specs.declared.letter.Message.TheVariants.{Asks, Replies}
 use Rattle.merge_model.specs.declared.letter.Letter.{Letter}
 use Rattle.merge_model.specs.declared.letter.Message.{Message}
 use Rattle.merge_laws.specs.LineagesStand.{OfMessage, OfOrder}
 use Rattle.merge_laws.specs.Received.{MessageFits, Received, joined_at}
-use Rattle.merge_model.proofs.Finding.{all-at, all-weaker}
+use Rattle.merge_model.proofs.Lists.Finding.{all-at, all-weaker}
 
 got-all : (P : List (Key × Past) → Type 0) (found : Option (List (Key × Past))) (letters : List (List (Key × Past))) (k : ℕ) → slice_get letters k ≡ found → P [] → AllByRecursion P letters → P (unwrap_or found [])
 got-all P None letters k at none all = none

@@ -11,16 +11,16 @@ use Rattle.merge_table.proofs.Sorted.{sorted_put}
 use Rattle.merge_ident.specs.Holders.{Holder}
 use Rattle.merge_schema.specs.declared.publication.Publication.{Publication}
 use Rattle.merge_batch.specs.declared.request.Request.TheVariants as request
-use Rattle.merge_model.proofs.Sorted.{key_total}
-use Rattle.merge_model.specs.ByNumbers.{received_by_number}
-use Rattle.merge_model.specs.Changes.{change_refusal, is_insert, key_of, no_row, version_after}
+use Rattle.merge_model.proofs.Publishers.Sorted.{key_total}
+use Rattle.merge_model.specs.Judge.ByNumbers.{received_by_number}
+use Rattle.merge_model.specs.Tables.Changes.{change_refusal, is_insert, key_of, no_row, version_after}
 use Rattle.merge_model.specs.History.{History, MadeChange, Past, has, past_at, past_in, pasts_at}
 use Rattle.merge_types.specs.RowKeys.{key_cmp}
-use Rattle.merge_model.specs.Keys.{at_number, put_number, put_row, same_key}
-use Rattle.merge_model.specs.Noting
-use Rattle.merge_model.specs.Pasts.{cell_count}
-use Rattle.merge_model.specs.PublisherLocal.{version_at}
-use Rattle.merge_model.specs.Refusals.{counter_end}
+use Rattle.merge_model.specs.Tables.Keys.{at_number, put_number, put_row, same_key}
+use Rattle.merge_model.specs.History.Noting
+use Rattle.merge_model.specs.History.Pasts.{cell_count}
+use Rattle.merge_model.specs.Publisher.PublisherLocal.{version_at}
+use Rattle.merge_model.specs.Tables.Refusals.{counter_end}
 use Rattle.merge_model.specs.Subscriber.{generations_at, is_joining, sub_at_moment, sub_counters, sub_last_closed, sub_local_refusal, sub_made_locally, sub_next_dot, sub_version_at, with_open, with_version, with_version_if}
 use Rattle.merge_types.specs.declared.row_key.RowKey.{RowKey as Key}
 use Rattle.merge_units.specs.declared.site_row.SubscriberRow.{SubscriberRow}
@@ -40,10 +40,10 @@ use Rattle.merge_laws.proofs.AccountFits.{ChangeFits, IsHeld, change-fits, made_
 use Rattle.merge_laws.proofs.AccountHistory.{traced-new}
 use Rattle.merge_laws.proofs.AccountSending.{received-safe, site-away}
 use Rattle.merge_laws.proofs.AccountSites.{held-made, received-own, sent-made, sub-accounts}
-use Rattle.merge_model.proofs.Refusals.{first-none}
-use Rattle.merge_model.proofs.Finding.{all-weaker, some_same}
+use Rattle.merge_model.proofs.Runs.Refusals.{first-none}
+use Rattle.merge_model.proofs.Lists.Finding.{all-weaker, some_same}
 use Rattle.merge_laws.proofs.Ground.{Ground}
-use Rattle.merge_model.proofs.KeyLookUps.{key-itself, keys-same}
+use Rattle.merge_model.proofs.Lists.KeyLookUps.{key-itself, keys-same}
 use Rattle.merge_laws.proofs.Knowing.{IsFresh}
 use Rattle.merge_laws.proofs.KnownRows.{held-knows}
 use Rattle.merge_model.proofs.Lists.{zip-first}

@@ -15,10 +15,10 @@ use Rattle.merge_conflict.specs.Losers.{publisher_site}
 use Rattle.merge_units.specs.Cases.{case_by, is_conflict}
 use Rattle.merge_units.specs.Version.{has_news, tops_of}
 use Rattle.merge_model.specs.History.{History, MadeChange, Past, has}
-use Rattle.merge_model.specs.Keys.{has_key, same_key}
-use Rattle.merge_model.specs.Noting
-use Rattle.merge_model.specs.Pasts.{chains_by, past_by}
-use Rattle.merge_model.specs.Promises.{InCell, InRow, Place, descends}
+use Rattle.merge_model.specs.Tables.Keys.{has_key, same_key}
+use Rattle.merge_model.specs.History.Noting
+use Rattle.merge_model.specs.History.Pasts.{chains_by, past_by}
+use Rattle.merge_model.specs.Laws.Promises.{InCell, InRow, Place, descends}
 use Rattle.merge_types.specs.declared.row_key.RowKey.{RowKey as Key}
 use Rattle.merge_laws.specs.Accounts.{Grown, GrownAlone, Holds, Traced, is_kept_elsewhere, is_lost_at, is_made_at, is_past, makes}
 use Rattle.merge_laws.specs.Knowledge.{KnowsItsPast, same_dot}

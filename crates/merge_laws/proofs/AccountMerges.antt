@@ -17,8 +17,8 @@ use Rattle.merge_units.specs.declared.version.Cell.{Cell}
 use Rattle.merge_units.specs.Version.{Knowing, has_news, tops_of}
 use Rattle.merge_units.specs.Cases.{bodies_case, is_conflict, side_of, sides_of}
 use Rattle.merge_model.specs.History.{Chains, MadeChange, OfCells, OfDead, has}
-use Rattle.merge_model.specs.Pasts.{chains_by}
-use Rattle.merge_model.specs.Promises.{InCell, InRow, Place, descends}
+use Rattle.merge_model.specs.History.Pasts.{chains_by}
+use Rattle.merge_model.specs.Laws.Promises.{InCell, InRow, Place, descends}
 use Rattle.merge_types.specs.declared.row_key.RowKey.{RowKey as Key}
 use Rattle.merge_laws.specs.Accounts.{CellGrown, Grown, GrownAlone, is_made_at, is_set}
 use Rattle.merge_laws.specs.Knowledge.{KnowsItsPast, same_dot}

@@ -7,9 +7,9 @@ use Rattle.merge_types.specs.declared.identifiers.SiteId.{SiteId}
 use Rattle.merge_units.specs.declared.version.Version.{Version}
 use Rattle.merge_schema.specs.declared.publication.Publication.{Publication}
 use Rattle.merge_model.specs.History.{History, Line, MadeChange, Past, is_done, past_at, past_in}
-use Rattle.merge_model.specs.Model.{pasts_in, with_letter}
-use Rattle.merge_model.specs.Noting
-use Rattle.merge_model.specs.Pasts.{cell_count}
+use Rattle.merge_model.specs.History.Model.{pasts_in, with_letter}
+use Rattle.merge_model.specs.History.Noting
+use Rattle.merge_model.specs.History.Pasts.{cell_count}
 use Rattle.merge_types.specs.declared.row_key.RowKey.{RowKey as Key}
 use Rattle.merge_model.specs.Tables.{SubscriberTables}
 use Rattle.merge_model.specs.declared.letter.Letter.{Letter}
@@ -17,7 +17,7 @@ use Rattle.merge_model.specs.declared.letter.Message.{Message}
 use Rattle.merge_laws.specs.Accounts.{Accounts, GrownAlone, IsSafe, IsTraced, SendsAll, is_settled, received_of}
 use Rattle.merge_laws.specs.LineagesStand.{OfMessage, is_of}
 use Rattle.merge_laws.proofs.AccountSites.{nothing-traced}
-use Rattle.merge_model.proofs.Finding.{all-more}
+use Rattle.merge_model.proofs.Lists.Finding.{all-more}
 use Rattle.merge_model.proofs.Lists.{all-both, zip-more}
 use Rattle.merge_laws.proofs.OwnPasts.{lines-on}
 use Rattle.merge_laws.proofs.Publishing.{done-joins, in_reach}

@@ -5,14 +5,14 @@ use Rattle.merge_types.specs.declared.changes.Change.{Change}
 use Rattle.merge_types.specs.declared.identifiers.Dot.{Dot}
 use Rattle.merge_units.specs.declared.version.Version.{Version}
 use Rattle.merge_schema.specs.declared.publication.Publication.{Publication}
-use Rattle.merge_model.specs.ByHistory.{by_past}
-use Rattle.merge_model.specs.Changes.{change_refusal, is_insert, key_of, no_row, version_after}
+use Rattle.merge_model.specs.Judge.ByHistory.{by_past}
+use Rattle.merge_model.specs.Tables.Changes.{change_refusal, is_insert, key_of, no_row, version_after}
 use Rattle.merge_model.specs.History.{History, Line, MadeChange, Past, has, past_at, pasts_with}
 use Rattle.merge_model.specs.Judge.{PublisherJudge}
-use Rattle.merge_model.specs.Noting
+use Rattle.merge_model.specs.History.Noting
 use Rattle.merge_model.specs.Publisher.{counters, last_closed}
-use Rattle.merge_model.specs.PublisherLocal.{Drawn, changing_locally, local_refusal, made_locally, next_dot, version_at, with_draw}
-use Rattle.merge_model.specs.Refusals.{counter_end}
+use Rattle.merge_model.specs.Publisher.PublisherLocal.{Drawn, changing_locally, local_refusal, made_locally, next_dot, version_at, with_draw}
+use Rattle.merge_model.specs.Tables.Refusals.{counter_end}
 use Rattle.merge_types.specs.declared.row_key.RowKey.{RowKey as Key}
 use Rattle.merge_model.specs.Tables.{PublisherTables}
 use Rattle.merge_model.specs.World.{World, with_publisher}
@@ -25,10 +25,10 @@ use Rattle.merge_laws.proofs.AccountLocal.{none-made, with-some}
 use Rattle.merge_laws.proofs.AccountNotes.{lines-accounts, same-accounts}
 use Rattle.merge_laws.proofs.AccountRows.{at-key, row-accounts}
 use Rattle.merge_laws.proofs.AccountSites.{held-made}
-use Rattle.merge_model.proofs.Refusals.{first-none}
+use Rattle.merge_model.proofs.Runs.Refusals.{first-none}
 use Rattle.merge_laws.proofs.ChangeDots.{made-distinct}
 use Rattle.merge_laws.proofs.Ground.{Ground}
-use Rattle.merge_model.proofs.KeyLookUps.{key-itself}
+use Rattle.merge_model.proofs.Lists.KeyLookUps.{key-itself}
 use Rattle.merge_laws.proofs.Knowing.{IsFresh}
 use Rattle.merge_laws.proofs.KnownRows.{held-knows}
 use Rattle.merge_laws.proofs.OwnLocal.{own-fresh, own-none}

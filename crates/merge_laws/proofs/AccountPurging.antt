@@ -10,12 +10,12 @@ use Rattle.merge_units.specs.declared.version.Version.{Version}
 use Rattle.std.specs.BTreeMap.{is_at}
 use Rattle.merge_table.proofs.Sorted.{sorted_take}
 use Rattle.merge_schema.specs.declared.publication.Publication.{Publication}
-use Rattle.merge_model.proofs.Sorted.{key_total}
+use Rattle.merge_model.proofs.Publishers.Sorted.{key_total}
 use Rattle.merge_model.specs.History.{History, MadeChange, Past, has, no_past, past_at, past_in, pasts_at}
 use Rattle.merge_types.specs.RowKeys.{key_cmp}
-use Rattle.merge_model.specs.Keys.{at_number, drop_row, has_key, row_at, same_key}
-use Rattle.merge_model.specs.Noting
-use Rattle.merge_model.specs.Pasts.{cell_count}
+use Rattle.merge_model.specs.Tables.Keys.{at_number, drop_row, has_key, row_at, same_key}
+use Rattle.merge_model.specs.History.Noting
+use Rattle.merge_model.specs.History.Pasts.{cell_count}
 use Rattle.merge_types.specs.declared.row_key.RowKey.{RowKey as Key}
 use Rattle.merge_model.specs.Tables.{SubscriberTables}
 use Rattle.merge_model.specs.declared.letter.Letter.{Letter}
@@ -23,8 +23,8 @@ use Rattle.merge_laws.specs.Accounts.{Accounts, Grown, GrownAlone, IsSafe, IsTra
 use Rattle.merge_laws.specs.LineagesStand.{is_of}
 use Rattle.merge_laws.proofs.AccountHistory.{Goes, SortedAt, goes-safe, goes-traced}
 use Rattle.merge_laws.proofs.AccountSites.{nothing-traced}
-use Rattle.merge_model.proofs.Finding.{all-weaker, at_put_same, found-named}
-use Rattle.merge_model.proofs.KeyLookUps.{key-itself, keys-same, row-dropped}
+use Rattle.merge_model.proofs.Lists.Finding.{all-weaker, at_put_same, found-named}
+use Rattle.merge_model.proofs.Lists.KeyLookUps.{key-itself, keys-same, row-dropped}
 use Rattle.merge_laws.proofs.PastLookUps.{past-left, put-there}
 use Rattle.merge_laws.proofs.ToldRows.{drop_version}
 

@@ -10,21 +10,21 @@ use Rattle.merge_batch.specs.declared.reply.DownloadItem.{DownloadItem}
 use Rattle.merge_batch.specs.declared.reply.Reply.{Reply}
 use Rattle.merge_batch.specs.declared.reply.Reply.TheVariants as reply
 use Rattle.merge_batch.specs.declared.request.Outstanding.{Outstanding}
-use Rattle.merge_model.specs.ByHistory.{by_made}
-use Rattle.merge_model.specs.ByNumbers.{received_by_number}
-use Rattle.merge_model.specs.Faults.{reply_fault}
+use Rattle.merge_model.specs.Judge.ByHistory.{by_made}
+use Rattle.merge_model.specs.Judge.ByNumbers.{received_by_number}
+use Rattle.merge_model.specs.World.Faults.{reply_fault}
 use Rattle.merge_model.specs.History.{History, MadeChange, Past, is_done, past_in, pasts_with}
 use Rattle.merge_model.specs.Judge.{SubscriberJudge}
 use Rattle.merge_model.specs.Laws.{AreSubSorted}
-use Rattle.merge_model.specs.Keys.{at_number, put_number}
-use Rattle.merge_model.specs.Noting
-use Rattle.merge_model.specs.Pasts.{cell_count}
-use Rattle.merge_model.specs.PublisherLocal.{version_at}
+use Rattle.merge_model.specs.Tables.Keys.{at_number, put_number}
+use Rattle.merge_model.specs.History.Noting
+use Rattle.merge_model.specs.History.Pasts.{cell_count}
+use Rattle.merge_model.specs.Publisher.PublisherLocal.{version_at}
 use Rattle.merge_model.specs.Subscriber.{sub_at_moment}
 use Rattle.merge_types.specs.declared.row_key.RowKey.{RowKey as Key}
 use Rattle.merge_units.specs.declared.site_row.SubscriberRow.{SubscriberRow}
 use Rattle.merge_model.specs.Tables.{SubscriberTables}
-use Rattle.merge_model.specs.Taking.{key_of_download, seq_of, taken, with_item, with_order, with_received}
+use Rattle.merge_model.specs.Subscriber.Taking.{key_of_download, seq_of, taken, with_item, with_order, with_received}
 use Rattle.merge_model.specs.World.{World, subscriber_at, with_subscriber}
 use Rattle.merge_model.specs.declared.letter.Letter.{Letter}
 use Rattle.merge_model.specs.declared.letter.Message.{Message}
@@ -38,7 +38,7 @@ use Rattle.merge_laws.proofs.AccountNotes.{none-traced}
 use Rattle.merge_laws.proofs.AccountSending.{received-safe, site-away, stays-accounts}
 use Rattle.merge_laws.proofs.AccountSites.{held-made, sent-made, site-accounts}
 use Rattle.merge_laws.proofs.AccountTaking.{Takes, alike-accounts, order-takes, put-twice}
-use Rattle.merge_model.proofs.Finding.{at_put_other, at_put_same, letter-zip, pool-at}
+use Rattle.merge_model.proofs.Lists.Finding.{at_put_other, at_put_same, letter-zip, pool-at}
 use Rattle.merge_laws.proofs.Ground.{Ground}
 use Rattle.merge_laws.proofs.KnownRows.{letter-knows, past-knows}
 use Rattle.merge_model.proofs.Lists.{all-both}

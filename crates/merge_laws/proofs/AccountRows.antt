@@ -9,9 +9,9 @@ use Rattle.merge_units.specs.declared.version.Version.{Version}
 use Rattle.merge_schema.specs.declared.publication.Publication.{Publication}
 use Rattle.merge_batch.specs.declared.request.Request.TheVariants as request
 use Rattle.merge_model.specs.History.{History, Line, MadeChange, Past, has, past_at, past_in}
-use Rattle.merge_model.specs.Keys.{at_number, has_key, same_key}
-use Rattle.merge_model.specs.Pasts.{cell_count}
-use Rattle.merge_model.specs.Promises.{InRow, Place, descends}
+use Rattle.merge_model.specs.Tables.Keys.{at_number, has_key, same_key}
+use Rattle.merge_model.specs.History.Pasts.{cell_count}
+use Rattle.merge_model.specs.Laws.Promises.{InRow, Place, descends}
 use Rattle.merge_types.specs.declared.row_key.RowKey.{RowKey as Key}
 use Rattle.merge_model.specs.Tables.{SubscriberTables}
 use Rattle.merge_model.specs.declared.letter.Message.TheVariants.{Asks, Replies}
@@ -23,8 +23,8 @@ use Rattle.merge_laws.specs.LineagesStand.{OfMessage, is_of, is_sent}
 use Rattle.merge_laws.proofs.AccountElements.{IsIn, all-in, each-in}
 use Rattle.merge_laws.proofs.AccountHistory.{Goes, OfNew, all-new, alone-new, at-other-site, goes-safe, goes-traced, grown-new, others-new, put_pasts, sorted-at, traced-new, with_new}
 use Rattle.merge_laws.proofs.AccountLetters.{IsOfSite, message-weaker}
-use Rattle.merge_model.proofs.Finding.{all-weaker, found-named, some_same}
-use Rattle.merge_model.proofs.KeyLookUps.{keys-same}
+use Rattle.merge_model.proofs.Lists.Finding.{all-weaker, found-named, some_same}
+use Rattle.merge_model.proofs.Lists.KeyLookUps.{keys-same}
 use Rattle.merge_laws.proofs.Knowing.{IsFresh}
 use Rattle.merge_laws.proofs.KnownRows.{held-knows, past-knows}
 use Rattle.merge_model.proofs.Lists.{zip-first, zip-weaker}

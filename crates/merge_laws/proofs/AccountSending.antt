@@ -8,14 +8,14 @@ use Rattle.merge_schema.specs.declared.publication.Publication.{Publication}
 use Rattle.merge_batch.specs.declared.request.Request.TheVariants as request
 use Rattle.merge_batch.specs.declared.request.Upload.{Upload}
 use Rattle.merge_batch.specs.declared.request.UploadItem.{UploadItem}
-use Rattle.merge_model.specs.Acts.{key_of_item}
-use Rattle.merge_model.specs.ByHistory.{by_made, changed_between_by_made, is_between_made}
+use Rattle.merge_model.specs.Publisher.Acts.{key_of_item}
+use Rattle.merge_model.specs.Judge.ByHistory.{by_made, changed_between_by_made, is_between_made}
 use Rattle.merge_model.specs.History.{History, MadeChange, Past, has, made_at, past_at, past_in, pasts_at}
-use Rattle.merge_model.specs.Keys.{put_number, row_at, same_key}
-use Rattle.merge_model.specs.Model.{past_of_item}
-use Rattle.merge_model.specs.Pasts.{cell_count}
-use Rattle.merge_model.specs.PublisherLocal.{version_at}
-use Rattle.merge_model.specs.Sending.{upload_sent}
+use Rattle.merge_model.specs.Tables.Keys.{put_number, row_at, same_key}
+use Rattle.merge_model.specs.History.Model.{past_of_item}
+use Rattle.merge_model.specs.History.Pasts.{cell_count}
+use Rattle.merge_model.specs.Publisher.PublisherLocal.{version_at}
+use Rattle.merge_model.specs.Subscriber.Sending.{upload_sent}
 use Rattle.merge_model.specs.Subscriber.{sub_at_moment, sub_closed, sub_version_at}
 use Rattle.merge_types.specs.declared.row_key.RowKey.{RowKey as Key}
 use Rattle.merge_model.specs.Tables.{SubscriberTables}
@@ -28,9 +28,9 @@ use Rattle.merge_laws.proofs.AccountBase.{Base}
 use Rattle.merge_laws.proofs.AccountElements.{IsIn, all-in, any-in, each-in, filter-in}
 use Rattle.merge_laws.proofs.AccountNotes.{none-traced, post-accounts}
 use Rattle.merge_laws.proofs.AccountSites.{site-accounts}
-use Rattle.merge_model.proofs.Finding.{all-weaker, found-named}
+use Rattle.merge_model.proofs.Lists.Finding.{all-weaker, found-named}
 use Rattle.merge_laws.proofs.Ground.{Ground}
-use Rattle.merge_model.proofs.KeyLookUps.{key-itself, keys-turned}
+use Rattle.merge_model.proofs.Lists.KeyLookUps.{key-itself, keys-turned}
 use Rattle.merge_laws.proofs.LetterPasts.{item-past, items-past}
 use Rattle.merge_model.proofs.Lists.{any-mono}
 use Rattle.merge_laws.proofs.OwnSending.{fold-reaches, gens-some, items-reach, reaches, version-some}

@@ -10,8 +10,8 @@ use Rattle.merge_units.specs.declared.version.Version.{Version}
 use Rattle.merge_schema.specs.declared.publication.Publication.{Publication}
 use Rattle.merge_model.specs.History.{History, MadeChange, Past, has, no_past, past_at, past_in}
 use Rattle.merge_types.specs.RowKeys.{key_cmp}
-use Rattle.merge_model.specs.Keys.{at_number, put_number}
-use Rattle.merge_model.specs.Pasts.{cell_count}
+use Rattle.merge_model.specs.Tables.Keys.{at_number, put_number}
+use Rattle.merge_model.specs.History.Pasts.{cell_count}
 use Rattle.merge_model.specs.Subscriber.{sub_version_at}
 use Rattle.merge_types.specs.declared.row_key.RowKey.{RowKey as Key}
 use Rattle.merge_model.specs.Tables.{SubscriberTables}
@@ -24,7 +24,7 @@ use Rattle.merge_laws.proofs.AccountElements.{all-in, each-in}
 use Rattle.merge_laws.proofs.AccountHistory.{Goes, OfNew, SortedAt, all-new, alone-new, goes-safe, goes-traced, grown-new, others-new, traced-new, with_new}
 use Rattle.merge_laws.proofs.AccountLetters.{message-weaker}
 use Rattle.merge_laws.proofs.AccountRows.{KeepsLost}
-use Rattle.merge_model.proofs.Finding.{all-weaker, at_put_other, at_put_same}
+use Rattle.merge_model.proofs.Lists.Finding.{all-weaker, at_put_other, at_put_same}
 use Rattle.merge_laws.proofs.Knowing.{IsFresh}
 use Rattle.merge_laws.proofs.KnownRows.{held-knows, past-knows}
 use Rattle.merge_model.proofs.Lists.{all-both, zip-weaker}

@@ -14,26 +14,26 @@ use Rattle.merge_table.proofs.Sorted.{sorted_put, sorted_take}
 use Rattle.merge_schema.specs.declared.publication.Publication.{Publication}
 use Rattle.merge_batch.specs.declared.reply.Act.{Act as Order}
 use Rattle.merge_batch.specs.declared.reply.Act.TheVariants as order
-use Rattle.merge_model.proofs.Sorted.{key_total}
-use Rattle.merge_model.specs.ByHistory.{by_made}
+use Rattle.merge_model.proofs.Publishers.Sorted.{key_total}
+use Rattle.merge_model.specs.Judge.ByHistory.{by_made}
 use Rattle.merge_model.specs.History.{History, MadeChange, Past, has, no_past, past_at, past_in, pasts_at}
 use Rattle.merge_model.specs.Judge.{SubscriberJudge}
 use Rattle.merge_types.specs.RowKeys.{key_cmp}
-use Rattle.merge_model.specs.Keys.{at_number, drop_row, put_number, put_row, row_at, same_key}
-use Rattle.merge_model.specs.Noting
-use Rattle.merge_model.specs.Pasts.{cell_count}
+use Rattle.merge_model.specs.Tables.Keys.{at_number, drop_row, put_number, put_row, row_at, same_key}
+use Rattle.merge_model.specs.History.Noting
+use Rattle.merge_model.specs.History.Pasts.{cell_count}
 use Rattle.merge_types.specs.declared.row_key.RowKey.{RowKey as Key}
 use Rattle.merge_units.specs.declared.site_row.SubscriberRow.{SubscriberRow}
 use Rattle.merge_model.specs.Tables.{SubscriberTables}
-use Rattle.merge_model.specs.Taking.{with_order}
+use Rattle.merge_model.specs.Subscriber.Taking.{with_order}
 use Rattle.merge_model.specs.declared.letter.Letter.{Letter}
 use Rattle.merge_laws.specs.Accounts.{Accounts, GrownAlone, IsSafe, IsTraced, is_settled, received_of}
 use Rattle.merge_laws.specs.LineagesStand.{OfOrder, is_of}
 use Rattle.merge_laws.proofs.AccountElements.{IsIn, any-in, each-in}
 use Rattle.merge_laws.proofs.AccountHistory.{goes-traced}
 use Rattle.merge_laws.proofs.AccountSites.{AreMade, HeldMade, SentMade, nothing-traced, site-goes, sub-accounts}
-use Rattle.merge_model.proofs.Finding.{all-weaker, at_put, at_put_same, some_same}
-use Rattle.merge_model.proofs.KeyLookUps.{key-itself, keys-same, row-dropped}
+use Rattle.merge_model.proofs.Lists.Finding.{all-weaker, at_put, at_put_same, some_same}
+use Rattle.merge_model.proofs.Lists.KeyLookUps.{key-itself, keys-same, row-dropped}
 use Rattle.merge_model.proofs.Lists.{all-both}
 use Rattle.merge_laws.proofs.PastLookUps.{past-left, past-put, put-there}
 use Rattle.merge_laws.proofs.ToldRows.{found-dropped, found-put, found_in}

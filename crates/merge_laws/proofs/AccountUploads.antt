@@ -9,24 +9,24 @@ use Rattle.merge_batch.specs.declared.reply.Reply.TheVariants as reply
 use Rattle.merge_batch.specs.declared.request.Request.TheVariants as request
 use Rattle.merge_batch.specs.declared.request.Upload.{Upload}
 use Rattle.merge_batch.specs.declared.request.UploadItem.{UploadItem}
-use Rattle.merge_model.specs.Acts.{Act, acting_items, key_of_item, versions_of}
-use Rattle.merge_model.specs.ByHistory.{by_past}
-use Rattle.merge_model.specs.Entries.{Entries}
+use Rattle.merge_model.specs.Publisher.Acts.{Act, acting_items, key_of_item, versions_of}
+use Rattle.merge_model.specs.Judge.ByHistory.{by_past}
+use Rattle.merge_model.specs.Publisher.Entries.{Entries}
 use Rattle.merge_model.specs.History.{History, Line, MadeChange, Past, has, is_done, past_in, pasts_with}
 use Rattle.merge_model.specs.Judge.{PublisherJudge}
-use Rattle.merge_model.specs.Keys.{same_key}
-use Rattle.merge_model.specs.Noting
-use Rattle.merge_model.specs.Pasts.{cell_count}
+use Rattle.merge_model.specs.Tables.Keys.{same_key}
+use Rattle.merge_model.specs.History.Noting
+use Rattle.merge_model.specs.History.Pasts.{cell_count}
 use Rattle.merge_model.specs.Publisher.{last_closed}
-use Rattle.merge_model.specs.PublisherLocal.{version_at}
-use Rattle.merge_model.specs.PublisherUpload.{brings_news, changing_by, taken_in, upload_refusal, with_acts}
-use Rattle.merge_model.specs.Steps.{kept_decisions, upload_questions}
+use Rattle.merge_model.specs.Publisher.PublisherLocal.{version_at}
+use Rattle.merge_model.specs.Publisher.PublisherUpload.{brings_news, changing_by, taken_in, upload_refusal, with_acts}
+use Rattle.merge_model.specs.World.Steps.{kept_decisions, upload_questions}
 use Rattle.merge_types.specs.declared.row_key.RowKey.{RowKey as Key}
 use Rattle.merge_model.specs.Tables.{PublisherTables}
 use Rattle.merge_model.specs.World.{Saying, World}
 use Rattle.merge_model.specs.declared.letter.Message.TheVariants.{Asks, Replies}
 use Rattle.merge_model.specs.declared.letter.Letter.{Letter}
-use Rattle.merge_model.specs.ByNumbers.{received_by_number}
+use Rattle.merge_model.specs.Judge.ByNumbers.{received_by_number}
 use Rattle.merge_laws.specs.Accounts.{Accounts, GrownAlone, IsSafe, IsTraced, OfAccounts, SendsAll, is_settled}
 use Rattle.merge_laws.specs.Knowledge.{changes_of}
 use Rattle.merge_laws.specs.LineagesStand.{OfMessage, is_of, is_sent}
@@ -36,9 +36,9 @@ use Rattle.merge_laws.proofs.AccountItems.{AllActed, IsBrought, IsReady, acts-ac
 use Rattle.merge_laws.proofs.AccountLetters.{IsOfSite, pasts-all, uploads-away}
 use Rattle.merge_laws.proofs.AccountNotes.{based-accounts, done-accounts, none-traced, post-accounts, same-accounts}
 use Rattle.merge_laws.proofs.Arrivals.{upload-known}
-use Rattle.merge_model.proofs.Finding.{all-weaker, letter-zip, pool-at}
+use Rattle.merge_model.proofs.Lists.Finding.{all-weaker, letter-zip, pool-at}
 use Rattle.merge_laws.proofs.Ground.{Ground}
-use Rattle.merge_model.proofs.KeyLookUps.{keys-same}
+use Rattle.merge_model.proofs.Lists.KeyLookUps.{keys-same}
 use Rattle.merge_laws.proofs.KnownRows.{letter-knows}
 use Rattle.merge_model.proofs.Lists.{all-filter}
 use Rattle.merge_laws.proofs.OwnPasts.{lines-on}

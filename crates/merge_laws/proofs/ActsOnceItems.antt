@@ -10,17 +10,17 @@ use Rattle.merge_batch.specs.declared.refusal.Refusal.TheVariants.{Gap}
 use Rattle.merge_batch.specs.declared.refusal.Refusal.{Refusal}
 use Rattle.merge_batch.specs.declared.request.Upload.{Upload}
 use Rattle.merge_batch.specs.declared.request.UploadItem.{UploadItem}
-use Rattle.merge_model.specs.Acts.{Act, acts_from, acts_of, question_of}
+use Rattle.merge_model.specs.Publisher.Acts.{Act, acts_from, acts_of, question_of}
 use Rattle.merge_resolve.specs.declared.asking.Question.{Question}
-use Rattle.merge_model.specs.Faults.{fault_of, known_by, upload_fault}
+use Rattle.merge_model.specs.World.Faults.{fault_of, known_by, upload_fault}
 use Rattle.merge_model.specs.History.{History, is_done, pasts_with}
 use Rattle.merge_model.specs.Judge.{PublisherJudge}
-use Rattle.merge_model.specs.Model.{Model, did_something, with_letter}
-use Rattle.merge_model.specs.Noting
+use Rattle.merge_model.specs.History.Model.{Model, did_something, with_letter}
+use Rattle.merge_model.specs.History.Noting
 use Rattle.merge_model.specs.Publisher.{counters, site_refusal}
-use Rattle.merge_model.specs.PublisherUpload.{brings_news, taken_in, too_many_new}
-use Rattle.merge_model.specs.Refusals.{counter_end, first_refusal, refused_if}
-use Rattle.merge_model.specs.Steps.{kept_decisions}
+use Rattle.merge_model.specs.Publisher.PublisherUpload.{brings_news, taken_in, too_many_new}
+use Rattle.merge_model.specs.Tables.Refusals.{counter_end, first_refusal, refused_if}
+use Rattle.merge_model.specs.World.Steps.{kept_decisions}
 use Rattle.merge_resolve.specs.Questions.{question_of as asked_of}
 use Rattle.merge_model.specs.declared.outcome.Outcome.{Outcome}
 use Rattle.merge_model.specs.Tables.{PublisherTables}
@@ -29,7 +29,7 @@ use Rattle.merge_model.specs.declared.letter.Letter.{Letter}
 use Rattle.merge_laws.specs.ActsOnce.{ActedItemsDoNothing, delivered, with_pool, without_acted}
 use Rattle.merge_laws.proofs.ActsOnceRules.{fewer-fine}
 use Rattle.merge_laws.proofs.ActsOnceSteps.{answer, delivered-by, judge, refusal, taken_by}
-use Rattle.merge_model.proofs.Refusals.{first-none}
+use Rattle.merge_model.proofs.Runs.Refusals.{first-none}
 use Rattle.merge_laws.proofs.ToldItems.{fault-none}
 use Rattle.merge_laws.proofs.Walking.{here}
 

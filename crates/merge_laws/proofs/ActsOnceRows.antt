@@ -17,23 +17,23 @@ use Rattle.merge_conflict.specs.Losers.{losing_rows}
 use Rattle.merge_schema.specs.declared.publication.Publication.{Publication}
 use Rattle.merge_batch.specs.declared.request.Upload.{Upload}
 use Rattle.merge_batch.specs.declared.request.UploadItem.{UploadItem}
-use Rattle.merge_model.specs.Acts.{Act, Fate, Met, New, Unknown, act_of, acts_from, conflict_of, key_of_item, left_by, lost_by, lost_from, made_by, version_by, version_of_act, versions_of}
+use Rattle.merge_model.specs.Publisher.Acts.{Act, Fate, Met, New, Unknown, act_of, acts_from, conflict_of, key_of_item, left_by, lost_by, lost_from, made_by, version_by, version_of_act, versions_of}
 use Rattle.merge_units.specs.Cases.{is_conflict}
-use Rattle.merge_model.specs.Entries.{Entries, changing_entries, with_rows}
+use Rattle.merge_model.specs.Publisher.Entries.{Entries, changing_entries, with_rows}
 use Rattle.merge_model.specs.History.{History, Line, MadeChange, Past, is_done, no_past, past_at, past_in, pasts_at}
 use Rattle.merge_model.specs.Judge.{PublisherJudge}
-use Rattle.merge_model.specs.Keys.{put_row, row_at, same_key}
-use Rattle.merge_model.specs.Noting
-use Rattle.merge_model.specs.Pasts.{past_by}
-use Rattle.merge_model.specs.Promises.{key_of_conflict}
+use Rattle.merge_model.specs.Tables.Keys.{put_row, row_at, same_key}
+use Rattle.merge_model.specs.History.Noting
+use Rattle.merge_model.specs.History.Pasts.{past_by}
+use Rattle.merge_model.specs.Laws.Promises.{key_of_conflict}
 use Rattle.merge_model.specs.Publisher.{last_closed}
-use Rattle.merge_model.specs.PublisherUpload.{changing_by, taken_in, with_acts}
+use Rattle.merge_model.specs.Publisher.PublisherUpload.{changing_by, taken_in, with_acts}
 use Rattle.merge_types.specs.declared.row_key.RowKey.{RowKey as Key}
 use Rattle.merge_units.specs.declared.site_row.PublisherRow.{PublisherRow}
 use Rattle.merge_model.specs.Tables.{PublisherTables}
 use Rattle.merge_laws.specs.ActsOnce.{OfRow, of_row}
-use Rattle.merge_model.proofs.Finding.{at_put_same}
-use Rattle.merge_model.proofs.KeyLookUps.{row-put}
+use Rattle.merge_model.proofs.Lists.Finding.{at_put_same}
+use Rattle.merge_model.proofs.Lists.KeyLookUps.{row-put}
 use Rattle.merge_model.proofs.Lists.{OfSome, all-append, all-filter_map}
 use Rattle.merge_laws.proofs.Noted.{DecidesAsOwn}
 

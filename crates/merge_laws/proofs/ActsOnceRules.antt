@@ -12,7 +12,7 @@ use Rattle.merge_batch.specs.declared.request.Upload.{Upload}
 use Rattle.merge_batch.specs.declared.request.UploadItem.{UploadItem}
 use Rattle.merge_batch.specs.declared.rules.BrokenRule.{BrokenRule}
 use Rattle.merge_batch.proofs.AllMet.{all_met, both_met, is_below-along, met-at, none_both, none_broken, none_first, none_mapped, none_second}
-use Rattle.merge_model.proofs.Finding.{all-weaker}
+use Rattle.merge_model.proofs.Lists.Finding.{all-weaker}
 
 -- an item that is held against another one before it
 rises-too : (a b : Bool) (rules : List (ℕ × Bool)) → a ≡ true → first_broken ((5, b) ∷ rules) ≡ None → first_broken ((5, a) ∷ rules) ≡ None

@@ -18,18 +18,18 @@ use Rattle.merge_batch.specs.declared.reply.Uploaded.{Uploaded}
 use Rattle.merge_batch.specs.declared.request.Upload.{Upload}
 use Rattle.merge_batch.specs.declared.request.UploadItem.{UploadItem}
 use Rattle.merge_batch.proofs.AllMet.{all_good, all_met, met-at, none_first, none_mapped, none_second}
-use Rattle.merge_model.specs.Acts.{Act, acting_items, acts_of, question_of}
-use Rattle.merge_model.specs.ByHistory.{by_history, by_past, received_by_done}
-use Rattle.merge_model.specs.Faults.{known_by, upload_fault}
+use Rattle.merge_model.specs.Publisher.Acts.{Act, acting_items, acts_of, question_of}
+use Rattle.merge_model.specs.Judge.ByHistory.{by_history, by_past, received_by_done}
+use Rattle.merge_model.specs.World.Faults.{known_by, upload_fault}
 use Rattle.merge_model.specs.History.{History, is_done, pasts_with}
 use Rattle.merge_model.specs.Judge.{PublisherJudge}
-use Rattle.merge_model.specs.Keys.{same_key}
-use Rattle.merge_model.specs.Model.{Model, did_something, noted_if, noted_letter, with_letter, with_posted}
-use Rattle.merge_model.specs.Noting
+use Rattle.merge_model.specs.Tables.Keys.{same_key}
+use Rattle.merge_model.specs.History.Model.{Model, did_something, noted_if, noted_letter, with_letter, with_posted}
+use Rattle.merge_model.specs.History.Noting
 use Rattle.merge_model.specs.Publisher.{counters, site_refusal}
-use Rattle.merge_model.specs.PublisherUpload.{brings_news, taken_in, too_many_new, upload_refusal, uploaded}
-use Rattle.merge_model.specs.Refusals.{counter_end, refused_if, unless}
-use Rattle.merge_model.specs.Steps.{deliver_letter, kept_decisions, post, unless_refused, upload_questions}
+use Rattle.merge_model.specs.Publisher.PublisherUpload.{brings_news, taken_in, too_many_new, upload_refusal, uploaded}
+use Rattle.merge_model.specs.Tables.Refusals.{counter_end, refused_if, unless}
+use Rattle.merge_model.specs.World.Steps.{deliver_letter, kept_decisions, post, unless_refused, upload_questions}
 use Rattle.merge_resolve.specs.Questions.{question_of as asked_of}
 use Rattle.merge_model.specs.declared.outcome.Outcome.TheVariants.{NoLetter, Posted, Refuses}
 use Rattle.merge_model.specs.declared.outcome.Outcome.{Outcome}
@@ -40,7 +40,7 @@ use Rattle.merge_model.specs.declared.letter.Letter.{Letter}
 use Rattle.merge_model.specs.declared.letter.Message.TheVariants.{Replies}
 use Rattle.merge_laws.specs.ActsOnce.{ActedRowsStay, ActedUploadsOnlyAnswer, AllActed, IsUpload, OnlyAnswers, delivered, of_row, row_has_acted}
 use Rattle.merge_laws.proofs.ActsOnceRows.{acting-elsewhere, acts-elsewhere, noted-stays, tables-stay}
-use Rattle.merge_model.proofs.Refusals.{first-none}
+use Rattle.merge_model.proofs.Runs.Refusals.{first-none}
 use Rattle.merge_laws.proofs.Noted.{acts-own}
 use Rattle.merge_laws.proofs.Publishing.{member-step}
 use Rattle.merge_laws.proofs.ToldItems.{fault-none}

@@ -13,25 +13,25 @@ use Rattle.merge_batch.specs.declared.request.Request.TheVariants as request
 use Rattle.merge_batch.specs.declared.request.Upload.{Upload}
 use Rattle.merge_batch.proofs.Values.{slice_get-append_within}
 use Rattle.merge_model.specs.Failing.{Slips, faulty}
-use Rattle.merge_model.specs.Runs.{model_after_actions, model_behind_actions}
-use Rattle.merge_model.specs.Acts.{Act}
-use Rattle.merge_model.specs.ByHistory.{by_made, by_past}
-use Rattle.merge_model.specs.Entries.{Entries}
+use Rattle.merge_model.specs.Failing.Runs.{model_after_actions, model_behind_actions}
+use Rattle.merge_model.specs.Publisher.Acts.{Act}
+use Rattle.merge_model.specs.Judge.ByHistory.{by_made, by_past}
+use Rattle.merge_model.specs.Publisher.Entries.{Entries}
 use Rattle.merge_model.specs.History.{History, is_done, pasts_with}
 use Rattle.merge_model.specs.Judge.{PublisherJudge}
-use Rattle.merge_model.specs.Keys.{put_number}
-use Rattle.merge_model.specs.Model.{Model, did_something, model}
-use Rattle.merge_model.specs.Noting
+use Rattle.merge_model.specs.Tables.Keys.{put_number}
+use Rattle.merge_model.specs.History.Model.{Model, did_something, model}
+use Rattle.merge_model.specs.History.Noting
 use Rattle.merge_model.specs.Publisher.{last_closed}
-use Rattle.merge_model.specs.PublisherUpload.{brings_news}
-use Rattle.merge_model.specs.Steps.{Action, Deliver, kept_decisions, upload_questions}
+use Rattle.merge_model.specs.Publisher.PublisherUpload.{brings_news}
+use Rattle.merge_model.specs.World.Steps.{Action, Deliver, kept_decisions, upload_questions}
 use Rattle.merge_model.specs.declared.outcome.Outcome.{Outcome}
 use Rattle.merge_model.specs.Tables.{PublisherTables}
 use Rattle.merge_model.specs.World.{Saying, World, letter_at}
 use Rattle.merge_model.specs.declared.letter.Message.TheVariants.{Asks}
 use Rattle.merge_model.specs.declared.letter.Letter.{Letter}
 use Rattle.merge_model.specs.declared.letter.Message.{Message}
-use Rattle.merge_model.proofs.Actions.{failing-actions-keep}
+use Rattle.merge_model.proofs.Runs.Actions.{failing-actions-keep}
 use Rattle.merge_laws.proofs.Tallied.{received-tallied}
 use Rattle.merge_laws.specs.Laws.{OfEveryActions}
 use Rattle.merge_laws.specs.ActsOnce.{AllActed, DoneStays, DoneStaysByActions, LettersStay, LettersStayByActions, OnlyAnswers, TakenHaveActed, TakenOnlyAnswer, TakenOnlyAnswerByActions, delivered}

@@ -16,16 +16,16 @@ use Rattle.merge_batch.specs.declared.reply.Reply.TheVariants as reply
 use Rattle.merge_batch.specs.declared.reply.Uploaded.{Uploaded}
 use Rattle.merge_batch.specs.declared.request.Upload.{Upload}
 use Rattle.merge_batch.specs.declared.request.UploadItem.{UploadItem}
-use Rattle.merge_model.specs.Acts.{Act, acting_items, acts_from, acts_of, question_of}
+use Rattle.merge_model.specs.Publisher.Acts.{Act, acting_items, acts_from, acts_of, question_of}
 use Rattle.merge_resolve.specs.declared.asking.Question.{Question}
-use Rattle.merge_model.specs.Entries.{Changing, changed_by}
-use Rattle.merge_model.specs.Faults.{fault_of, judged_state, known_by, upload_fault}
+use Rattle.merge_model.specs.Publisher.Entries.{Changing, changed_by}
+use Rattle.merge_model.specs.World.Faults.{fault_of, judged_state, known_by, upload_fault}
 use Rattle.merge_model.specs.Judge.{PublisherJudge}
-use Rattle.merge_model.specs.Keys.{at_number}
+use Rattle.merge_model.specs.Tables.Keys.{at_number}
 use Rattle.merge_model.specs.Publisher.{at_moment, counters, site_refusal}
-use Rattle.merge_model.specs.PublisherUpload.{brings_news, changing_by, taken_in, too_many_new, upload_refusal, uploaded, with_acts}
-use Rattle.merge_model.specs.Refusals.{counter_end, first_refusal, refused_if, unless}
-use Rattle.merge_model.specs.Steps.{deliver_upload, kept_decisions, post, unless_refused, upload_questions}
+use Rattle.merge_model.specs.Publisher.PublisherUpload.{brings_news, changing_by, taken_in, too_many_new, upload_refusal, uploaded, with_acts}
+use Rattle.merge_model.specs.Tables.Refusals.{counter_end, first_refusal, refused_if, unless}
+use Rattle.merge_model.specs.World.Steps.{deliver_upload, kept_decisions, post, unless_refused, upload_questions}
 use Rattle.merge_resolve.specs.Questions.{question_of as asked_of}
 use Rattle.merge_model.specs.declared.outcome.Outcome.{Outcome}
 use Rattle.merge_types.specs.declared.row_key.RowKey.{RowKey as Key}
@@ -33,7 +33,7 @@ use Rattle.merge_model.specs.Tables.{PublisherTables}
 use Rattle.merge_model.specs.World.{Saying, World}
 use Rattle.merge_model.specs.declared.letter.Message.TheVariants.{Replies}
 use Rattle.merge_laws.proofs.AlikeUploads.{ItemAgrees, acting-same, acts-from-same, questions-same}
-use Rattle.merge_model.proofs.Refusals.{first-none}
+use Rattle.merge_model.proofs.Runs.Refusals.{first-none}
 use Rattle.merge_model.proofs.Lists.{all-filter}
 
 -- What two ways to decide agree on, of the sites that have joined and of moves.

@@ -11,26 +11,26 @@ use Rattle.merge_units.specs.declared.version.Version.{Version}
 use Rattle.merge_batch.specs.declared.request.Request.TheVariants as request
 use Rattle.merge_batch.specs.declared.request.Upload.{Upload}
 use Rattle.merge_batch.specs.declared.request.UploadItem.{UploadItem}
-use Rattle.merge_model.specs.Acts.{key_of_item}
+use Rattle.merge_model.specs.Publisher.Acts.{key_of_item}
 use Rattle.merge_units.specs.Cases.{case_by}
 use Rattle.merge_units.specs.Version.{new_tops, tops_of}
 use Rattle.merge_model.specs.History.{History, MadeChange, Past, has, is_accepted, past_at, past_in, pasts_with}
 use Rattle.merge_types.specs.RowKeys.{key_cmp}
-use Rattle.merge_model.specs.Keys.{row_at, same_key}
-use Rattle.merge_model.specs.Model.{Model}
+use Rattle.merge_model.specs.Tables.Keys.{row_at, same_key}
+use Rattle.merge_model.specs.History.Model.{Model}
 use Rattle.merge_types.specs.declared.row_key.RowKey.{RowKey as Key}
 use Rattle.merge_units.specs.declared.site_row.PublisherRow.{PublisherRow}
 use Rattle.merge_model.specs.Tables.{PublisherTables}
-use Rattle.merge_model.specs.ByNumbers.{received_number_by_number}
+use Rattle.merge_model.specs.Judge.ByNumbers.{received_number_by_number}
 use Rattle.merge_model.specs.World.{letter_at}
 use Rattle.merge_model.specs.declared.letter.Message.TheVariants.{Asks}
 use Rattle.merge_model.specs.declared.letter.Letter.{Letter}
 use Rattle.merge_laws.specs.Knowledge.{Knowledge, Knows, is_made, same_dot}
-use Rattle.merge_model.specs.Promises.{is_given_up}
+use Rattle.merge_model.specs.Laws.Promises.{is_given_up}
 use Rattle.merge_laws.specs.LineagesStand.{AllTold, LineagesStand, OfMessage, Owns, UploadCounts, can_act, counts_in}
 use Rattle.merge_laws.specs.Standing.{StandsFor, Told, is_counted}
-use Rattle.merge_model.proofs.Finding.{all-weaker, letter-zip, some_same}
-use Rattle.merge_model.proofs.KeyLookUps.{keys-exact}
+use Rattle.merge_model.proofs.Lists.Finding.{all-weaker, letter-zip, some_same}
+use Rattle.merge_model.proofs.Lists.KeyLookUps.{keys-exact}
 use Rattle.merge_laws.proofs.KnownRows.{held-knows, letter-knows, past-knows}
 use Rattle.merge_model.proofs.Lists.{all-three}
 use Rattle.merge_laws.proofs.Standing.{case-alike, news-alike, standing-agrees}

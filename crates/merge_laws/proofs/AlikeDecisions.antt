@@ -2,9 +2,9 @@
 use Rattle.std.specs.Prelude.{List, []}
 use Rattle.merge_units.specs.declared.version.Version.{Version}
 use Rattle.merge_schema.specs.declared.publication.Publication.{Publication}
-use Rattle.merge_model.specs.Bridge.{CaseDecidesAlike, PublisherDecidesAlike}
+use Rattle.merge_model.specs.Laws.Bridge.{CaseDecidesAlike, PublisherDecidesAlike}
 use Rattle.merge_model.specs.History.{Past, past_at, past_in}
-use Rattle.merge_model.specs.Model.{Model}
+use Rattle.merge_model.specs.History.Model.{Model}
 use Rattle.merge_types.specs.declared.row_key.RowKey.{RowKey as Key}
 use Rattle.merge_laws.specs.Seen.{Seen}
 use Rattle.merge_laws.proofs.AlikeCases.{Meets, case-same, news-same}

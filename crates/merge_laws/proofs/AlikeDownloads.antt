@@ -10,14 +10,14 @@ use Rattle.std.proofs.lemmas.Map.Keys.{sorted_tail}
 use Rattle.merge_table.proofs.Sorted.{sorted_put}
 use Rattle.merge_table.proofs.LookUps.{rows_from_look_ups}
 use Rattle.merge_table.proofs.Room.{AreAbove}
-use Rattle.merge_model.specs.Entries
+use Rattle.merge_model.specs.Publisher.Entries
 use Rattle.merge_types.specs.RowKeys.{key_cmp}
-use Rattle.merge_model.specs.Keys.{has_key, put_row, row_at}
+use Rattle.merge_model.specs.Tables.Keys.{has_key, put_row, row_at}
 use Rattle.merge_types.specs.declared.row_key.RowKey.{RowKey as Key}
 use Rattle.merge_units.specs.declared.site_row.PublisherRow.{PublisherRow}
-use Rattle.merge_model.proofs.Sorted.{key_total}
-use Rattle.merge_model.proofs.KeyLookUps.{keys-exact, keys-tied, none-behind}
-use Rattle.merge_model.proofs.KeyLists.{put-keys}
+use Rattle.merge_model.proofs.Publishers.Sorted.{key_total}
+use Rattle.merge_model.proofs.Lists.KeyLookUps.{keys-exact, keys-tied, none-behind}
+use Rattle.merge_model.proofs.Lists.KeyLists.{put-keys}
 
 -- Picking from keys in order: what is found is what is picked of a key that is there.
 

@@ -3,15 +3,15 @@ use Rattle.std.specs.Prelude.{◌≡◌, ◌≤◌, ℕ, Bool, true, false, refl
 use Rattle.std.proofs.Common.{sym, ◌∙◌}
 use Rattle.merge_schema.specs.declared.publication.Publication.{Publication}
 use Rattle.merge_types.specs.declared.identifiers.SiteId.{SiteId}
-use Rattle.merge_model.specs.ByHistory.{has_acted_by_done, has_left_by_line, is_gap_by_done, is_unmet_by_done, received_by_done, received_number_by_done, touch_by_line}
-use Rattle.merge_model.specs.ByNumbers.{has_acted_by_number, has_left_by_mapping, is_gap_by_number, is_unmet_by_number, received_by_number, received_number_by_number, touch_by_mapping}
+use Rattle.merge_model.specs.Judge.ByHistory.{has_acted_by_done, has_left_by_line, is_gap_by_done, is_unmet_by_done, received_by_done, received_number_by_done, touch_by_line}
+use Rattle.merge_model.specs.Judge.ByNumbers.{has_acted_by_number, has_left_by_mapping, is_gap_by_number, is_unmet_by_number, received_by_number, received_number_by_number, touch_by_mapping}
 use Rattle.merge_model.specs.History.{History}
-use Rattle.merge_model.specs.Keys.{has_key}
-use Rattle.merge_model.specs.Model.{Model}
-use Rattle.merge_model.specs.PublisherDownload.{inside_keys}
+use Rattle.merge_model.specs.Tables.Keys.{has_key}
+use Rattle.merge_model.specs.History.Model.{Model}
+use Rattle.merge_model.specs.Publisher.PublisherDownload.{inside_keys}
 use Rattle.merge_types.specs.declared.row_key.RowKey.{RowKey as Key}
 use Rattle.merge_model.specs.World.{World}
-use Rattle.merge_model.proofs.Downloads.{inside-held}
+use Rattle.merge_model.proofs.Entries.Downloads.{inside-held}
 use Rattle.merge_laws.proofs.Ground.{Ground}
 use Rattle.merge_laws.proofs.Models.{gap-is}
 use Rattle.merge_laws.proofs.Numbers.{unmet-by-number}

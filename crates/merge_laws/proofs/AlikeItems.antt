@@ -16,14 +16,14 @@ use Rattle.merge_batch.specs.declared.request.Upload.{Upload}
 use Rattle.merge_batch.specs.declared.request.UploadItem.{UploadItem}
 use Rattle.merge_batch.proofs.Makers.{made-maker_of}
 use Rattle.merge_batch.proofs.Valid.{valid_upload}
-use Rattle.merge_model.specs.Acts.{key_of_item}
-use Rattle.merge_model.specs.ByHistory.{by_past}
-use Rattle.merge_model.specs.ByNumbers.{by_numbers}
-use Rattle.merge_model.specs.Faults.{known_by, upload_fault}
+use Rattle.merge_model.specs.Publisher.Acts.{key_of_item}
+use Rattle.merge_model.specs.Judge.ByHistory.{by_past}
+use Rattle.merge_model.specs.Judge.ByNumbers.{by_numbers}
+use Rattle.merge_model.specs.World.Faults.{known_by, upload_fault}
 use Rattle.merge_model.specs.History.{History, Past, past_at, past_in, pasts_with}
 use Rattle.merge_model.specs.Judge.{PublisherJudge}
-use Rattle.merge_model.specs.Keys.{at_number, row_at}
-use Rattle.merge_model.specs.Model.{Model}
+use Rattle.merge_model.specs.Tables.Keys.{at_number, row_at}
+use Rattle.merge_model.specs.History.Model.{Model}
 use Rattle.merge_model.specs.Publisher.{later, site_refusal, state_refusal, unknown_site}
 use Rattle.merge_types.specs.declared.row_key.RowKey.{RowKey as Key}
 use Rattle.merge_units.specs.declared.site_row.PublisherRow.{PublisherRow}
@@ -36,7 +36,7 @@ use Rattle.merge_laws.proofs.AlikeArrivals.{SitesAgree}
 use Rattle.merge_laws.proofs.AlikeCases.{Meets, case-same, held-meets, items-meet, news-same}
 use Rattle.merge_laws.proofs.AlikeFields.{acted-alike, gap-alike, left-alike, number-alike, received-alike, unmet-alike}
 use Rattle.merge_laws.proofs.AlikeUploads.{ItemAgrees, MetAgrees}
-use Rattle.merge_model.proofs.Refusals.{first-none}
+use Rattle.merge_model.proofs.Runs.Refusals.{first-none}
 use Rattle.merge_laws.proofs.Ground.{Ground}
 use Rattle.merge_model.proofs.Lists.{all-both}
 use Rattle.merge_laws.proofs.ToldItems.{fault-none}

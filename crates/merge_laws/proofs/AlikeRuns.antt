@@ -2,18 +2,18 @@
 use Rattle.std.specs.Prelude.{◌≡◌, ℕ, List, refl}
 use Rattle.std.proofs.Common.{ap, subst, sym}
 use Rattle.merge_schema.specs.declared.publication.Publication.{Publication}
-use Rattle.merge_model.specs.Bridge.{StepsAlike}
-use Rattle.merge_model.specs.Events.{after, answers, machine}
+use Rattle.merge_model.specs.Laws.Bridge.{StepsAlike}
+use Rattle.merge_model.specs.World.Events.{after, answers, machine}
 use Rattle.merge_model.specs.Failing.{Slips, failing, faulty}
-use Rattle.merge_model.specs.Model.{Model, model, model_step}
-use Rattle.merge_model.specs.Steps.{Action, step}
+use Rattle.merge_model.specs.History.Model.{Model, model, model_step}
+use Rattle.merge_model.specs.World.Steps.{Action, step}
 use Rattle.merge_model.specs.World.{Saying, World}
 use Rattle.merge_model.specs.declared.event.Event.{Event}
 use Rattle.merge_model.specs.declared.outcome.Outcome.{Outcome}
-use Rattle.merge_model.proofs.Alike.{Both, events-alike}
-use Rattle.merge_model.proofs.Actions.{actions-alike}
-use Rattle.merge_model.proofs.AlikeFailing.{Together, fails-alike, runs-alike as failing-runs}
-use Rattle.merge_model.specs.Runs.{after_actions, outcomes}
+use Rattle.merge_model.proofs.Runs.Alike.{Both, events-alike}
+use Rattle.merge_model.proofs.Runs.Actions.{actions-alike}
+use Rattle.merge_model.proofs.Failing.AlikeFailing.{Together, fails-alike, runs-alike as failing-runs}
+use Rattle.merge_model.specs.Failing.Runs.{after_actions, outcomes}
 
 module _ (publication : Publication) (says : Saying) (Kept : Model → Type 0) (keeps : (m : Model) (action : Action) → Kept m → Kept (model_step publication says m action).0) (acts : (m : Model) (action : Action) → Kept m → StepsAlike publication says m action) where
   -- the same but for the history

@@ -9,13 +9,13 @@ use Rattle.merge_batch.specs.declared.refusal.Refusal.TheVariants.{UnknownSite}
 use Rattle.merge_batch.specs.declared.request.RangeAsk.{RangeAsk}
 use Rattle.merge_batch.specs.declared.request.Request.{Request}
 use Rattle.merge_batch.specs.declared.request.Request.TheVariants as request
-use Rattle.merge_model.specs.Bridge.{StepsAlike, SubscriberDecidesAlike}
-use Rattle.merge_model.specs.ByHistory.{by_history, by_past}
-use Rattle.merge_model.specs.ByNumbers.{by_numbers}
+use Rattle.merge_model.specs.Laws.Bridge.{StepsAlike, SubscriberDecidesAlike}
+use Rattle.merge_model.specs.Judge.ByHistory.{by_history, by_past}
+use Rattle.merge_model.specs.Judge.ByNumbers.{by_numbers}
 use Rattle.merge_model.specs.History.{History, Past, pasts_with}
-use Rattle.merge_model.specs.Keys.{at_number}
-use Rattle.merge_model.specs.Model.{Model}
-use Rattle.merge_model.specs.Steps.{Action, CloseAt, Deliver, Forget, Look, Make, MakeAnew, Pass, Send, deliver_letter, deliver_reply, deliver_request, make_anew, make_at, send_from, step_by}
+use Rattle.merge_model.specs.Tables.Keys.{at_number}
+use Rattle.merge_model.specs.History.Model.{Model}
+use Rattle.merge_model.specs.World.Steps.{Action, CloseAt, Deliver, Forget, Look, Make, MakeAnew, Pass, Send, deliver_letter, deliver_reply, deliver_request, make_anew, make_at, send_from, step_by}
 use Rattle.merge_model.specs.declared.outcome.Outcome.TheVariants.{NoLetter, Refuses}
 use Rattle.merge_model.specs.declared.outcome.Outcome.{Outcome}
 use Rattle.merge_types.specs.declared.row_key.RowKey.{RowKey as Key}

@@ -9,21 +9,21 @@ use Rattle.merge_batch.specs.declared.reply.Reply.TheVariants as reply
 use Rattle.merge_batch.specs.declared.request.Outstanding.{Outstanding}
 use Rattle.merge_batch.specs.declared.request.Request.TheVariants as request
 use Rattle.merge_batch.specs.declared.request.Upload.{Upload}
-use Rattle.merge_model.specs.Bridge.{SubscriberDecidesAlike}
-use Rattle.merge_model.specs.ByHistory.{by_history, by_made}
-use Rattle.merge_model.specs.ByNumbers.{by_rows, changed_between_by_rows, is_unsent_by_rows}
-use Rattle.merge_model.specs.Faults.{reply_fault}
+use Rattle.merge_model.specs.Laws.Bridge.{SubscriberDecidesAlike}
+use Rattle.merge_model.specs.Judge.ByHistory.{by_history, by_made}
+use Rattle.merge_model.specs.Judge.ByNumbers.{by_rows, changed_between_by_rows, is_unsent_by_rows}
+use Rattle.merge_model.specs.World.Faults.{reply_fault}
 use Rattle.merge_model.specs.Judge.{SubscriberJudge}
-use Rattle.merge_model.specs.Model.{Model}
-use Rattle.merge_model.specs.Refusals.{counter_end, unless}
-use Rattle.merge_model.specs.Reinit.{reinitialised}
-use Rattle.merge_model.specs.Sending.{sending_refusal, upload_made}
-use Rattle.merge_model.specs.Steps.{SendDownload, SendJoin, SendRanges, SendUpload, Sending, deliver_reply, make_anew, posted, send_from, unless_refused}
+use Rattle.merge_model.specs.History.Model.{Model}
+use Rattle.merge_model.specs.Tables.Refusals.{counter_end, unless}
+use Rattle.merge_model.specs.Subscriber.Reinit.{reinitialised}
+use Rattle.merge_model.specs.Subscriber.Sending.{sending_refusal, upload_made}
+use Rattle.merge_model.specs.World.Steps.{SendDownload, SendJoin, SendRanges, SendUpload, Sending, deliver_reply, make_anew, posted, send_from, unless_refused}
 use Rattle.merge_model.specs.declared.outcome.Outcome.TheVariants.{Discards, Took}
 use Rattle.merge_model.specs.Subscriber.{sub_at_moment, sub_counters}
 use Rattle.merge_types.specs.declared.row_key.RowKey.{RowKey as Key}
 use Rattle.merge_model.specs.Tables.{SubscriberTables}
-use Rattle.merge_model.specs.Taking.{met_by, seq_of, take_reply, taken}
+use Rattle.merge_model.specs.Subscriber.Taking.{met_by, seq_of, take_reply, taken}
 use Rattle.merge_model.specs.declared.outcome.Taken.TheVariants.{Acted, Missed}
 use Rattle.merge_model.specs.declared.outcome.Taken.{Taken}
 use Rattle.merge_model.specs.World.{World, by_tables, with_subscriber}

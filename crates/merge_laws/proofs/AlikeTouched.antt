@@ -9,16 +9,16 @@ use Rattle.merge_batch.specs.declared.reply.Downloaded.{Downloaded}
 use Rattle.merge_batch.specs.declared.reply.Reply.TheVariants as reply
 use Rattle.merge_batch.specs.declared.request.Download.{Download}
 use Rattle.merge_batch.specs.declared.request.Request.TheVariants as request
-use Rattle.merge_model.specs.ByHistory.{by_past, last_line, moved_rows_by_line, touch_by_line, touched_outside}
-use Rattle.merge_model.specs.ByNumbers.{by_numbers, mapping_at, moved_rows_by_mapping, touch_by_mapping, touch_outside}
-use Rattle.merge_model.specs.Entries
+use Rattle.merge_model.specs.Judge.ByHistory.{by_past, last_line, moved_rows_by_line, touch_by_line, touched_outside}
+use Rattle.merge_model.specs.Judge.ByNumbers.{by_numbers, mapping_at, moved_rows_by_mapping, touch_by_mapping, touch_outside}
+use Rattle.merge_model.specs.Publisher.Entries
 use Rattle.merge_model.specs.History.{History, Line, Past}
 use Rattle.merge_model.specs.Judge.{PublisherJudge}
 use Rattle.merge_gens.specs.Moves.{row_site_cmp}
-use Rattle.merge_model.specs.Keys.{at_row_site, has_key, row_at, same_key}
-use Rattle.merge_model.specs.PublisherDownload.{TouchedRow, asked, download_refusal, inside_keys, reply_by, reply_to, touched_row, touched_rows}
-use Rattle.merge_model.specs.Refusals.{unless}
-use Rattle.merge_model.specs.Steps.{answered, deliver_request}
+use Rattle.merge_model.specs.Tables.Keys.{at_row_site, has_key, row_at, same_key}
+use Rattle.merge_model.specs.Publisher.PublisherDownload.{TouchedRow, asked, download_refusal, inside_keys, reply_by, reply_to, touched_row, touched_rows}
+use Rattle.merge_model.specs.Tables.Refusals.{unless}
+use Rattle.merge_model.specs.World.Steps.{answered, deliver_request}
 use Rattle.merge_types.specs.declared.row_key.RowKey.{RowKey as Key}
 use Rattle.merge_gens.specs.declared.moves.Mapping.{Mapping}
 use Rattle.merge_gens.specs.declared.moves.RowSite.{RowSite}
@@ -26,12 +26,12 @@ use Rattle.merge_model.specs.Tables.{PublisherTables}
 use Rattle.merge_model.specs.World.{Saying, World}
 use Rattle.merge_laws.proofs.AlikeDownloads.{told-same}
 use Rattle.merge_laws.proofs.AlikeFields.{received-alike, touch-alike}
-use Rattle.merge_model.proofs.Downloads.{inside-held}
+use Rattle.merge_model.proofs.Entries.Downloads.{inside-held}
 use Rattle.merge_laws.proofs.Ground.{Ground}
-use Rattle.merge_model.proofs.KeyLists.{keys-once, some-head}
+use Rattle.merge_model.proofs.Lists.KeyLists.{keys-once, some-head}
 use Rattle.merge_laws.proofs.LastLineGone.{told-of}
-use Rattle.merge_model.proofs.PlaceLookUps.{place-is}
-use Rattle.merge_model.proofs.Tests.{or-first, or-second}
+use Rattle.merge_model.proofs.Lists.PlaceLookUps.{place-is}
+use Rattle.merge_model.proofs.Lists.Tests.{or-first, or-second}
 use Rattle.merge_laws.proofs.Walking.{here}
 
 -- A row that has a mapping or a line for a site is among the moved ones.

@@ -13,13 +13,13 @@ use Rattle.merge_resolve.specs.declared.question.Meeting.{Meeting}
 use Rattle.merge_conflict.specs.Losers.{publisher_site}
 use Rattle.merge_schema.specs.declared.publication.Publication.{Publication}
 use Rattle.merge_batch.specs.declared.request.UploadItem.{UploadItem}
-use Rattle.merge_model.specs.Acts.{Act, Fate, Met, New, Unknown, act_of, acts_from, asked_at, case_met, decision_for, fate_by, is_new_row, key_of_item, left_by, made_by, meeting_of, question_of, question_on}
+use Rattle.merge_model.specs.Publisher.Acts.{Act, Fate, Met, New, Unknown, act_of, acts_from, asked_at, case_met, decision_for, fate_by, is_new_row, key_of_item, left_by, made_by, meeting_of, question_of, question_on}
 use Rattle.merge_resolve.specs.Priorities.{greatest_priority}
 use Rattle.merge_resolve.specs.declared.asking.Question.{Question}
 use Rattle.merge_units.specs.Cases.{is_conflict}
 use Rattle.merge_units.specs.Version.{new_tops}
 use Rattle.merge_model.specs.Judge.{PublisherJudge}
-use Rattle.merge_model.specs.Keys.{row_at}
+use Rattle.merge_model.specs.Tables.Keys.{row_at}
 use Rattle.merge_types.specs.declared.row_key.RowKey.{RowKey as Key}
 use Rattle.merge_units.specs.declared.site_row.PublisherRow.{PublisherRow}
 use Rattle.merge_model.specs.Tables.{PublisherTables}

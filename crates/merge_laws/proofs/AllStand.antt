@@ -12,24 +12,24 @@ use Rattle.merge_batch.specs.declared.reply.DownloadItem.{DownloadItem}
 use Rattle.merge_batch.specs.declared.reply.Reply.TheVariants as reply
 use Rattle.merge_batch.specs.declared.request.Request.TheVariants as request
 use Rattle.merge_batch.specs.declared.request.UploadItem.{UploadItem}
-use Rattle.merge_model.specs.Acts.{key_of_item}
+use Rattle.merge_model.specs.Publisher.Acts.{key_of_item}
 use Rattle.merge_model.specs.History.{MadeChange, Past, has, past_at, past_in, pasts_with}
-use Rattle.merge_model.specs.Keys.{same_key}
-use Rattle.merge_model.specs.Model.{Model}
-use Rattle.merge_model.specs.Promises.{AllStand, lineages_in, lost_at, put_lineage}
-use Rattle.merge_model.specs.Promises.{StandsFor as IsStandIn, is_given_up}
+use Rattle.merge_model.specs.Tables.Keys.{same_key}
+use Rattle.merge_model.specs.History.Model.{Model}
+use Rattle.merge_model.specs.Laws.Promises.{AllStand, lineages_in, lost_at, put_lineage}
+use Rattle.merge_model.specs.Laws.Promises.{StandsFor as IsStandIn, is_given_up}
 use Rattle.merge_types.specs.declared.row_key.RowKey.{RowKey as Key}
 use Rattle.merge_units.specs.declared.site_row.PublisherRow.{PublisherRow}
 use Rattle.merge_units.specs.declared.site_row.SubscriberRow.{SubscriberRow}
-use Rattle.merge_model.specs.Taking.{key_of_download}
+use Rattle.merge_model.specs.Subscriber.Taking.{key_of_download}
 use Rattle.merge_model.specs.declared.letter.Message.TheVariants.{Asks, Replies}
 use Rattle.merge_model.specs.declared.letter.Message.{Message}
 use Rattle.merge_lineage.specs.Lineage.{knows}
 use Rattle.merge_laws.specs.LineagesStand.{LineagesStand, OfMessage, OfOrder, counts_in}
 use Rattle.merge_laws.specs.Standing.{StandsAt, StandsFor}
 use Rattle.merge_laws.specs.TablesAgree.{TablesAgree}
-use Rattle.merge_model.proofs.Finding.{all-weaker}
-use Rattle.merge_model.proofs.KeyLookUps.{keys-turned}
+use Rattle.merge_model.proofs.Lists.Finding.{all-weaker}
+use Rattle.merge_model.proofs.Lists.KeyLookUps.{keys-turned}
 use Rattle.merge_model.proofs.Lists.{OfSome, all-filter_map, all-map}
 use Rattle.merge_laws.proofs.ToldLetters.{letter-fits}
 

@@ -13,27 +13,27 @@ use Rattle.merge_batch.specs.declared.request.Request.TheVariants as request
 use Rattle.merge_batch.specs.declared.reply.Reply.TheVariants as reply
 use Rattle.merge_schema.specs.declared.publication.Publication.{Publication}
 use Rattle.merge_model.specs.Tables.{PublisherTables, SubscriberTables}
-use Rattle.merge_model.specs.Keys.{at_number}
-use Rattle.merge_model.specs.Refusals.{refused_if}
+use Rattle.merge_model.specs.Tables.Keys.{at_number}
+use Rattle.merge_model.specs.Tables.Refusals.{refused_if}
 use Rattle.merge_model.specs.Judge.{PublisherJudge}
-use Rattle.merge_model.specs.ByNumbers.{received_by_number}
-use Rattle.merge_model.specs.Acts.{Act}
+use Rattle.merge_model.specs.Judge.ByNumbers.{received_by_number}
+use Rattle.merge_model.specs.Publisher.Acts.{Act}
 use Rattle.merge_model.specs.Publisher.{no_state, site_refusal, state_refusal, unknown_site, later}
-use Rattle.merge_model.specs.PublisherJoin.{join_taken, join_acts}
-use Rattle.merge_model.specs.PublisherUpload.{upload_refusal}
+use Rattle.merge_model.specs.Publisher.PublisherJoin.{join_taken, join_acts}
+use Rattle.merge_model.specs.Publisher.PublisherUpload.{upload_refusal}
 use Rattle.merge_model.specs.Subscriber.{sub_last_closed}
 use Rattle.merge_model.specs.World.{World, with_publisher}
 use Rattle.merge_model.specs.declared.letter.Message.{Message}
 use Rattle.merge_model.specs.declared.letter.Message.TheVariants.{Asks, Replies}
 use Rattle.merge_model.specs.History.{History, is_done}
-use Rattle.merge_model.specs.Noting
+use Rattle.merge_model.specs.History.Noting
 use Rattle.merge_laws.specs.Received.{joined_at, MessageFits, LetterFits, SubscriberFits, DoneIsReceived, Received}
-use Rattle.merge_model.proofs.Refusals.{first-none, state-known}
-use Rattle.merge_model.proofs.Finding.{all-weaker}
+use Rattle.merge_model.proofs.Runs.Refusals.{first-none, state-known}
+use Rattle.merge_model.proofs.Lists.Finding.{all-weaker}
 use Rattle.merge_laws.proofs.MessageFacts.{acts-later}
 use Rattle.merge_laws.proofs.Publishing.{done-joins, joined-received, joined-joined, upload-received, upload-joined, number_in, sites_taken}
 use Rattle.merge_laws.proofs.Subscribing.{number-decided, same_number}
-use Rattle.merge_model.proofs.Tests.{numbers-same, numbers-turned}
+use Rattle.merge_model.proofs.Lists.Tests.{numbers-same, numbers-turned}
 
 -- A message says less where later joins have acted.
 message-later : (joined after : ℕ) (site : SiteId) (found : Option SubscriberTables) (message : Message) → joined ≤ after → MessageFits joined site found message → MessageFits after site found message

@@ -19,50 +19,50 @@ use Rattle.merge_batch.specs.declared.request.Outstanding.TheVariants as ask
 use Rattle.merge_batch.specs.declared.request.Request.TheVariants as request
 use Rattle.merge_batch.specs.declared.request.Upload.{Upload}
 use Rattle.merge_model.specs.Failing.{Slips, faulty}
-use Rattle.merge_model.specs.Runs.{model_behind, model_behind_actions}
-use Rattle.merge_model.specs.Acts.{Act}
-use Rattle.merge_model.specs.ByHistory.{by_made, by_past}
-use Rattle.merge_model.specs.ByNumbers.{received_by_number}
-use Rattle.merge_model.specs.Changes.{key_of, version_after}
-use Rattle.merge_model.specs.Events.{after}
-use Rattle.merge_model.specs.Faults.{reply_fault}
+use Rattle.merge_model.specs.Failing.Runs.{model_behind, model_behind_actions}
+use Rattle.merge_model.specs.Publisher.Acts.{Act}
+use Rattle.merge_model.specs.Judge.ByHistory.{by_made, by_past}
+use Rattle.merge_model.specs.Judge.ByNumbers.{received_by_number}
+use Rattle.merge_model.specs.Tables.Changes.{key_of, version_after}
+use Rattle.merge_model.specs.World.Events.{after}
+use Rattle.merge_model.specs.World.Faults.{reply_fault}
 use Rattle.merge_model.specs.History.{History, pasts_with}
 use Rattle.merge_model.specs.Judge.{PublisherJudge, SubscriberJudge}
-use Rattle.merge_model.specs.Keys.{at_number, put_number}
-use Rattle.merge_model.specs.Model.{Model, empty_model, model}
+use Rattle.merge_model.specs.Tables.Keys.{at_number, put_number}
+use Rattle.merge_model.specs.History.Model.{Model, empty_model, model}
 use Rattle.merge_model.specs.Publisher.{closed}
-use Rattle.merge_model.specs.PublisherDownload.{asked, reply_to}
-use Rattle.merge_model.specs.PublisherJoin.{join_acts, join_taken}
-use Rattle.merge_model.specs.PublisherLocal.{made_locally}
-use Rattle.merge_model.specs.PublisherPurge.{purge}
-use Rattle.merge_model.specs.PublisherRanges.{plans, ranged, with_grants}
-use Rattle.merge_model.specs.PublisherUpload.{brings_news, taken_in}
-use Rattle.merge_model.specs.Reinit.{reinitialised}
-use Rattle.merge_model.specs.Sending.{join_of, sending_refusal, upload_end, upload_sent, want_of, with_message}
+use Rattle.merge_model.specs.Publisher.PublisherDownload.{asked, reply_to}
+use Rattle.merge_model.specs.Publisher.PublisherJoin.{join_acts, join_taken}
+use Rattle.merge_model.specs.Publisher.PublisherLocal.{made_locally}
+use Rattle.merge_model.specs.Publisher.PublisherPurge.{purge}
+use Rattle.merge_model.specs.Publisher.PublisherRanges.{plans, ranged, with_grants}
+use Rattle.merge_model.specs.Publisher.PublisherUpload.{brings_news, taken_in}
+use Rattle.merge_model.specs.Subscriber.Reinit.{reinitialised}
+use Rattle.merge_model.specs.Subscriber.Sending.{join_of, sending_refusal, upload_end, upload_sent, want_of, with_message}
 use Rattle.merge_model.specs.Subscriber.{is_joining, sub_at_moment, sub_closed, sub_last_closed, sub_local_refusal, sub_made_locally, sub_next_dot, sub_version_at, with_version_if}
 use Rattle.merge_types.specs.declared.row_key.RowKey.{RowKey as Key}
 use Rattle.merge_model.specs.Tables.{PublisherTables, SubscriberTables}
-use Rattle.merge_model.specs.Taking.{seq_of, taken}
+use Rattle.merge_model.specs.Subscriber.Taking.{seq_of, taken}
 use Rattle.merge_model.specs.World.{Saying, World, empty_world, letter_at, subscriber_at, with_publisher, with_subscriber}
 use Rattle.merge_model.specs.declared.letter.Message.TheVariants.{Asks, Replies}
 use Rattle.merge_model.specs.declared.letter.Letter.{Letter}
 use Rattle.merge_model.specs.declared.letter.Message.{Message}
 use Rattle.merge_model.specs.declared.event.Event.{Event}
-use Rattle.merge_model.specs.Steps.{Action}
-use Rattle.merge_model.proofs.Actions.{failing-actions-keep}
+use Rattle.merge_model.specs.World.Steps.{Action}
+use Rattle.merge_model.proofs.Runs.Actions.{failing-actions-keep}
 use Rattle.merge_laws.proofs.Tallied.{behind-tallied, received-tallied}
 use Rattle.merge_laws.specs.Behind.{Behind, StaysBehind, TellsActed}
 use Rattle.merge_laws.specs.Received.{JoinFits, MessageFits, Received, joined_at}
 use Rattle.merge_laws.proofs.Arrivals.{upload-known}
-use Rattle.merge_model.proofs.Refusals.{first-none}
+use Rattle.merge_model.proofs.Runs.Refusals.{first-none}
 use Rattle.merge_laws.proofs.Deliveries.{news-above}
-use Rattle.merge_model.proofs.Finding.{all-at, all-more, all-weaker, at_put_other, at_put_same}
+use Rattle.merge_model.proofs.Lists.Finding.{all-at, all-more, all-weaker, at_put_other, at_put_same}
 use Rattle.merge_laws.proofs.MessageFacts.{acts-later, join-up, letter-fits}
 use Rattle.merge_laws.proofs.Models.{begins, begins-with, model-fine}
 use Rattle.merge_laws.proofs.Publishing.{SameNumbers, asked-same, joined-joined, joined-received, same-sites, upload-joined, upload-received}
 use Rattle.merge_laws.proofs.Steps.{joined-flag}
 use Rattle.merge_laws.proofs.Subscribing.{filling-stays, number-decided, same_number}
-use Rattle.merge_model.proofs.Tests.{number-itself}
+use Rattle.merge_model.proofs.Lists.Tests.{number-itself}
 use Rattle.merge_laws.proofs.UnsentKept.{reply-site, version-site}
 use Rattle.merge_laws.proofs.Walking.{StepsKeep, acts_in, comes, here, step-keeps, told_by, uploaded_world}
 use Rattle.merge_laws.proofs.Worlds.{received-is}

@@ -9,14 +9,14 @@ use Rattle.merge_batch.specs.declared.reply.Downloaded.{Downloaded}
 use Rattle.merge_batch.specs.declared.reply.Reply.TheVariants as reply
 use Rattle.merge_batch.specs.declared.request.Request.TheVariants as request
 use Rattle.merge_batch.specs.declared.request.Upload.{Upload}
-use Rattle.merge_model.specs.ByHistory.{by_made}
+use Rattle.merge_model.specs.Judge.ByHistory.{by_made}
 use Rattle.merge_model.specs.History.{MadeChange, made_at}
-use Rattle.merge_model.specs.Model.{Model, model, model_step}
+use Rattle.merge_model.specs.History.Model.{Model, model, model_step}
 use Rattle.merge_model.specs.Publisher.{last_closed}
-use Rattle.merge_model.specs.Runs.{model_behind_actions}
-use Rattle.merge_model.specs.Sending.{sending_refusal, unsent_rows, upload_made, upload_sent}
-use Rattle.merge_model.specs.Session.{Session, after_download, all_downloads, all_uploads, answered_as, arrived, ask, downloaded_in, downloading, exchange, last_message, unsent_generations, uploading, with_answer, with_upload}
-use Rattle.merge_model.specs.Steps.{Deliver, Send, SendDownload, SendUpload, Sending, posted}
+use Rattle.merge_model.specs.Failing.Runs.{model_behind_actions}
+use Rattle.merge_model.specs.Subscriber.Sending.{sending_refusal, unsent_rows, upload_made, upload_sent}
+use Rattle.merge_model.specs.World.Session.{Session, after_download, all_downloads, all_uploads, answered_as, arrived, ask, downloaded_in, downloading, exchange, last_message, unsent_generations, uploading, with_answer, with_upload}
+use Rattle.merge_model.specs.World.Steps.{Deliver, Send, SendDownload, SendUpload, Sending, posted}
 use Rattle.merge_model.specs.Subscriber.{sub_at_moment, sub_closed, sub_last_closed}
 use Rattle.merge_model.specs.Tables.{SubscriberTables}
 use Rattle.merge_model.specs.World.{Saying, World, subscriber_at}
@@ -24,7 +24,7 @@ use Rattle.merge_model.specs.declared.letter.Message.{Message}
 use Rattle.merge_model.specs.declared.letter.Message.TheVariants.{Replies}
 use Rattle.merge_model.specs.declared.outcome.Outcome.{Outcome}
 use Rattle.merge_model.specs.declared.outcome.Outcome.TheVariants.{NoPost, Posted, Refuses, Took}
-use Rattle.merge_model.proofs.Finding.{found-named}
+use Rattle.merge_model.proofs.Lists.Finding.{found-named}
 use Rattle.merge_laws.specs.Bounds.{DownloadsAreEnough, UploadsAreEnough, more_downloads, more_uploads, under_way}
 use Rattle.merge_laws.specs.Laws.{OfEveryValidActions}
 use Rattle.merge_laws.proofs.SessionChanges.{NoneBetween, UpTo, none-nothing, order-up, up-none}

@@ -4,7 +4,7 @@ use Rattle.std.specs.List.{AllByRecursion}
 use Rattle.std.proofs.Common.{arith, sym, ap, ◌∙◌}
 use Rattle.std.proofs.lemmas.Bool.Decides.{nat_tests}
 use Rattle.merge_model.specs.History.{History, MadeChange, no_history}
-use Rattle.merge_model.specs.Keys.{same_key}
+use Rattle.merge_model.specs.Tables.Keys.{same_key}
 use Rattle.merge_types.specs.declared.row_key.RowKey.{RowKey as Key}
 use Rattle.merge_laws.specs.Knowledge.{AreNumbered, counts_down, is_made, number_of_change, same_dot}
 use Rattle.merge_laws.proofs.Knowing.{IsFresh, down-parts, fresh-above, fresh-any}

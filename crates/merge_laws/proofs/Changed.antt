@@ -11,17 +11,17 @@ use Rattle.std.proofs.lemmas.Map.Keys.{sorted_tail}
 use Rattle.merge_table.proofs.Sorted.{sorted_put}
 use Rattle.merge_table.proofs.LookUps.{rows_from_look_ups}
 use Rattle.merge_table.proofs.Room.{AreAbove}
-use Rattle.merge_model.specs.ByHistory.{is_between_made, with_change_of}
-use Rattle.merge_model.specs.ByNumbers.{changed_row_between, last_between}
+use Rattle.merge_model.specs.Judge.ByHistory.{is_between_made, with_change_of}
+use Rattle.merge_model.specs.Judge.ByNumbers.{changed_row_between, last_between}
 use Rattle.merge_model.specs.History.{MadeChange}
 use Rattle.merge_types.specs.RowKeys.{key_cmp}
-use Rattle.merge_model.specs.Keys.{row_at, same_key}
+use Rattle.merge_model.specs.Tables.Keys.{row_at, same_key}
 use Rattle.merge_types.specs.declared.row_key.RowKey.{RowKey as Key}
 use Rattle.merge_units.specs.declared.site_row.SubscriberRow.{SubscriberRow}
-use Rattle.merge_model.proofs.Sorted.{key_total}
+use Rattle.merge_model.proofs.Publishers.Sorted.{key_total}
 use Rattle.merge_laws.specs.Numbered.{InOrder}
 use Rattle.merge_laws.specs.Unsent.{RowsTell, gens_in, last_made}
-use Rattle.merge_model.proofs.KeyLookUps.{keys-same, keys-tied, none-behind, row-put}
+use Rattle.merge_model.proofs.Lists.KeyLookUps.{keys-same, keys-tied, none-behind, row-put}
 
 -- By rows: what is found of a row is its last generation in the interval.
 

@@ -20,29 +20,29 @@ use Rattle.merge_schema.specs.declared.publication.Publication.{Publication}
 use Rattle.merge_resolve.specs.Asked.{tallies_after}
 use Rattle.merge_types.specs.declared.row_key.RowKey.{RowKey as Key}
 use Rattle.merge_model.specs.Tables.{PublisherTables, SubscriberTables}
-use Rattle.merge_model.specs.Keys.{at_number, put_number}
-use Rattle.merge_model.specs.Refusals.{unless}
+use Rattle.merge_model.specs.Tables.Keys.{at_number, put_number}
+use Rattle.merge_model.specs.Tables.Refusals.{unless}
 use Rattle.merge_model.specs.Judge.{PublisherJudge}
-use Rattle.merge_model.specs.Acts.{Act, acts_of}
-use Rattle.merge_model.specs.Entries.{Entries}
-use Rattle.merge_model.specs.ByNumbers.{received_by_number}
-use Rattle.merge_model.specs.ByHistory.{by_past}
+use Rattle.merge_model.specs.Publisher.Acts.{Act, acts_of}
+use Rattle.merge_model.specs.Publisher.Entries.{Entries}
+use Rattle.merge_model.specs.Judge.ByNumbers.{received_by_number}
+use Rattle.merge_model.specs.Judge.ByHistory.{by_past}
 use Rattle.merge_model.specs.Publisher.{at_moment, closed, last_closed}
-use Rattle.merge_model.specs.PublisherJoin.{join, join_refusal, join_acts, join_taken, joined}
-use Rattle.merge_model.specs.PublisherUpload.{upload_refusal, uploaded, taken_in, brings_news}
-use Rattle.merge_model.specs.PublisherRanges.{ranges, plans, with_grants}
-use Rattle.merge_model.specs.PublisherDownload.{download}
+use Rattle.merge_model.specs.Publisher.PublisherJoin.{join, join_refusal, join_acts, join_taken, joined}
+use Rattle.merge_model.specs.Publisher.PublisherUpload.{upload_refusal, uploaded, taken_in, brings_news}
+use Rattle.merge_model.specs.Publisher.PublisherRanges.{ranges, plans, with_grants}
+use Rattle.merge_model.specs.Publisher.PublisherDownload.{download}
 use Rattle.merge_model.specs.World.{World, Saying, with_publisher}
 use Rattle.merge_model.specs.declared.letter.Message.TheVariants.{Asks, Replies}
-use Rattle.merge_model.specs.Steps.{post, answered, after_upload, kept_decisions, upload_questions, deliver_request}
+use Rattle.merge_model.specs.World.Steps.{post, answered, after_upload, kept_decisions, upload_questions, deliver_request}
 use Rattle.merge_model.specs.declared.outcome.Outcome.{Outcome}
 use Rattle.merge_model.specs.History.{History, Past, Line}
-use Rattle.merge_model.specs.Noting
-use Rattle.merge_model.specs.Model.{noted_if, noted_request, did_something}
-use Rattle.merge_model.specs.Steps.{deliver_upload}
+use Rattle.merge_model.specs.History.Noting
+use Rattle.merge_model.specs.History.Model.{noted_if, noted_request, did_something}
+use Rattle.merge_model.specs.World.Steps.{deliver_upload}
 use Rattle.merge_resolve.specs.Questions.{question_of as asked_of}
 use Rattle.merge_model.proofs.Publishers.{ranges-ok, download-ok}
-use Rattle.merge_model.proofs.DoneOnce.{lines-done, acts-done}
+use Rattle.merge_model.proofs.Publishers.DoneOnce.{lines-done, acts-done}
 use Rattle.merge_laws.proofs.Tallied.{received-tallied}
 use Rattle.merge_laws.specs.Received.{joined_at, JoinFits, UploadFits, MessageFits, LetterFits, Received}
 use Rattle.merge_laws.proofs.Arrivals.{has_closed, join-fits, tells_all, upload-fits, upload-known}

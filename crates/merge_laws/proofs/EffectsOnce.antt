@@ -10,17 +10,17 @@ use Rattle.merge_batch.specs.Uploads.{is_in_interval}
 use Rattle.merge_batch.specs.declared.refusal.Refusal.{Refusal}
 use Rattle.merge_batch.specs.declared.request.Upload.{Upload}
 use Rattle.merge_batch.specs.declared.request.UploadItem.{UploadItem}
-use Rattle.merge_model.specs.ByNumbers.{by_numbers, received_by_number}
+use Rattle.merge_model.specs.Judge.ByNumbers.{by_numbers, received_by_number}
 use Rattle.merge_model.specs.Failing.{Faulty, Slip, Slips, acting_with, failing, fails, faulty, is_allowed, slip_if}
 use Rattle.merge_model.specs.History.{History, is_done}
-use Rattle.merge_model.specs.Model.{Model, did_something, empty_model, model}
-use Rattle.merge_model.specs.PublisherUpload.{brings_news}
-use Rattle.merge_model.specs.Runs.{model_behind_actions}
-use Rattle.merge_model.specs.Steps.{Action, Deliver}
+use Rattle.merge_model.specs.History.Model.{Model, did_something, empty_model, model}
+use Rattle.merge_model.specs.Publisher.PublisherUpload.{brings_news}
+use Rattle.merge_model.specs.Failing.Runs.{model_behind_actions}
+use Rattle.merge_model.specs.World.Steps.{Action, Deliver}
 use Rattle.merge_model.specs.Tables.{PublisherTables}
 use Rattle.merge_model.specs.World.{Saying}
 use Rattle.merge_model.specs.declared.outcome.Outcome.{Outcome}
-use Rattle.merge_model.proofs.Actions.{events-are-actions, failing-actions-keep}
+use Rattle.merge_model.proofs.Runs.Actions.{events-are-actions, failing-actions-keep}
 use Rattle.merge_laws.specs.ActsOnce.{AllActed, delivered}
 use Rattle.merge_laws.specs.Effects.{ActingTakeEffect, EffectAt, NewsIsUnmet, NoneTakesEffectTwice, NumbersTakeEffect, RunsAreSteps, TakesEffect, after_steps, history_judge}
 use Rattle.merge_laws.specs.Laws.{OfEveryActions}

@@ -5,9 +5,9 @@ use Rattle.std.proofs.Common.{arith, ap, ◌∙◌}
 use Rattle.std.proofs.lemmas.Bool.Decides.{nat_tests}
 use Rattle.std.proofs.lemmas.List.Elements.{filter-append}
 use Rattle.std.proofs.lemmas.List.Folds.{list_any-append}
-use Rattle.merge_model.specs.ByNumbers.{last_between}
+use Rattle.merge_model.specs.Judge.ByNumbers.{last_between}
 use Rattle.merge_model.specs.History.{MadeChange}
-use Rattle.merge_model.specs.Keys.{same_key}
+use Rattle.merge_model.specs.Tables.Keys.{same_key}
 use Rattle.merge_model.specs.Subscriber.{with_open}
 use Rattle.merge_types.specs.declared.row_key.RowKey.{RowKey as Key}
 use Rattle.merge_laws.specs.Numbered.{InOrder, last_of}

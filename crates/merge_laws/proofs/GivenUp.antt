@@ -17,33 +17,33 @@ use Rattle.merge_batch.specs.declared.request.Request.TheVariants as request
 use Rattle.merge_batch.specs.declared.request.Upload.{Upload}
 use Rattle.merge_batch.specs.declared.request.UploadItem.{UploadItem}
 use Rattle.merge_gens.specs.Retention.{is_expired}
-use Rattle.merge_model.specs.Acts.{Act, act_of, acting_items, acts_from, key_of_item, left_by, made_by}
-use Rattle.merge_model.specs.ByHistory.{by_past}
-use Rattle.merge_model.specs.ByNumbers.{received_by_number, received_number_by_number}
-use Rattle.merge_model.specs.Entries.{Entries}
+use Rattle.merge_model.specs.Publisher.Acts.{Act, act_of, acting_items, acts_from, key_of_item, left_by, made_by}
+use Rattle.merge_model.specs.Judge.ByHistory.{by_past}
+use Rattle.merge_model.specs.Judge.ByNumbers.{received_by_number, received_number_by_number}
+use Rattle.merge_model.specs.Publisher.Entries.{Entries}
 use Rattle.merge_model.specs.History.{History, MadeChange, Past, has, is_accepted, made_at, past_in, pasts_with}
 use Rattle.merge_model.specs.Judge.{PublisherJudge}
-use Rattle.merge_model.specs.Keys.{at_number}
-use Rattle.merge_model.specs.Noting
+use Rattle.merge_model.specs.Tables.Keys.{at_number}
+use Rattle.merge_model.specs.History.Noting
 use Rattle.merge_model.specs.Publisher.{last_closed, later, no_state, site_refusal, state_refusal, unknown_site}
-use Rattle.merge_model.specs.PublisherDownload.{asked}
-use Rattle.merge_model.specs.PublisherJoin.{join_acts, join_taken}
-use Rattle.merge_model.specs.PublisherUpload.{brings_news, taken_in, upload_refusal}
-use Rattle.merge_model.specs.Refusals.{refused_if}
-use Rattle.merge_model.specs.Steps.{kept_decisions, upload_questions}
+use Rattle.merge_model.specs.Publisher.PublisherDownload.{asked}
+use Rattle.merge_model.specs.Publisher.PublisherJoin.{join_acts, join_taken}
+use Rattle.merge_model.specs.Publisher.PublisherUpload.{brings_news, taken_in, upload_refusal}
+use Rattle.merge_model.specs.Tables.Refusals.{refused_if}
+use Rattle.merge_model.specs.World.Steps.{kept_decisions, upload_questions}
 use Rattle.merge_types.specs.declared.row_key.RowKey.{RowKey as Key}
 use Rattle.merge_model.specs.Tables.{PublisherTables, SubscriberTables}
 use Rattle.merge_model.specs.World.{Saying, World}
 use Rattle.merge_model.specs.declared.letter.Message.TheVariants.{Asks}
 use Rattle.merge_model.specs.declared.letter.Letter.{Letter}
-use Rattle.merge_model.specs.Promises.{is_given_up}
+use Rattle.merge_model.specs.Laws.Promises.{is_given_up}
 use Rattle.merge_laws.specs.LineagesStand.{UploadCounts, can_act, counts_in}
 use Rattle.merge_laws.specs.Numbered.{JoinTells, Numbered, last_of}
 use Rattle.merge_laws.specs.Received.{Received}
 use Rattle.merge_laws.proofs.Arrivals.{not-refused, upload-known}
-use Rattle.merge_model.proofs.Refusals.{first-none}
+use Rattle.merge_model.proofs.Runs.Refusals.{first-none}
 use Rattle.merge_laws.proofs.Deliveries.{news-above}
-use Rattle.merge_model.proofs.Finding.{letter-zip}
+use Rattle.merge_model.proofs.Lists.Finding.{letter-zip}
 use Rattle.merge_model.proofs.Lists.{any-among}
 use Rattle.merge_laws.proofs.MessageFacts.{acts-later, join-up, letter-fits}
 use Rattle.merge_laws.proofs.NotesLeave.{fate-leaves, lines-accepted}

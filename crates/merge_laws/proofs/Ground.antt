@@ -1,9 +1,9 @@
 -- What is known of every model that a list of events leads to, where the publication is one that a file can say: the base of further laws.
 use Rattle.merge_batch.specs.declared.request.Outstanding.TheVariants as ask
-use Rattle.merge_model.proofs.Actions.{failing-actions-keep}
+use Rattle.merge_model.proofs.Runs.Actions.{failing-actions-keep}
 use Rattle.merge_laws.proofs.Tallied.{behind-tallied, lineages-tallied, numbered-tallied, received-tallied}
 use Rattle.merge_laws.proofs.BehindKept.{behind-always, behind-keeps}
-use Rattle.merge_model.proofs.Finding.{at_put_other}
+use Rattle.merge_model.proofs.Lists.Finding.{at_put_other}
 use Rattle.merge_laws.proofs.KnownCounts.{made-on}
 use Rattle.merge_laws.proofs.KnownSteps.{known-always, known-keeps}
 use Rattle.merge_laws.proofs.LastLineSteps.{LinesBase, last_lines-always, last_lines-keep}
@@ -24,22 +24,22 @@ use Rattle.merge_laws.specs.Received.{Received}
 use Rattle.merge_laws.specs.Unsent.{Unsent}
 use Rattle.merge_laws.specs.Watermarks.{HoldsWatermarks}
 use Rattle.merge_model.specs.Failing.{Slips, faulty}
-use Rattle.merge_model.specs.Runs.{model_behind, model_behind_actions}
+use Rattle.merge_model.specs.Failing.Runs.{model_behind, model_behind_actions}
 use Rattle.merge_model.proofs.Runs.{publisher_stays_sorted}
-use Rattle.merge_model.proofs.Sorted.{step-sorted}
+use Rattle.merge_model.proofs.Publishers.Sorted.{step-sorted}
 use Rattle.merge_model.proofs.Subscribers.{step-sub-sorted}
-use Rattle.merge_model.specs.ByHistory.{by_history, by_made}
+use Rattle.merge_model.specs.Judge.ByHistory.{by_history, by_made}
 use Rattle.merge_model.specs.History.{History, no_history}
-use Rattle.merge_model.specs.Keys.{at_number, put_number}
+use Rattle.merge_model.specs.Tables.Keys.{at_number, put_number}
 use Rattle.merge_model.specs.Laws.{AreSorted, AreSubSorted}
-use Rattle.merge_model.specs.Model.{Model, empty_model, model, model_step}
-use Rattle.merge_model.specs.Publications.{by_site}
-use Rattle.merge_model.specs.Reinit.{reinitialised}
-use Rattle.merge_model.specs.Sending.{upload_sent, with_message}
-use Rattle.merge_model.specs.Steps.{Action}
+use Rattle.merge_model.specs.History.Model.{Model, empty_model, model, model_step}
+use Rattle.merge_model.specs.Tables.Publications.{by_site}
+use Rattle.merge_model.specs.Subscriber.Reinit.{reinitialised}
+use Rattle.merge_model.specs.Subscriber.Sending.{upload_sent, with_message}
+use Rattle.merge_model.specs.World.Steps.{Action}
 use Rattle.merge_model.specs.Subscriber.{empty_subscriber, sub_at_moment, sub_closed, sub_made_locally}
 use Rattle.merge_model.specs.Tables.{SubscriberTables}
-use Rattle.merge_model.specs.Taking.{taken}
+use Rattle.merge_model.specs.Subscriber.Taking.{taken}
 use Rattle.merge_model.specs.World.{Saying, World, empty_world, subscriber_at, with_subscriber}
 use Rattle.merge_model.specs.declared.event.Event.{Event}
 use Rattle.merge_schema.specs.Valid.{IsValid, IsValidSubscription}

@@ -8,16 +8,16 @@ use Rattle.std.specs.Option.{option_to_list}
 use Rattle.std.proofs.Common.{arith, sym, ap, ◌∙◌}
 use Rattle.merge_units.specs.declared.version.Version.{Version}
 use Rattle.merge_schema.specs.declared.publication.Publication.{Publication}
-use Rattle.merge_model.specs.Entries.{Changing, Entries, changed_by, changing_entries, with_rows}
+use Rattle.merge_model.specs.Publisher.Entries.{Changing, Entries, changed_by, changing_entries, with_rows}
 use Rattle.merge_model.specs.Judge.{PublisherJudge}
 use Rattle.merge_types.specs.RowKeys.{key_cmp}
-use Rattle.merge_model.specs.Keys.{drop_row, put_row, row_at, same_key}
+use Rattle.merge_model.specs.Tables.Keys.{drop_row, put_row, row_at, same_key}
 use Rattle.merge_types.specs.declared.row_key.RowKey.{RowKey as Key}
 use Rattle.merge_units.specs.declared.site_row.PublisherRow.{PublisherRow}
 use Rattle.merge_units.specs.declared.site_row.SubscriberRow.{SubscriberRow}
 use Rattle.merge_model.specs.Tables.{PublisherTables}
-use Rattle.merge_model.specs.Taking.{row_above}
-use Rattle.merge_model.proofs.KeyLookUps.{row-dropped, row-put}
+use Rattle.merge_model.specs.Subscriber.Taking.{row_above}
+use Rattle.merge_model.proofs.Lists.KeyLookUps.{row-dropped, row-put}
 
 some-if : {A : Type 0} (b : Bool) (x : A) (rest : Option A) → is_some (let found : Option A = if b then Some x else rest in found) ≡ (b || is_some rest)
 some-if true x rest = refl

@@ -23,17 +23,17 @@ use Rattle.merge_batch.specs.declared.refusal.Refusal.{Refusal}
 use Rattle.merge_batch.specs.declared.reply.Reply.TheVariants as reply
 use Rattle.merge_batch.specs.declared.request.Request.TheVariants as request
 use Rattle.merge_schema.specs.declared.publication.Publication.{Publication}
-use Rattle.merge_model.specs.Changes.{key_of}
+use Rattle.merge_model.specs.Tables.Changes.{key_of}
 use Rattle.merge_model.specs.History.{MadeChange}
-use Rattle.merge_model.specs.Keys.{at_number, put_number}
-use Rattle.merge_model.specs.Publications.{rules_of}
-use Rattle.merge_model.specs.PublisherLocal.{Drawn, after_answer, drawn, drawn_from, next_dot, no_draw, own_ask, taken_from}
+use Rattle.merge_model.specs.Tables.Keys.{at_number, put_number}
+use Rattle.merge_model.specs.Tables.Publications.{rules_of}
+use Rattle.merge_model.specs.Publisher.PublisherLocal.{Drawn, after_answer, drawn, drawn_from, next_dot, no_draw, own_ask, taken_from}
 use Rattle.merge_model.specs.Tables.{PublisherTables, SubscriberTables}
 use Rattle.merge_model.specs.declared.letter.Message.TheVariants.{Asks, Replies}
 use Rattle.merge_model.specs.declared.letter.Letter.{Letter}
 use Rattle.merge_model.specs.declared.letter.Message.{Message}
 use Rattle.merge_laws.specs.Identities.{takes_at, gives_heard, gives_to, holders_at, holder_in, Held, MessageTells, LetterTells, Identities}
-use Rattle.merge_model.proofs.Finding.{all-weaker}
+use Rattle.merge_model.proofs.Lists.Finding.{all-weaker}
 use Rattle.merge_laws.proofs.IdentityCalls.{held-receive, held-take, held-with}
 use Rattle.merge_laws.proofs.IdentityGrants.{Grows, all-told, with_new-grows}
 use Rattle.merge_laws.proofs.IdentityNotes.{elsewhere-taken, none-taken, one-taken}

@@ -10,9 +10,9 @@ use Rattle.merge_batch.specs.Makers.{maker_of}
 use Rattle.merge_batch.specs.Replies.{broken_by_reply}
 use Rattle.merge_model.specs.declared.event.Event.{Event}
 use Rattle.merge_model.specs.declared.event.Event.TheVariants as event
-use Rattle.merge_model.specs.Events.{after}
+use Rattle.merge_model.specs.World.Events.{after}
 use Rattle.merge_model.specs.History.{MadeChange}
-use Rattle.merge_model.specs.Model.{empty_model, model}
+use Rattle.merge_model.specs.History.Model.{empty_model, model}
 
 -- one article; the publisher's ranges begin at 2 and have so many values
 abbrev with_ranges : ℕ → Publication

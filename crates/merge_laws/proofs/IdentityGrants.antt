@@ -20,9 +20,9 @@ use Rattle.merge_ident.specs.Grants.{granted_to, greatest_end, is_in, is_numbere
 use Rattle.merge_ident.proofs.Added.{count_by-with_grant}
 use Rattle.merge_batch.specs.declared.reply.RangeGrant.{RangeGrant}
 use Rattle.merge_batch.specs.declared.request.Want.{Want}
-use Rattle.merge_model.specs.PublisherRanges.{ask_by, grant_of, granted_by}
+use Rattle.merge_model.specs.Publisher.PublisherRanges.{ask_by, grant_of, granted_by}
 use Rattle.merge_laws.specs.Identities.{gives_numbered, IsTold}
-use Rattle.merge_model.proofs.Finding.{all-weaker, some_same}
+use Rattle.merge_model.proofs.Lists.Finding.{all-weaker, some_same}
 use Rattle.merge_laws.proofs.IdentityCalls.{counts-cons}
 
 -- the counts of grants only rise

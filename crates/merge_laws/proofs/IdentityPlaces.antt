@@ -2,10 +2,10 @@
 use Rattle.std.specs.Prelude.{◌≡◌, ◌≤◌, ◌==◌, ℕ, zero, suc, List, [], Bool, true, false, Option, Some, option_map, unwrap_or}
 use Rattle.std.proofs.Common.{arith, subst, sym, ap}
 use Rattle.merge_ident.specs.Holders.{Holder, new_holder}
-use Rattle.merge_model.specs.Keys.{at_number, put_number}
+use Rattle.merge_model.specs.Tables.Keys.{at_number, put_number}
 use Rattle.merge_model.specs.Tables.{SubscriberTables}
 use Rattle.merge_laws.specs.Identities.{held_at, holders_at, holder_in}
-use Rattle.merge_model.proofs.Finding.{at_put_same, at_put_other}
+use Rattle.merge_model.proofs.Lists.Finding.{at_put_same, at_put_other}
 use Rattle.merge_laws.proofs.Subscribing.{same_number, number-decided}
 
 -- Of one site: a holder is put for an article.

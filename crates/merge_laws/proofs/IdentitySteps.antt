@@ -30,40 +30,40 @@ use Rattle.merge_batch.specs.declared.request.Outstanding.{Outstanding}
 use Rattle.merge_batch.specs.declared.request.Outstanding.TheVariants as ask
 use Rattle.merge_batch.proofs.Values.{slice_get-append_past}
 use Rattle.merge_model.specs.Failing.{Slips, faulty}
-use Rattle.merge_model.specs.Runs.{model_behind, model_behind_actions}
+use Rattle.merge_model.specs.Failing.Runs.{model_behind, model_behind_actions}
 use Rattle.merge_model.specs.declared.event.Event.{Event}
 use Rattle.merge_types.specs.declared.row_key.RowKey.{RowKey as Key}
 use Rattle.merge_model.specs.Tables.{PublisherTables, SubscriberTables}
-use Rattle.merge_model.specs.Keys.{put_number, at_number}
-use Rattle.merge_model.specs.Acts.{Act}
+use Rattle.merge_model.specs.Tables.Keys.{put_number, at_number}
+use Rattle.merge_model.specs.Publisher.Acts.{Act}
 use Rattle.merge_model.specs.Judge.{PublisherJudge, SubscriberJudge}
-use Rattle.merge_model.specs.Publications.{by_site, identities, rules_of}
+use Rattle.merge_model.specs.Tables.Publications.{by_site, identities, rules_of}
 use Rattle.merge_model.specs.Publisher.{last_closed, new_holders}
-use Rattle.merge_model.specs.PublisherLocal.{Drawn, drawn, made_locally, next_dot}
-use Rattle.merge_model.specs.PublisherRanges.{ranged, plans, with_grants, ask_by}
-use Rattle.merge_model.specs.PublisherDownload.{asked, reply_to}
+use Rattle.merge_model.specs.Publisher.PublisherLocal.{Drawn, drawn, made_locally, next_dot}
+use Rattle.merge_model.specs.Publisher.PublisherRanges.{ranged, plans, with_grants, ask_by}
+use Rattle.merge_model.specs.Publisher.PublisherDownload.{asked, reply_to}
 use Rattle.merge_model.specs.World.{Saying, World, subscriber_at, with_publisher, with_subscriber, empty_world, empty_subscribers}
 use Rattle.merge_model.specs.declared.letter.Message.TheVariants.{Asks, Replies}
 use Rattle.merge_model.specs.declared.letter.Letter.{Letter}
 use Rattle.merge_model.specs.declared.letter.Message.{Message}
-use Rattle.merge_model.specs.Steps.{Action, post}
+use Rattle.merge_model.specs.World.Steps.{Action, post}
 use Rattle.merge_model.specs.History.{History, Line, pasts_with, MadeChange, past_at}
-use Rattle.merge_model.specs.ByHistory.{by_history, by_past, by_made}
-use Rattle.merge_model.specs.Noting
-use Rattle.merge_model.specs.Model.{Model, empty_model, model, model_step}
-use Rattle.merge_model.specs.Events.{after}
-use Rattle.merge_model.specs.Changes.{key_of, version_after}
-use Rattle.merge_model.specs.Faults.{reply_fault}
-use Rattle.merge_model.specs.Pasts.{past_after}
-use Rattle.merge_model.specs.Reinit.{reinitialised}
-use Rattle.merge_model.specs.Sending.{join_of, upload_sent, want_of, with_message}
+use Rattle.merge_model.specs.Judge.ByHistory.{by_history, by_past, by_made}
+use Rattle.merge_model.specs.History.Noting
+use Rattle.merge_model.specs.History.Model.{Model, empty_model, model, model_step}
+use Rattle.merge_model.specs.World.Events.{after}
+use Rattle.merge_model.specs.Tables.Changes.{key_of, version_after}
+use Rattle.merge_model.specs.World.Faults.{reply_fault}
+use Rattle.merge_model.specs.History.Pasts.{past_after}
+use Rattle.merge_model.specs.Subscriber.Reinit.{reinitialised}
+use Rattle.merge_model.specs.Subscriber.Sending.{join_of, upload_sent, want_of, with_message}
 use Rattle.merge_model.specs.Subscriber.{empty_subscriber, sub_at_moment, sub_closed, sub_drawn, sub_last_closed, sub_made_locally, sub_next_dot, sub_version_at, with_version, with_version_if}
-use Rattle.merge_model.specs.Taking.{taken}
-use Rattle.merge_model.proofs.Actions.{failing-actions-keep}
+use Rattle.merge_model.specs.Subscriber.Taking.{taken}
+use Rattle.merge_model.proofs.Runs.Actions.{failing-actions-keep}
 use Rattle.merge_laws.proofs.Tallied.{received-tallied}
 use Rattle.merge_laws.specs.Identities.{Held, holder_in, held_at, holders_at, Identities, LetterTells, MessageTells}
 use Rattle.merge_laws.specs.Received.{Received}
-use Rattle.merge_model.proofs.Finding.{all-more}
+use Rattle.merge_model.proofs.Lists.Finding.{all-more}
 use Rattle.merge_laws.proofs.IdentityCalls.{held-with, nothing-held}
 use Rattle.merge_laws.proofs.IdentityDraws.{draw-keeps, letters-grow}
 use Rattle.merge_laws.proofs.IdentityGrants.{Grows, all-grow, plans-told}

@@ -5,7 +5,7 @@ use Rattle.std.proofs.lemmas.Bool.Decides.{nat_tests}
 use Rattle.merge_ident.specs.declared.grants.Grant.{Grant}
 use Rattle.merge_ident.specs.Grants.{gives}
 use Rattle.merge_model.specs.History.{MadeChange}
-use Rattle.merge_model.specs.Promises.{takes}
+use Rattle.merge_model.specs.Laws.Promises.{takes}
 use Rattle.merge_laws.specs.Identities.{takes_at, gives_to, gives_heard}
 use Rattle.merge_laws.proofs.Subscribing.{same_number, number-decided}
 use Rattle.merge_laws.proofs.IdentityCalls.{counts-cons}

@@ -22,16 +22,16 @@ use Rattle.merge_batch.specs.declared.reply.Reply.TheVariants as reply
 use Rattle.merge_batch.specs.declared.request.Outstanding.{Outstanding}
 use Rattle.merge_batch.specs.declared.request.Outstanding.TheVariants as ask
 use Rattle.merge_schema.specs.declared.publication.Publication.{Publication}
-use Rattle.merge_model.specs.Changes.{key_of}
-use Rattle.merge_model.specs.Faults.{reply_fault}
+use Rattle.merge_model.specs.Tables.Changes.{key_of}
+use Rattle.merge_model.specs.World.Faults.{reply_fault}
 use Rattle.merge_model.specs.History.{MadeChange}
-use Rattle.merge_model.specs.Keys.{at_number, put_number}
+use Rattle.merge_model.specs.Tables.Keys.{at_number, put_number}
 use Rattle.merge_model.specs.Subscriber.{sub_drawn, sub_next_dot, taken_value}
 use Rattle.merge_model.specs.Tables.{SubscriberTables}
-use Rattle.merge_model.specs.Taking.{with_grant}
+use Rattle.merge_model.specs.Subscriber.Taking.{with_grant}
 use Rattle.merge_model.specs.declared.letter.Letter.{Letter}
 use Rattle.merge_laws.specs.Identities.{gives_heard, gives_numbered, holders_at, holder_in, Held, IsTold, Identities, told_range}
-use Rattle.merge_model.proofs.Finding.{at_put_other}
+use Rattle.merge_model.proofs.Lists.Finding.{at_put_other}
 use Rattle.merge_laws.proofs.IdentityCalls.{counts-cons, held-receive, held-take, held-with}
 use Rattle.merge_laws.proofs.IdentityNotes.{none-taken}
 use Rattle.merge_laws.proofs.IdentityPlaces.{article-put, found-held, found-holder, subscriber-put}

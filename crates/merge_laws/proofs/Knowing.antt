@@ -9,7 +9,7 @@ use Rattle.merge_types.specs.declared.changes.Change.{Change}
 use Rattle.merge_types.specs.declared.changes.Change.TheVariants.{Delete, Insert, Update}
 use Rattle.merge_schema.specs.declared.publication.Publication.{Publication}
 use Rattle.merge_model.specs.History.{History, MadeChange, Past, has}
-use Rattle.merge_model.specs.Pasts.{past_after}
+use Rattle.merge_model.specs.History.Pasts.{past_after}
 use Rattle.merge_types.specs.declared.row_key.RowKey.{RowKey as Key}
 use Rattle.merge_laws.specs.Knowledge.{AreNumbered, KnowsItsPast, Knows, counts_down, is_made, number_of_change, same_dot, was_made}
 use Rattle.merge_model.proofs.Lists.{all-of}

@@ -12,18 +12,18 @@ use Rattle.merge_batch.specs.declared.reply.Reply.TheVariants as reply
 use Rattle.merge_batch.specs.declared.request.Join.{Join}
 use Rattle.merge_model.specs.History.{History, Line, Past, past_at, past_in}
 use Rattle.merge_model.specs.Judge.{PublisherJudge, SubscriberJudge}
-use Rattle.merge_model.specs.Keys.{put_number}
-use Rattle.merge_model.specs.Model.{pasts_in, with_letter}
-use Rattle.merge_model.specs.Publications.{by_site}
+use Rattle.merge_model.specs.Tables.Keys.{put_number}
+use Rattle.merge_model.specs.History.Model.{pasts_in, with_letter}
+use Rattle.merge_model.specs.Tables.Publications.{by_site}
 use Rattle.merge_model.specs.Publisher.{last_closed}
-use Rattle.merge_model.specs.Reinit.{discarded}
+use Rattle.merge_model.specs.Subscriber.Reinit.{discarded}
 use Rattle.merge_types.specs.declared.row_key.RowKey.{RowKey as Key}
 use Rattle.merge_model.specs.Tables.{PublisherTables, SubscriberTables}
-use Rattle.merge_model.specs.Taking.{key_of_download}
+use Rattle.merge_model.specs.Subscriber.Taking.{key_of_download}
 use Rattle.merge_model.specs.declared.letter.Letter.{Letter}
-use Rattle.merge_model.specs.Noting
+use Rattle.merge_model.specs.History.Noting
 use Rattle.merge_laws.specs.Knowledge.{AllKnow, Known}
-use Rattle.merge_model.proofs.Finding.{all-more}
+use Rattle.merge_model.proofs.Lists.Finding.{all-more}
 use Rattle.merge_laws.proofs.KnownNotes.{Reached, dropped-known, lines-known, lost-known, others-known, past-known}
 use Rattle.merge_laws.proofs.KnownRows.{held-knows, message-knows, past-knows, put-sites}
 use Rattle.merge_laws.proofs.Walking.{join_noted}

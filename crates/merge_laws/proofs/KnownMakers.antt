@@ -10,19 +10,19 @@ use Rattle.merge_types.specs.declared.values.Value.{Value}
 use Rattle.merge_units.specs.declared.version.Version.{Version}
 use Rattle.merge_ident.specs.Holders.{Holder}
 use Rattle.merge_schema.specs.declared.publication.Publication.{Publication}
-use Rattle.merge_model.specs.ByHistory.{by_made}
-use Rattle.merge_model.specs.Changes.{is_insert, key_of, version_after}
+use Rattle.merge_model.specs.Judge.ByHistory.{by_made}
+use Rattle.merge_model.specs.Tables.Changes.{is_insert, key_of, version_after}
 use Rattle.merge_model.specs.History.{History, Line, MadeChange, Past, past_at, pasts_at}
 use Rattle.merge_model.specs.Judge.{PublisherJudge, SubscriberJudge}
-use Rattle.merge_model.specs.Keys.{put_number, put_row, row_at, same_key}
-use Rattle.merge_model.specs.Model.{pasts_in, with_letter}
-use Rattle.merge_model.specs.Noting
-use Rattle.merge_model.specs.Pasts.{past_after}
-use Rattle.merge_model.specs.Publications.{by_site}
+use Rattle.merge_model.specs.Tables.Keys.{put_number, put_row, row_at, same_key}
+use Rattle.merge_model.specs.History.Model.{pasts_in, with_letter}
+use Rattle.merge_model.specs.History.Noting
+use Rattle.merge_model.specs.History.Pasts.{past_after}
+use Rattle.merge_model.specs.Tables.Publications.{by_site}
 use Rattle.merge_model.specs.Publisher.{last_closed}
-use Rattle.merge_model.specs.PublisherLocal.{Drawn, changing_locally, local_refusal, made_locally, next_dot, version_at, with_draw}
-use Rattle.merge_model.specs.PublisherPurge.{is_old_tombstone, purge}
-use Rattle.merge_model.specs.Reinit.{discarded, reinitialised}
+use Rattle.merge_model.specs.Publisher.PublisherLocal.{Drawn, changing_locally, local_refusal, made_locally, next_dot, version_at, with_draw}
+use Rattle.merge_model.specs.Publisher.PublisherPurge.{is_old_tombstone, purge}
+use Rattle.merge_model.specs.Subscriber.Reinit.{discarded, reinitialised}
 use Rattle.merge_model.specs.Subscriber.{generations_at, sub_at_moment, sub_last_closed, sub_local_refusal, sub_made_locally, sub_next_dot, sub_version_at, with_open, with_version_if}
 use Rattle.merge_types.specs.declared.row_key.RowKey.{RowKey as Key}
 use Rattle.merge_units.specs.declared.site_row.PublisherRow.{PublisherRow}
@@ -34,7 +34,7 @@ use Rattle.merge_model.specs.declared.letter.Message.{Message}
 use Rattle.merge_laws.specs.Knowledge.{changes_of}
 use Rattle.merge_laws.specs.KnownMakers.{Ascend, HeldKnow, IsAfterMaker, KnownMakers, KnowsMaker}
 use Rattle.merge_laws.specs.LineagesStand.{OfMessage}
-use Rattle.merge_model.proofs.Finding.{found-named}
+use Rattle.merge_model.proofs.Lists.Finding.{found-named}
 use Rattle.merge_laws.proofs.Ground.{Ground}
 use Rattle.merge_laws.proofs.HeldRows.{changed-held, held-put, one-version}
 use Rattle.merge_laws.proofs.KnownCounts.{own-count}

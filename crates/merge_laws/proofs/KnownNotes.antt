@@ -13,23 +13,23 @@ use Rattle.merge_units.specs.declared.result.Decision.{Decision}
 use Rattle.merge_units.specs.declared.result.Decision.TheVariants.{Custom, KeepPublisher, TakeSubscriber}
 use Rattle.merge_batch.specs.declared.request.UploadItem.{UploadItem}
 use Rattle.merge_schema.specs.declared.publication.Publication.{Publication}
-use Rattle.merge_model.specs.Acts.{Act, Fate, New, Unknown, act_of, acts_from, changes_by, decided_changes, decision_for, case_met, fate_by, is_new_row, key_of_item, left_by, made_by}
+use Rattle.merge_model.specs.Publisher.Acts.{Act, Fate, New, Unknown, act_of, acts_from, changes_by, decided_changes, decision_for, case_met, fate_by, is_new_row, key_of_item, left_by, made_by}
 use Rattle.merge_units.specs.Cases.{is_conflict}
-use Rattle.merge_model.specs.Changes.{key_of}
-use Rattle.merge_model.specs.Entries.{Entries}
+use Rattle.merge_model.specs.Tables.Changes.{key_of}
+use Rattle.merge_model.specs.Publisher.Entries.{Entries}
 use Rattle.merge_model.specs.History.{History, Line, MadeChange, Past, made_at, past_at, past_in}
 use Rattle.merge_model.specs.Judge.{PublisherJudge}
-use Rattle.merge_model.specs.Keys.{row_at}
-use Rattle.merge_model.specs.Pasts.{past_after, past_by}
+use Rattle.merge_model.specs.Tables.Keys.{row_at}
+use Rattle.merge_model.specs.History.Pasts.{past_after, past_by}
 use Rattle.merge_types.specs.declared.row_key.RowKey.{RowKey as Key}
 use Rattle.merge_units.specs.declared.site_row.PublisherRow.{PublisherRow}
 use Rattle.merge_model.specs.Tables.{PublisherTables}
-use Rattle.merge_model.specs.Noting
+use Rattle.merge_model.specs.History.Noting
 use Rattle.merge_laws.specs.Knowledge.{AllKnow, Knowledge, Known, Knows, RowKnows, counts_down, number_of_change}
-use Rattle.merge_model.proofs.Finding.{all-more, all-weaker}
+use Rattle.merge_model.proofs.Lists.Finding.{all-more, all-weaker}
 use Rattle.merge_laws.proofs.Knowing.{IsFresh, fresh-above, knows-both, knows-later, knows-new, knows-nothing}
 use Rattle.merge_laws.proofs.KnownRows.{drop-know, held-knows, past-knows, put-know, put-sites, site-know}
-use Rattle.merge_model.proofs.Tests.{numbers-same, if-both}
+use Rattle.merge_model.proofs.Lists.Tests.{numbers-same, if-both}
 
 -- A site's count with so many more.
 abbrev pub raised : (ℕ → ℕ) → ℕ → ℕ → ℕ → ℕ

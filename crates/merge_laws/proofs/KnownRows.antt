@@ -11,19 +11,19 @@ use Rattle.merge_batch.specs.declared.reply.DownloadItem.{DownloadItem}
 use Rattle.merge_batch.specs.declared.reply.Reply.TheVariants as reply
 use Rattle.merge_batch.specs.declared.request.Request.TheVariants as request
 use Rattle.merge_batch.specs.declared.request.UploadItem.{UploadItem}
-use Rattle.merge_model.proofs.EntryLists.{all-put}
-use Rattle.merge_model.specs.Acts.{key_of_item}
+use Rattle.merge_model.proofs.Entries.EntryLists.{all-put}
+use Rattle.merge_model.specs.Publisher.Acts.{key_of_item}
 use Rattle.merge_model.specs.History.{History, MadeChange, Past, no_past, past_at, past_in, pasts_at, pasts_with}
 use Rattle.merge_types.specs.RowKeys.{key_cmp}
-use Rattle.merge_model.specs.Keys.{at_number, drop_row, put_number, put_row, row_at}
-use Rattle.merge_model.specs.Model.{past_of_item, pasts_in, put_past}
+use Rattle.merge_model.specs.Tables.Keys.{at_number, drop_row, put_number, put_row, row_at}
+use Rattle.merge_model.specs.History.Model.{past_of_item, pasts_in, put_past}
 use Rattle.merge_types.specs.declared.row_key.RowKey.{RowKey as Key}
-use Rattle.merge_model.specs.Taking.{key_of_download}
+use Rattle.merge_model.specs.Subscriber.Taking.{key_of_download}
 use Rattle.merge_model.specs.declared.letter.Message.TheVariants.{Asks, Replies}
 use Rattle.merge_model.specs.declared.letter.Message.{Message}
 use Rattle.merge_laws.specs.Knowledge.{AllKnow, Knowledge, Knows, RowKnows}
-use Rattle.merge_model.proofs.Finding.{all-at}
-use Rattle.merge_model.proofs.KeyLookUps.{keys-exact}
+use Rattle.merge_model.proofs.Lists.Finding.{all-at}
+use Rattle.merge_model.proofs.Lists.KeyLookUps.{keys-exact}
 use Rattle.merge_laws.proofs.Knowing.{knows-nothing}
 
 drop-test : {X : Type 0} (P : X → Type 0) (b : Bool) (e : X) (rest more : List X) → P e → AllByRecursion P rest → AllByRecursion P more → AllByRecursion P (cond b rest (e ∷ more))

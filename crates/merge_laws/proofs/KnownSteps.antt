@@ -17,34 +17,34 @@ use Rattle.merge_batch.specs.declared.reply.Reply.{Reply}
 use Rattle.merge_batch.specs.declared.reply.Reply.TheVariants as reply
 use Rattle.merge_batch.specs.declared.request.Outstanding.TheVariants as ask
 use Rattle.merge_model.specs.Failing.{Slips, faulty}
-use Rattle.merge_model.specs.Runs.{model_behind, model_behind_actions}
+use Rattle.merge_model.specs.Failing.Runs.{model_behind, model_behind_actions}
 use Rattle.merge_model.specs.declared.event.Event.{Event}
 use Rattle.merge_types.specs.declared.row_key.RowKey.{RowKey as Key}
 use Rattle.merge_model.specs.Tables.{PublisherTables, SubscriberTables}
-use Rattle.merge_model.specs.Keys.{at_number}
-use Rattle.merge_model.specs.Acts.{Act, acting_items, changes_by}
+use Rattle.merge_model.specs.Tables.Keys.{at_number}
+use Rattle.merge_model.specs.Publisher.Acts.{Act, acting_items, changes_by}
 use Rattle.merge_model.specs.Judge.{PublisherJudge, SubscriberJudge}
-use Rattle.merge_model.specs.Entries.{Entries}
+use Rattle.merge_model.specs.Publisher.Entries.{Entries}
 use Rattle.merge_model.specs.Publisher.{last_closed}
-use Rattle.merge_model.specs.PublisherLocal.{Drawn, made_locally, next_dot}
-use Rattle.merge_model.specs.PublisherJoin.{join_taken}
-use Rattle.merge_model.specs.PublisherUpload.{taken_in}
-use Rattle.merge_model.specs.PublisherRanges.{plans, ranged, with_grants}
-use Rattle.merge_model.specs.PublisherDownload.{asked, reply_to}
+use Rattle.merge_model.specs.Publisher.PublisherLocal.{Drawn, made_locally, next_dot}
+use Rattle.merge_model.specs.Publisher.PublisherJoin.{join_taken}
+use Rattle.merge_model.specs.Publisher.PublisherUpload.{taken_in}
+use Rattle.merge_model.specs.Publisher.PublisherRanges.{plans, ranged, with_grants}
+use Rattle.merge_model.specs.Publisher.PublisherDownload.{asked, reply_to}
 use Rattle.merge_model.specs.Subscriber.{sub_at_moment, sub_last_closed, sub_made_locally, sub_next_dot, empty_subscriber, sub_closed}
 use Rattle.merge_model.specs.World.{Saying, World, subscriber_at, with_publisher, with_subscriber, empty_subscribers, empty_world}
 use Rattle.merge_model.specs.declared.letter.Message.TheVariants.{Asks, Replies}
 use Rattle.merge_model.specs.declared.letter.Message.{Message}
-use Rattle.merge_model.specs.Steps.{Action, kept_decisions, upload_questions}
+use Rattle.merge_model.specs.World.Steps.{Action, kept_decisions, upload_questions}
 use Rattle.merge_model.specs.History.{History, Line, Past, pasts_with, no_history}
-use Rattle.merge_model.specs.ByHistory.{by_past, by_made}
-use Rattle.merge_model.specs.Noting
-use Rattle.merge_model.specs.Publications.{by_site}
-use Rattle.merge_model.specs.Model.{Model, empty_model, model}
-use Rattle.merge_model.specs.Reinit.{reinitialised}
-use Rattle.merge_model.specs.Sending.{join_of, upload_sent, want_of, with_message}
-use Rattle.merge_model.specs.Taking.{taken}
-use Rattle.merge_model.proofs.Actions.{failing-actions-keep}
+use Rattle.merge_model.specs.Judge.ByHistory.{by_past, by_made}
+use Rattle.merge_model.specs.History.Noting
+use Rattle.merge_model.specs.Tables.Publications.{by_site}
+use Rattle.merge_model.specs.History.Model.{Model, empty_model, model}
+use Rattle.merge_model.specs.Subscriber.Reinit.{reinitialised}
+use Rattle.merge_model.specs.Subscriber.Sending.{join_of, upload_sent, want_of, with_message}
+use Rattle.merge_model.specs.Subscriber.Taking.{taken}
+use Rattle.merge_model.proofs.Runs.Actions.{failing-actions-keep}
 use Rattle.merge_laws.proofs.Tallied.{received-tallied}
 use Rattle.merge_laws.specs.Knowledge.{Known, changes_of, counts_down}
 use Rattle.merge_laws.specs.Received.{Received}

@@ -18,15 +18,15 @@ use Rattle.merge_gens.specs.declared.moves.MoveKind.TheVariants.{Entered, Left}
 use Rattle.merge_gens.specs.declared.moves.Mapping.{Mapping}
 use Rattle.merge_types.specs.RowKeys.{key_cmp}
 use Rattle.merge_gens.specs.Moves.{row_site_cmp}
-use Rattle.merge_model.specs.Keys.{same_key, row_at, put_row, at_row_site, drop_row_site, put_row_site}
-use Rattle.merge_model.specs.Entries.{with_move, with_rows}
+use Rattle.merge_model.specs.Tables.Keys.{same_key, row_at, put_row, at_row_site, drop_row_site, put_row_site}
+use Rattle.merge_model.specs.Publisher.Entries.{with_move, with_rows}
 use Rattle.merge_model.specs.History.{Line, History}
-use Rattle.merge_model.specs.ByHistory.{is_line_for, is_change_of}
-use Rattle.merge_model.specs.Noting.{with_line, with_lines, changed_line, moved_line, gone_line}
-use Rattle.merge_model.proofs.Sorted.{key_total, row_site_total}
+use Rattle.merge_model.specs.Judge.ByHistory.{is_line_for, is_change_of}
+use Rattle.merge_model.specs.History.Noting.{with_line, with_lines, changed_line, moved_line, gone_line}
+use Rattle.merge_model.proofs.Publishers.Sorted.{key_total, row_site_total}
 use Rattle.merge_laws.specs.LastLines.{move_told, move_in, change_in, MappingsFit, RowsFit, subscribes, MovedForSubscribers}
-use Rattle.merge_model.proofs.KeyLookUps.{key-test}
-use Rattle.merge_model.proofs.PlaceLookUps.{is_place, place-is, has_place, drop-head, at-dropped}
+use Rattle.merge_model.proofs.Lists.KeyLookUps.{key-test}
+use Rattle.merge_model.proofs.Lists.PlaceLookUps.{is_place, place-is, has_place, drop-head, at-dropped}
 
 abbrev pub added : List Line → Line → List Line
 added lines line = line ∷ lines

@@ -18,14 +18,14 @@ use Rattle.merge_gens.specs.declared.moves.MoveKind.{MoveKind}
 use Rattle.merge_gens.specs.declared.moves.Mapping.{Mapping}
 use Rattle.merge_model.specs.Tables.{PublisherTables}
 use Rattle.merge_gens.specs.Moves.{row_site_cmp}
-use Rattle.merge_model.specs.Keys.{has_key, drop_row_site}
+use Rattle.merge_model.specs.Tables.Keys.{has_key, drop_row_site}
 use Rattle.merge_model.specs.Judge.{PublisherJudge}
-use Rattle.merge_model.specs.Publications.{by_site}
-use Rattle.merge_model.specs.Entries as entry
-use Rattle.merge_model.specs.Entries.{Entries, Changing, Parts, Touched, changing_entries, with_entries, with_move, with_rows, move_at, move_of, moves_of, parts_of, partition_keys, rows_after, touched_by}
+use Rattle.merge_model.specs.Tables.Publications.{by_site}
+use Rattle.merge_model.specs.Publisher.Entries as entry
+use Rattle.merge_model.specs.Publisher.Entries.{Entries, Changing, Parts, Touched, changing_entries, with_entries, with_move, with_rows, move_at, move_of, moves_of, parts_of, partition_keys, rows_after, touched_by}
 use Rattle.merge_model.specs.History.{Line}
-use Rattle.merge_model.proofs.SitesInOrder.{AreKeyed, sites-keyed}
-use Rattle.merge_model.specs.Noting.{changed_line, moved_line, gone_line, lines_of_entries, site_of_subscription}
+use Rattle.merge_model.proofs.Lists.SitesInOrder.{AreKeyed, sites-keyed}
+use Rattle.merge_model.specs.History.Noting.{changed_line, moved_line, gone_line, lines_of_entries, site_of_subscription}
 use Rattle.merge_laws.specs.LastLines.{LastLines, subscribes}
 use Rattle.merge_laws.proofs.LastLineAdded.{added, rows-past_moves, rows-past_gone, moves-past_changes, changes-fit, moves-fit, moves-ascend, moves-sites, drops-fit, drops-sites}
 

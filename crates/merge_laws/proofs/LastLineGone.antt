@@ -17,19 +17,19 @@ use Rattle.merge_gens.specs.declared.moves.Mapping.{Mapping}
 use Rattle.merge_gens.specs.declared.moves.MoveKind.TheVariants.{Entered, Left}
 use Rattle.merge_gens.specs.Moves.{is_left, row_site_cmp}
 use Rattle.merge_types.specs.RowKeys.{key_cmp}
-use Rattle.merge_model.proofs.KeyLists.{some-head, keys-once}
-use Rattle.merge_model.specs.Keys.{same_key, has_key, row_at, at_row_site}
-use Rattle.merge_model.specs.Entries as entry
+use Rattle.merge_model.proofs.Lists.KeyLists.{some-head, keys-once}
+use Rattle.merge_model.specs.Tables.Keys.{same_key, has_key, row_at, at_row_site}
+use Rattle.merge_model.specs.Publisher.Entries as entry
 use Rattle.merge_model.specs.History.{Line, LineKind, Changed, EnteredFor, LeftFor, GoneFor}
-use Rattle.merge_model.specs.ByHistory.{is_line_for, line_site, says_left, touched_outside}
-use Rattle.merge_model.specs.Noting.{gone_line, gone_for}
-use Rattle.merge_model.proofs.Sorted.{key_total, row_site_total}
+use Rattle.merge_model.specs.Judge.ByHistory.{is_line_for, line_site, says_left, touched_outside}
+use Rattle.merge_model.specs.History.Noting.{gone_line, gone_for}
+use Rattle.merge_model.proofs.Publishers.Sorted.{key_total, row_site_total}
 use Rattle.merge_laws.specs.LastLines.{move_told, move_in, MappingsFit, RowsFit, MovedForSubscribers}
-use Rattle.merge_model.proofs.KeyLookUps.{keys-exact, keys-same}
+use Rattle.merge_model.proofs.Lists.KeyLookUps.{keys-exact, keys-same}
 use Rattle.merge_laws.proofs.LastLineAdded.{added, gone-last}
-use Rattle.merge_model.proofs.PlaceLookUps.{places-exact, is_place, has_place, kept, kept-found, lookup-filter}
+use Rattle.merge_model.proofs.Lists.PlaceLookUps.{places-exact, is_place, has_place, kept, kept-found, lookup-filter}
 use Rattle.merge_model.proofs.Lists.{any-same}
-use Rattle.merge_model.proofs.Tests.{numbers-same, numbers-turned}
+use Rattle.merge_model.proofs.Lists.Tests.{numbers-same, numbers-turned}
 
 -- What some member passes.
 

@@ -5,11 +5,11 @@ use Rattle.merge_types.specs.declared.identifiers.SiteId.{SiteId}
 use Rattle.merge_batch.specs.declared.reply.Reply.{Reply}
 use Rattle.merge_types.specs.declared.row_key.RowKey.{RowKey as Key}
 use Rattle.merge_model.specs.Tables.{SubscriberTables}
-use Rattle.merge_model.specs.Acts.{Act}
-use Rattle.merge_model.specs.Entries.{Entries}
+use Rattle.merge_model.specs.Publisher.Acts.{Act}
+use Rattle.merge_model.specs.Publisher.Entries.{Entries}
 use Rattle.merge_model.specs.World.{Judges}
 use Rattle.merge_model.specs.History.{History, Past}
-use Rattle.merge_model.specs.Noting
+use Rattle.merge_model.specs.History.Noting
 use Rattle.merge_laws.proofs.NotesLeave.{acts-leave, anew-leave, fold-leave, taker-leave}
 
 -- Uploads: the items that act.

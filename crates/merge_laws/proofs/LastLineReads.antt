@@ -4,10 +4,10 @@ use Rattle.std.proofs.Common.{ap, ◌∙◌}
 use Rattle.merge_schema.specs.declared.publication.Publication.{Publication}
 use Rattle.merge_gens.specs.declared.moves.Mapping.{Mapping}
 use Rattle.merge_gens.specs.Moves.{is_left}
-use Rattle.merge_model.specs.ByNumbers.{touch_inside, touch_outside}
-use Rattle.merge_model.specs.ByHistory.{last_line, says_left, touched_inside, touched_outside}
+use Rattle.merge_model.specs.Judge.ByNumbers.{touch_inside, touch_outside}
+use Rattle.merge_model.specs.Judge.ByHistory.{last_line, says_left, touched_inside, touched_outside}
 use Rattle.merge_model.specs.History.{Line, LineKind, Changed, EnteredFor, LeftFor, GoneFor}
-use Rattle.merge_model.specs.Model.{Model}
+use Rattle.merge_model.specs.History.Model.{Model}
 use Rattle.merge_laws.specs.LastLines.{move_told, MappingIsLastLine, ChangedIsLastChange, LeftByLine, TouchedInsideByLine, TouchedOutsideByLine}
 use Rattle.merge_laws.proofs.LastLineSteps.{Fits}
 

@@ -8,7 +8,7 @@ use Rattle.merge_schema.specs.declared.publication.Publication.{Publication}
 use Rattle.merge_batch.specs.declared.request.Join.{Join}
 use Rattle.merge_batch.specs.declared.request.Upload.{Upload}
 use Rattle.merge_model.specs.Failing.{Slips, faulty}
-use Rattle.merge_model.specs.Runs.{model_behind, model_behind_actions}
+use Rattle.merge_model.specs.Failing.Runs.{model_behind, model_behind_actions}
 use Rattle.merge_model.specs.declared.event.Event.{Event}
 use Rattle.merge_types.specs.declared.row_key.RowKey.{RowKey as Key}
 use Rattle.merge_gens.specs.declared.moves.RowSite.{RowSite}
@@ -16,26 +16,26 @@ use Rattle.merge_units.specs.declared.site_row.PublisherRow.{PublisherRow}
 use Rattle.merge_gens.specs.declared.moves.Mapping.{Mapping}
 use Rattle.merge_gens.specs.Moves.{is_left}
 use Rattle.merge_model.specs.Tables.{PublisherTables}
-use Rattle.merge_model.specs.Keys.{put_number}
-use Rattle.merge_model.specs.Acts.{Act}
+use Rattle.merge_model.specs.Tables.Keys.{put_number}
+use Rattle.merge_model.specs.Publisher.Acts.{Act}
 use Rattle.merge_model.specs.Judge.{PublisherJudge}
-use Rattle.merge_model.specs.Entries.{Entries}
+use Rattle.merge_model.specs.Publisher.Entries.{Entries}
 use Rattle.merge_model.specs.Laws.{AreSorted}
-use Rattle.merge_model.specs.Publications.{by_site}
+use Rattle.merge_model.specs.Tables.Publications.{by_site}
 use Rattle.merge_model.specs.Publisher.{last_closed}
-use Rattle.merge_model.specs.PublisherLocal.{Drawn, changing_locally, made_locally, next_dot, with_draw}
-use Rattle.merge_model.specs.PublisherJoin.{is_left_of, join_taken}
-use Rattle.merge_model.specs.PublisherUpload.{changing_by, taken_in, with_acts}
-use Rattle.merge_model.specs.PublisherPurge.{after_purge, is_old, is_old_left, is_old_tombstone}
+use Rattle.merge_model.specs.Publisher.PublisherLocal.{Drawn, changing_locally, made_locally, next_dot, with_draw}
+use Rattle.merge_model.specs.Publisher.PublisherJoin.{is_left_of, join_taken}
+use Rattle.merge_model.specs.Publisher.PublisherUpload.{changing_by, taken_in, with_acts}
+use Rattle.merge_model.specs.Publisher.PublisherPurge.{after_purge, is_old, is_old_left, is_old_tombstone}
 use Rattle.merge_model.specs.World.{Saying, World, empty_world}
 use Rattle.merge_model.specs.History.{History, Line, Past, pasts_with, no_history}
-use Rattle.merge_model.specs.ByHistory.{by_history, by_past, by_made}
-use Rattle.merge_model.specs.Noting
-use Rattle.merge_model.specs.Model.{Model, empty_model, model}
-use Rattle.merge_model.proofs.Sorted.{step-sorted}
+use Rattle.merge_model.specs.Judge.ByHistory.{by_history, by_past, by_made}
+use Rattle.merge_model.specs.History.Noting
+use Rattle.merge_model.specs.History.Model.{Model, empty_model, model}
+use Rattle.merge_model.proofs.Publishers.Sorted.{step-sorted}
 use Rattle.merge_model.proofs.Runs.{publisher_stays_sorted}
-use Rattle.merge_model.specs.Steps.{Action}
-use Rattle.merge_model.proofs.Actions.{failing-actions-keep}
+use Rattle.merge_model.specs.World.Steps.{Action}
+use Rattle.merge_model.proofs.Runs.Actions.{failing-actions-keep}
 use Rattle.merge_laws.proofs.Tallied.{received-tallied}
 use Rattle.merge_laws.specs.LastLines.{LastLines}
 use Rattle.merge_laws.specs.Received.{Received}

@@ -4,18 +4,18 @@ use Rattle.std.specs.List.{AllByRecursion}
 use Rattle.std.proofs.Common.{arith, sym, ◌∙◌}
 use Rattle.std.proofs.lemmas.Bool.Decides.{nat_tests}
 use Rattle.merge_schema.specs.declared.publication.Publication.{Publication}
-use Rattle.merge_model.specs.ByNumbers.{received_by_number}
-use Rattle.merge_model.specs.ByHistory.{by_history}
+use Rattle.merge_model.specs.Judge.ByNumbers.{received_by_number}
+use Rattle.merge_model.specs.Judge.ByHistory.{by_history}
 use Rattle.merge_model.specs.Failing.{faulty}
 use Rattle.merge_model.specs.Laws.{AreSorted, AreSubSorted}
-use Rattle.merge_model.specs.Model.{Model, empty_model, model}
-use Rattle.merge_model.specs.Promises.{IdentitiesApart, NoneActsTwice, OldIsPast, RangesApart}
-use Rattle.merge_model.specs.Runs.{model_behind_actions}
+use Rattle.merge_model.specs.History.Model.{Model, empty_model, model}
+use Rattle.merge_model.specs.Laws.Promises.{IdentitiesApart, NoneActsTwice, OldIsPast, RangesApart}
+use Rattle.merge_model.specs.Failing.Runs.{model_behind_actions}
 use Rattle.merge_model.specs.Tables.{SubscriberTables}
-use Rattle.merge_model.proofs.Actions.{failing-actions-keep}
-use Rattle.merge_model.proofs.DoneOnce.{Once, none_acts_twice, step-once}
+use Rattle.merge_model.proofs.Runs.Actions.{failing-actions-keep}
+use Rattle.merge_model.proofs.Publishers.DoneOnce.{Once, none_acts_twice, step-once}
 use Rattle.merge_model.proofs.Runs.{publisher_stays_sorted}
-use Rattle.merge_model.proofs.Sorted.{step-sorted}
+use Rattle.merge_model.proofs.Publishers.Sorted.{step-sorted}
 use Rattle.merge_laws.specs.Behind.{Behind}
 use Rattle.merge_laws.specs.Identities.{OfEveryRuledActions, TakenWereGranted, gives_to, holder_in, holders_at, takes_at}
 use Rattle.merge_laws.specs.Knowledge.{KnownWereMade, MadeAreNumbered}

@@ -7,17 +7,17 @@ use Rattle.merge_types.specs.declared.row_key.RowKey.{RowKey as Key}
 use Rattle.merge_schema.specs.declared.publication.Publication.{Publication}
 use Rattle.merge_batch.specs.declared.request.Join.{Join}
 use Rattle.merge_batch.specs.declared.request.Request.TheVariants as request
-use Rattle.merge_model.specs.Keys.{at_number}
-use Rattle.merge_model.specs.Model.{Model}
-use Rattle.merge_model.specs.Promises.{IsPast, base_of, is_expired_at, watermark_of}
-use Rattle.merge_model.specs.PublisherJoin.{join_acts, join_taken}
-use Rattle.merge_model.specs.PublisherPurge.{purge}
-use Rattle.merge_model.specs.Runs.{model_behind_actions}
+use Rattle.merge_model.specs.Tables.Keys.{at_number}
+use Rattle.merge_model.specs.History.Model.{Model}
+use Rattle.merge_model.specs.Laws.Promises.{IsPast, base_of, is_expired_at, watermark_of}
+use Rattle.merge_model.specs.Publisher.PublisherJoin.{join_acts, join_taken}
+use Rattle.merge_model.specs.Publisher.PublisherPurge.{purge}
+use Rattle.merge_model.specs.Failing.Runs.{model_behind_actions}
 use Rattle.merge_model.specs.Tables.{PublisherTables, SubscriberTables}
 use Rattle.merge_model.specs.World.{subscriber_at}
 use Rattle.merge_model.specs.declared.letter.Letter.{Letter}
 use Rattle.merge_model.specs.declared.letter.Message.TheVariants.{Asks}
-use Rattle.merge_model.proofs.Finding.{pool-at, some_same}
+use Rattle.merge_model.proofs.Lists.Finding.{pool-at, some_same}
 use Rattle.merge_laws.specs.Laws.{OfEveryValidActions}
 use Rattle.merge_laws.specs.Leavings.{JoinsTakeNothingOwed, PurgesTakeNothingOwed, StaysOwed}
 use Rattle.merge_laws.specs.Received.{JoinFits, LetterFits, joined_at}

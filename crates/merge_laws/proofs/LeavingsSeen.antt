@@ -11,17 +11,17 @@ use Rattle.merge_schema.specs.Valid.{IsValid}
 use Rattle.merge_schema.specs.declared.publication.Publication.{Publication}
 use Rattle.merge_gens.specs.Filling.{generations_of}
 use Rattle.merge_units.specs.declared.site_row.PublisherRow.{PublisherRow}
-use Rattle.merge_model.specs.Entries.{Changing, Touched, changed_by, move_of, moves_of, parts_of, rows_after, touched_by}
-use Rattle.merge_model.specs.Entries as entry
+use Rattle.merge_model.specs.Publisher.Entries.{Changing, Touched, changed_by, move_of, moves_of, parts_of, rows_after, touched_by}
+use Rattle.merge_model.specs.Publisher.Entries as entry
 use Rattle.merge_model.specs.Judge.{PublisherJudge}
-use Rattle.merge_model.specs.Keys.{has_key}
+use Rattle.merge_model.specs.Tables.Keys.{has_key}
 use Rattle.merge_resolve.specs.Priorities.{subscription_at}
 use Rattle.merge_model.specs.Tables.{PublisherTables}
-use Rattle.merge_model.proofs.EntryLists.{all-numbered}
-use Rattle.merge_model.proofs.Finding.{all-weaker}
-use Rattle.merge_model.proofs.PlaceLookUps.{is_place}
-use Rattle.merge_model.proofs.StepMoves.{IsMoveHere, moves-are}
-use Rattle.merge_model.proofs.StepParts.{found_keys, parts-are}
+use Rattle.merge_model.proofs.Entries.EntryLists.{all-numbered}
+use Rattle.merge_model.proofs.Lists.Finding.{all-weaker}
+use Rattle.merge_model.proofs.Lists.PlaceLookUps.{is_place}
+use Rattle.merge_model.proofs.Entries.StepMoves.{IsMoveHere, moves-are}
+use Rattle.merge_model.proofs.Entries.StepParts.{found_keys, parts-are}
 use Rattle.merge_laws.specs.Leavings.{LeavesHere, LeavingsAreSeen}
 use Rattle.merge_laws.proofs.TouchEntries.{inside-after}
 

@@ -11,25 +11,25 @@ use Rattle.merge_batch.specs.declared.reply.Reply.{Reply}
 use Rattle.merge_batch.specs.declared.reply.Reply.TheVariants as reply
 use Rattle.merge_batch.specs.declared.request.Outstanding.TheVariants as ask
 use Rattle.merge_batch.specs.declared.request.Request.TheVariants as request
-use Rattle.merge_model.specs.Acts.{Act}
-use Rattle.merge_model.specs.ByHistory.{by_made, by_past}
-use Rattle.merge_model.specs.Changes.{key_of, version_after}
+use Rattle.merge_model.specs.Publisher.Acts.{Act}
+use Rattle.merge_model.specs.Judge.ByHistory.{by_made, by_past}
+use Rattle.merge_model.specs.Tables.Changes.{key_of, version_after}
 use Rattle.merge_model.specs.History.{History, pasts_with}
 use Rattle.merge_model.specs.Judge.{PublisherJudge, SubscriberJudge}
-use Rattle.merge_model.specs.Keys.{at_number, put_number}
+use Rattle.merge_model.specs.Tables.Keys.{at_number, put_number}
 use Rattle.merge_model.specs.Publisher.{closed}
-use Rattle.merge_model.specs.PublisherDownload.{asked, reply_to}
-use Rattle.merge_model.specs.PublisherJoin.{join_taken}
-use Rattle.merge_model.specs.PublisherLocal.{made_locally}
-use Rattle.merge_model.specs.PublisherPurge.{purge}
-use Rattle.merge_model.specs.PublisherRanges.{plans, ranged, with_grants}
-use Rattle.merge_model.specs.PublisherUpload.{taken_in}
-use Rattle.merge_model.specs.Reinit.{reinitialised}
-use Rattle.merge_model.specs.Sending.{join_of, upload_sent, want_of, with_message}
+use Rattle.merge_model.specs.Publisher.PublisherDownload.{asked, reply_to}
+use Rattle.merge_model.specs.Publisher.PublisherJoin.{join_taken}
+use Rattle.merge_model.specs.Publisher.PublisherLocal.{made_locally}
+use Rattle.merge_model.specs.Publisher.PublisherPurge.{purge}
+use Rattle.merge_model.specs.Publisher.PublisherRanges.{plans, ranged, with_grants}
+use Rattle.merge_model.specs.Publisher.PublisherUpload.{taken_in}
+use Rattle.merge_model.specs.Subscriber.Reinit.{reinitialised}
+use Rattle.merge_model.specs.Subscriber.Sending.{join_of, upload_sent, want_of, with_message}
 use Rattle.merge_model.specs.Subscriber.{is_joining, sub_at_moment, sub_closed, sub_next_dot, sub_version_at, with_version_if}
 use Rattle.merge_types.specs.declared.row_key.RowKey.{RowKey as Key}
 use Rattle.merge_model.specs.Tables.{PublisherTables, SubscriberTables}
-use Rattle.merge_model.specs.Taking.{taken}
+use Rattle.merge_model.specs.Subscriber.Taking.{taken}
 use Rattle.merge_model.specs.World.{Saying, World, empty_world, subscriber_at, with_publisher, with_subscriber}
 use Rattle.merge_model.specs.declared.letter.Message.TheVariants.{Asks, Replies}
 use Rattle.merge_model.specs.declared.letter.Letter.{Letter}
@@ -38,8 +38,8 @@ use Rattle.merge_laws.proofs.Tallied.{order-tallied}
 use Rattle.merge_laws.specs.LetterOrder.{JoinIsLater, LetterOrder, last_upload, upload_seq}
 use Rattle.merge_laws.specs.Received.{LetterFits, MessageFits, Received, joined_at}
 use Rattle.merge_laws.proofs.Arrivals.{joined-rises}
-use Rattle.merge_model.proofs.Refusals.{first-none}
-use Rattle.merge_model.proofs.Finding.{all-more, all-weaker, at_put_other, at_put_same}
+use Rattle.merge_model.proofs.Runs.Refusals.{first-none}
+use Rattle.merge_model.proofs.Lists.Finding.{all-more, all-weaker, at_put_other, at_put_same}
 use Rattle.merge_model.proofs.Lists.{all-both}
 use Rattle.merge_laws.proofs.MessageFacts.{acts-later}
 use Rattle.merge_laws.proofs.Publishing.{SameNumbers, asked-same, same-sites, upload-joined}

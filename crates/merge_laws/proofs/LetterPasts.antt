@@ -9,15 +9,15 @@ use Rattle.merge_batch.specs.declared.reply.Act.{Act as Order}
 use Rattle.merge_batch.specs.declared.reply.Act.TheVariants as order
 use Rattle.merge_batch.specs.declared.reply.DownloadItem.{DownloadItem}
 use Rattle.merge_batch.specs.declared.request.UploadItem.{UploadItem}
-use Rattle.merge_model.specs.Acts.{key_of_item}
+use Rattle.merge_model.specs.Publisher.Acts.{key_of_item}
 use Rattle.merge_model.specs.History.{Past, no_past, past_in}
 use Rattle.merge_types.specs.RowKeys.{key_cmp}
-use Rattle.merge_model.specs.Keys.{row_at, same_key}
-use Rattle.merge_model.specs.Model.{past_of_item, put_past}
+use Rattle.merge_model.specs.Tables.Keys.{row_at, same_key}
+use Rattle.merge_model.specs.History.Model.{past_of_item, put_past}
 use Rattle.merge_types.specs.declared.row_key.RowKey.{RowKey as Key}
-use Rattle.merge_model.specs.Taking.{key_of_download}
+use Rattle.merge_model.specs.Subscriber.Taking.{key_of_download}
 use Rattle.merge_laws.specs.LineagesStand.{OfOrder}
-use Rattle.merge_model.proofs.KeyLookUps.{key-itself, key-test, keys-exact, keys-same}
+use Rattle.merge_model.proofs.Lists.KeyLookUps.{key-itself, key-test, keys-exact, keys-same}
 use Rattle.merge_model.proofs.Lists.{all-both, each-found}
 
 -- What is found of a row that an item is made of.

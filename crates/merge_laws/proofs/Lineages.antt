@@ -25,25 +25,25 @@ use Rattle.merge_batch.specs.declared.reply.Act.{Act as Order}
 use Rattle.merge_batch.specs.declared.reply.Act.TheVariants as order
 use Rattle.merge_batch.specs.declared.reply.DownloadItem.{DownloadItem}
 use Rattle.merge_batch.specs.declared.request.UploadItem.{UploadItem}
-use Rattle.merge_model.specs.Acts.{Act, Fate, Met, New, Unknown, act_of, acts_from, conflict_of, case_met, changes_by, decided_changes, decision_for, fate_by, is_new_row, key_of_item, left_by, lost_by, lost_from, made_by, version_by, version_of_act, versions_of}
+use Rattle.merge_model.specs.Publisher.Acts.{Act, Fate, Met, New, Unknown, act_of, acts_from, conflict_of, case_met, changes_by, decided_changes, decision_for, fate_by, is_new_row, key_of_item, left_by, lost_by, lost_from, made_by, version_by, version_of_act, versions_of}
 use Rattle.merge_units.specs.Cases.{is_conflict}
-use Rattle.merge_model.specs.Changes.{version_after}
-use Rattle.merge_model.specs.Entries.{with_rows}
+use Rattle.merge_model.specs.Tables.Changes.{version_after}
+use Rattle.merge_model.specs.Publisher.Entries.{with_rows}
 use Rattle.merge_model.specs.Judge.{PublisherJudge, SubscriberJudge}
 use Rattle.merge_types.specs.RowKeys.{key_cmp}
-use Rattle.merge_model.specs.Keys.{put_row, row_at}
-use Rattle.merge_model.specs.PublisherDownload.{TouchedRow, item_of}
+use Rattle.merge_model.specs.Tables.Keys.{put_row, row_at}
+use Rattle.merge_model.specs.Publisher.PublisherDownload.{TouchedRow, item_of}
 use Rattle.merge_batch.specs.Orders.{order_by}
-use Rattle.merge_model.specs.PublisherLocal.{version_at}
-use Rattle.merge_model.specs.Publications.{tracking_at}
-use Rattle.merge_model.specs.Reinit.{discarded, numbered_from}
-use Rattle.merge_model.specs.Sending.{upload_item}
+use Rattle.merge_model.specs.Publisher.PublisherLocal.{version_at}
+use Rattle.merge_model.specs.Tables.Publications.{tracking_at}
+use Rattle.merge_model.specs.Subscriber.Reinit.{discarded, numbered_from}
+use Rattle.merge_model.specs.Subscriber.Sending.{upload_item}
 use Rattle.merge_model.specs.Subscriber.{sub_version_at, with_version_if}
 use Rattle.merge_types.specs.declared.row_key.RowKey.{RowKey as Key}
 use Rattle.merge_units.specs.declared.site_row.PublisherRow.{PublisherRow}
 use Rattle.merge_units.specs.declared.site_row.SubscriberRow.{SubscriberRow}
 use Rattle.merge_model.specs.Tables.{PublisherTables, SubscriberTables}
-use Rattle.merge_model.specs.Taking.{key_of_download, row_above, with_item, with_order}
+use Rattle.merge_model.specs.Subscriber.Taking.{key_of_download, row_above, with_item, with_order}
 use Rattle.merge_laws.specs.Lineages.{OfLost, OfOrder}
 use Rattle.merge_laws.proofs.LineageLists.{values-dropped, values-found, values-put}
 use Rattle.merge_model.proofs.Lists.{OfSome, some-map, all-unit, all-map, all-filter_map, all-append}

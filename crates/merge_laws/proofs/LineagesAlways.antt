@@ -5,20 +5,20 @@ use Rattle.std.proofs.lemmas.Bool.Decides.{nat_tests}
 use Rattle.merge_schema.specs.Valid.{IsValid}
 use Rattle.merge_schema.specs.declared.publication.Publication.{Publication}
 use Rattle.merge_batch.specs.declared.request.UploadItem.{UploadItem}
-use Rattle.merge_model.specs.Acts.{key_of_item}
-use Rattle.merge_model.specs.Bridge.{CaseDecidesAlike, PublisherDecidesAlike, StepsAlike}
-use Rattle.merge_model.specs.Events.{after, machine, machine_answers}
+use Rattle.merge_model.specs.Publisher.Acts.{key_of_item}
+use Rattle.merge_model.specs.Laws.Bridge.{CaseDecidesAlike, PublisherDecidesAlike, StepsAlike}
+use Rattle.merge_model.specs.World.Events.{after, machine, machine_answers}
 use Rattle.merge_model.specs.Failing.{Slips, faulty}
 use Rattle.merge_model.specs.History.{past_in, pasts_with}
-use Rattle.merge_model.specs.Keys.{row_at}
-use Rattle.merge_model.specs.Model.{Model, empty_model, model, model_answers, model_step}
-use Rattle.merge_model.specs.Promises.{AllStand}
-use Rattle.merge_model.specs.Runs.{machine_does, machine_says, model_behind, model_behind_actions, model_does, model_says, world_behind, world_behind_actions}
-use Rattle.merge_model.specs.Steps.{Action}
+use Rattle.merge_model.specs.Tables.Keys.{row_at}
+use Rattle.merge_model.specs.History.Model.{Model, empty_model, model, model_answers, model_step}
+use Rattle.merge_model.specs.Laws.Promises.{AllStand}
+use Rattle.merge_model.specs.Failing.Runs.{machine_does, machine_says, model_behind, model_behind_actions, model_does, model_says, world_behind, world_behind_actions}
+use Rattle.merge_model.specs.World.Steps.{Action}
 use Rattle.merge_units.specs.declared.site_row.PublisherRow.{PublisherRow}
 use Rattle.merge_model.specs.World.{Saying, empty_world}
 use Rattle.merge_model.specs.declared.event.Event.{Event}
-use Rattle.merge_model.proofs.Actions.{failing-actions-keep}
+use Rattle.merge_model.proofs.Runs.Actions.{failing-actions-keep}
 use Rattle.merge_laws.specs.Accepted.{AllAccepted}
 use Rattle.merge_laws.specs.Deciding.{CasesDecideAlike, EachStepAlike}
 use Rattle.merge_laws.specs.Laws.{OfEveryValidActions}
@@ -31,7 +31,7 @@ use Rattle.merge_laws.proofs.AlikeDecisions.{case-decides-alike, publisher-decid
 use Rattle.merge_laws.proofs.AlikeRuns.{after-alike, answers-alike, failing-actions-alike, failing-alike}
 use Rattle.merge_laws.proofs.AlikeSteps.{steps-alike}
 use Rattle.merge_laws.proofs.AllStand.{all-stand}
-use Rattle.merge_model.proofs.Finding.{all-weaker}
+use Rattle.merge_model.proofs.Lists.Finding.{all-weaker}
 use Rattle.merge_laws.proofs.Ground.{Ground, ground-tallied}
 use Rattle.merge_laws.proofs.LineagesStand.{lineages-stand}
 use Rattle.merge_laws.proofs.OwnParts.{OwnRest}

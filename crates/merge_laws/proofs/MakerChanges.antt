@@ -12,15 +12,15 @@ use Rattle.merge_batch.proofs.Makers.{made-maker_of}
 use Rattle.merge_batch.specs.Makers.{maker_of}
 use Rattle.merge_batch.specs.declared.refusal.Refusal.TheVariants.{CounterEnd, NoRow}
 use Rattle.merge_schema.specs.declared.publication.Publication.{Publication}
-use Rattle.merge_model.specs.Changes.{change_refusal, is_insert, key_of, lives, no_row, row_of_dot}
+use Rattle.merge_model.specs.Tables.Changes.{change_refusal, is_insert, key_of, lives, no_row, row_of_dot}
 use Rattle.merge_model.specs.History.{History, Past, has}
-use Rattle.merge_model.specs.Keys.{row_at}
-use Rattle.merge_model.specs.Noting
-use Rattle.merge_model.specs.Pasts.{past_after}
+use Rattle.merge_model.specs.Tables.Keys.{row_at}
+use Rattle.merge_model.specs.History.Noting
+use Rattle.merge_model.specs.History.Pasts.{past_after}
 use Rattle.merge_model.specs.Publisher.{counters, last_closed}
-use Rattle.merge_model.specs.PublisherLocal.{local_refusal, next_dot, version_at}
+use Rattle.merge_model.specs.Publisher.PublisherLocal.{local_refusal, next_dot, version_at}
 use Rattle.merge_types.specs.Limits.{counter_limit}
-use Rattle.merge_model.specs.Refusals.{counter_end}
+use Rattle.merge_model.specs.Tables.Refusals.{counter_end}
 use Rattle.merge_model.specs.Subscriber.{is_joining, sub_counters, sub_last_closed, sub_local_refusal, sub_next_dot, sub_version_at}
 use Rattle.merge_types.specs.declared.row_key.RowKey.{RowKey as Key}
 use Rattle.merge_units.specs.declared.site_row.PublisherRow.{PublisherRow}
@@ -29,7 +29,7 @@ use Rattle.merge_model.specs.Tables.{PublisherTables, SubscriberTables}
 use Rattle.merge_laws.specs.Knowledge.{AreNumbered, Knows, is_made}
 use Rattle.merge_laws.specs.KnownMakers.{IsAfterMaker, KnowsMaker}
 use Rattle.merge_laws.proofs.Arrivals.{not-refused}
-use Rattle.merge_model.proofs.Refusals.{first-none}
+use Rattle.merge_model.proofs.Runs.Refusals.{first-none}
 use Rattle.merge_laws.proofs.Knowing.{fresh-above, fresh-any}
 
 -- An insert makes the row that is named by its dot.

@@ -12,31 +12,31 @@ use Rattle.merge_batch.specs.declared.reply.Act.TheVariants as order
 use Rattle.merge_batch.specs.declared.reply.DownloadItem.{DownloadItem}
 use Rattle.merge_batch.specs.declared.request.UploadItem.{UploadItem}
 use Rattle.merge_table.proofs.Sorted.{sorted_put, sorted_take}
-use Rattle.merge_model.specs.Acts.{key_of_item}
+use Rattle.merge_model.specs.Publisher.Acts.{key_of_item}
 use Rattle.merge_model.specs.History.{History, Past, past_in, pasts_at}
 use Rattle.merge_model.specs.Judge.{SubscriberJudge}
 use Rattle.merge_types.specs.RowKeys.{key_cmp}
-use Rattle.merge_model.specs.Keys.{drop_row, has_key, put_row, row_at, same_key}
-use Rattle.merge_model.specs.Noting
-use Rattle.merge_model.specs.PublisherDownload.{TouchedRow, item_of}
+use Rattle.merge_model.specs.Tables.Keys.{drop_row, has_key, put_row, row_at, same_key}
+use Rattle.merge_model.specs.History.Noting
+use Rattle.merge_model.specs.Publisher.PublisherDownload.{TouchedRow, item_of}
 use Rattle.merge_batch.specs.Orders.{order_by}
-use Rattle.merge_model.specs.Sending.{upload_item}
+use Rattle.merge_model.specs.Subscriber.Sending.{upload_item}
 use Rattle.merge_types.specs.declared.row_key.RowKey.{RowKey as Key}
 use Rattle.merge_units.specs.declared.site_row.PublisherRow.{PublisherRow}
 use Rattle.merge_units.specs.declared.site_row.SubscriberRow.{SubscriberRow}
 use Rattle.merge_model.specs.Tables.{PublisherTables, SubscriberTables}
-use Rattle.merge_model.specs.Taking.{key_of_download, row_above, with_item, with_order}
-use Rattle.merge_model.proofs.Sorted.{key_total}
+use Rattle.merge_model.specs.Subscriber.Taking.{key_of_download, row_above, with_item, with_order}
+use Rattle.merge_model.proofs.Publishers.Sorted.{key_total}
 use Rattle.merge_laws.specs.KnownMakers.{Ascend, HeldKnow, KnowsMaker}
 use Rattle.merge_laws.specs.LineagesStand.{OfOrder}
 use Rattle.merge_laws.proofs.HeldRows.{above-held}
-use Rattle.merge_model.proofs.KeyLookUps.{key-test, keys-exact, keys-same}
-use Rattle.merge_model.proofs.PlaceLookUps.{kept, lookup-filter}
+use Rattle.merge_model.proofs.Lists.KeyLookUps.{key-test, keys-exact, keys-same}
+use Rattle.merge_model.proofs.Lists.PlaceLookUps.{kept, lookup-filter}
 use Rattle.merge_laws.proofs.LetterPasts.{removed-order}
 use Rattle.merge_laws.proofs.PastLists.{know-dropped, know-put}
 use Rattle.merge_laws.proofs.PastLookUps.{past-put, put-here, rows_in}
 use Rattle.merge_laws.proofs.PastNotes.{Purged}
-use Rattle.merge_model.proofs.Tests.{if-false, if-true}
+use Rattle.merge_model.proofs.Lists.Tests.{if-false, if-true}
 
 -- A row more is held, and its past is put.
 more-either : {A : Type 0} (rows : List (Key × A)) (pasts : List (Key × Past)) (key q : Key) (past : Past) (same : Bool) → same_key q key ≡ same → KnowsMaker key past.known → HeldKnow rows pasts → (is_some (row_at rows q) || same_key q key) ≡ true

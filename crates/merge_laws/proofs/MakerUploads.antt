@@ -15,23 +15,23 @@ use Rattle.merge_batch.specs.declared.request.Join.{Join}
 use Rattle.merge_batch.specs.declared.request.Request.TheVariants as request
 use Rattle.merge_batch.specs.declared.request.Upload.{Upload}
 use Rattle.merge_batch.specs.declared.request.UploadItem.{UploadItem}
-use Rattle.merge_model.specs.Acts.{Act, Fate, Met, New, Unknown, act_of, acting_items, acts_from, fate_by, is_new_row, key_of_item, left_by, made_by}
-use Rattle.merge_model.specs.ByHistory.{by_made, by_past}
+use Rattle.merge_model.specs.Publisher.Acts.{Act, Fate, Met, New, Unknown, act_of, acting_items, acts_from, fate_by, is_new_row, key_of_item, left_by, made_by}
+use Rattle.merge_model.specs.Judge.ByHistory.{by_made, by_past}
 use Rattle.merge_units.specs.Cases.{is_conflict}
-use Rattle.merge_model.specs.Entries.{Entries}
+use Rattle.merge_model.specs.Publisher.Entries.{Entries}
 use Rattle.merge_model.specs.History.{History, Line, MadeChange, Past, has, past_at, past_in, pasts_at, pasts_with}
 use Rattle.merge_model.specs.Judge.{PublisherJudge, SubscriberJudge}
-use Rattle.merge_model.specs.Keys.{put_number, row_at}
-use Rattle.merge_model.specs.Noting
-use Rattle.merge_model.specs.Pasts.{past_by}
+use Rattle.merge_model.specs.Tables.Keys.{put_number, row_at}
+use Rattle.merge_model.specs.History.Noting
+use Rattle.merge_model.specs.History.Pasts.{past_by}
 use Rattle.merge_model.specs.Publisher.{last_closed}
-use Rattle.merge_model.specs.PublisherJoin.{join_taken}
-use Rattle.merge_model.specs.PublisherUpload.{changing_by, taken_in, with_acts}
-use Rattle.merge_model.specs.Steps.{kept_decisions, upload_questions}
+use Rattle.merge_model.specs.Publisher.PublisherJoin.{join_taken}
+use Rattle.merge_model.specs.Publisher.PublisherUpload.{changing_by, taken_in, with_acts}
+use Rattle.merge_model.specs.World.Steps.{kept_decisions, upload_questions}
 use Rattle.merge_types.specs.declared.row_key.RowKey.{RowKey as Key}
 use Rattle.merge_units.specs.declared.site_row.PublisherRow.{PublisherRow}
 use Rattle.merge_model.specs.Tables.{PublisherTables, SubscriberTables}
-use Rattle.merge_model.specs.Taking.{row_above, taken}
+use Rattle.merge_model.specs.Subscriber.Taking.{row_above, taken}
 use Rattle.merge_model.specs.World.{Saying, World, subscriber_at, with_publisher, with_subscriber}
 use Rattle.merge_model.specs.declared.letter.Message.TheVariants.{Asks, Replies}
 use Rattle.merge_model.specs.declared.letter.Letter.{Letter}
@@ -39,7 +39,7 @@ use Rattle.merge_model.specs.Laws.{AreSubSorted}
 use Rattle.merge_laws.specs.Knowledge.{changes_of}
 use Rattle.merge_laws.specs.KnownMakers.{Ascend, HeldKnow, IsAfterMaker, KnownMakers, KnowsMaker}
 use Rattle.merge_laws.specs.LineagesStand.{OfMessage}
-use Rattle.merge_model.proofs.Finding.{found-named, letter-zip}
+use Rattle.merge_model.proofs.Lists.Finding.{found-named, letter-zip}
 use Rattle.merge_laws.proofs.Ground.{Ground}
 use Rattle.merge_laws.proofs.HeldRows.{changed-held}
 use Rattle.merge_laws.proofs.KnownMakers.{makers-of-parts, publisher-makers}
@@ -51,7 +51,7 @@ use Rattle.merge_laws.proofs.Noted.{DecidesAsOwn, NotesKeep, acts-keep, acts-own
 use Rattle.merge_laws.proofs.NotesLeave.{fold-leave, items-leave}
 use Rattle.merge_laws.proofs.PastLists.{drop-ascends, put-ascends}
 use Rattle.merge_laws.proofs.PastNotes.{ActKeeps, acts-items, acts-know, acts-pasts, by-maker, fate_past, put_by, reply-pasts, versions-any}
-use Rattle.merge_model.proofs.Tests.{if-both}
+use Rattle.merge_model.proofs.Lists.Tests.{if-both}
 use Rattle.merge_laws.proofs.Unsending.{received-sorted}
 use Rattle.merge_laws.proofs.UnsentKept.{all-found}
 use Rattle.merge_laws.proofs.Walking.{acts_in, comes, here, join_noted}

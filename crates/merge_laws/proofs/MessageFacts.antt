@@ -6,14 +6,14 @@ use Rattle.merge_types.specs.declared.identifiers.SiteId.{SiteId}
 use Rattle.merge_batch.specs.declared.request.Join.{Join}
 use Rattle.merge_batch.specs.declared.request.Upload.{Upload}
 use Rattle.merge_model.specs.History.{History}
-use Rattle.merge_model.specs.Keys.{at_number}
-use Rattle.merge_model.specs.PublisherJoin.{join_acts}
+use Rattle.merge_model.specs.Tables.Keys.{at_number}
+use Rattle.merge_model.specs.Publisher.PublisherJoin.{join_acts}
 use Rattle.merge_model.specs.Tables.{PublisherTables, SubscriberTables}
 use Rattle.merge_model.specs.World.{World, letter_at}
 use Rattle.merge_model.specs.declared.letter.Letter.{Letter}
-use Rattle.merge_model.specs.ByNumbers.{received_by_number}
+use Rattle.merge_model.specs.Judge.ByNumbers.{received_by_number}
 use Rattle.merge_laws.specs.Received.{JoinFits, MessageFits, Received, UploadFits, joined_at}
-use Rattle.merge_model.proofs.Finding.{pool-at}
+use Rattle.merge_model.proofs.Lists.Finding.{pool-at}
 
 -- A join and an upload are of the site that sent them, which is a subscriber.
 

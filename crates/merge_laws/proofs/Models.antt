@@ -9,42 +9,42 @@ use Rattle.merge_batch.specs.declared.reply.Reply.{Reply}
 use Rattle.merge_batch.specs.declared.reply.Reply.TheVariants as reply
 use Rattle.merge_schema.specs.declared.publication.Publication.{Publication}
 use Rattle.merge_model.specs.Failing.{Slips, faulty}
-use Rattle.merge_model.specs.Runs.{model_behind, model_behind_actions}
+use Rattle.merge_model.specs.Failing.Runs.{model_behind, model_behind_actions}
 use Rattle.merge_model.specs.Tables.{PublisherTables, SubscriberTables}
-use Rattle.merge_model.specs.Keys.{at_number, put_number}
-use Rattle.merge_model.specs.ByNumbers.{received_by_number}
-use Rattle.merge_model.specs.ByHistory.{by_history, is_gap_by_done}
+use Rattle.merge_model.specs.Tables.Keys.{at_number, put_number}
+use Rattle.merge_model.specs.Judge.ByNumbers.{received_by_number}
+use Rattle.merge_model.specs.Judge.ByHistory.{by_history, is_gap_by_done}
 use Rattle.merge_model.specs.Publisher.{at_moment, no_state}
-use Rattle.merge_model.specs.PublisherJoin.{joined}
-use Rattle.merge_model.specs.PublisherPurge.{purge}
+use Rattle.merge_model.specs.Publisher.PublisherJoin.{joined}
+use Rattle.merge_model.specs.Publisher.PublisherPurge.{purge}
 use Rattle.merge_model.specs.World.{World, Judges, Saying, letter_at, subscriber_at, with_publisher}
 use Rattle.merge_model.specs.declared.letter.Letter.{Letter}
 use Rattle.merge_model.specs.declared.letter.Message.{Message}
 use Rattle.merge_model.specs.declared.letter.Message.TheVariants.{Asks, Replies}
-use Rattle.merge_model.specs.Steps.{Action, CloseAt, Deliver, Forget, Look, Make, MakeAnew, Pass, Send, at_subscriber, close_at, deliver_letter, deliver_reply, make_anew, make_at, send_from, step_by}
+use Rattle.merge_model.specs.World.Steps.{Action, CloseAt, Deliver, Forget, Look, Make, MakeAnew, Pass, Send, at_subscriber, close_at, deliver_letter, deliver_reply, make_anew, make_at, send_from, step_by}
 use Rattle.merge_model.specs.declared.outcome.Outcome.{Outcome}
 use Rattle.merge_model.specs.declared.outcome.Outcome.TheVariants.{NoLetter}
 use Rattle.merge_model.specs.History.{History, is_done, pasts_with}
-use Rattle.merge_model.specs.Noting
-use Rattle.merge_model.specs.Model.{Model, model_step, noted, noted_if, noted_letter, did_something, with_posted}
-use Rattle.merge_model.proofs.DoneOnce.{taker-done, make-done, anew-done, purge-done, posted-done}
-use Rattle.merge_model.proofs.Actions.{failing-actions-keep}
+use Rattle.merge_model.specs.History.Noting
+use Rattle.merge_model.specs.History.Model.{Model, model_step, noted, noted_if, noted_letter, did_something, with_posted}
+use Rattle.merge_model.proofs.Publishers.DoneOnce.{taker-done, make-done, anew-done, purge-done, posted-done}
+use Rattle.merge_model.proofs.Runs.Actions.{failing-actions-keep}
 use Rattle.merge_laws.proofs.Tallied.{received-tallied}
 use Rattle.merge_laws.specs.Received.{joined_at, MessageFits, LetterFits, SubscriberFits, DoneIsReceived, Received}
-use Rattle.merge_model.proofs.Finding.{all-at, at_put_same}
+use Rattle.merge_model.proofs.Lists.Finding.{all-at, at_put_same}
 use Rattle.merge_laws.proofs.Worlds.{history-same}
 use Rattle.merge_laws.proofs.Steps.{at-fine}
 use Rattle.merge_laws.proofs.Sendings.{reply-fine}
 use Rattle.std.specs.Prelude.{option_map}
 use Rattle.merge_schema.specs.declared.publication.Subscription.{Subscription}
-use Rattle.merge_model.specs.Publications.{by_site}
-use Rattle.merge_model.specs.ByNumbers.{is_gap_by_number}
+use Rattle.merge_model.specs.Tables.Publications.{by_site}
+use Rattle.merge_model.specs.Judge.ByNumbers.{is_gap_by_number}
 use Rattle.merge_model.specs.History.{no_history}
 use Rattle.merge_model.specs.Subscriber.{empty_subscriber}
 use Rattle.merge_model.specs.World.{empty_subscribers, empty_world}
-use Rattle.merge_model.specs.Model.{empty_model, model}
+use Rattle.merge_model.specs.History.Model.{empty_model, model}
 use Rattle.merge_model.specs.declared.event.Event.{Event}
-use Rattle.merge_model.proofs.Finding.{at_put_other}
+use Rattle.merge_model.proofs.Lists.Finding.{at_put_other}
 use Rattle.merge_laws.proofs.Subscribing.{same_number, number-decided}
 use Rattle.merge_laws.proofs.Steps.{sites-fine, fits-here, make-fine, close-fine}
 use Rattle.merge_laws.proofs.Sendings.{send-fine, anew-fine}

@@ -16,23 +16,23 @@ use Rattle.merge_batch.specs.declared.reply.Reply.{Reply}
 use Rattle.merge_batch.specs.declared.reply.Reply.TheVariants as reply
 use Rattle.merge_batch.specs.declared.request.Upload.{Upload}
 use Rattle.merge_batch.specs.declared.request.UploadItem.{UploadItem}
-use Rattle.merge_model.specs.Acts.{Act, Fate, New, Unknown, Met, act_of, acting_items, acts_from, acts_of, fate_by, is_new_row, key_of_item, left_by, made_by}
+use Rattle.merge_model.specs.Publisher.Acts.{Act, Fate, New, Unknown, Met, act_of, acting_items, acts_from, acts_of, fate_by, is_new_row, key_of_item, left_by, made_by}
 use Rattle.merge_units.specs.Cases.{is_conflict}
-use Rattle.merge_model.specs.Entries.{Entries}
+use Rattle.merge_model.specs.Publisher.Entries.{Entries}
 use Rattle.merge_model.specs.History.{History, Line, MadeChange, Past, past_at, past_in}
 use Rattle.merge_model.specs.Judge.{PublisherJudge, SubscriberJudge}
-use Rattle.merge_model.specs.Keys.{put_number, row_at}
-use Rattle.merge_model.specs.Noting
-use Rattle.merge_model.specs.Pasts.{past_by}
-use Rattle.merge_model.specs.Publications.{by_site}
+use Rattle.merge_model.specs.Tables.Keys.{put_number, row_at}
+use Rattle.merge_model.specs.History.Noting
+use Rattle.merge_model.specs.History.Pasts.{past_by}
+use Rattle.merge_model.specs.Tables.Publications.{by_site}
 use Rattle.merge_model.specs.Publisher.{last_closed}
-use Rattle.merge_model.specs.PublisherLocal.{Drawn}
-use Rattle.merge_model.specs.Reinit.{discarded}
+use Rattle.merge_model.specs.Publisher.PublisherLocal.{Drawn}
+use Rattle.merge_model.specs.Subscriber.Reinit.{discarded}
 use Rattle.merge_types.specs.declared.row_key.RowKey.{RowKey as Key}
 use Rattle.merge_units.specs.declared.site_row.PublisherRow.{PublisherRow}
 use Rattle.merge_model.specs.Tables.{PublisherTables, SubscriberTables}
-use Rattle.merge_model.specs.Taking.{key_of_download}
-use Rattle.merge_model.proofs.Tests.{if-both}
+use Rattle.merge_model.specs.Subscriber.Taking.{key_of_download}
+use Rattle.merge_model.proofs.Lists.Tests.{if-both}
 use Rattle.merge_laws.proofs.Walking.{own_noted}
 
 -- of the changes only the publisher's own come in

@@ -13,17 +13,17 @@ use Rattle.merge_batch.specs.declared.reply.Act.TheVariants as order
 use Rattle.merge_batch.specs.declared.reply.DownloadItem.{DownloadItem}
 use Rattle.merge_batch.specs.declared.reply.Reply.{Reply}
 use Rattle.merge_batch.specs.declared.reply.Reply.TheVariants as reply
-use Rattle.merge_model.specs.Acts.{Act, Fate, Met, New, Unknown}
+use Rattle.merge_model.specs.Publisher.Acts.{Act, Fate, Met, New, Unknown}
 use Rattle.merge_units.specs.Cases.{is_conflict}
-use Rattle.merge_model.specs.Entries.{Entries}
+use Rattle.merge_model.specs.Publisher.Entries.{Entries}
 use Rattle.merge_model.specs.History.{History, Line, MadeChange, Past, past_at, past_in}
 use Rattle.merge_model.specs.Judge.{SubscriberJudge}
-use Rattle.merge_model.specs.Noting
-use Rattle.merge_model.specs.Pasts.{past_by}
-use Rattle.merge_model.specs.Reinit.{discarded}
+use Rattle.merge_model.specs.History.Noting
+use Rattle.merge_model.specs.History.Pasts.{past_by}
+use Rattle.merge_model.specs.Subscriber.Reinit.{discarded}
 use Rattle.merge_types.specs.declared.row_key.RowKey.{RowKey as Key}
 use Rattle.merge_model.specs.Tables.{SubscriberTables}
-use Rattle.merge_model.specs.Taking.{key_of_download}
+use Rattle.merge_model.specs.Subscriber.Taking.{key_of_download}
 use Rattle.merge_model.specs.World.{Judges}
 
 pub fold-leave : {A X : Type 0} (part : History → X) (f : History → A → History) → ((h : History) (a : A) → part (f h a) ≡ part h) → (xs : List A) (h : History) → part (fold f h xs) ≡ part h

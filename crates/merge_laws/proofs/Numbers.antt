@@ -8,15 +8,15 @@ use Rattle.merge_gens.specs.declared.sites.SiteState.{SiteState}
 use Rattle.merge_batch.specs.declared.request.Join.{Join}
 use Rattle.merge_batch.specs.declared.request.Request.TheVariants as request
 use Rattle.merge_batch.specs.declared.request.Upload.{Upload}
-use Rattle.merge_model.specs.Acts.{Act}
-use Rattle.merge_model.specs.ByHistory.{is_unmet_by_done}
-use Rattle.merge_model.specs.ByNumbers.{is_unmet_by_number, received_by_number, received_number_by_number}
+use Rattle.merge_model.specs.Publisher.Acts.{Act}
+use Rattle.merge_model.specs.Judge.ByHistory.{is_unmet_by_done}
+use Rattle.merge_model.specs.Judge.ByNumbers.{is_unmet_by_number, received_by_number, received_number_by_number}
 use Rattle.merge_model.specs.History.{History, MadeChange, is_done, made_at}
-use Rattle.merge_model.specs.Keys.{at_number, put_number}
-use Rattle.merge_model.specs.Model.{with_letter}
-use Rattle.merge_model.specs.Noting
+use Rattle.merge_model.specs.Tables.Keys.{at_number, put_number}
+use Rattle.merge_model.specs.History.Model.{with_letter}
+use Rattle.merge_model.specs.History.Noting
 use Rattle.merge_model.specs.Publisher.{at_moment}
-use Rattle.merge_model.specs.PublisherJoin.{join_taken}
+use Rattle.merge_model.specs.Publisher.PublisherJoin.{join_taken}
 use Rattle.merge_model.specs.Subscriber.{sub_last_closed}
 use Rattle.merge_model.specs.Tables.{PublisherTables, SubscriberTables}
 use Rattle.merge_model.specs.World.{World, letter_at, with_publisher, with_subscriber}
@@ -25,12 +25,12 @@ use Rattle.merge_model.specs.declared.letter.Letter.{Letter}
 use Rattle.merge_model.specs.declared.letter.Message.{Message}
 use Rattle.merge_laws.specs.Received.{Received}
 use Rattle.merge_laws.specs.Numbered.{InOrder, JoinTells, LetterTells, MessageTells, Numbered, Tells, UploadTells, last_of}
-use Rattle.merge_model.proofs.Finding.{all-at, all-more, all-weaker, at_put_other, at_put_same}
+use Rattle.merge_model.proofs.Lists.Finding.{all-at, all-more, all-weaker, at_put_other, at_put_same}
 use Rattle.merge_laws.proofs.Noted.{NotesKeep}
 use Rattle.merge_laws.proofs.Publishing.{SameNumbers, done-joins, joined-change, joined-received, number_in, sites_taken, upload-change, upload-received}
 use Rattle.merge_laws.proofs.Subscribing.{number-decided, same_number}
 use Rattle.merge_laws.proofs.Telling.{some-same}
-use Rattle.merge_model.proofs.Tests.{number-itself}
+use Rattle.merge_model.proofs.Lists.Tests.{number-itself}
 use Rattle.merge_laws.proofs.Through.{is_there, last-none, none-there, order-there, unmet-is}
 
 -- Histories.

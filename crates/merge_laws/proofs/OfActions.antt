@@ -3,12 +3,12 @@ use Rattle.std.specs.Prelude.{ℕ, List}
 use Rattle.std.proofs.Common.{subst}
 use Rattle.merge_schema.specs.declared.publication.Publication.{Publication}
 use Rattle.merge_model.specs.Failing.{Faulty, Slips, failing, faulty}
-use Rattle.merge_model.specs.Model.{Model, empty_model, model}
-use Rattle.merge_model.specs.Runs.{model_after, model_after_actions, model_behind, model_behind_actions}
-use Rattle.merge_model.specs.Steps.{Action}
+use Rattle.merge_model.specs.History.Model.{Model, empty_model, model}
+use Rattle.merge_model.specs.Failing.Runs.{model_after, model_after_actions, model_behind, model_behind_actions}
+use Rattle.merge_model.specs.World.Steps.{Action}
 use Rattle.merge_model.specs.World.{Saying}
 use Rattle.merge_model.specs.declared.event.Event.{Event}
-use Rattle.merge_model.proofs.Actions.{events-are-actions}
+use Rattle.merge_model.proofs.Runs.Actions.{events-are-actions}
 use Rattle.merge_laws.specs.Identities.{OfEveryRuledActions, OfEveryRuledModel}
 use Rattle.merge_laws.specs.Laws.{OfEveryActions, OfEveryDecidedRun, OfEveryValidActions, OfEveryValidRun}
 

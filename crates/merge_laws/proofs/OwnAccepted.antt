@@ -10,18 +10,18 @@ use Rattle.merge_units.specs.declared.version.Version.{Version}
 use Rattle.merge_schema.specs.declared.publication.Publication.{Publication}
 use Rattle.merge_batch.specs.declared.reply.Reply.{Reply}
 use Rattle.merge_batch.specs.declared.request.Join.{Join}
-use Rattle.merge_model.specs.ByHistory.{by_made, by_past}
-use Rattle.merge_model.specs.Changes.{key_of, version_after}
+use Rattle.merge_model.specs.Judge.ByHistory.{by_made, by_past}
+use Rattle.merge_model.specs.Tables.Changes.{key_of, version_after}
 use Rattle.merge_model.specs.History.{History, MadeChange, Past, has, past_at, pasts_at, pasts_with}
 use Rattle.merge_model.specs.Judge.{PublisherJudge}
-use Rattle.merge_model.specs.Keys.{at_number, put_number, row_at, same_key}
-use Rattle.merge_model.specs.Noting
-use Rattle.merge_model.specs.Pasts.{past_after}
-use Rattle.merge_model.specs.Publications.{by_site}
+use Rattle.merge_model.specs.Tables.Keys.{at_number, put_number, row_at, same_key}
+use Rattle.merge_model.specs.History.Noting
+use Rattle.merge_model.specs.History.Pasts.{past_after}
+use Rattle.merge_model.specs.Tables.Publications.{by_site}
 use Rattle.merge_model.specs.Publisher.{last_closed}
-use Rattle.merge_model.specs.PublisherLocal.{Drawn, changing_locally, local_refusal, made_locally, next_dot, version_at, with_draw}
-use Rattle.merge_model.specs.PublisherPurge.{is_old_tombstone, purge}
-use Rattle.merge_model.specs.Reinit.{discarded}
+use Rattle.merge_model.specs.Publisher.PublisherLocal.{Drawn, changing_locally, local_refusal, made_locally, next_dot, version_at, with_draw}
+use Rattle.merge_model.specs.Publisher.PublisherPurge.{is_old_tombstone, purge}
+use Rattle.merge_model.specs.Subscriber.Reinit.{discarded}
 use Rattle.merge_model.specs.Subscriber.{sub_last_closed, sub_next_dot}
 use Rattle.merge_types.specs.declared.row_key.RowKey.{RowKey as Key}
 use Rattle.merge_units.specs.declared.site_row.PublisherRow.{PublisherRow}
@@ -30,17 +30,17 @@ use Rattle.merge_model.specs.World.{World, subscriber_at, with_publisher, with_s
 use Rattle.merge_laws.specs.Accepting.{AcceptsWell, Accepting, IsFine, KnowsAccepted, accepts}
 use Rattle.merge_laws.specs.Knowledge.{same_dot}
 use Rattle.merge_laws.specs.LineagesStand.{KnownCounts}
-use Rattle.merge_model.proofs.Finding.{all-weaker, at_put_other}
+use Rattle.merge_model.proofs.Lists.Finding.{all-weaker, at_put_other}
 use Rattle.merge_laws.proofs.Ground.{Ground}
 use Rattle.merge_laws.proofs.HeldRows.{changed-held, one-version}
-use Rattle.merge_model.proofs.KeyLookUps.{keys-same}
+use Rattle.merge_model.proofs.Lists.KeyLookUps.{keys-same}
 use Rattle.merge_laws.proofs.Knowing.{after-known, fresh-anywhere}
 use Rattle.merge_laws.proofs.OwnKnowing.{KnowsOf, after-knows, after-own}
 use Rattle.merge_laws.proofs.OwnLocal.{own-held, own-none, sub-fresh}
 use Rattle.merge_laws.proofs.OwnPasts.{lines-on, lost-on, reply-on}
 use Rattle.merge_laws.proofs.OwnRows.{purge-held}
 use Rattle.merge_laws.proofs.PastLookUps.{with-past-same, without-past-other}
-use Rattle.merge_model.proofs.Tests.{if-either}
+use Rattle.merge_model.proofs.Lists.Tests.{if-either}
 use Rattle.merge_laws.proofs.Walking.{here, join_noted, own_noted}
 
 -- what is known besides, with what versions know that counts

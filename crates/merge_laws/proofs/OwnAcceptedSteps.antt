@@ -1,16 +1,16 @@
 -- Every step keeps what is said of accepted changes.
 use Rattle.std.specs.Prelude.{ℕ, List, refl}
 use Rattle.merge_schema.specs.declared.publication.Publication.{Publication}
-use Rattle.merge_model.specs.ByHistory.{by_made, by_past}
+use Rattle.merge_model.specs.Judge.ByHistory.{by_made, by_past}
 use Rattle.merge_model.specs.History.{no_history, pasts_with}
-use Rattle.merge_model.specs.PublisherJoin.{join_taken}
-use Rattle.merge_model.specs.PublisherUpload.{taken_in}
-use Rattle.merge_model.specs.Reinit.{reinitialised}
+use Rattle.merge_model.specs.Publisher.PublisherJoin.{join_taken}
+use Rattle.merge_model.specs.Publisher.PublisherUpload.{taken_in}
+use Rattle.merge_model.specs.Subscriber.Reinit.{reinitialised}
 use Rattle.merge_model.specs.Subscriber.{sub_at_moment, sub_made_locally}
-use Rattle.merge_model.specs.Taking.{taken}
+use Rattle.merge_model.specs.Subscriber.Taking.{taken}
 use Rattle.merge_model.specs.World.{Saying, empty_world, with_publisher, with_subscriber}
 use Rattle.merge_laws.specs.Accepting.{AcceptsWell}
-use Rattle.merge_model.proofs.Finding.{found-named}
+use Rattle.merge_model.proofs.Lists.Finding.{found-named}
 use Rattle.merge_laws.proofs.OwnAccepted.{Counted, anew-accepting, join-accepting, own-accepting, purge-accepting, reply-accepting, sub-change}
 use Rattle.merge_laws.proofs.OwnAcceptedUploads.{upload-accepting, upload-named}
 use Rattle.merge_laws.proofs.Walking.{StepsKeep, acts_in, here, uploaded_world}

@@ -8,16 +8,16 @@ use Rattle.merge_schema.specs.declared.publication.Publication.{Publication}
 use Rattle.merge_batch.specs.declared.request.Request.TheVariants as request
 use Rattle.merge_batch.specs.declared.request.Upload.{Upload}
 use Rattle.merge_batch.specs.declared.request.UploadItem.{UploadItem}
-use Rattle.merge_model.specs.Acts.{Act, acting_items, changes_by, is_new_row, key_of_item}
-use Rattle.merge_model.specs.ByHistory.{by_past}
-use Rattle.merge_model.specs.Entries.{Entries}
+use Rattle.merge_model.specs.Publisher.Acts.{Act, acting_items, changes_by, is_new_row, key_of_item}
+use Rattle.merge_model.specs.Judge.ByHistory.{by_past}
+use Rattle.merge_model.specs.Publisher.Entries.{Entries}
 use Rattle.merge_model.specs.History.{History, Line, MadeChange, Past, has, past_at, past_in, pasts_at, pasts_with}
 use Rattle.merge_model.specs.Judge.{PublisherJudge}
-use Rattle.merge_model.specs.Keys.{at_number, row_at, same_key}
-use Rattle.merge_model.specs.Noting
+use Rattle.merge_model.specs.Tables.Keys.{at_number, row_at, same_key}
+use Rattle.merge_model.specs.History.Noting
 use Rattle.merge_model.specs.Publisher.{last_closed}
-use Rattle.merge_model.specs.PublisherUpload.{changing_by, taken_in, with_acts}
-use Rattle.merge_model.specs.Steps.{kept_decisions, upload_questions}
+use Rattle.merge_model.specs.Publisher.PublisherUpload.{changing_by, taken_in, with_acts}
+use Rattle.merge_model.specs.World.Steps.{kept_decisions, upload_questions}
 use Rattle.merge_types.specs.declared.row_key.RowKey.{RowKey as Key}
 use Rattle.merge_units.specs.declared.site_row.PublisherRow.{PublisherRow}
 use Rattle.merge_model.specs.World.{Saying, World}
@@ -26,10 +26,10 @@ use Rattle.merge_laws.specs.Accepting.{AcceptsWell, Accepting, IsFine, KnowsAcce
 use Rattle.merge_laws.specs.Knowledge.{AllKnow, changes_of, same_dot}
 use Rattle.merge_laws.specs.Standing.{IsKnownLater}
 use Rattle.merge_laws.proofs.ChangeDots.{are-alone}
-use Rattle.merge_model.proofs.Finding.{all-weaker}
+use Rattle.merge_model.proofs.Lists.Finding.{all-weaker}
 use Rattle.merge_laws.proofs.GivenUp.{knows_of, upload-accepts}
 use Rattle.merge_laws.proofs.HeldRows.{changed-held}
-use Rattle.merge_model.proofs.KeyLookUps.{keys-same}
+use Rattle.merge_model.proofs.Lists.KeyLookUps.{keys-same}
 use Rattle.merge_laws.proofs.KnownRows.{letter-knows}
 use Rattle.merge_model.proofs.Lists.{all-both, each-found}
 use Rattle.merge_laws.proofs.MessageFacts.{letter-fits, upload-sent}

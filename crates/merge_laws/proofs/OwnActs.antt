@@ -11,14 +11,14 @@ use Rattle.merge_units.specs.declared.result.Decision.{Decision}
 use Rattle.merge_units.specs.declared.result.Decision.TheVariants.{Custom, KeepPublisher, TakeSubscriber}
 use Rattle.merge_units.specs.declared.version.Version.{Version}
 use Rattle.merge_batch.specs.declared.request.UploadItem.{UploadItem}
-use Rattle.merge_model.specs.Acts.{Act, Fate, Met, New, Unknown, act_of, acts_from, case_met, changes_by, decided_changes, decision_for, fate_by, is_new_row, key_of_item, left_by, made_by}
+use Rattle.merge_model.specs.Publisher.Acts.{Act, Fate, Met, New, Unknown, act_of, acts_from, case_met, changes_by, decided_changes, decision_for, fate_by, is_new_row, key_of_item, left_by, made_by}
 use Rattle.merge_units.specs.Cases.{is_conflict}
-use Rattle.merge_model.specs.Entries.{Entries}
+use Rattle.merge_model.specs.Publisher.Entries.{Entries}
 use Rattle.merge_model.specs.History.{History, MadeChange, Past, has, past_at, past_in}
 use Rattle.merge_model.specs.Judge.{PublisherJudge}
-use Rattle.merge_model.specs.Keys.{row_at, same_key}
-use Rattle.merge_model.specs.Noting
-use Rattle.merge_model.specs.Pasts.{past_by}
+use Rattle.merge_model.specs.Tables.Keys.{row_at, same_key}
+use Rattle.merge_model.specs.History.Noting
+use Rattle.merge_model.specs.History.Pasts.{past_by}
 use Rattle.merge_types.specs.declared.row_key.RowKey.{RowKey as Key}
 use Rattle.merge_units.specs.declared.site_row.PublisherRow.{PublisherRow}
 use Rattle.merge_model.specs.Tables.{PublisherTables}
@@ -26,12 +26,12 @@ use Rattle.merge_laws.specs.Accepting.{IsFine, KnowsAccepted, accepts}
 use Rattle.merge_laws.specs.Knowledge.{same_dot}
 use Rattle.merge_laws.specs.LineagesStand.{is_of}
 use Rattle.merge_laws.specs.Standing.{IsKnownLater}
-use Rattle.merge_model.proofs.Finding.{all-weaker}
-use Rattle.merge_model.proofs.KeyLookUps.{keys-same}
+use Rattle.merge_model.proofs.Lists.Finding.{all-weaker}
+use Rattle.merge_model.proofs.Lists.KeyLookUps.{keys-same}
 use Rattle.merge_laws.proofs.OwnKnowing.{IsBelow, making-more}
 use Rattle.merge_laws.proofs.OwnPasts.{SameBut, put-but}
 use Rattle.merge_laws.proofs.PastLookUps.{with-past-same}
-use Rattle.merge_model.proofs.Tests.{if-either, or-onward, if-both}
+use Rattle.merge_model.proofs.Lists.Tests.{if-either, or-onward, if-both}
 
 -- What is known of the rows that the publisher held, with what it accepted before and what it accepts in the end.
 pub record ActsKnow (rows : List (Key × PublisherRow)) (before accepted : List Dot) (counts : MadeChange → Bool) (base : List (ℕ × List (Key × Past))) (Q : MadeChange → Type 0) (number : ℕ) (h : History) : Type 0 where

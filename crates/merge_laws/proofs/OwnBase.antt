@@ -5,9 +5,9 @@ use Rattle.std.proofs.Common.{arith, subst, sym, ap, ◌∙◌}
 use Rattle.merge_types.specs.declared.identifiers.SiteId.{SiteId}
 use Rattle.merge_schema.specs.declared.publication.Publication.{Publication}
 use Rattle.merge_batch.specs.declared.request.Upload.{Upload}
-use Rattle.merge_model.specs.ByNumbers.{received_by_number}
+use Rattle.merge_model.specs.Judge.ByNumbers.{received_by_number}
 use Rattle.merge_model.specs.History.{History, MadeChange}
-use Rattle.merge_model.specs.Keys.{at_number}
+use Rattle.merge_model.specs.Tables.Keys.{at_number}
 use Rattle.merge_model.specs.Subscriber.{sub_last_closed}
 use Rattle.merge_model.specs.Tables.{SubscriberTables}
 use Rattle.merge_model.specs.World.{World}
@@ -20,7 +20,7 @@ use Rattle.merge_laws.specs.Received.{LetterFits, UploadFits}
 use Rattle.merge_model.proofs.Lists.{all-both}
 use Rattle.merge_laws.proofs.MessageFacts.{upload-sent, upload-site}
 use Rattle.merge_laws.proofs.OwnAccepted.{Counted}
-use Rattle.merge_model.proofs.Tests.{numbers-same}
+use Rattle.merge_model.proofs.Lists.Tests.{numbers-same}
 
 abbrev pub Base : Publication → World → History → Type 0
 Base publication w h = Counted publication w h × (AcceptsWell w h × LettersAreNamed w h)

@@ -8,17 +8,17 @@ use Rattle.merge_types.specs.declared.values.Value.{Value}
 use Rattle.merge_units.specs.declared.version.Version.{Version}
 use Rattle.merge_ident.specs.Holders.{Holder}
 use Rattle.merge_schema.specs.declared.publication.Publication.{Publication}
-use Rattle.merge_model.specs.ByHistory.{by_past}
-use Rattle.merge_model.specs.ByNumbers.{received_by_number}
-use Rattle.merge_model.specs.Changes.{key_of, version_after}
+use Rattle.merge_model.specs.Judge.ByHistory.{by_past}
+use Rattle.merge_model.specs.Judge.ByNumbers.{received_by_number}
+use Rattle.merge_model.specs.Tables.Changes.{key_of, version_after}
 use Rattle.merge_model.specs.History.{History, MadeChange, Past, has, past_at, pasts_with}
 use Rattle.merge_model.specs.Judge.{PublisherJudge}
-use Rattle.merge_model.specs.Keys.{at_number, row_at, same_key}
-use Rattle.merge_model.specs.Model.{Model}
-use Rattle.merge_model.specs.Noting
-use Rattle.merge_model.specs.Pasts.{past_after}
+use Rattle.merge_model.specs.Tables.Keys.{at_number, row_at, same_key}
+use Rattle.merge_model.specs.History.Model.{Model}
+use Rattle.merge_model.specs.History.Noting
+use Rattle.merge_model.specs.History.Pasts.{past_after}
 use Rattle.merge_model.specs.Publisher.{last_closed}
-use Rattle.merge_model.specs.PublisherLocal.{Drawn, local_refusal, made_locally, next_dot}
+use Rattle.merge_model.specs.Publisher.PublisherLocal.{Drawn, local_refusal, made_locally, next_dot}
 use Rattle.merge_model.specs.Subscriber.{generations_at, with_open, sub_at_moment, sub_last_closed, sub_local_refusal, sub_next_dot, sub_version_at, with_version_if}
 use Rattle.merge_types.specs.declared.row_key.RowKey.{RowKey as Key}
 use Rattle.merge_units.specs.declared.site_row.SubscriberRow.{SubscriberRow}
@@ -27,9 +27,9 @@ use Rattle.merge_model.specs.World.{World, subscriber_at, with_publisher, with_s
 use Rattle.merge_laws.specs.Knowledge.{changes_of}
 use Rattle.merge_laws.specs.LineagesStand.{KnowsAll, counts_in, is_of}
 use Rattle.merge_laws.specs.Accepting.{accepts}
-use Rattle.merge_model.proofs.Finding.{all-weaker}
+use Rattle.merge_model.proofs.Lists.Finding.{all-weaker}
 use Rattle.merge_laws.proofs.HeldRows.{held-put}
-use Rattle.merge_model.proofs.KeyLookUps.{keys-same}
+use Rattle.merge_model.proofs.Lists.KeyLookUps.{keys-same}
 use Rattle.merge_laws.proofs.OwnAccepted.{own-knows, own_key, own_made}
 use Rattle.merge_laws.proofs.OwnActs.{own-accepts}
 use Rattle.merge_laws.proofs.OwnBase.{Base, LetterFacts, letter-facts, open-behind, own-behind, own-later}
@@ -39,7 +39,7 @@ use Rattle.merge_laws.proofs.OwnParts.{Rest, at_model, knows-on, one-grows, repl
 use Rattle.merge_laws.proofs.OwnPasts.{lines-on, past-but, put-but}
 use Rattle.merge_laws.proofs.OwnQuiet.{OwnsRows, on-each, quiet}
 use Rattle.merge_laws.proofs.PastLookUps.{with-past-same}
-use Rattle.merge_model.proofs.Tests.{if-either}
+use Rattle.merge_model.proofs.Lists.Tests.{if-either}
 use Rattle.merge_laws.proofs.UnsentKept.{version-site}
 use Rattle.merge_laws.proofs.Walking.{here, own_noted}
 

@@ -4,16 +4,16 @@ use Rattle.std.specs.List.{AllByRecursion}
 use Rattle.std.proofs.Common.{arith, subst, sym, ap, ◌∙◌}
 use Rattle.std.proofs.lemmas.Bool.Decides.{nat_tests}
 use Rattle.merge_schema.specs.declared.publication.Publication.{Publication}
-use Rattle.merge_model.specs.ByNumbers.{received_by_number, received_number_by_number}
+use Rattle.merge_model.specs.Judge.ByNumbers.{received_by_number, received_number_by_number}
 use Rattle.merge_model.specs.History.{History, MadeChange, has, is_done, made_at, past_at}
-use Rattle.merge_model.specs.Keys.{at_number, row_at, same_key}
+use Rattle.merge_model.specs.Tables.Keys.{at_number, row_at, same_key}
 use Rattle.merge_types.specs.declared.row_key.RowKey.{RowKey as Key}
 use Rattle.merge_model.specs.Tables.{SubscriberTables}
 use Rattle.merge_model.specs.World.{World}
 use Rattle.merge_laws.specs.Accepting.{AcceptsWell, accepts}
 use Rattle.merge_laws.specs.LineagesStand.{KnowsAll, OwnKnown, counts_in, is_of}
 use Rattle.merge_laws.specs.Numbered.{InOrder, Numbered, is_up_to, last_of}
-use Rattle.merge_model.proofs.Finding.{all-weaker}
+use Rattle.merge_model.proofs.Lists.Finding.{all-weaker}
 use Rattle.merge_laws.proofs.Ground.{Ground}
 use Rattle.merge_model.proofs.Lists.{all-both, all-passing}
 use Rattle.merge_laws.proofs.OwnActs.{own-accepts}

@@ -7,17 +7,17 @@ use Rattle.merge_types.specs.declared.identifiers.Dot.{Dot}
 use Rattle.merge_types.specs.declared.identifiers.SiteId.{SiteId}
 use Rattle.merge_batch.specs.Makers.{maker_of}
 use Rattle.merge_batch.specs.declared.request.UploadItem.{UploadItem}
-use Rattle.merge_model.specs.Acts.{is_new_row, key_of_item}
-use Rattle.merge_model.specs.ByHistory.{by_past}
+use Rattle.merge_model.specs.Publisher.Acts.{is_new_row, key_of_item}
+use Rattle.merge_model.specs.Judge.ByHistory.{by_past}
 use Rattle.merge_model.specs.History.{History, MadeChange, Past, has, is_accepted, is_done, made_at, past_in}
-use Rattle.merge_model.specs.Keys.{same_key}
+use Rattle.merge_model.specs.Tables.Keys.{same_key}
 use Rattle.merge_types.specs.declared.row_key.RowKey.{RowKey as Key}
 use Rattle.merge_laws.specs.Accepting.{IsFine, accepts}
 use Rattle.merge_laws.specs.Knowledge.{AllKnow, Knowledge, Knows, KnowsItsPast, same_dot}
 use Rattle.merge_laws.proofs.ChangeDots.{IsAlone}
-use Rattle.merge_model.proofs.Finding.{all-weaker}
+use Rattle.merge_model.proofs.Lists.Finding.{all-weaker}
 use Rattle.merge_laws.proofs.GivenUp.{knows_of}
-use Rattle.merge_model.proofs.KeyLookUps.{keys-same}
+use Rattle.merge_model.proofs.Lists.KeyLookUps.{keys-same}
 use Rattle.merge_laws.proofs.Knowing.{made-was}
 use Rattle.merge_laws.proofs.KnownRows.{past-knows}
 use Rattle.merge_model.proofs.Lists.{all-both, all-every, any-behind, any-first, any-mono}

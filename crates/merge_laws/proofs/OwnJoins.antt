@@ -6,16 +6,16 @@ use Rattle.merge_schema.specs.declared.publication.Publication.{Publication}
 use Rattle.merge_batch.specs.declared.reply.Reply.TheVariants as reply
 use Rattle.merge_batch.specs.declared.request.Join.{Join}
 use Rattle.merge_batch.specs.declared.request.Request.TheVariants as request
-use Rattle.merge_model.specs.ByHistory.{by_past}
+use Rattle.merge_model.specs.Judge.ByHistory.{by_past}
 use Rattle.merge_model.specs.History.{History, Line, Past, pasts_with}
 use Rattle.merge_model.specs.Judge.{PublisherJudge}
-use Rattle.merge_model.specs.Keys.{put_number}
-use Rattle.merge_model.specs.Model.{Model}
-use Rattle.merge_model.specs.Noting
-use Rattle.merge_model.specs.Publications.{by_site}
+use Rattle.merge_model.specs.Tables.Keys.{put_number}
+use Rattle.merge_model.specs.History.Model.{Model}
+use Rattle.merge_model.specs.History.Noting
+use Rattle.merge_model.specs.Tables.Publications.{by_site}
 use Rattle.merge_model.specs.Publisher.{last_closed}
-use Rattle.merge_model.specs.PublisherJoin.{join_acts, join_taken}
-use Rattle.merge_model.specs.PublisherPurge.{purge}
+use Rattle.merge_model.specs.Publisher.PublisherJoin.{join_acts, join_taken}
+use Rattle.merge_model.specs.Publisher.PublisherPurge.{purge}
 use Rattle.merge_types.specs.declared.row_key.RowKey.{RowKey as Key}
 use Rattle.merge_model.specs.Tables.{PublisherTables}
 use Rattle.merge_model.specs.World.{World, with_publisher}

@@ -7,15 +7,15 @@ use Rattle.merge_types.specs.declared.identifiers.Dot.{Dot}
 use Rattle.merge_types.specs.declared.changes.Change.{Change}
 use Rattle.merge_types.specs.declared.changes.Change.TheVariants.{Delete, Insert, Update}
 use Rattle.merge_schema.specs.declared.publication.Publication.{Publication}
-use Rattle.merge_model.specs.Changes.{is_insert}
+use Rattle.merge_model.specs.Tables.Changes.{is_insert}
 use Rattle.merge_model.specs.History.{History, MadeChange, Past, has}
-use Rattle.merge_model.specs.Keys.{same_key}
-use Rattle.merge_model.specs.Pasts.{past_after}
+use Rattle.merge_model.specs.Tables.Keys.{same_key}
+use Rattle.merge_model.specs.History.Pasts.{past_after}
 use Rattle.merge_types.specs.declared.row_key.RowKey.{RowKey as Key}
 use Rattle.merge_laws.specs.Knowledge.{AreNumbered, counts_down, is_made, number_of_change, same_dot}
 use Rattle.merge_laws.specs.LineagesStand.{is_of}
 use Rattle.merge_laws.specs.Standing.{IsKnownLater, KnewEarlier}
-use Rattle.merge_model.proofs.Finding.{all-weaker}
+use Rattle.merge_model.proofs.Lists.Finding.{all-weaker}
 use Rattle.merge_model.proofs.Lists.{all-both}
 
 -- of the changes of a row that pass a test and count

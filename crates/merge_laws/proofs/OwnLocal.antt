@@ -10,12 +10,12 @@ use Rattle.merge_types.specs.declared.identifiers.Dot.{Dot}
 use Rattle.merge_schema.specs.declared.publication.Publication.{Publication}
 use Rattle.merge_batch.proofs.Makers.{maker_of-made}
 use Rattle.merge_batch.specs.Makers.{maker_of}
-use Rattle.merge_model.specs.Changes.{change_refusal, is_insert, key_of, no_row}
+use Rattle.merge_model.specs.Tables.Changes.{change_refusal, is_insert, key_of, no_row}
 use Rattle.merge_model.specs.History.{History, MadeChange, has}
-use Rattle.merge_model.specs.Keys.{row_at, same_key}
+use Rattle.merge_model.specs.Tables.Keys.{row_at, same_key}
 use Rattle.merge_model.specs.Publisher.{counters}
-use Rattle.merge_model.specs.PublisherLocal.{local_refusal, next_dot, version_at}
-use Rattle.merge_model.specs.Refusals.{counter_end}
+use Rattle.merge_model.specs.Publisher.PublisherLocal.{local_refusal, next_dot, version_at}
+use Rattle.merge_model.specs.Tables.Refusals.{counter_end}
 use Rattle.merge_model.specs.Subscriber.{is_joining, sub_counters, sub_local_refusal, sub_next_dot, sub_version_at}
 use Rattle.merge_types.specs.declared.row_key.RowKey.{RowKey as Key}
 use Rattle.merge_units.specs.declared.site_row.PublisherRow.{PublisherRow}
@@ -25,8 +25,8 @@ use Rattle.merge_model.specs.World.{World, subscriber_at}
 use Rattle.merge_laws.specs.Knowledge.{Knowledge, Known, Knows, changes_of, is_made}
 use Rattle.merge_laws.specs.LetterNumbers.{AreNamed}
 use Rattle.merge_laws.proofs.Arrivals.{not-refused}
-use Rattle.merge_model.proofs.Refusals.{first-none}
-use Rattle.merge_model.proofs.KeyLookUps.{keys-same}
+use Rattle.merge_model.proofs.Runs.Refusals.{first-none}
+use Rattle.merge_model.proofs.Lists.KeyLookUps.{keys-same}
 use Rattle.merge_laws.proofs.Knowing.{IsFresh, fresh-above, fresh-any}
 use Rattle.merge_laws.proofs.KnownCounts.{own-count}
 use Rattle.merge_model.proofs.Lists.{all-both}

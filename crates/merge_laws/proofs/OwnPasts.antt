@@ -11,11 +11,11 @@ use Rattle.merge_batch.specs.declared.reply.Reply.{Reply}
 use Rattle.merge_batch.specs.declared.reply.Reply.TheVariants as reply
 use Rattle.merge_model.specs.History.{History, Line, Past, past_at, past_in, pasts_at}
 use Rattle.merge_model.specs.Judge.{SubscriberJudge}
-use Rattle.merge_model.specs.Keys.{at_number, drop_row, put_number, put_row}
-use Rattle.merge_model.specs.Noting
+use Rattle.merge_model.specs.Tables.Keys.{at_number, drop_row, put_number, put_row}
+use Rattle.merge_model.specs.History.Noting
 use Rattle.merge_types.specs.declared.row_key.RowKey.{RowKey as Key}
-use Rattle.merge_model.specs.Taking.{key_of_download}
-use Rattle.merge_model.proofs.Finding.{at_put_other}
+use Rattle.merge_model.specs.Subscriber.Taking.{key_of_download}
+use Rattle.merge_model.proofs.Lists.Finding.{at_put_other}
 
 -- The pasts of a site.
 

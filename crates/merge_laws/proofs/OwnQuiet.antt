@@ -5,8 +5,8 @@ use Rattle.std.proofs.Common.{arith, subst, sym, ap, ◌∙◌}
 use Rattle.merge_types.specs.declared.identifiers.Moment.{Moment}
 use Rattle.merge_types.specs.declared.identifiers.SiteId.{SiteId}
 use Rattle.merge_model.specs.History.{History, Line, MadeChange, Past, past_at}
-use Rattle.merge_model.specs.Keys.{at_number, put_number, row_at}
-use Rattle.merge_model.specs.Model.{Model, pasts_in, with_letter}
+use Rattle.merge_model.specs.Tables.Keys.{at_number, put_number, row_at}
+use Rattle.merge_model.specs.History.Model.{Model, pasts_in, with_letter}
 use Rattle.merge_types.specs.declared.row_key.RowKey.{RowKey as Key}
 use Rattle.merge_units.specs.declared.site_row.SubscriberRow.{SubscriberRow}
 use Rattle.merge_model.specs.Tables.{PublisherTables, SubscriberTables}
@@ -15,7 +15,7 @@ use Rattle.merge_model.specs.declared.letter.Letter.{Letter}
 use Rattle.merge_model.specs.declared.letter.Message.{Message}
 use Rattle.merge_laws.specs.LineagesStand.{KnowsAll, ReplyAnswers, UploadSends, counts_in, is_of}
 use Rattle.merge_laws.specs.Received.{joined_at}
-use Rattle.merge_model.proofs.Finding.{at_put_other, at_put_same}
+use Rattle.merge_model.proofs.Lists.Finding.{at_put_other, at_put_same}
 use Rattle.merge_model.proofs.Lists.{all-of, zip-more}
 use Rattle.merge_laws.proofs.OwnKnowing.{making-less}
 use Rattle.merge_laws.proofs.OwnParts.{NoneNew, Rest, at_model, knows-on, replies-on, reply-on, same-grows, upload-on, uploads-on}

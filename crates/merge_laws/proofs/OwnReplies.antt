@@ -15,29 +15,29 @@ use Rattle.merge_batch.specs.declared.reply.Reply.{Reply}
 use Rattle.merge_batch.specs.declared.reply.Reply.TheVariants as reply
 use Rattle.std.specs.BTreeMap.{is_at}
 use Rattle.merge_table.proofs.Sorted.{sorted_put, sorted_take}
-use Rattle.merge_model.specs.ByHistory.{by_made}
+use Rattle.merge_model.specs.Judge.ByHistory.{by_made}
 use Rattle.merge_model.specs.History.{History, MadeChange, Past, has, past_at, past_in, pasts_with}
 use Rattle.merge_model.specs.Judge.{SubscriberJudge}
 use Rattle.merge_types.specs.RowKeys.{key_cmp}
-use Rattle.merge_model.specs.Keys.{drop_row, put_number, put_row, row_at, same_key}
+use Rattle.merge_model.specs.Tables.Keys.{drop_row, put_number, put_row, row_at, same_key}
 use Rattle.merge_model.specs.Laws.{AreSubSorted}
-use Rattle.merge_model.specs.Model.{Model}
-use Rattle.merge_model.specs.Noting
-use Rattle.merge_model.specs.Reinit.{discarded, reinitialised}
+use Rattle.merge_model.specs.History.Model.{Model}
+use Rattle.merge_model.specs.History.Noting
+use Rattle.merge_model.specs.Subscriber.Reinit.{discarded, reinitialised}
 use Rattle.merge_model.specs.Subscriber.{sub_at_moment}
 use Rattle.merge_types.specs.declared.row_key.RowKey.{RowKey as Key}
 use Rattle.merge_units.specs.declared.site_row.SubscriberRow.{SubscriberRow}
 use Rattle.merge_model.specs.Tables.{SubscriberTables}
-use Rattle.merge_model.specs.Taking.{key_of_download, row_above, taken, with_item, with_order}
+use Rattle.merge_model.specs.Subscriber.Taking.{key_of_download, row_above, taken, with_item, with_order}
 use Rattle.merge_model.specs.World.{World, subscriber_at, with_subscriber}
 use Rattle.merge_model.specs.declared.letter.Letter.{Letter}
 use Rattle.merge_model.specs.declared.letter.Message.TheVariants.{Replies}
-use Rattle.merge_model.proofs.Sorted.{key_total}
+use Rattle.merge_model.proofs.Publishers.Sorted.{key_total}
 use Rattle.merge_laws.specs.LineagesStand.{KnowsAll, OfOrder, ReplyAnswers, counts_in, is_of}
 use Rattle.merge_laws.specs.Unsent.{is_changed_above}
-use Rattle.merge_model.proofs.Finding.{letter-zip}
+use Rattle.merge_model.proofs.Lists.Finding.{letter-zip}
 use Rattle.merge_laws.proofs.HeldRows.{above-held, held-put, some-none}
-use Rattle.merge_model.proofs.KeyLookUps.{keys-same, row-dropped}
+use Rattle.merge_model.proofs.Lists.KeyLookUps.{keys-same, row-dropped}
 use Rattle.merge_model.proofs.Lists.{all-both}
 use Rattle.merge_laws.proofs.OwnBase.{Base}
 use Rattle.merge_laws.proofs.OwnKnowing.{KnowsOf}
@@ -45,7 +45,7 @@ use Rattle.merge_laws.proofs.OwnParts.{NoneNew, Rest, at_model, replies-on, same
 use Rattle.merge_laws.proofs.OwnPasts.{SameBut, lost-on, past-but, put-but, reply-on}
 use Rattle.merge_laws.proofs.OwnQuiet.{AnyLetter, OwnsRows, any-letters, on-each}
 use Rattle.merge_laws.proofs.PastLookUps.{with-past-same, without-past-other}
-use Rattle.merge_model.proofs.Tests.{if-either}
+use Rattle.merge_model.proofs.Lists.Tests.{if-either}
 use Rattle.merge_laws.proofs.Unsending.{received-sorted}
 use Rattle.merge_laws.proofs.UnsentKept.{all-found, reply-site}
 use Rattle.merge_laws.proofs.Walking.{comes}

@@ -11,17 +11,17 @@ use Rattle.merge_types.specs.declared.identifiers.SiteId.{SiteId}
 use Rattle.merge_units.specs.declared.result.Decision.{Decision}
 use Rattle.merge_units.specs.declared.version.Version.{Version}
 use Rattle.merge_batch.specs.declared.request.UploadItem.{UploadItem}
-use Rattle.merge_model.specs.Acts.{Act, New, Unknown, act_of, acts_from, fate_by, is_new_row, key_of_item, left_by, made_by, version_by, versions_of}
-use Rattle.merge_model.specs.Changes.{is_insert, no_row}
+use Rattle.merge_model.specs.Publisher.Acts.{Act, New, Unknown, act_of, acts_from, fate_by, is_new_row, key_of_item, left_by, made_by, version_by, versions_of}
+use Rattle.merge_model.specs.Tables.Changes.{is_insert, no_row}
 use Rattle.merge_model.specs.Judge.{PublisherJudge}
 use Rattle.merge_types.specs.RowKeys.{key_cmp}
-use Rattle.merge_model.specs.Keys.{row_at, same_key}
+use Rattle.merge_model.specs.Tables.Keys.{row_at, same_key}
 use Rattle.merge_types.specs.declared.row_key.RowKey.{RowKey as Key}
 use Rattle.merge_units.specs.declared.site_row.PublisherRow.{PublisherRow}
 use Rattle.merge_model.specs.Tables.{PublisherTables}
-use Rattle.merge_model.proofs.Sorted.{key_total}
-use Rattle.merge_model.proofs.KeyLookUps.{key-test, keys-same, keys-exact}
-use Rattle.merge_model.proofs.PlaceLookUps.{kept, lookup-filter}
+use Rattle.merge_model.proofs.Publishers.Sorted.{key_total}
+use Rattle.merge_model.proofs.Lists.KeyLookUps.{key-test, keys-same, keys-exact}
+use Rattle.merge_model.proofs.Lists.PlaceLookUps.{kept, lookup-filter}
 
 -- The publisher's rows: what is held was held, or is put.
 

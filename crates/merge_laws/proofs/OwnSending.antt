@@ -17,31 +17,31 @@ use Rattle.merge_batch.specs.declared.request.Download.{Download}
 use Rattle.merge_batch.specs.declared.request.Request.TheVariants as request
 use Rattle.merge_batch.specs.declared.request.Upload.{Upload}
 use Rattle.merge_batch.specs.declared.request.UploadItem.{UploadItem}
-use Rattle.merge_model.specs.Acts.{key_of_item}
-use Rattle.merge_model.specs.ByHistory.{by_made, by_past, changed_between_by_made, is_between_made, with_change_of}
-use Rattle.merge_model.specs.ByNumbers.{received_by_number}
+use Rattle.merge_model.specs.Publisher.Acts.{key_of_item}
+use Rattle.merge_model.specs.Judge.ByHistory.{by_made, by_past, changed_between_by_made, is_between_made, with_change_of}
+use Rattle.merge_model.specs.Judge.ByNumbers.{received_by_number}
 use Rattle.merge_model.specs.History.{History, MadeChange, Past, has, is_done, made_at, past_at, past_in, pasts_at, pasts_with}
 use Rattle.merge_model.specs.Judge.{PublisherJudge}
 use Rattle.merge_types.specs.RowKeys.{key_cmp}
-use Rattle.merge_model.specs.Keys.{row_at, same_key}
-use Rattle.merge_model.specs.Model.{past_of_item, put_past}
-use Rattle.merge_model.specs.PublisherDownload.{asked, item_of, reply_to}
+use Rattle.merge_model.specs.Tables.Keys.{row_at, same_key}
+use Rattle.merge_model.specs.History.Model.{past_of_item, put_past}
+use Rattle.merge_model.specs.Publisher.PublisherDownload.{asked, item_of, reply_to}
 use Rattle.merge_batch.specs.Orders.{order_by}
-use Rattle.merge_model.specs.Sending.{upload_item, upload_sent}
+use Rattle.merge_model.specs.Subscriber.Sending.{upload_item, upload_sent}
 use Rattle.merge_model.specs.Subscriber.{sub_at_moment, sub_closed, sub_version_at}
 use Rattle.merge_types.specs.declared.row_key.RowKey.{RowKey as Key}
 use Rattle.merge_units.specs.declared.site_row.PublisherRow.{PublisherRow}
 use Rattle.merge_units.specs.declared.site_row.SubscriberRow.{SubscriberRow}
 use Rattle.merge_model.specs.Tables.{PublisherTables, SubscriberTables}
-use Rattle.merge_model.specs.Taking.{key_of_download}
+use Rattle.merge_model.specs.Subscriber.Taking.{key_of_download}
 use Rattle.merge_model.specs.World.{World, letter_at, subscriber_at, with_publisher, with_subscriber}
 use Rattle.merge_model.specs.declared.letter.Message.TheVariants.{Asks, Replies}
 use Rattle.merge_laws.specs.Accepting.{accepts}
 use Rattle.merge_laws.specs.LineagesStand.{KnowsAll, OfOrder, ReplyAnswers, counts_in, is_of, is_sent}
 use Rattle.merge_laws.specs.Unsent.{RowsTell, is_changed_above}
-use Rattle.merge_model.proofs.Finding.{all-at, all-weaker}
+use Rattle.merge_model.proofs.Lists.Finding.{all-at, all-weaker}
 use Rattle.merge_laws.proofs.GivenUp.{ask-given, counts-before}
-use Rattle.merge_model.proofs.KeyLookUps.{key-itself, key-test, keys-same, keys-turned, row-put}
+use Rattle.merge_model.proofs.Lists.KeyLookUps.{key-itself, key-test, keys-same, keys-turned, row-put}
 use Rattle.merge_laws.proofs.LetterPasts.{download-past, is_put, item-past}
 use Rattle.merge_model.proofs.Lists.{all-both, all-every, all-of, all-passing, any-mono, each-found, all-map, all-unit}
 use Rattle.merge_laws.proofs.OwnBase.{Base, LetterFacts, letter-facts}

@@ -6,14 +6,14 @@ use Rattle.merge_schema.specs.declared.publication.Publication.{Publication}
 use Rattle.merge_batch.specs.declared.reply.Reply.TheVariants as reply
 use Rattle.merge_batch.specs.declared.request.Outstanding.TheVariants as ask
 use Rattle.merge_batch.specs.declared.request.Request.TheVariants as request
-use Rattle.merge_model.specs.ByHistory.{by_past}
+use Rattle.merge_model.specs.Judge.ByHistory.{by_past}
 use Rattle.merge_model.specs.History.{pasts_with}
 use Rattle.merge_model.specs.Judge.{PublisherJudge}
-use Rattle.merge_model.specs.Model.{Model, empty_model, model_step}
+use Rattle.merge_model.specs.History.Model.{Model, empty_model, model_step}
 use Rattle.merge_model.specs.Publisher.{closed}
-use Rattle.merge_model.specs.PublisherRanges.{plans, with_grants}
-use Rattle.merge_model.specs.Sending.{join_of, want_of, with_message}
-use Rattle.merge_model.specs.Steps.{Action}
+use Rattle.merge_model.specs.Publisher.PublisherRanges.{plans, with_grants}
+use Rattle.merge_model.specs.Subscriber.Sending.{join_of, want_of, with_message}
+use Rattle.merge_model.specs.World.Steps.{Action}
 use Rattle.merge_model.specs.Subscriber.{sub_at_moment, sub_closed}
 use Rattle.merge_model.specs.Tables.{PublisherTables, SubscriberTables}
 use Rattle.merge_model.specs.World.{Saying, World, with_publisher, with_subscriber}
@@ -21,7 +21,7 @@ use Rattle.merge_model.specs.declared.letter.Message.TheVariants.{Asks, Replies}
 use Rattle.merge_laws.specs.Accepting.{AcceptsWell}
 use Rattle.merge_laws.specs.LetterNumbers.{LettersAreNamed}
 use Rattle.merge_laws.specs.LineagesStand.{KnownCounts, OwnKnown}
-use Rattle.merge_model.proofs.Finding.{found-named}
+use Rattle.merge_model.proofs.Lists.Finding.{found-named}
 use Rattle.merge_laws.proofs.Ground.{Ground, ground-begins, ground-step}
 use Rattle.merge_laws.proofs.LetterNumbers.{named-begins, named-keeps}
 use Rattle.merge_laws.proofs.OwnAccepted.{Counted}

@@ -7,14 +7,14 @@ use Rattle.std.specs.BTreeMap.{is_at}
 use Rattle.merge_table.proofs.Sorted.{sorted_put, sorted_take}
 use Rattle.merge_model.specs.History.{Past, no_past, past_in}
 use Rattle.merge_types.specs.RowKeys.{key_cmp}
-use Rattle.merge_model.specs.Keys.{drop_row, put_row, same_key}
+use Rattle.merge_model.specs.Tables.Keys.{drop_row, put_row, same_key}
 use Rattle.merge_types.specs.declared.row_key.RowKey.{RowKey as Key}
-use Rattle.merge_model.proofs.Sorted.{key_total}
+use Rattle.merge_model.proofs.Publishers.Sorted.{key_total}
 use Rattle.merge_laws.specs.KnownMakers.{Ascend, HeldKnow, KnowsMaker}
 use Rattle.merge_laws.proofs.HeldRows.{held-dropped, held-put}
-use Rattle.merge_model.proofs.KeyLookUps.{keys-same}
+use Rattle.merge_model.proofs.Lists.KeyLookUps.{keys-same}
 use Rattle.merge_laws.proofs.PastLookUps.{past-dropped, past-put}
-use Rattle.merge_model.proofs.Tests.{if-either, if-false}
+use Rattle.merge_model.proofs.Lists.Tests.{if-either, if-false}
 
 pub put-ascends : (rows : List (Key × Past)) (key : Key) (past : Past) → Ascend rows → Ascend (put_row rows key past)
 put-ascends rows key past sorted = sorted_put key_cmp key_total key past rows sorted

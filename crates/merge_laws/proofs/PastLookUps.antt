@@ -2,12 +2,12 @@
 use Rattle.std.specs.Prelude.{◌≡◌, ◌==◌, ℕ, List, [], Bool, true, false, Option, Some, None, refl, if◌then◌else◌, unwrap_or}
 use Rattle.std.proofs.Common.{subst, sym, ap, ◌∙◌}
 use Rattle.merge_model.specs.History.{Past, no_past, past_in, History, past_at, pasts_at}
-use Rattle.merge_model.specs.Keys.{at_number, drop_row, put_number, put_row, row_at, same_key}
-use Rattle.merge_model.specs.Noting
+use Rattle.merge_model.specs.Tables.Keys.{at_number, drop_row, put_number, put_row, row_at, same_key}
+use Rattle.merge_model.specs.History.Noting
 use Rattle.merge_types.specs.declared.row_key.RowKey.{RowKey as Key}
 use Rattle.merge_laws.specs.KnownMakers.{Ascend}
-use Rattle.merge_model.proofs.Finding.{at_put_other, at_put_same}
-use Rattle.merge_model.proofs.KeyLookUps.{row-dropped, row-left, row-put}
+use Rattle.merge_model.proofs.Lists.Finding.{at_put_other, at_put_same}
+use Rattle.merge_model.proofs.Lists.KeyLookUps.{row-dropped, row-left, row-put}
 use Rattle.merge_laws.proofs.Subscribing.{number-decided, same_number}
 
 -- The pasts of each site.

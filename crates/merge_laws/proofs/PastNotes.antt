@@ -13,24 +13,24 @@ use Rattle.merge_batch.specs.declared.reply.Act.{Act as Order}
 use Rattle.merge_batch.specs.declared.reply.Act.TheVariants as order
 use Rattle.merge_batch.specs.declared.reply.DownloadItem.{DownloadItem}
 use Rattle.merge_batch.specs.declared.request.UploadItem.{UploadItem}
-use Rattle.merge_model.specs.Acts.{Act, Fate, Met, New, Unknown, act_of, acts_from, key_of_item, left_by, made_by, version_by, versions_of}
+use Rattle.merge_model.specs.Publisher.Acts.{Act, Fate, Met, New, Unknown, act_of, acts_from, key_of_item, left_by, made_by, version_by, versions_of}
 use Rattle.merge_units.specs.Cases.{is_conflict}
-use Rattle.merge_model.specs.Entries.{Entries}
+use Rattle.merge_model.specs.Publisher.Entries.{Entries}
 use Rattle.merge_model.specs.History.{History, Past, has, past_at, past_in, pasts_at}
 use Rattle.merge_model.specs.Judge.{PublisherJudge, SubscriberJudge}
-use Rattle.merge_model.specs.Keys.{drop_row, has_key, put_number, put_row, same_key}
-use Rattle.merge_model.specs.Noting
-use Rattle.merge_model.specs.Pasts.{decided_dots, past_by}
+use Rattle.merge_model.specs.Tables.Keys.{drop_row, has_key, put_number, put_row, same_key}
+use Rattle.merge_model.specs.History.Noting
+use Rattle.merge_model.specs.History.Pasts.{decided_dots, past_by}
 use Rattle.merge_types.specs.declared.row_key.RowKey.{RowKey as Key}
 use Rattle.merge_model.specs.Tables.{PublisherTables}
-use Rattle.merge_model.specs.Taking.{key_of_download}
+use Rattle.merge_model.specs.Subscriber.Taking.{key_of_download}
 use Rattle.merge_laws.specs.KnownMakers.{Ascend, KnowsMaker}
-use Rattle.merge_model.proofs.KeyLookUps.{keys-same}
+use Rattle.merge_model.proofs.Lists.KeyLookUps.{keys-same}
 use Rattle.merge_laws.proofs.Noted.{DecidesAsOwn}
 use Rattle.merge_laws.proofs.NotesLeave.{loser-leaves}
 use Rattle.merge_laws.proofs.PastLists.{drop-ascends}
 use Rattle.merge_laws.proofs.PastLookUps.{all-sites, past-dropped, past-put, put-here, put-there, rows_in}
-use Rattle.merge_model.proofs.Tests.{if-false, if-true}
+use Rattle.merge_model.proofs.Lists.Tests.{if-false, if-true}
 
 -- A purge drops the pasts of old tombstones.
 

@@ -11,19 +11,19 @@ use Rattle.merge_batch.specs.declared.request.Join.{Join}
 use Rattle.merge_batch.specs.declared.request.Upload.{Upload}
 use Rattle.merge_batch.specs.declared.request.Download.{Download}
 use Rattle.merge_model.specs.Tables.{PublisherTables}
-use Rattle.merge_model.specs.Keys.{at_number}
-use Rattle.merge_model.specs.ByNumbers.{received_by_number, received_number_by_number}
+use Rattle.merge_model.specs.Tables.Keys.{at_number}
+use Rattle.merge_model.specs.Judge.ByNumbers.{received_by_number, received_number_by_number}
 use Rattle.merge_model.specs.Publisher.{state_of, no_state}
-use Rattle.merge_model.specs.PublisherJoin.{join_taken, joined_state}
-use Rattle.merge_model.specs.PublisherDownload.{asked, synced}
-use Rattle.merge_model.specs.PublisherUpload.{with_taken, state_seeing}
-use Rattle.merge_model.specs.Acts.{Act}
+use Rattle.merge_model.specs.Publisher.PublisherJoin.{join_taken, joined_state}
+use Rattle.merge_model.specs.Publisher.PublisherDownload.{asked, synced}
+use Rattle.merge_model.specs.Publisher.PublisherUpload.{with_taken, state_seeing}
+use Rattle.merge_model.specs.Publisher.Acts.{Act}
 use Rattle.merge_model.specs.History.{History, is_done}
-use Rattle.merge_model.specs.Noting
+use Rattle.merge_model.specs.History.Noting
 use Rattle.merge_laws.specs.Received.{joined_at}
-use Rattle.merge_model.proofs.Finding.{at_put_same, at_put_other}
+use Rattle.merge_model.proofs.Lists.Finding.{at_put_same, at_put_other}
 use Rattle.merge_laws.proofs.Subscribing.{same_number, number-decided}
-use Rattle.merge_model.proofs.Tests.{numbers-same}
+use Rattle.merge_model.proofs.Lists.Tests.{numbers-same}
 
 -- Done, with generations that join it
 

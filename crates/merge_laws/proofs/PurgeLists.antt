@@ -9,9 +9,9 @@ use Rattle.merge_types.specs.declared.identifiers.Moment.{Moment}
 use Rattle.merge_gens.specs.declared.closings.Closing.{Closing}
 use Rattle.merge_gens.specs.declared.filling.Filling.{Filling}
 use Rattle.merge_gens.specs.Book.{Book, closing_at, closings_between, moment_of, moved_to, purged}
-use Rattle.merge_model.specs.Keys.{at_number, put_number}
+use Rattle.merge_model.specs.Tables.Keys.{at_number, put_number}
 use Rattle.merge_laws.specs.Purges.{AllClosings, ClosedBefore, ClosedInOrder, SiteInStep}
-use Rattle.merge_model.proofs.Finding.{all-weaker, at_put_other, at_put_same}
+use Rattle.merge_model.proofs.Lists.Finding.{all-weaker, at_put_other, at_put_same}
 use Rattle.merge_model.proofs.Lists.{all-append, all-both, all-filter, all-of}
 use Rattle.merge_laws.proofs.Subscribing.{number-decided, same_number}
 

@@ -9,25 +9,25 @@ use Rattle.merge_gens.specs.Retention.{is_expired}
 use Rattle.merge_gens.specs.declared.sites.SiteState.{SiteState}
 use Rattle.merge_schema.specs.declared.publication.Publication.{Publication}
 use Rattle.merge_model.specs.Failing.{Slips, faulty}
-use Rattle.merge_model.specs.Runs.{model_behind, model_behind_actions}
+use Rattle.merge_model.specs.Failing.Runs.{model_behind, model_behind_actions}
 use Rattle.merge_model.specs.declared.event.Event.{Event}
 use Rattle.merge_model.specs.Tables.{PublisherTables}
-use Rattle.merge_model.specs.Keys.{at_number, put_number}
+use Rattle.merge_model.specs.Tables.Keys.{at_number, put_number}
 use Rattle.merge_model.specs.Judge.{PublisherJudge}
 use Rattle.merge_model.specs.Publisher.{at_moment, last_closed, no_state}
-use Rattle.merge_model.specs.PublisherLocal.{made_locally, next_dot}
-use Rattle.merge_model.specs.PublisherJoin.{join_taken}
-use Rattle.merge_model.specs.PublisherPurge.{cutoff, grace, is_old, purge}
-use Rattle.merge_model.specs.Promises.{IsPast, OldIsPast, base_of}
+use Rattle.merge_model.specs.Publisher.PublisherLocal.{made_locally, next_dot}
+use Rattle.merge_model.specs.Publisher.PublisherJoin.{join_taken}
+use Rattle.merge_model.specs.Publisher.PublisherPurge.{cutoff, grace, is_old, purge}
+use Rattle.merge_model.specs.Laws.Promises.{IsPast, OldIsPast, base_of}
 use Rattle.merge_model.specs.World.{Saying, World}
-use Rattle.merge_model.specs.Steps.{Action}
+use Rattle.merge_model.specs.World.Steps.{Action}
 use Rattle.merge_model.specs.History.{History, pasts_with, Line}
-use Rattle.merge_model.specs.ByHistory.{by_history, by_past, by_made}
-use Rattle.merge_model.specs.Noting
-use Rattle.merge_model.specs.Model.{Model, empty_model, model, model_step}
-use Rattle.merge_model.specs.Acts.{Act}
-use Rattle.merge_model.specs.PublisherUpload.{taken_in}
-use Rattle.merge_model.proofs.Actions.{failing-actions-keep}
+use Rattle.merge_model.specs.Judge.ByHistory.{by_history, by_past, by_made}
+use Rattle.merge_model.specs.History.Noting
+use Rattle.merge_model.specs.History.Model.{Model, empty_model, model, model_step}
+use Rattle.merge_model.specs.Publisher.Acts.{Act}
+use Rattle.merge_model.specs.Publisher.PublisherUpload.{taken_in}
+use Rattle.merge_model.proofs.Runs.Actions.{failing-actions-keep}
 use Rattle.merge_laws.proofs.Tallied.{received-tallied}
 use Rattle.merge_laws.specs.Received.{Received}
 use Rattle.merge_laws.specs.Purges.{StateInStep, IsInStep}

@@ -8,14 +8,14 @@ use Rattle.merge_batch.specs.declared.request.Upload.{Upload}
 use Rattle.merge_schema.specs.declared.publication.Publication.{Publication}
 use Rattle.merge_types.specs.declared.row_key.RowKey.{RowKey as Key}
 use Rattle.merge_model.specs.Tables.{PublisherTables, SubscriberTables}
-use Rattle.merge_model.specs.Acts.{Act}
+use Rattle.merge_model.specs.Publisher.Acts.{Act}
 use Rattle.merge_model.specs.Judge.{PublisherJudge}
-use Rattle.merge_model.specs.Entries.{Entries}
-use Rattle.merge_model.specs.Publications.{by_site}
+use Rattle.merge_model.specs.Publisher.Entries.{Entries}
+use Rattle.merge_model.specs.Tables.Publications.{by_site}
 use Rattle.merge_model.specs.Publisher.{last_closed}
 use Rattle.merge_model.specs.World.{Judges}
 use Rattle.merge_model.specs.History.{History, Line, Past}
-use Rattle.merge_model.specs.Noting
+use Rattle.merge_model.specs.History.Noting
 use Rattle.merge_laws.proofs.NotesLeave.{acts-leave, anew-leave, fold-leave, taker-leave}
 
 pub lines-bases : (lines : List Line) (h : History) → (Noting.with_lines lines h).bases ≡ h.bases

@@ -12,18 +12,18 @@ use Rattle.merge_batch.specs.declared.request.Download.{Download}
 use Rattle.merge_batch.specs.declared.request.Join.{Join}
 use Rattle.merge_batch.specs.declared.request.Upload.{Upload}
 use Rattle.merge_schema.specs.declared.publication.Publication.{Publication}
-use Rattle.merge_model.specs.Acts.{Act}
+use Rattle.merge_model.specs.Publisher.Acts.{Act}
 use Rattle.merge_model.specs.Judge.{PublisherJudge}
-use Rattle.merge_model.specs.Keys.{at_number, put_number}
+use Rattle.merge_model.specs.Tables.Keys.{at_number, put_number}
 use Rattle.merge_model.specs.Publisher.{at_moment, closed, last_closed, no_state, state_of}
-use Rattle.merge_model.specs.PublisherDownload.{asked, in_step, synced}
-use Rattle.merge_model.specs.PublisherJoin.{join_taken, joined_state}
-use Rattle.merge_model.specs.PublisherPurge.{after_purge, cutoff}
-use Rattle.merge_model.specs.PublisherUpload.{state_seeing, taken_in, with_acts, with_taken}
+use Rattle.merge_model.specs.Publisher.PublisherDownload.{asked, in_step, synced}
+use Rattle.merge_model.specs.Publisher.PublisherJoin.{join_taken, joined_state}
+use Rattle.merge_model.specs.Publisher.PublisherPurge.{after_purge, cutoff}
+use Rattle.merge_model.specs.Publisher.PublisherUpload.{state_seeing, taken_in, with_acts, with_taken}
 use Rattle.merge_model.specs.Tables.{PublisherTables}
-use Rattle.merge_model.proofs.Sorted.{closed_filling-rises}
+use Rattle.merge_model.proofs.Publishers.Sorted.{closed_filling-rises}
 use Rattle.merge_laws.specs.Purges.{AllClosings, ClosedInOrder, SiteInStep, StateInStep, AllInStep, InStep, IsInStep, base_in}
-use Rattle.merge_model.proofs.Finding.{all-weaker, at_put_other, at_put_same}
+use Rattle.merge_model.proofs.Lists.Finding.{all-weaker, at_put_other, at_put_same}
 use Rattle.merge_model.proofs.Lists.{all-both, all-of}
 use Rattle.merge_laws.proofs.PurgeLists.{moved-in-order, moved-in-step, purged-in-order, purged-in-step, order-later, step-later, closed_at, found-been, found-before, if-put, if-weaker, if-map}
 

@@ -13,11 +13,11 @@ use Rattle.merge_batch.specs.declared.reply.Downloaded.{Downloaded}
 use Rattle.merge_batch.specs.Replies.{broken_by_reply}
 use Rattle.merge_schema.specs.declared.publication.Publication.{Publication}
 use Rattle.merge_model.specs.Tables.{SubscriberTables}
-use Rattle.merge_model.specs.Refusals.{unless}
+use Rattle.merge_model.specs.Tables.Refusals.{unless}
 use Rattle.merge_model.specs.Judge.{SubscriberJudge}
-use Rattle.merge_model.specs.Faults.{reply_fault}
+use Rattle.merge_model.specs.World.Faults.{reply_fault}
 use Rattle.merge_model.specs.Subscriber.{sub_last_closed}
-use Rattle.merge_model.specs.Taking.{taken, take_reply, met_by, seq_of}
+use Rattle.merge_model.specs.Subscriber.Taking.{taken, take_reply, met_by, seq_of}
 use Rattle.merge_model.specs.declared.outcome.Taken.{Taken}
 use Rattle.merge_model.specs.declared.outcome.Taken.TheVariants.{Acted, Missed}
 use Rattle.merge_model.specs.declared.letter.Message.TheVariants.{Replies}

@@ -13,13 +13,13 @@ use Rattle.merge_ident.specs.declared.ranges.RangeEvent.TheVariants.{Take, Recei
 use Rattle.merge_schema.specs.declared.publication.Publication.{Publication}
 use Rattle.merge_model.specs.Failing.{faulty}
 use Rattle.merge_model.specs.History.{MadeChange, has, is_accepted, past_at}
-use Rattle.merge_model.specs.Keys.{at_number, same_key}
-use Rattle.merge_model.specs.Model.{Model, empty_model, model}
-use Rattle.merge_model.specs.Runs.{model_behind_actions}
-use Rattle.merge_model.proofs.EntryLists.{all-dropped}
-use Rattle.merge_model.proofs.Finding.{all-more}
+use Rattle.merge_model.specs.Tables.Keys.{at_number, same_key}
+use Rattle.merge_model.specs.History.Model.{Model, empty_model, model}
+use Rattle.merge_model.specs.Failing.Runs.{model_behind_actions}
+use Rattle.merge_model.proofs.Entries.EntryLists.{all-dropped}
+use Rattle.merge_model.proofs.Lists.Finding.{all-more}
 use Rattle.merge_model.proofs.Lists.{all-filter}
-use Rattle.merge_model.proofs.Actions.{failing-actions-keep}
+use Rattle.merge_model.proofs.Runs.Actions.{failing-actions-keep}
 use Rattle.merge_laws.specs.Accounts.{OfAccounts}
 use Rattle.merge_laws.specs.Identities.{Held, gives_to, holder_in, holders_at}
 use Rattle.merge_laws.specs.Knowledge.{same_dot}

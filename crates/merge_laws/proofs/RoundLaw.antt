@@ -7,18 +7,18 @@ use Rattle.merge_gens.specs.declared.sites.SiteState.{SiteState}
 use Rattle.merge_schema.specs.declared.publication.Publication.{Publication}
 use Rattle.merge_batch.specs.declared.reply.Downloaded.{Downloaded}
 use Rattle.merge_model.specs.History.{MadeChange}
-use Rattle.merge_model.specs.Keys.{at_number}
-use Rattle.merge_model.specs.Model.{Model, model}
-use Rattle.merge_model.specs.Promises.{IsSettled}
+use Rattle.merge_model.specs.Tables.Keys.{at_number}
+use Rattle.merge_model.specs.History.Model.{Model, model}
+use Rattle.merge_model.specs.Laws.Promises.{IsSettled}
 use Rattle.merge_model.specs.Publisher.{last_closed}
-use Rattle.merge_model.specs.Runs.{model_behind_actions}
-use Rattle.merge_model.specs.Session.{ask as asking}
-use Rattle.merge_model.specs.Session.{Session, after_download, downloading, exchange, unsent_generations, uploading, with_answer, with_upload}
-use Rattle.merge_model.specs.Steps.{SendDownload, SendUpload}
+use Rattle.merge_model.specs.Failing.Runs.{model_behind_actions}
+use Rattle.merge_model.specs.World.Session.{ask as asking}
+use Rattle.merge_model.specs.World.Session.{Session, after_download, downloading, exchange, unsent_generations, uploading, with_answer, with_upload}
+use Rattle.merge_model.specs.World.Steps.{SendDownload, SendUpload}
 use Rattle.merge_model.specs.Subscriber.{sub_last_closed}
 use Rattle.merge_model.specs.Tables.{SubscriberTables}
 use Rattle.merge_model.specs.World.{Saying}
-use Rattle.merge_model.proofs.Finding.{found-named, some_same}
+use Rattle.merge_model.proofs.Lists.Finding.{found-named, some_same}
 use Rattle.merge_laws.specs.Laws.{OfEveryValidActions}
 use Rattle.merge_laws.specs.Rounds.{AllComplete, Completes, HasSubscribers, RoundSettles, downloaded_by, is_among, started, uploaded_by}
 use Rattle.merge_laws.proofs.RoundStays.{AskStays, Stays, Unmoved, answered-both, asks-then, download-stays, stays-itself, stays-then, stays-unmoved, upload-stays}

@@ -15,27 +15,27 @@ use Rattle.merge_batch.specs.declared.request.Download.{Download}
 use Rattle.merge_batch.specs.declared.request.Outstanding.TheVariants as ask
 use Rattle.merge_batch.specs.declared.request.Request.TheVariants as request
 use Rattle.merge_batch.specs.declared.request.Upload.{Upload}
-use Rattle.merge_model.specs.ByHistory.{by_history, by_made, by_past}
+use Rattle.merge_model.specs.Judge.ByHistory.{by_history, by_made, by_past}
 use Rattle.merge_model.specs.History.{History, MadeChange, Past, made_at, pasts_with}
 use Rattle.merge_model.specs.Judge.{PublisherJudge, SubscriberJudge}
-use Rattle.merge_model.specs.Keys.{at_number}
-use Rattle.merge_model.specs.Model.{Model, model}
-use Rattle.merge_model.specs.Noting
+use Rattle.merge_model.specs.Tables.Keys.{at_number}
+use Rattle.merge_model.specs.History.Model.{Model, model}
+use Rattle.merge_model.specs.History.Noting
 use Rattle.merge_model.specs.Publisher.{last_closed, state_of}
-use Rattle.merge_model.specs.PublisherDownload.{asked, download_refusal, reply_to, synced}
-use Rattle.merge_model.specs.PublisherUpload.{brings_news, upload_refusal, uploaded}
-use Rattle.merge_model.specs.Sending.{sending_refusal, unsent_rows, upload_made, upload_sent, with_message}
-use Rattle.merge_model.specs.Session.{ask as asking}
-use Rattle.merge_model.specs.Steps.{Deliver, SendDownload, SendUpload, kept_decisions, post, posted, upload_questions}
+use Rattle.merge_model.specs.Publisher.PublisherDownload.{asked, download_refusal, reply_to, synced}
+use Rattle.merge_model.specs.Publisher.PublisherUpload.{brings_news, upload_refusal, uploaded}
+use Rattle.merge_model.specs.Subscriber.Sending.{sending_refusal, unsent_rows, upload_made, upload_sent, with_message}
+use Rattle.merge_model.specs.World.Session.{ask as asking}
+use Rattle.merge_model.specs.World.Steps.{Deliver, SendDownload, SendUpload, kept_decisions, post, posted, upload_questions}
 use Rattle.merge_model.specs.declared.outcome.Outcome.{Outcome}
 use Rattle.merge_model.specs.declared.outcome.Outcome.TheVariants.{NoPost, Posted, Refuses, Took}
 use Rattle.merge_model.specs.Subscriber.{sub_at_moment, sub_closed}
 use Rattle.merge_model.specs.Tables.{PublisherTables, SubscriberTables}
-use Rattle.merge_model.specs.Taking.{taken}
+use Rattle.merge_model.specs.Subscriber.Taking.{taken}
 use Rattle.merge_model.specs.World.{Saying, World, subscriber_at, with_publisher, with_subscriber}
 use Rattle.merge_model.specs.declared.letter.Message.TheVariants.{Asks, Replies}
-use Rattle.merge_model.specs.Model.{model_step}
-use Rattle.merge_model.proofs.Finding.{at_put_other, at_put_same}
+use Rattle.merge_model.specs.History.Model.{model_step}
+use Rattle.merge_model.proofs.Lists.Finding.{at_put_other, at_put_same}
 use Rattle.merge_laws.proofs.IdentityNotes.{taker-made}
 use Rattle.merge_laws.proofs.SessionSteps.{After, Answered, Ends, Sent, back-step, comes-step, post-step, posted_model, reply-step, send-step, unless-step}
 use Rattle.merge_laws.proofs.Subscribing.{filling-closed}

@@ -4,9 +4,9 @@ use Rattle.std.specs.List.{AllByRecursion}
 use Rattle.std.proofs.Common.{arith, subst, ap, ◌∙◌}
 use Rattle.std.proofs.lemmas.Bool.Decides.{nat_tests}
 use Rattle.merge_batch.specs.declared.request.UploadItem.{UploadItem}
-use Rattle.merge_model.specs.ByNumbers.{received_number_by_number}
+use Rattle.merge_model.specs.Judge.ByNumbers.{received_number_by_number}
 use Rattle.merge_model.specs.History.{MadeChange, Past, is_accepted, is_done, made_at}
-use Rattle.merge_model.specs.Model.{Model}
+use Rattle.merge_model.specs.History.Model.{Model}
 use Rattle.merge_types.specs.declared.row_key.RowKey.{RowKey as Key}
 use Rattle.merge_laws.specs.LineagesStand.{counts_in, is_of, is_sent}
 use Rattle.merge_laws.specs.Numbered.{is_up_to, last_of}

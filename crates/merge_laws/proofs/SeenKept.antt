@@ -6,24 +6,24 @@ use Rattle.merge_types.specs.declared.identifiers.Dot.{Dot}
 use Rattle.merge_gens.specs.declared.sites.SiteState.{SiteState}
 use Rattle.merge_schema.specs.declared.publication.Publication.{Publication}
 use Rattle.merge_batch.specs.declared.request.Download.{Download}
-use Rattle.merge_model.specs.ByHistory.{by_made, by_past}
+use Rattle.merge_model.specs.Judge.ByHistory.{by_made, by_past}
 use Rattle.merge_model.specs.History.{History, Line, no_history, pasts_with}
 use Rattle.merge_model.specs.Judge.{PublisherJudge}
-use Rattle.merge_model.specs.Keys.{at_number}
-use Rattle.merge_model.specs.Model.{Model, model_step}
-use Rattle.merge_model.specs.Noting
-use Rattle.merge_model.specs.Publications.{by_site}
+use Rattle.merge_model.specs.Tables.Keys.{at_number}
+use Rattle.merge_model.specs.History.Model.{Model, model_step}
+use Rattle.merge_model.specs.History.Noting
+use Rattle.merge_model.specs.Tables.Publications.{by_site}
 use Rattle.merge_model.specs.Publisher.{last_closed, later, state_of, state_refusal, unknown_site, site_refusal}
-use Rattle.merge_model.specs.PublisherDownload.{asked, download_refusal, synced}
-use Rattle.merge_model.specs.PublisherLocal.{next_dot}
-use Rattle.merge_model.specs.Reinit.{discarded}
-use Rattle.merge_model.specs.Steps.{Action}
+use Rattle.merge_model.specs.Publisher.PublisherDownload.{asked, download_refusal, synced}
+use Rattle.merge_model.specs.Publisher.PublisherLocal.{next_dot}
+use Rattle.merge_model.specs.Subscriber.Reinit.{discarded}
+use Rattle.merge_model.specs.World.Steps.{Action}
 use Rattle.merge_types.specs.declared.row_key.RowKey.{RowKey as Key}
 use Rattle.merge_model.specs.World.{Saying, World, empty_world}
 use Rattle.merge_laws.specs.LineagesStand.{AllTold, Owns}
 use Rattle.merge_laws.specs.Seen.{Seen, greatest_in}
-use Rattle.merge_model.proofs.Refusals.{first-none, state-known}
-use Rattle.merge_model.proofs.Finding.{at_put_other}
+use Rattle.merge_model.proofs.Runs.Refusals.{first-none, state-known}
+use Rattle.merge_model.proofs.Lists.Finding.{at_put_other}
 use Rattle.merge_laws.proofs.Ground.{Ground}
 use Rattle.merge_laws.proofs.NotesLeave.{discarded-leave, fold-leave, lines-accepted, reply-leave}
 use Rattle.merge_laws.proofs.Publishing.{asked-number}

@@ -12,19 +12,19 @@ use Rattle.merge_units.specs.declared.result.Decision.{Decision}
 use Rattle.merge_gens.specs.declared.sites.SiteState.{SiteState}
 use Rattle.merge_batch.specs.declared.request.Upload.{Upload}
 use Rattle.merge_batch.specs.declared.request.UploadItem.{UploadItem}
-use Rattle.merge_model.specs.Acts.{Act, act_of, acts_from, key_of_item, left_by, made_by}
-use Rattle.merge_model.specs.Entries.{Entries}
+use Rattle.merge_model.specs.Publisher.Acts.{Act, act_of, acts_from, key_of_item, left_by, made_by}
+use Rattle.merge_model.specs.Publisher.Entries.{Entries}
 use Rattle.merge_model.specs.History.{History, MadeChange, Past, has, past_in}
 use Rattle.merge_model.specs.Judge.{PublisherJudge}
-use Rattle.merge_model.specs.Keys.{at_number, same_key}
-use Rattle.merge_model.specs.Noting
-use Rattle.merge_model.specs.PublisherUpload.{seen_in, state_seeing, with_taken}
+use Rattle.merge_model.specs.Tables.Keys.{at_number, same_key}
+use Rattle.merge_model.specs.History.Noting
+use Rattle.merge_model.specs.Publisher.PublisherUpload.{seen_in, state_seeing, with_taken}
 use Rattle.merge_types.specs.declared.row_key.RowKey.{RowKey as Key}
 use Rattle.merge_model.specs.Tables.{PublisherTables}
 use Rattle.merge_laws.specs.LineagesStand.{is_sent}
 use Rattle.merge_laws.specs.Seen.{field_at, greatest_in}
 use Rattle.merge_laws.specs.Standing.{Told}
-use Rattle.merge_model.proofs.KeyLookUps.{keys-same}
+use Rattle.merge_model.proofs.Lists.KeyLookUps.{keys-same}
 use Rattle.merge_laws.proofs.NotesLeave.{fate-leaves}
 use Rattle.merge_laws.proofs.Publishing.{seeing-some, sites_taken}
 use Rattle.merge_laws.proofs.SeenDots.{greatest-both, known-number, told-greatest}

@@ -17,20 +17,20 @@ use Rattle.merge_batch.specs.declared.request.Join.{Join}
 use Rattle.merge_batch.specs.declared.request.Request.TheVariants as request
 use Rattle.merge_batch.specs.declared.request.Upload.{Upload}
 use Rattle.merge_batch.specs.declared.request.UploadItem.{UploadItem}
-use Rattle.merge_model.specs.Acts.{Act, acting_items}
-use Rattle.merge_model.specs.ByHistory.{by_past}
-use Rattle.merge_model.specs.ByNumbers.{received_by_number, received_number_by_number}
-use Rattle.merge_model.specs.Entries.{Entries}
-use Rattle.merge_model.specs.Faults.{judged_state, known_by}
+use Rattle.merge_model.specs.Publisher.Acts.{Act, acting_items}
+use Rattle.merge_model.specs.Judge.ByHistory.{by_past}
+use Rattle.merge_model.specs.Judge.ByNumbers.{received_by_number, received_number_by_number}
+use Rattle.merge_model.specs.Publisher.Entries.{Entries}
+use Rattle.merge_model.specs.World.Faults.{judged_state, known_by}
 use Rattle.merge_model.specs.History.{History, Line, MadeChange, Past, made_at, pasts_with}
 use Rattle.merge_model.specs.Judge.{PublisherJudge}
-use Rattle.merge_model.specs.Keys.{at_number, put_number}
-use Rattle.merge_model.specs.Model.{Model}
-use Rattle.merge_model.specs.Noting
+use Rattle.merge_model.specs.Tables.Keys.{at_number, put_number}
+use Rattle.merge_model.specs.History.Model.{Model}
+use Rattle.merge_model.specs.History.Noting
 use Rattle.merge_model.specs.Publisher.{last_closed, state_of}
-use Rattle.merge_model.specs.PublisherJoin.{join_acts, join_taken, joined_state}
-use Rattle.merge_model.specs.PublisherUpload.{brings_news, taken_in, upload_refusal}
-use Rattle.merge_model.specs.Steps.{kept_decisions, upload_questions}
+use Rattle.merge_model.specs.Publisher.PublisherJoin.{join_acts, join_taken, joined_state}
+use Rattle.merge_model.specs.Publisher.PublisherUpload.{brings_news, taken_in, upload_refusal}
+use Rattle.merge_model.specs.World.Steps.{kept_decisions, upload_questions}
 use Rattle.merge_model.specs.Subscriber.{sub_last_closed}
 use Rattle.merge_types.specs.declared.row_key.RowKey.{RowKey as Key}
 use Rattle.merge_model.specs.Tables.{SubscriberTables}
@@ -47,7 +47,7 @@ use Rattle.merge_laws.proofs.AlikeFields.{number-alike}
 use Rattle.merge_laws.proofs.AlikeItems.{site-acts, sound-items}
 use Rattle.merge_laws.proofs.Arrivals.{upload-known}
 use Rattle.merge_laws.proofs.Deliveries.{news-above}
-use Rattle.merge_model.proofs.Finding.{all-at, all-weaker, at_put_other, letter-zip}
+use Rattle.merge_model.proofs.Lists.Finding.{all-at, all-weaker, at_put_other, letter-zip}
 use Rattle.merge_laws.proofs.Ground.{Ground}
 use Rattle.merge_model.proofs.Lists.{all-filter}
 use Rattle.merge_laws.proofs.NotesLeave.{lines-accepted}

@@ -18,20 +18,20 @@ use Rattle.merge_batch.specs.declared.reply.Reply.{Reply}
 use Rattle.merge_schema.specs.declared.publication.Publication.{Publication}
 use Rattle.merge_types.specs.declared.row_key.RowKey.{RowKey as Key}
 use Rattle.merge_model.specs.Tables.{SubscriberTables}
-use Rattle.merge_model.specs.Refusals.{unless, counter_end}
+use Rattle.merge_model.specs.Tables.Refusals.{unless, counter_end}
 use Rattle.merge_model.specs.Judge.{SubscriberJudge}
-use Rattle.merge_model.specs.ByNumbers.{received_by_number}
-use Rattle.merge_model.specs.PublisherJoin.{joined}
+use Rattle.merge_model.specs.Judge.ByNumbers.{received_by_number}
+use Rattle.merge_model.specs.Publisher.PublisherJoin.{joined}
 use Rattle.merge_types.specs.Limits.{item_limit, generation_limit}
-use Rattle.merge_model.specs.PublisherDownload.{batch_end}
+use Rattle.merge_model.specs.Publisher.PublisherDownload.{batch_end}
 use Rattle.merge_model.specs.Subscriber.{sub_closed, sub_at_moment, sub_counters, sub_last_closed}
-use Rattle.merge_model.specs.Sending.{join_made, join_of, upload_made, upload_sent, upload_to, upload_end, unsent_rows, ranges_made, want_of, sending_refusal, with_message}
-use Rattle.merge_model.specs.Taking.{take_reply}
+use Rattle.merge_model.specs.Subscriber.Sending.{join_made, join_of, upload_made, upload_sent, upload_to, upload_end, unsent_rows, ranges_made, want_of, sending_refusal, with_message}
+use Rattle.merge_model.specs.Subscriber.Taking.{take_reply}
 use Rattle.merge_model.specs.declared.outcome.Taken.{Taken}
-use Rattle.merge_model.specs.Reinit.{reinitialise, reinitialised}
+use Rattle.merge_model.specs.Subscriber.Reinit.{reinitialise, reinitialised}
 use Rattle.merge_model.specs.World.{World, Judges, subscriber_at, with_subscriber}
 use Rattle.merge_model.specs.declared.letter.Message.TheVariants.{Asks, Replies}
-use Rattle.merge_model.specs.Steps.{Sending, SendJoin, SendUpload, SendRanges, SendDownload, post, posted, unless_refused, send_from, deliver_reply, make_anew}
+use Rattle.merge_model.specs.World.Steps.{Sending, SendJoin, SendUpload, SendRanges, SendDownload, post, posted, unless_refused, send_from, deliver_reply, make_anew}
 use Rattle.merge_model.specs.declared.outcome.Outcome.TheVariants.{Took, Discards}
 use Rattle.merge_model.specs.History.{History}
 use Rattle.merge_laws.specs.Received.{joined_at, MessageFits, SubscriberFits, Received}

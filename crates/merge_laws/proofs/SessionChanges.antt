@@ -6,16 +6,16 @@ use Rattle.std.specs.declared.cmp.Ordering.{Ordering}
 use Rattle.std.specs.declared.cmp.Ordering.TheVariants.{Equal, Greater, Less}
 use Rattle.std.proofs.Common.{arith, ap, subst}
 use Rattle.std.proofs.lemmas.Bool.Decides.{nat_tests}
-use Rattle.merge_model.specs.ByHistory.{by_made, is_between_made, with_change_of}
+use Rattle.merge_model.specs.Judge.ByHistory.{by_made, is_between_made, with_change_of}
 use Rattle.merge_model.specs.History.{History, MadeChange, made_at}
 use Rattle.merge_types.specs.RowKeys.{key_cmp}
-use Rattle.merge_model.specs.Keys.{put_row}
-use Rattle.merge_model.specs.Sending.{unsent_rows}
+use Rattle.merge_model.specs.Tables.Keys.{put_row}
+use Rattle.merge_model.specs.Subscriber.Sending.{unsent_rows}
 use Rattle.merge_model.specs.Subscriber.{sub_last_closed}
 use Rattle.merge_types.specs.declared.row_key.RowKey.{RowKey as Key}
 use Rattle.merge_model.specs.Tables.{SubscriberTables}
 use Rattle.merge_laws.specs.Numbered.{InOrder}
-use Rattle.merge_model.proofs.Finding.{all-weaker}
+use Rattle.merge_model.proofs.Lists.Finding.{all-weaker}
 
 -- no change stands above a generation
 abbrev pub UpTo : ℕ → List MadeChange → Type 0

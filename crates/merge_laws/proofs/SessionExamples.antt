@@ -12,9 +12,9 @@ use Rattle.merge_batch.specs.Replies.{broken_by_reply}
 use Rattle.merge_batch.specs.Uploads.{broken_by_upload}
 use Rattle.merge_model.specs.declared.event.Event.{Event}
 use Rattle.merge_model.specs.declared.event.Event.TheVariants as event
-use Rattle.merge_model.specs.Events.{after}
-use Rattle.merge_model.specs.Model.{Model, empty_model, model}
-use Rattle.merge_model.specs.Session.{Session, Stepping, all_downloads, all_uploads, joining, session, unless_stopped}
+use Rattle.merge_model.specs.World.Events.{after}
+use Rattle.merge_model.specs.History.Model.{Model, empty_model, model}
+use Rattle.merge_model.specs.World.Session.{Session, Stepping, all_downloads, all_uploads, joining, session, unless_stopped}
 
 -- one article and one subscriber
 abbrev tickets : Publication

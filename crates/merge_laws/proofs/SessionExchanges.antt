@@ -27,34 +27,34 @@ use Rattle.merge_batch.specs.declared.request.RangeAsk.{RangeAsk}
 use Rattle.merge_batch.specs.declared.request.Request.TheVariants as request
 use Rattle.merge_batch.specs.declared.request.Upload.{Upload}
 use Rattle.merge_batch.specs.declared.rules.BrokenRule.{BrokenRule}
-use Rattle.merge_model.specs.ByHistory.{by_history, by_made, by_past}
-use Rattle.merge_model.specs.Faults.{fault_of, known_by, reply_fault, upload_fault}
+use Rattle.merge_model.specs.Judge.ByHistory.{by_history, by_made, by_past}
+use Rattle.merge_model.specs.World.Faults.{fault_of, known_by, reply_fault, upload_fault}
 use Rattle.merge_model.specs.History.{History, MadeChange, Past, made_at, pasts_with}
 use Rattle.merge_model.specs.Judge.{PublisherJudge, SubscriberJudge}
-use Rattle.merge_model.specs.Keys.{at_number}
-use Rattle.merge_model.specs.Model.{Model, model}
-use Rattle.merge_model.specs.Noting
-use Rattle.merge_model.specs.Promises.{is_expired_at}
+use Rattle.merge_model.specs.Tables.Keys.{at_number}
+use Rattle.merge_model.specs.History.Model.{Model, model}
+use Rattle.merge_model.specs.History.Noting
+use Rattle.merge_model.specs.Laws.Promises.{is_expired_at}
 use Rattle.merge_model.specs.Publisher.{last_closed, later, no_state, site_refusal, state_of}
-use Rattle.merge_model.specs.PublisherDownload.{asked, download_refusal, in_step, reply_to, synced}
-use Rattle.merge_model.specs.PublisherJoin.{join_refusal, joined}
-use Rattle.merge_model.specs.PublisherRanges.{plans, ranged, ranges_refusal, with_grants}
-use Rattle.merge_model.specs.PublisherUpload.{brings_news, upload_refusal, uploaded}
-use Rattle.merge_model.specs.Refusals.{counter_end, refused_if}
-use Rattle.merge_model.specs.Sending.{join_made, join_of, ranges_made, sending_refusal, unsent_rows, upload_end, upload_made, upload_sent, want_of, with_message}
-use Rattle.merge_model.specs.Session.{ask as asking}
-use Rattle.merge_model.specs.Steps.{SendDownload, SendJoin, SendRanges, SendUpload, kept_decisions, post, posted, upload_questions}
+use Rattle.merge_model.specs.Publisher.PublisherDownload.{asked, download_refusal, in_step, reply_to, synced}
+use Rattle.merge_model.specs.Publisher.PublisherJoin.{join_refusal, joined}
+use Rattle.merge_model.specs.Publisher.PublisherRanges.{plans, ranged, ranges_refusal, with_grants}
+use Rattle.merge_model.specs.Publisher.PublisherUpload.{brings_news, upload_refusal, uploaded}
+use Rattle.merge_model.specs.Tables.Refusals.{counter_end, refused_if}
+use Rattle.merge_model.specs.Subscriber.Sending.{join_made, join_of, ranges_made, sending_refusal, unsent_rows, upload_end, upload_made, upload_sent, want_of, with_message}
+use Rattle.merge_model.specs.World.Session.{ask as asking}
+use Rattle.merge_model.specs.World.Steps.{SendDownload, SendJoin, SendRanges, SendUpload, kept_decisions, post, posted, upload_questions}
 use Rattle.merge_model.specs.declared.outcome.Outcome.{Outcome}
 use Rattle.merge_model.specs.Subscriber.{sub_at_moment, sub_closed, sub_counters, sub_last_closed}
 use Rattle.merge_types.specs.declared.row_key.RowKey.{RowKey as Key}
 use Rattle.merge_model.specs.Tables.{PublisherTables, SubscriberTables}
-use Rattle.merge_model.specs.Taking.{taken}
+use Rattle.merge_model.specs.Subscriber.Taking.{taken}
 use Rattle.merge_model.specs.World.{Saying, World, subscriber_at, with_publisher, with_subscriber}
 use Rattle.merge_model.specs.declared.letter.Message.TheVariants.{Asks, Replies}
 use Rattle.merge_model.specs.declared.letter.Letter.{Letter}
 use Rattle.merge_model.specs.declared.letter.Message.{Message}
-use Rattle.merge_model.proofs.Refusals.{first-none}
-use Rattle.merge_model.proofs.Finding.{at_put_same}
+use Rattle.merge_model.proofs.Runs.Refusals.{first-none}
+use Rattle.merge_model.proofs.Lists.Finding.{at_put_same}
 use Rattle.merge_laws.proofs.IdentityNotes.{taker-made}
 use Rattle.merge_laws.proofs.Sendings.{batch-bound}
 use Rattle.merge_laws.proofs.SessionSteps.{After, Answered, Sent, back-step, comes-step, post-step, posted_model, reply-step, send-step, unless-step}

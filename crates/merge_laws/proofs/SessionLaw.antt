@@ -7,13 +7,13 @@ use Rattle.merge_schema.specs.declared.publication.Publication.{Publication}
 use Rattle.merge_batch.specs.declared.refusal.Refusal.{Refusal}
 use Rattle.merge_batch.specs.declared.reply.Downloaded.{Downloaded}
 use Rattle.merge_batch.specs.declared.reply.Reply.TheVariants as reply
-use Rattle.merge_model.specs.Runs.{model_behind_actions}
+use Rattle.merge_model.specs.Failing.Runs.{model_behind_actions}
 use Rattle.merge_model.specs.History.{History, MadeChange, made_at}
-use Rattle.merge_model.specs.Model.{Model, model, model_step}
-use Rattle.merge_model.specs.Promises.{IsSettled, SessionSettles, is_expired_at}
+use Rattle.merge_model.specs.History.Model.{Model, model, model_step}
+use Rattle.merge_model.specs.Laws.Promises.{IsSettled, SessionSettles, is_expired_at}
 use Rattle.merge_model.specs.Publisher.{last_closed}
-use Rattle.merge_model.specs.Session.{Session, after_download, all_downloads, answered_as, arrived, as_it_is, ask, all_ranges, all_uploads, asking_ranges, downloaded_in, downloading, exchange, has_grant, is_joined_in, joining, last_message, range_asks, session, then_deliver, unless_stopped, unsent_generations, uploading, with_answer, with_upload}
-use Rattle.merge_model.specs.Steps.{Action, Deliver, Send, SendDownload, SendJoin, SendRanges, SendUpload, Sending}
+use Rattle.merge_model.specs.World.Session.{Session, after_download, all_downloads, answered_as, arrived, as_it_is, ask, all_ranges, all_uploads, asking_ranges, downloaded_in, downloading, exchange, has_grant, is_joined_in, joining, last_message, range_asks, session, then_deliver, unless_stopped, unsent_generations, uploading, with_answer, with_upload}
+use Rattle.merge_model.specs.World.Steps.{Action, Deliver, Send, SendDownload, SendJoin, SendRanges, SendUpload, Sending}
 use Rattle.merge_model.specs.declared.outcome.Outcome.TheVariants.{NoPost, Posted, Refuses, Took}
 use Rattle.merge_model.specs.declared.outcome.Outcome.{Outcome}
 use Rattle.merge_model.specs.Subscriber.{sub_last_closed}
@@ -24,7 +24,7 @@ use Rattle.merge_model.specs.declared.letter.Message.TheVariants.{Replies}
 use Rattle.merge_laws.specs.Numbered.{Numbered}
 use Rattle.merge_laws.specs.Received.{Received}
 use Rattle.merge_laws.specs.Laws.{OfEveryActions, OfEveryDecidedRun}
-use Rattle.merge_model.proofs.Finding.{some_same}
+use Rattle.merge_model.proofs.Lists.Finding.{some_same}
 use Rattle.merge_laws.proofs.Models.{model-fine}
 use Rattle.merge_laws.proofs.SessionChanges.{NoneBetween, UpTo, none-later, none-nothing, nothing-none, order-up, up-none}
 use Rattle.merge_laws.proofs.SessionExchanges.{DownloadLeaves, JoinLeaves, RangesLeave, UploadLeaves, UploadRests, download-leaves, join-leaves, ranges-leave, upload-leaves}

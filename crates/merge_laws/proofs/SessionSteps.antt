@@ -8,19 +8,19 @@ use Rattle.merge_batch.specs.declared.refusal.Refusal.{Refusal}
 use Rattle.merge_batch.specs.declared.refusal.Refusal.TheVariants.{UnknownSite}
 use Rattle.merge_batch.specs.declared.reply.Reply.{Reply}
 use Rattle.merge_batch.specs.declared.request.Outstanding.{Outstanding}
-use Rattle.merge_model.specs.ByHistory.{by_history, by_made}
-use Rattle.merge_model.specs.Faults.{reply_fault}
+use Rattle.merge_model.specs.Judge.ByHistory.{by_history, by_made}
+use Rattle.merge_model.specs.World.Faults.{reply_fault}
 use Rattle.merge_model.specs.History.{History, pasts_with}
 use Rattle.merge_model.specs.Judge.{SubscriberJudge}
-use Rattle.merge_model.specs.Model.{Model, did_something, model, model_step, noted_if, noted_letter, with_letter, with_posted}
-use Rattle.merge_model.specs.Noting.{noted_reply}
-use Rattle.merge_model.specs.Refusals.{unless}
-use Rattle.merge_model.specs.Session.{ask, then_deliver}
-use Rattle.merge_model.specs.Steps.{Deliver, Sending, deliver_letter, deliver_reply, post, send_from, unless_refused}
+use Rattle.merge_model.specs.History.Model.{Model, did_something, model, model_step, noted_if, noted_letter, with_letter, with_posted}
+use Rattle.merge_model.specs.History.Noting.{noted_reply}
+use Rattle.merge_model.specs.Tables.Refusals.{unless}
+use Rattle.merge_model.specs.World.Session.{ask, then_deliver}
+use Rattle.merge_model.specs.World.Steps.{Deliver, Sending, deliver_letter, deliver_reply, post, send_from, unless_refused}
 use Rattle.merge_model.specs.declared.outcome.Outcome.TheVariants.{NoLetter, NoPost, Posted, Refuses, Took}
 use Rattle.merge_model.specs.declared.outcome.Outcome.{Outcome}
 use Rattle.merge_model.specs.Tables.{SubscriberTables}
-use Rattle.merge_model.specs.Taking.{met_by, seq_of, taken}
+use Rattle.merge_model.specs.Subscriber.Taking.{met_by, seq_of, taken}
 use Rattle.merge_model.specs.declared.outcome.Taken.TheVariants.{Acted, Missed}
 use Rattle.merge_model.specs.declared.outcome.Taken.{Taken}
 use Rattle.merge_model.specs.World.{World, letter_at, subscriber_at, with_subscriber}
@@ -28,7 +28,7 @@ use Rattle.merge_model.specs.declared.letter.Letter.{Letter}
 use Rattle.merge_model.specs.declared.letter.Message.{Message}
 use Rattle.merge_model.specs.declared.letter.Message.TheVariants.{Replies}
 use Rattle.merge_model.specs.World.{Saying}
-use Rattle.merge_model.proofs.Tests.{number-itself}
+use Rattle.merge_model.proofs.Lists.Tests.{number-itself}
 use Rattle.merge_laws.proofs.Walking.{letter-last}
 
 -- how an exchange ends: its reply acted, something was refused, or there was no message to make

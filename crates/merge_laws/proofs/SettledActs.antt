@@ -13,30 +13,30 @@ use Rattle.merge_batch.specs.declared.request.Download.{Download}
 use Rattle.merge_batch.specs.declared.request.Join.{Join}
 use Rattle.merge_batch.specs.declared.request.Upload.{Upload}
 use Rattle.merge_batch.specs.declared.request.UploadItem.{UploadItem}
-use Rattle.merge_model.specs.Acts.{acts_of, key_of_item}
-use Rattle.merge_model.specs.ByHistory.{by_past}
-use Rattle.merge_model.specs.ByNumbers.{received_by_number}
+use Rattle.merge_model.specs.Publisher.Acts.{acts_of, key_of_item}
+use Rattle.merge_model.specs.Judge.ByHistory.{by_past}
+use Rattle.merge_model.specs.Judge.ByNumbers.{received_by_number}
 use Rattle.merge_model.specs.History.{History, MadeChange, Past, is_done}
 use Rattle.merge_model.specs.Judge.{PublisherJudge}
-use Rattle.merge_model.specs.Keys.{at_number, has_key}
+use Rattle.merge_model.specs.Tables.Keys.{at_number, has_key}
 use Rattle.merge_model.specs.Laws.{AreSorted}
-use Rattle.merge_model.specs.Model.{Model}
-use Rattle.merge_model.specs.Promises.{base_of, is_expired_at, watermark_of}
+use Rattle.merge_model.specs.History.Model.{Model}
+use Rattle.merge_model.specs.Laws.Promises.{base_of, is_expired_at, watermark_of}
 use Rattle.merge_model.specs.Publisher.{closed, last_closed, later, site_refusal, unknown_site}
-use Rattle.merge_model.specs.PublisherDownload.{asked, download_refusal}
-use Rattle.merge_model.specs.PublisherJoin.{join_taken}
-use Rattle.merge_model.specs.PublisherLocal.{Drawn, made_locally}
-use Rattle.merge_model.specs.PublisherPurge.{purge}
-use Rattle.merge_model.specs.PublisherRanges.{with_grants}
-use Rattle.merge_model.specs.PublisherUpload.{taken_in, upload_refusal}
-use Rattle.merge_model.specs.Refusals.{refused_if}
+use Rattle.merge_model.specs.Publisher.PublisherDownload.{asked, download_refusal}
+use Rattle.merge_model.specs.Publisher.PublisherJoin.{join_taken}
+use Rattle.merge_model.specs.Publisher.PublisherLocal.{Drawn, made_locally}
+use Rattle.merge_model.specs.Publisher.PublisherPurge.{purge}
+use Rattle.merge_model.specs.Publisher.PublisherRanges.{with_grants}
+use Rattle.merge_model.specs.Publisher.PublisherUpload.{taken_in, upload_refusal}
+use Rattle.merge_model.specs.Tables.Refusals.{refused_if}
 use Rattle.merge_types.specs.declared.row_key.RowKey.{RowKey as Key}
 use Rattle.merge_model.specs.Tables.{PublisherTables, SubscriberTables}
 use Rattle.merge_model.specs.World.{Saying, World}
-use Rattle.merge_model.proofs.Sorted.{closed_filling-rises}
+use Rattle.merge_model.proofs.Publishers.Sorted.{closed_filling-rises}
 use Rattle.merge_laws.specs.Settled.{SendsChanged, TouchedInOrder, changed_of, has_item, is_expired_by, site_view, touched_at}
 use Rattle.merge_laws.proofs.Arrivals.{not-refused, upload-known}
-use Rattle.merge_model.proofs.Refusals.{first-none}
+use Rattle.merge_model.proofs.Runs.Refusals.{first-none}
 use Rattle.merge_laws.proofs.BehindKept.{upload-sets}
 use Rattle.merge_laws.proofs.Ground.{Ground}
 use Rattle.merge_laws.proofs.PurgeModels.{old-is-past}

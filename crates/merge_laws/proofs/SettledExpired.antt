@@ -13,20 +13,20 @@ use Rattle.merge_batch.specs.declared.refusal.Refusal.TheVariants.{Expired, Stal
 use Rattle.merge_batch.specs.declared.request.Download.{Download}
 use Rattle.merge_batch.specs.declared.request.Join.{Join}
 use Rattle.merge_batch.specs.declared.request.Upload.{Upload}
-use Rattle.merge_model.specs.Acts.{Act}
+use Rattle.merge_model.specs.Publisher.Acts.{Act}
 use Rattle.merge_model.specs.Judge.{PublisherJudge}
-use Rattle.merge_model.specs.Keys.{at_number}
+use Rattle.merge_model.specs.Tables.Keys.{at_number}
 use Rattle.merge_model.specs.Publisher.{last_closed, later, site_refusal, state_of, state_refusal, unknown_site}
-use Rattle.merge_model.specs.PublisherDownload.{asked, download_refusal, synced}
-use Rattle.merge_model.specs.PublisherJoin.{join_taken, joined_state}
-use Rattle.merge_model.specs.PublisherUpload.{state_seeing, taken_in}
-use Rattle.merge_model.specs.Refusals.{refused_if}
+use Rattle.merge_model.specs.Publisher.PublisherDownload.{asked, download_refusal, synced}
+use Rattle.merge_model.specs.Publisher.PublisherJoin.{join_taken, joined_state}
+use Rattle.merge_model.specs.Publisher.PublisherUpload.{state_seeing, taken_in}
+use Rattle.merge_model.specs.Tables.Refusals.{refused_if}
 use Rattle.merge_model.specs.Tables.{PublisherTables}
 use Rattle.merge_model.specs.World.{World}
 use Rattle.merge_laws.specs.Settled.{is_expired_by}
 use Rattle.merge_laws.proofs.Arrivals.{not-refused}
-use Rattle.merge_model.proofs.Refusals.{first-none}
-use Rattle.merge_model.proofs.Finding.{at_put_other}
+use Rattle.merge_model.proofs.Runs.Refusals.{first-none}
+use Rattle.merge_model.proofs.Lists.Finding.{at_put_other}
 use Rattle.merge_laws.proofs.PurgeSteps.{if-entry, taken_entry}
 use Rattle.merge_laws.proofs.Subscribing.{same_number}
 use Rattle.merge_laws.proofs.Walking.{here}

@@ -9,15 +9,15 @@ use Rattle.merge_schema.specs.Valid.{IsValid}
 use Rattle.merge_schema.specs.declared.publication.Publication.{Publication}
 use Rattle.merge_table.proofs.LookUps.{rows_from_look_ups}
 use Rattle.merge_model.specs.Failing.{Slips}
-use Rattle.merge_model.specs.Runs.{model_behind, model_behind_actions}
+use Rattle.merge_model.specs.Failing.Runs.{model_behind, model_behind_actions}
 use Rattle.merge_model.specs.History.{MadeChange, made_at}
 use Rattle.merge_types.specs.RowKeys.{key_cmp}
-use Rattle.merge_model.specs.Keys.{at_number, has_key, row_at}
+use Rattle.merge_model.specs.Tables.Keys.{at_number, has_key, row_at}
 use Rattle.merge_model.specs.Laws.{AreSubSorted}
-use Rattle.merge_model.specs.Model.{Model, model_step}
-use Rattle.merge_model.specs.Promises.{HoldsPartition, IsSettled, SettledHoldsPartition, base_of, live_version, version_if_in}
-use Rattle.merge_model.specs.PublisherDownload.{inside_keys}
-use Rattle.merge_model.specs.Steps.{Action}
+use Rattle.merge_model.specs.History.Model.{Model, model_step}
+use Rattle.merge_model.specs.Laws.Promises.{HoldsPartition, IsSettled, SettledHoldsPartition, base_of, live_version, version_if_in}
+use Rattle.merge_model.specs.Publisher.PublisherDownload.{inside_keys}
+use Rattle.merge_model.specs.World.Steps.{Action}
 use Rattle.merge_model.specs.Subscriber.{sub_last_closed}
 use Rattle.merge_types.specs.declared.row_key.RowKey.{RowKey as Key}
 use Rattle.merge_units.specs.declared.site_row.PublisherRow.{PublisherRow}
@@ -25,14 +25,14 @@ use Rattle.merge_units.specs.declared.site_row.SubscriberRow.{SubscriberRow}
 use Rattle.merge_model.specs.Tables.{SubscriberTables}
 use Rattle.merge_model.specs.World.{Saying, World}
 use Rattle.merge_model.specs.declared.event.Event.{Event}
-use Rattle.merge_model.specs.ByNumbers.{received_by_number}
-use Rattle.merge_model.proofs.Sorted.{key_total}
+use Rattle.merge_model.specs.Judge.ByNumbers.{received_by_number}
+use Rattle.merge_model.proofs.Publishers.Sorted.{key_total}
 use Rattle.merge_laws.specs.Laws.{OfEveryValidActions}
 use Rattle.merge_laws.specs.Settled.{OfPublisher, OfSites, Settled, SiteHolds, TouchedInOrder, changed_of, held_at, live_only, made_in, owed_at, site_view}
 use Rattle.merge_laws.specs.Unsent.{last_made}
 use Rattle.merge_laws.proofs.Changed.{made-changed}
 use Rattle.merge_laws.proofs.Ground.{Ground, grounded-by-actions}
-use Rattle.merge_model.proofs.KeyLookUps.{keys-tied}
+use Rattle.merge_model.proofs.Lists.KeyLookUps.{keys-tied}
 use Rattle.merge_laws.proofs.SettledExpired.{expired-later}
 use Rattle.merge_laws.proofs.SettledRows.{kept-ascend, kept-at, kept_rows, with_value}
 use Rattle.merge_laws.proofs.SettledSent.{none-changed}

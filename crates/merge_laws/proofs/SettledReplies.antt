@@ -13,33 +13,33 @@ use Rattle.merge_batch.specs.declared.reply.Act.{Act as Order}
 use Rattle.merge_batch.specs.declared.reply.Act.TheVariants as order
 use Rattle.merge_batch.specs.declared.reply.Downloaded.{Downloaded}
 use Rattle.merge_batch.specs.declared.request.Download.{Download}
-use Rattle.merge_model.specs.ByHistory.{by_past, last_line, moved_rows_by_line, touch_by_line, touched_outside}
-use Rattle.merge_model.specs.ByNumbers.{received_by_number, touch_by_mapping}
-use Rattle.merge_model.specs.Entries
+use Rattle.merge_model.specs.Judge.ByHistory.{by_past, last_line, moved_rows_by_line, touch_by_line, touched_outside}
+use Rattle.merge_model.specs.Judge.ByNumbers.{received_by_number, touch_by_mapping}
+use Rattle.merge_model.specs.Publisher.Entries
 use Rattle.merge_model.specs.History.{History, Line, MadeChange, Past}
 use Rattle.merge_model.specs.Judge.{PublisherJudge}
-use Rattle.merge_model.specs.Keys.{has_key, row_at, same_key}
-use Rattle.merge_model.specs.Model.{Model}
+use Rattle.merge_model.specs.Tables.Keys.{has_key, row_at, same_key}
+use Rattle.merge_model.specs.History.Model.{Model}
 use Rattle.merge_model.specs.Publisher.{last_closed}
-use Rattle.merge_model.specs.PublisherDownload.{TouchedRow, asked, inside_keys, is_between, item_of, reply_to, touched_row}
+use Rattle.merge_model.specs.Publisher.PublisherDownload.{TouchedRow, asked, inside_keys, is_between, item_of, reply_to, touched_row}
 use Rattle.merge_batch.specs.Orders.{order_by}
-use Rattle.merge_model.specs.PublisherLocal.{version_at}
+use Rattle.merge_model.specs.Publisher.PublisherLocal.{version_at}
 use Rattle.merge_types.specs.declared.row_key.RowKey.{RowKey as Key}
 use Rattle.merge_units.specs.declared.site_row.PublisherRow.{PublisherRow}
 use Rattle.merge_model.specs.Tables.{PublisherTables, SubscriberTables}
 use Rattle.merge_model.specs.World.{World}
 use Rattle.merge_laws.specs.Settled.{ReplyHolds, SiteView, held_by, owed_at, said_of, said_over, site_view, touched_at}
-use Rattle.merge_model.proofs.Downloads.{inside-held}
+use Rattle.merge_model.proofs.Entries.Downloads.{inside-held}
 use Rattle.merge_laws.proofs.Ground.{Ground}
-use Rattle.merge_model.proofs.KeyLookUps.{keys-same}
-use Rattle.merge_model.proofs.KeyLists.{keys-once}
+use Rattle.merge_model.proofs.Lists.KeyLookUps.{keys-same}
+use Rattle.merge_model.proofs.Lists.KeyLists.{keys-once}
 use Rattle.merge_laws.proofs.LastLineGone.{told-of}
 use Rattle.merge_laws.proofs.LastLineReads.{inside-by-line, outside-by-line}
 use Rattle.merge_laws.proofs.Publishing.{asked-same}
 use Rattle.merge_laws.proofs.Sendings.{batch-begin, batch-bound}
 use Rattle.merge_laws.proofs.SettledRows.{IsLiveAt, inside-is-live}
-use Rattle.merge_model.proofs.Tests.{or-second}
-use Rattle.merge_model.proofs.StepParts.{keys-held}
+use Rattle.merge_model.proofs.Lists.Tests.{or-second}
+use Rattle.merge_model.proofs.Entries.StepParts.{keys-held}
 use Rattle.merge_laws.proofs.Walking.{here}
 use Rattle.merge_laws.proofs.Worlds.{received-is}
 

@@ -20,21 +20,21 @@ use Rattle.merge_table.proofs.Room.{AreAbove}
 use Rattle.merge_batch.specs.declared.reply.Act.{Act as Order}
 use Rattle.merge_batch.specs.declared.reply.Act.TheVariants as order
 use Rattle.merge_batch.specs.declared.reply.DownloadItem.{DownloadItem}
-use Rattle.merge_model.specs.Entries.{key_of_live, live_row, live_rows, partition_keys}
+use Rattle.merge_model.specs.Publisher.Entries.{key_of_live, live_row, live_rows, partition_keys}
 use Rattle.merge_model.specs.Judge.{SubscriberJudge}
 use Rattle.merge_types.specs.RowKeys.{key_cmp}
-use Rattle.merge_model.specs.Keys.{has_key, row_at, same_key}
+use Rattle.merge_model.specs.Tables.Keys.{has_key, row_at, same_key}
 use Rattle.merge_model.specs.Laws.{AreSorted}
 use Rattle.merge_resolve.specs.Priorities.{subscription_at}
-use Rattle.merge_model.specs.PublisherDownload.{inside_keys}
+use Rattle.merge_model.specs.Publisher.PublisherDownload.{inside_keys}
 use Rattle.merge_types.specs.declared.row_key.RowKey.{RowKey as Key}
 use Rattle.merge_units.specs.declared.site_row.PublisherRow.{PublisherRow}
 use Rattle.merge_units.specs.declared.site_row.SubscriberRow.{SubscriberRow}
 use Rattle.merge_model.specs.Tables.{PublisherTables}
-use Rattle.merge_model.specs.Taking.{key_of_download, row_above, with_item, with_order}
+use Rattle.merge_model.specs.Subscriber.Taking.{key_of_download, row_above, with_item, with_order}
 use Rattle.merge_laws.specs.Settled.{held_by, live_only, said_of, said_over}
-use Rattle.merge_model.proofs.Downloads.{any-map, inside-live}
-use Rattle.merge_model.proofs.KeyLookUps.{keys-same, row-dropped, row-put, key-test, keys-exact, none-behind}
+use Rattle.merge_model.proofs.Entries.Downloads.{any-map, inside-live}
+use Rattle.merge_model.proofs.Lists.KeyLookUps.{keys-same, row-dropped, row-put, key-test, keys-exact, none-behind}
 use Rattle.merge_laws.proofs.Unsending.{order-sorted}
 
 -- Rows for which there is a value, with it.

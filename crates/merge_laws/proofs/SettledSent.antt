@@ -6,14 +6,14 @@ use Rattle.std.proofs.Common.{arith, sym, ap, ◌∙◌}
 use Rattle.std.proofs.lemmas.Bool.Decides.{nat_tests}
 use Rattle.merge_units.specs.declared.version.Version.{Version}
 use Rattle.merge_batch.specs.declared.request.UploadItem.{UploadItem}
-use Rattle.merge_model.specs.Acts.{key_of_item}
-use Rattle.merge_model.specs.ByHistory.{is_between_made}
-use Rattle.merge_model.specs.ByNumbers.{last_between}
+use Rattle.merge_model.specs.Publisher.Acts.{key_of_item}
+use Rattle.merge_model.specs.Judge.ByHistory.{is_between_made}
+use Rattle.merge_model.specs.Judge.ByNumbers.{last_between}
 use Rattle.merge_model.specs.History.{MadeChange}
 use Rattle.merge_model.specs.Judge.{SubscriberJudge}
 use Rattle.merge_types.specs.RowKeys.{key_cmp}
-use Rattle.merge_model.specs.Keys.{row_at, same_key}
-use Rattle.merge_model.specs.Sending.{upload_item, upload_to}
+use Rattle.merge_model.specs.Tables.Keys.{row_at, same_key}
+use Rattle.merge_model.specs.Subscriber.Sending.{upload_item, upload_to}
 use Rattle.merge_model.specs.Subscriber.{sub_version_at}
 use Rattle.merge_types.specs.declared.row_key.RowKey.{RowKey as Key}
 use Rattle.merge_units.specs.declared.site_row.SubscriberRow.{SubscriberRow}
@@ -22,7 +22,7 @@ use Rattle.merge_laws.specs.Numbered.{InOrder}
 use Rattle.merge_laws.specs.Settled.{SendsChanged, changed_of, has_item}
 use Rattle.merge_laws.specs.Unsent.{RowsTell, gens_in, is_changed_above, last_made}
 use Rattle.merge_laws.proofs.Changed.{changed_made, made-changed}
-use Rattle.merge_model.proofs.KeyLookUps.{keys-exact}
+use Rattle.merge_model.proofs.Lists.KeyLookUps.{keys-exact}
 
 -- Changes in order: none is in a later generation than the first one.
 

@@ -4,13 +4,13 @@ use Rattle.std.specs.List.{AllByRecursion}
 use Rattle.std.proofs.Common.{arith, subst, sym, ap, ◌∙◌}
 use Rattle.merge_schema.specs.declared.publication.Publication.{Publication}
 use Rattle.merge_model.specs.History.{MadeChange}
-use Rattle.merge_model.specs.Keys.{at_number, put_number}
+use Rattle.merge_model.specs.Tables.Keys.{at_number, put_number}
 use Rattle.merge_model.specs.Tables.{PublisherTables, SubscriberTables}
 use Rattle.merge_model.specs.declared.letter.Letter.{Letter}
 use Rattle.merge_model.specs.declared.letter.Message.{Message}
 use Rattle.merge_laws.specs.Received.{LetterFits, MessageFits, joined_at}
 use Rattle.merge_laws.specs.Settled.{LetterSettles, MessageSettles, SiteHolds, SitesSettle, made_in, site_view}
-use Rattle.merge_model.proofs.Finding.{all-more, at_put_other, at_put_same}
+use Rattle.merge_model.proofs.Lists.Finding.{all-more, at_put_other, at_put_same}
 use Rattle.merge_model.proofs.Lists.{all-both}
 use Rattle.merge_laws.proofs.SettledSeen.{Keeps}
 use Rattle.merge_laws.proofs.Subscribing.{number-decided, same_number}

@@ -14,11 +14,11 @@ use Rattle.merge_units.specs.declared.version.Cell.{Cell}
 use Rattle.merge_units.specs.Version.{Knowing, has_news, new_tops, tops_of}
 use Rattle.merge_units.specs.Cases.{bodies_case, case_by, side_of}
 use Rattle.merge_model.specs.History.{MadeChange, has}
-use Rattle.merge_model.specs.Keys.{same_key}
+use Rattle.merge_model.specs.Tables.Keys.{same_key}
 use Rattle.merge_types.specs.declared.row_key.RowKey.{RowKey as Key}
 use Rattle.merge_laws.specs.Knowledge.{Knows, KnowsItsPast, is_made, same_dot}
 use Rattle.merge_laws.specs.Standing.{AgreesOn, IsKnownLater, KnewEarlier, StandsAt, StandsFor, Tells, is_counted}
-use Rattle.merge_model.proofs.Finding.{all-weaker}
+use Rattle.merge_model.proofs.Lists.Finding.{all-weaker}
 
 -- What is known of a dot is known of the same dot.
 abbrev has_at : List Dot → ℕ → ℕ → Bool

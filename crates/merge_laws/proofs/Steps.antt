@@ -11,27 +11,27 @@ use Rattle.merge_batch.specs.declared.refusal.Refusal.{Refusal}
 use Rattle.merge_batch.specs.declared.refusal.Refusal.TheVariants.{UnknownSite}
 use Rattle.merge_schema.specs.declared.publication.Publication.{Publication}
 use Rattle.merge_model.specs.Tables.{PublisherTables, SubscriberTables}
-use Rattle.merge_model.specs.Keys.{at_number, put_number}
-use Rattle.merge_model.specs.Refusals.{unless, counter_end}
+use Rattle.merge_model.specs.Tables.Keys.{at_number, put_number}
+use Rattle.merge_model.specs.Tables.Refusals.{unless, counter_end}
 use Rattle.merge_model.specs.Judge.{PublisherJudge}
-use Rattle.merge_model.specs.ByNumbers.{received_by_number}
+use Rattle.merge_model.specs.Judge.ByNumbers.{received_by_number}
 use Rattle.merge_model.specs.Publisher.{at_moment, close_generation}
-use Rattle.merge_model.specs.PublisherLocal.{local, drawn, Drawn, made_locally}
-use Rattle.merge_model.specs.PublisherJoin.{joined}
+use Rattle.merge_model.specs.Publisher.PublisherLocal.{local, drawn, Drawn, made_locally}
+use Rattle.merge_model.specs.Publisher.PublisherJoin.{joined}
 use Rattle.merge_model.specs.Subscriber.{sub_local, sub_local_refusal, sub_drawn, sub_made_locally, close_sub_generation, sub_closed, sub_at_moment, sub_counters, sub_last_closed, is_joining}
 use Rattle.merge_model.specs.World.{World, Judges, subscriber_at, with_publisher, with_subscriber}
 use Rattle.merge_model.specs.declared.letter.Message.{Message}
-use Rattle.merge_model.specs.Steps.{post, unless_refused, at_subscriber, make_at, make_at_publisher, make_at_subscriber, close_at, close_publisher, close_subscriber}
+use Rattle.merge_model.specs.World.Steps.{post, unless_refused, at_subscriber, make_at, make_at_publisher, make_at_subscriber, close_at, close_publisher, close_subscriber}
 use Rattle.merge_model.specs.declared.outcome.Outcome.{Outcome}
 use Rattle.merge_model.specs.declared.outcome.Outcome.TheVariants.{Refuses, Made, Closes}
 use Rattle.merge_model.specs.History.{History}
 use Rattle.merge_model.proofs.Publishers.{local-ok, close-ok}
 use Rattle.merge_laws.specs.Received.{joined_at, MessageFits, SubscriberFits, Received}
-use Rattle.merge_model.proofs.Finding.{at_put_same}
+use Rattle.merge_model.proofs.Lists.Finding.{at_put_same}
 use Rattle.merge_laws.proofs.Subscribing.{Goes, closing-goes, made-goes}
 use Rattle.merge_laws.proofs.Publishing.{same-sites}
 use Rattle.merge_laws.proofs.Worlds.{posted-fits, subscriber-goes, publisher-same}
-use Rattle.merge_model.proofs.Refusals.{first-none}
+use Rattle.merge_model.proofs.Runs.Refusals.{first-none}
 
 module _ (w : World) (h : History) (r : Received w h) where
   -- a step of the publisher that leaves the numbers of the sites

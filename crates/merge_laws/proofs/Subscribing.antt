@@ -18,18 +18,18 @@ use Rattle.merge_batch.specs.declared.reply.Reply.TheVariants as reply
 use Rattle.merge_schema.specs.declared.publication.Publication.{Publication}
 use Rattle.merge_types.specs.declared.row_key.RowKey.{RowKey as Key}
 use Rattle.merge_model.specs.Tables.{PublisherTables, SubscriberTables}
-use Rattle.merge_model.specs.Keys.{at_number, put_number}
+use Rattle.merge_model.specs.Tables.Keys.{at_number, put_number}
 use Rattle.merge_model.specs.Judge.{SubscriberJudge}
-use Rattle.merge_model.specs.Changes.{key_of, version_after}
-use Rattle.merge_model.specs.ByNumbers.{received_by_number}
+use Rattle.merge_model.specs.Tables.Changes.{key_of, version_after}
+use Rattle.merge_model.specs.Judge.ByNumbers.{received_by_number}
 use Rattle.merge_model.specs.Subscriber.{sub_last_closed, sub_closed, sub_at_moment, sub_made_locally, sub_next_dot, sub_version_at, with_version_if}
-use Rattle.merge_model.specs.Sending.{with_message}
-use Rattle.merge_model.specs.Reinit.{reinitialised}
+use Rattle.merge_model.specs.Subscriber.Sending.{with_message}
+use Rattle.merge_model.specs.Subscriber.Reinit.{reinitialised}
 use Rattle.merge_model.specs.declared.letter.Letter.{Letter}
 use Rattle.merge_model.specs.declared.letter.Message.{Message}
 use Rattle.merge_model.specs.declared.letter.Message.TheVariants.{Asks, Replies}
 use Rattle.merge_laws.specs.Received.{joined_at, JoinFits, MessageFits, LetterFits, SubscriberFits, AllFit}
-use Rattle.merge_model.proofs.Finding.{at_put_same, at_put_other, all-weaker}
+use Rattle.merge_model.proofs.Lists.Finding.{at_put_same, at_put_other, all-weaker}
 
 -- A join that can act still waits after a step of its site.
 abbrev pub StillWaits : ℕ → SiteId → SubscriberTables → SubscriberTables → Type 0

@@ -13,15 +13,15 @@ use Rattle.merge_conflict.specs.declared.row.ConflictRow.{ConflictRow}
 use Rattle.merge_conflict.specs.Losers.{losing_rows}
 use Rattle.merge_schema.specs.declared.publication.Publication.{Publication}
 use Rattle.merge_batch.specs.declared.reply.Reply.{Reply}
-use Rattle.merge_model.specs.Acts.{Act, Fate, Met, New, Unknown, conflict_of, lost_by, lost_from}
+use Rattle.merge_model.specs.Publisher.Acts.{Act, Fate, Met, New, Unknown, conflict_of, lost_by, lost_from}
 use Rattle.merge_units.specs.Cases.{is_conflict}
-use Rattle.merge_model.specs.Entries.{Entries}
+use Rattle.merge_model.specs.Publisher.Entries.{Entries}
 use Rattle.merge_model.specs.History.{History, Line, Past, past_at, past_in}
 use Rattle.merge_model.specs.Judge.{SubscriberJudge}
-use Rattle.merge_model.specs.Noting
-use Rattle.merge_model.specs.Pasts.{past_by}
-use Rattle.merge_model.specs.Promises.{key_of_conflict}
-use Rattle.merge_model.specs.Reinit.{numbered_from}
+use Rattle.merge_model.specs.History.Noting
+use Rattle.merge_model.specs.History.Pasts.{past_by}
+use Rattle.merge_model.specs.Laws.Promises.{key_of_conflict}
+use Rattle.merge_model.specs.Subscriber.Reinit.{numbered_from}
 use Rattle.merge_types.specs.declared.row_key.RowKey.{RowKey as Key}
 use Rattle.merge_model.specs.Tables.{SubscriberTables}
 use Rattle.merge_laws.specs.TablesAgree.{TableAgrees, keys_lost}

@@ -17,36 +17,36 @@ use Rattle.merge_batch.specs.declared.request.Join.{Join}
 use Rattle.merge_batch.specs.declared.request.Outstanding.TheVariants as ask
 use Rattle.merge_batch.specs.declared.request.Upload.{Upload}
 use Rattle.merge_batch.specs.declared.request.Request.TheVariants as request
-use Rattle.merge_model.specs.Acts.{Act, lost_from}
-use Rattle.merge_model.specs.ByHistory.{by_made, by_past}
-use Rattle.merge_model.specs.Changes.{key_of, version_after}
-use Rattle.merge_model.specs.Entries.{Entries}
+use Rattle.merge_model.specs.Publisher.Acts.{Act, lost_from}
+use Rattle.merge_model.specs.Judge.ByHistory.{by_made, by_past}
+use Rattle.merge_model.specs.Tables.Changes.{key_of, version_after}
+use Rattle.merge_model.specs.Publisher.Entries.{Entries}
 use Rattle.merge_model.specs.History.{History, Line, Past, no_history, pasts_with}
 use Rattle.merge_model.specs.Judge.{PublisherJudge, SubscriberJudge}
-use Rattle.merge_model.specs.Keys.{at_number, put_number}
-use Rattle.merge_model.specs.Model.{Model, model_step}
-use Rattle.merge_model.specs.Noting
-use Rattle.merge_model.specs.Promises.{key_of_conflict}
-use Rattle.merge_model.specs.Publications.{by_site}
+use Rattle.merge_model.specs.Tables.Keys.{at_number, put_number}
+use Rattle.merge_model.specs.History.Model.{Model, model_step}
+use Rattle.merge_model.specs.History.Noting
+use Rattle.merge_model.specs.Laws.Promises.{key_of_conflict}
+use Rattle.merge_model.specs.Tables.Publications.{by_site}
 use Rattle.merge_model.specs.Publisher.{closed, last_closed}
-use Rattle.merge_model.specs.PublisherDownload.{asked, reply_to}
-use Rattle.merge_model.specs.PublisherJoin.{join_taken}
-use Rattle.merge_model.specs.PublisherLocal.{Drawn, made_locally, next_dot}
-use Rattle.merge_model.specs.PublisherPurge.{purge}
-use Rattle.merge_model.specs.PublisherRanges.{plans, ranged, with_grants}
-use Rattle.merge_model.specs.PublisherUpload.{taken_in}
-use Rattle.merge_model.specs.Reinit.{discarded, numbered_from, reinitialised}
-use Rattle.merge_model.specs.Sending.{join_of, upload_sent, want_of, with_message}
-use Rattle.merge_model.specs.Steps.{Action}
+use Rattle.merge_model.specs.Publisher.PublisherDownload.{asked, reply_to}
+use Rattle.merge_model.specs.Publisher.PublisherJoin.{join_taken}
+use Rattle.merge_model.specs.Publisher.PublisherLocal.{Drawn, made_locally, next_dot}
+use Rattle.merge_model.specs.Publisher.PublisherPurge.{purge}
+use Rattle.merge_model.specs.Publisher.PublisherRanges.{plans, ranged, with_grants}
+use Rattle.merge_model.specs.Publisher.PublisherUpload.{taken_in}
+use Rattle.merge_model.specs.Subscriber.Reinit.{discarded, numbered_from, reinitialised}
+use Rattle.merge_model.specs.Subscriber.Sending.{join_of, upload_sent, want_of, with_message}
+use Rattle.merge_model.specs.World.Steps.{Action}
 use Rattle.merge_model.specs.Subscriber.{sub_at_moment, sub_closed, sub_last_closed, sub_made_locally, sub_next_dot, sub_version_at, with_version_if}
 use Rattle.merge_types.specs.declared.row_key.RowKey.{RowKey as Key}
 use Rattle.merge_model.specs.Tables.{PublisherTables, SubscriberTables}
-use Rattle.merge_model.specs.Taking.{taken}
+use Rattle.merge_model.specs.Subscriber.Taking.{taken}
 use Rattle.merge_model.specs.World.{Saying, World, empty_world, subscriber_at, with_publisher, with_subscriber}
 use Rattle.merge_model.specs.declared.letter.Message.TheVariants.{Asks, Replies}
 use Rattle.merge_model.specs.declared.letter.Message.{Message}
 use Rattle.merge_laws.specs.TablesAgree.{TableAgrees, TablesAgree, keys_lost}
-use Rattle.merge_model.proofs.Finding.{found-named}
+use Rattle.merge_model.proofs.Lists.Finding.{found-named}
 use Rattle.merge_laws.proofs.Ground.{Ground}
 use Rattle.merge_laws.proofs.Models.{begins-with}
 use Rattle.merge_laws.proofs.Subscribing.{number-decided, version-conflicts}

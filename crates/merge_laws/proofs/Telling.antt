@@ -17,19 +17,19 @@ use Rattle.merge_schema.specs.declared.publication.Publication.{Publication}
 use Rattle.merge_batch.specs.declared.refusal.Refusal.TheVariants.{NoRow}
 use Rattle.merge_batch.specs.declared.request.Outstanding.{Outstanding}
 use Rattle.merge_batch.specs.declared.request.Outstanding.TheVariants as ask
-use Rattle.merge_model.specs.Changes.{change_refusal, key_of, lives, no_row, version_after}
+use Rattle.merge_model.specs.Tables.Changes.{change_refusal, key_of, lives, no_row, version_after}
 use Rattle.merge_model.specs.History.{MadeChange}
 use Rattle.merge_model.specs.Judge.{SubscriberJudge}
-use Rattle.merge_model.specs.Publications.{tracking_at}
-use Rattle.merge_model.specs.Refusals.{counter_end, refused_if}
-use Rattle.merge_model.specs.Reinit.{reinitialised}
-use Rattle.merge_model.specs.Sending.{with_message}
+use Rattle.merge_model.specs.Tables.Publications.{tracking_at}
+use Rattle.merge_model.specs.Tables.Refusals.{counter_end, refused_if}
+use Rattle.merge_model.specs.Subscriber.Reinit.{reinitialised}
+use Rattle.merge_model.specs.Subscriber.Sending.{with_message}
 use Rattle.merge_model.specs.Subscriber.{is_joining, sub_at_moment, sub_closed, sub_counters, sub_last_closed, sub_local_refusal, sub_made_locally, sub_next_dot, sub_version_at, with_version_if}
 use Rattle.merge_types.specs.declared.row_key.RowKey.{RowKey as Key}
 use Rattle.merge_model.specs.Tables.{SubscriberTables}
-use Rattle.merge_model.specs.Taking.{with_received}
+use Rattle.merge_model.specs.Subscriber.Taking.{with_received}
 use Rattle.merge_laws.specs.Numbered.{InOrder, Tells, last_of}
-use Rattle.merge_model.proofs.Refusals.{first-none}
+use Rattle.merge_model.proofs.Runs.Refusals.{first-none}
 use Rattle.merge_laws.proofs.Subscribing.{filling-closed, filling-rises}
 use Rattle.merge_laws.proofs.Through.{kept-above, last-newest, last-older, moved-new, moved-none, moved-old, order-later, order-within}
 

@@ -19,37 +19,37 @@ use Rattle.merge_batch.specs.declared.request.Upload.{Upload}
 use Rattle.merge_batch.specs.declared.reply.Reply.{Reply}
 use Rattle.merge_batch.specs.declared.reply.Reply.TheVariants as reply
 use Rattle.merge_model.specs.Failing.{Slips, faulty}
-use Rattle.merge_model.specs.Runs.{model_behind, model_behind_actions}
-use Rattle.merge_model.specs.Acts.{Act}
-use Rattle.merge_model.specs.ByHistory.{by_made, by_past}
-use Rattle.merge_model.specs.ByNumbers.{received_by_number}
-use Rattle.merge_model.specs.Changes.{key_of, version_after}
-use Rattle.merge_model.specs.Entries.{Entries}
-use Rattle.merge_model.specs.Faults.{reply_fault}
+use Rattle.merge_model.specs.Failing.Runs.{model_behind, model_behind_actions}
+use Rattle.merge_model.specs.Publisher.Acts.{Act}
+use Rattle.merge_model.specs.Judge.ByHistory.{by_made, by_past}
+use Rattle.merge_model.specs.Judge.ByNumbers.{received_by_number}
+use Rattle.merge_model.specs.Tables.Changes.{key_of, version_after}
+use Rattle.merge_model.specs.Publisher.Entries.{Entries}
+use Rattle.merge_model.specs.World.Faults.{reply_fault}
 use Rattle.merge_model.specs.History.{History, MadeChange, Past, made_at, no_history, past_at, pasts_with}
 use Rattle.merge_model.specs.Judge.{PublisherJudge, SubscriberJudge}
-use Rattle.merge_model.specs.Keys.{put_number}
-use Rattle.merge_model.specs.Model.{Model, empty_model, model}
-use Rattle.merge_model.specs.Noting
-use Rattle.merge_model.specs.Pasts.{past_after}
+use Rattle.merge_model.specs.Tables.Keys.{put_number}
+use Rattle.merge_model.specs.History.Model.{Model, empty_model, model}
+use Rattle.merge_model.specs.History.Noting
+use Rattle.merge_model.specs.History.Pasts.{past_after}
 use Rattle.merge_model.specs.Publisher.{closed, last_closed}
-use Rattle.merge_model.specs.PublisherDownload.{asked, reply_to}
-use Rattle.merge_model.specs.PublisherJoin.{join_taken}
-use Rattle.merge_model.specs.PublisherLocal.{made_locally}
-use Rattle.merge_model.specs.PublisherPurge.{purge}
-use Rattle.merge_model.specs.PublisherRanges.{plans, ranged, with_grants}
-use Rattle.merge_model.specs.PublisherUpload.{brings_news, taken_in, upload_refusal}
-use Rattle.merge_model.specs.Reinit.{reinitialised}
-use Rattle.merge_model.specs.Sending.{join_of, upload_end, upload_sent, upload_to, want_of, with_message}
-use Rattle.merge_model.specs.Steps.{Action, kept_decisions, upload_questions}
+use Rattle.merge_model.specs.Publisher.PublisherDownload.{asked, reply_to}
+use Rattle.merge_model.specs.Publisher.PublisherJoin.{join_taken}
+use Rattle.merge_model.specs.Publisher.PublisherLocal.{made_locally}
+use Rattle.merge_model.specs.Publisher.PublisherPurge.{purge}
+use Rattle.merge_model.specs.Publisher.PublisherRanges.{plans, ranged, with_grants}
+use Rattle.merge_model.specs.Publisher.PublisherUpload.{brings_news, taken_in, upload_refusal}
+use Rattle.merge_model.specs.Subscriber.Reinit.{reinitialised}
+use Rattle.merge_model.specs.Subscriber.Sending.{join_of, upload_end, upload_sent, upload_to, want_of, with_message}
+use Rattle.merge_model.specs.World.Steps.{Action, kept_decisions, upload_questions}
 use Rattle.merge_model.specs.Subscriber.{empty_subscriber, sub_at_moment, sub_closed, sub_last_closed, sub_local_refusal, sub_made_locally, sub_next_dot, sub_version_at, with_version_if}
 use Rattle.merge_types.specs.declared.row_key.RowKey.{RowKey as Key}
 use Rattle.merge_model.specs.Tables.{PublisherTables, SubscriberTables}
-use Rattle.merge_model.specs.Taking.{seq_of, taken}
+use Rattle.merge_model.specs.Subscriber.Taking.{seq_of, taken}
 use Rattle.merge_model.specs.World.{Saying, World, empty_world, subscriber_at, with_publisher, with_subscriber}
 use Rattle.merge_model.specs.declared.letter.Message.TheVariants.{Asks, Replies}
 use Rattle.merge_model.specs.declared.event.Event.{Event}
-use Rattle.merge_model.proofs.Actions.{failing-actions-keep}
+use Rattle.merge_model.proofs.Runs.Actions.{failing-actions-keep}
 use Rattle.merge_laws.proofs.Tallied.{numbered-tallied, received-tallied}
 use Rattle.merge_laws.specs.Received.{Received}
 use Rattle.merge_laws.specs.Numbered.{Numbered, Tells, last_of}

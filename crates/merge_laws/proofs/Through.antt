@@ -9,13 +9,13 @@ use Rattle.merge_types.specs.declared.identifiers.Moment.{Moment}
 use Rattle.merge_gens.specs.declared.closings.Closing.{Closing}
 use Rattle.merge_gens.specs.declared.filling.Filling.{Filling}
 use Rattle.merge_gens.specs.Book.{Book, closing_at, moment_of, moved_to}
-use Rattle.merge_model.specs.ByHistory.{is_unmet_by_done, received_number_by_done}
-use Rattle.merge_model.specs.ByNumbers.{received_by_number}
+use Rattle.merge_model.specs.Judge.ByHistory.{is_unmet_by_done, received_number_by_done}
+use Rattle.merge_model.specs.Judge.ByNumbers.{received_by_number}
 use Rattle.merge_model.specs.History.{History, MadeChange, is_done, made_at}
 use Rattle.merge_model.specs.Tables.{PublisherTables}
 use Rattle.merge_laws.specs.Received.{DoneIsReceived}
 use Rattle.merge_laws.specs.Numbered.{InOrder, is_up_to, last_of, last_through}
-use Rattle.merge_model.proofs.Finding.{all-weaker}
+use Rattle.merge_model.proofs.Lists.Finding.{all-weaker}
 use Rattle.merge_model.proofs.Lists.{any-same}
 
 -- The greatest number of the changes that pass a test.

@@ -10,12 +10,12 @@ use Rattle.merge_types.specs.declared.identifiers.Dot.{Dot}
 use Rattle.merge_units.specs.declared.version.Version.{Version}
 use Rattle.merge_conflict.specs.declared.row.ConflictRow.{ConflictRow}
 use Rattle.merge_model.specs.History.{History, Line, MadeChange, Past, past_at, past_in, pasts_at}
-use Rattle.merge_model.specs.Keys.{drop_row, put_number, put_row, same_key}
-use Rattle.merge_model.specs.Noting
+use Rattle.merge_model.specs.Tables.Keys.{drop_row, put_number, put_row, same_key}
+use Rattle.merge_model.specs.History.Noting
 use Rattle.merge_types.specs.declared.row_key.RowKey.{RowKey as Key}
 use Rattle.merge_laws.specs.LineagesStand.{lost_at}
 use Rattle.merge_laws.proofs.PastLookUps.{put-here, put-there, with-past-same}
-use Rattle.merge_model.proofs.Tests.{if-false}
+use Rattle.merge_model.proofs.Lists.Tests.{if-false}
 use Rattle.merge_laws.proofs.ToldRows.{AllFit, HeldFits, all-dropped, all-put, all-put_if, all-same, drop_version, keyed, put_if, put_version}
 
 -- What was lost at a site, with one version more.

@@ -15,17 +15,17 @@ use Rattle.merge_batch.specs.declared.request.Upload.{Upload}
 use Rattle.merge_batch.specs.declared.request.UploadItem.{UploadItem}
 use Rattle.merge_batch.specs.declared.rules.BrokenRule.{BrokenRule}
 use Rattle.merge_batch.proofs.AllMet.{all_met, is_below-along, met-at, none_first, none_mapped, none_second}
-use Rattle.merge_model.specs.Acts.{Act, act_of, acting_items, acts_from, acts_of, key_of_item, left_by, made_by}
-use Rattle.merge_model.specs.Faults.{fault_of, known_by, upload_fault}
+use Rattle.merge_model.specs.Publisher.Acts.{Act, act_of, acting_items, acts_from, acts_of, key_of_item, left_by, made_by}
+use Rattle.merge_model.specs.World.Faults.{fault_of, known_by, upload_fault}
 use Rattle.merge_model.specs.Judge.{PublisherJudge}
-use Rattle.merge_model.specs.Keys.{same_key}
+use Rattle.merge_model.specs.Tables.Keys.{same_key}
 use Rattle.merge_model.specs.Publisher.{counters, site_refusal}
-use Rattle.merge_model.specs.PublisherUpload.{too_many_new, upload_refusal}
-use Rattle.merge_model.specs.Refusals.{counter_end, refused_if}
+use Rattle.merge_model.specs.Publisher.PublisherUpload.{too_many_new, upload_refusal}
+use Rattle.merge_model.specs.Tables.Refusals.{counter_end, refused_if}
 use Rattle.merge_types.specs.declared.row_key.RowKey.{RowKey as Key}
 use Rattle.merge_model.specs.Tables.{PublisherTables}
-use Rattle.merge_model.proofs.Refusals.{first-none}
-use Rattle.merge_model.proofs.Finding.{all-weaker}
+use Rattle.merge_model.proofs.Runs.Refusals.{first-none}
+use Rattle.merge_model.proofs.Lists.Finding.{all-weaker}
 use Rattle.merge_model.proofs.Lists.{all-filter}
 
 abbrev pub ItemsApart : List UploadItem → Type 0

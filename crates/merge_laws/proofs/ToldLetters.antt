@@ -6,21 +6,21 @@ use Rattle.merge_units.specs.declared.version.Body.TheVariants.{Live}
 use Rattle.merge_units.specs.declared.version.Version.{Version}
 use Rattle.merge_batch.specs.declared.reply.DownloadItem.{DownloadItem}
 use Rattle.merge_batch.specs.declared.request.UploadItem.{UploadItem}
-use Rattle.merge_model.specs.Acts.{key_of_item}
+use Rattle.merge_model.specs.Publisher.Acts.{key_of_item}
 use Rattle.merge_model.specs.History.{History, Past, past_in, pasts_with}
-use Rattle.merge_model.specs.Model.{past_of_item, put_past}
-use Rattle.merge_model.specs.PublisherDownload.{TouchedRow, item_of}
+use Rattle.merge_model.specs.History.Model.{past_of_item, put_past}
+use Rattle.merge_model.specs.Publisher.PublisherDownload.{TouchedRow, item_of}
 use Rattle.merge_batch.specs.Orders.{order_by}
-use Rattle.merge_model.specs.PublisherLocal.{version_at}
-use Rattle.merge_model.specs.Sending.{upload_item}
+use Rattle.merge_model.specs.Publisher.PublisherLocal.{version_at}
+use Rattle.merge_model.specs.Subscriber.Sending.{upload_item}
 use Rattle.merge_model.specs.Subscriber.{sub_version_at}
 use Rattle.merge_types.specs.declared.row_key.RowKey.{RowKey as Key}
 use Rattle.merge_model.specs.Tables.{PublisherTables, SubscriberTables}
-use Rattle.merge_model.specs.Taking.{key_of_download}
+use Rattle.merge_model.specs.Subscriber.Taking.{key_of_download}
 use Rattle.merge_model.specs.World.{World, letter_at}
 use Rattle.merge_model.specs.declared.letter.Letter.{Letter}
 use Rattle.merge_laws.specs.LineagesStand.{OfMessage, OfOrder}
-use Rattle.merge_model.proofs.Finding.{letter-zip}
+use Rattle.merge_model.proofs.Lists.Finding.{letter-zip}
 use Rattle.merge_laws.proofs.LetterPasts.{items-sent, orders-sent, removed-order}
 use Rattle.merge_model.proofs.Lists.{OfSome, all-filter_map, all-map, all-unit}
 use Rattle.merge_laws.proofs.ToldRows.{AllFit, HeldFits}

@@ -16,14 +16,14 @@ use Rattle.merge_batch.specs.declared.reply.DownloadItem.{DownloadItem}
 use Rattle.merge_model.specs.History.{History, Past, past_at, past_in}
 use Rattle.merge_model.specs.Judge.{SubscriberJudge}
 use Rattle.merge_types.specs.RowKeys.{key_cmp}
-use Rattle.merge_model.specs.Keys.{drop_row, put_row, row_at}
-use Rattle.merge_model.specs.Noting
-use Rattle.merge_model.specs.Reinit.{discarded, discarded_row, numbered_from}
+use Rattle.merge_model.specs.Tables.Keys.{drop_row, put_row, row_at}
+use Rattle.merge_model.specs.History.Noting
+use Rattle.merge_model.specs.Subscriber.Reinit.{discarded, discarded_row, numbered_from}
 use Rattle.merge_types.specs.declared.row_key.RowKey.{RowKey as Key}
 use Rattle.merge_units.specs.declared.site_row.SubscriberRow.{SubscriberRow}
 use Rattle.merge_model.specs.Tables.{SubscriberTables}
-use Rattle.merge_model.specs.Taking.{key_of_download, row_above, with_item, with_order}
-use Rattle.merge_model.proofs.Sorted.{key_total}
+use Rattle.merge_model.specs.Subscriber.Taking.{key_of_download, row_above, with_item, with_order}
+use Rattle.merge_model.proofs.Publishers.Sorted.{key_total}
 use Rattle.merge_laws.specs.LineagesStand.{OfOrder}
 use Rattle.merge_model.proofs.Lists.{OfSome, all-filter_map}
 use Rattle.merge_laws.proofs.ToldHistories.{Goes, goes-dropped, goes-emptied, goes-lost, goes-put, goes-same}

@@ -12,10 +12,10 @@ use Rattle.merge_table.proofs.Slots.{lookup_above}
 use Rattle.merge_units.specs.declared.version.Version.{Version}
 use Rattle.merge_model.specs.History.{Past, past_in}
 use Rattle.merge_types.specs.RowKeys.{key_cmp}
-use Rattle.merge_model.specs.Keys.{drop_row, put_row, row_at, same_key}
+use Rattle.merge_model.specs.Tables.Keys.{drop_row, put_row, row_at, same_key}
 use Rattle.merge_types.specs.declared.row_key.RowKey.{RowKey as Key}
-use Rattle.merge_model.proofs.Sorted.{key_total}
-use Rattle.merge_model.proofs.KeyLookUps.{keys-same, row-dropped, row-put, key-test, keys-exact, key-itself}
+use Rattle.merge_model.proofs.Publishers.Sorted.{key_total}
+use Rattle.merge_model.proofs.Lists.KeyLookUps.{keys-same, row-dropped, row-put, key-test, keys-exact, key-itself}
 use Rattle.merge_laws.proofs.PastLookUps.{past-put, past-left}
 
 -- a fact of a key, a version and a past, of a row that may not be held

@@ -10,9 +10,9 @@ use Rattle.merge_units.specs.declared.version.Version.{Version}
 use Rattle.merge_conflict.specs.declared.row.ConflictRow.{ConflictRow}
 use Rattle.merge_model.specs.History.{History, Past, past_at, past_in}
 use Rattle.merge_types.specs.RowKeys.{key_cmp}
-use Rattle.merge_model.specs.Keys.{at_number, put_number}
-use Rattle.merge_model.specs.Model.{pasts_in, with_letter}
-use Rattle.merge_model.specs.PublisherLocal.{version_at}
+use Rattle.merge_model.specs.Tables.Keys.{at_number, put_number}
+use Rattle.merge_model.specs.History.Model.{pasts_in, with_letter}
+use Rattle.merge_model.specs.Publisher.PublisherLocal.{version_at}
 use Rattle.merge_model.specs.Subscriber.{sub_version_at}
 use Rattle.merge_types.specs.declared.row_key.RowKey.{RowKey as Key}
 use Rattle.merge_units.specs.declared.site_row.PublisherRow.{PublisherRow}
@@ -22,7 +22,7 @@ use Rattle.merge_model.specs.World.{World, subscriber_at, with_publisher, with_s
 use Rattle.merge_model.specs.declared.letter.Letter.{Letter}
 use Rattle.merge_model.specs.declared.letter.Message.{Message}
 use Rattle.merge_laws.specs.LineagesStand.{EveryVersion, OfMessage, lost_at}
-use Rattle.merge_model.proofs.Finding.{at_put_other, at_put_same, some_same, found-named}
+use Rattle.merge_model.proofs.Lists.Finding.{at_put_other, at_put_same, some_same, found-named}
 use Rattle.merge_laws.proofs.Subscribing.{number-decided, same_number}
 use Rattle.merge_laws.proofs.ToldHistories.{Goes, LostFits, goes-begins}
 use Rattle.merge_laws.proofs.ToldRows.{RowsFit, found-rows, rows-found}

@@ -8,10 +8,10 @@ use Rattle.merge_units.specs.declared.version.Body.TheVariants.{Dead, Live}
 use Rattle.merge_units.specs.declared.version.Version.{Version}
 use Rattle.merge_schema.specs.declared.publication.Publication.{Publication}
 use Rattle.merge_units.specs.Version.{tops_of}
-use Rattle.merge_model.specs.Changes.{key_of, version_after}
+use Rattle.merge_model.specs.Tables.Changes.{key_of, version_after}
 use Rattle.merge_model.specs.History.{History, Past, has}
-use Rattle.merge_model.specs.Model.{empty_model}
-use Rattle.merge_model.specs.Pasts.{past_after}
+use Rattle.merge_model.specs.History.Model.{empty_model}
+use Rattle.merge_model.specs.History.Pasts.{past_after}
 use Rattle.merge_types.specs.declared.row_key.RowKey.{RowKey as Key}
 use Rattle.merge_model.specs.World.{Saying, World}
 use Rattle.merge_laws.specs.LineagesStand.{AllTold}

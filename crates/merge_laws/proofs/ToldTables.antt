@@ -14,17 +14,17 @@ use Rattle.merge_gens.specs.Filling.{generation_of, generations_of}
 use Rattle.merge_gens.specs.declared.filling.Filling.{Filling}
 use Rattle.merge_units.specs.declared.version.Version.{Version}
 use Rattle.merge_schema.specs.declared.publication.Publication.{Publication}
-use Rattle.merge_model.specs.Entries.{Changing, changed_by, changing_entries, with_rows}
+use Rattle.merge_model.specs.Publisher.Entries.{Changing, changed_by, changing_entries, with_rows}
 use Rattle.merge_model.specs.Judge.{PublisherJudge}
 use Rattle.merge_types.specs.RowKeys.{key_cmp}
-use Rattle.merge_model.specs.Keys.{has_key, put_row, row_at, same_key}
-use Rattle.merge_model.specs.PublisherLocal.{version_at}
+use Rattle.merge_model.specs.Tables.Keys.{has_key, put_row, row_at, same_key}
+use Rattle.merge_model.specs.Publisher.PublisherLocal.{version_at}
 use Rattle.merge_types.specs.declared.row_key.RowKey.{RowKey as Key}
 use Rattle.merge_units.specs.declared.site_row.PublisherRow.{PublisherRow}
 use Rattle.merge_model.specs.Tables.{PublisherTables}
-use Rattle.merge_model.proofs.Sorted.{key_total}
-use Rattle.merge_model.proofs.KeyLookUps.{key-test, keys-exact}
-use Rattle.merge_model.proofs.PlaceLookUps.{kept, lookup-filter}
+use Rattle.merge_model.proofs.Publishers.Sorted.{key_total}
+use Rattle.merge_model.proofs.Lists.KeyLookUps.{key-test, keys-exact}
+use Rattle.merge_model.proofs.Lists.PlaceLookUps.{kept, lookup-filter}
 use Rattle.merge_laws.proofs.ToldRows.{drop_version, found-put, found_in, keyed, put_if, put_version}
 
 abbrev pub row_version : PublisherRow → Version

@@ -20,18 +20,18 @@ use Rattle.merge_conflict.specs.declared.row.Verdict.TheVariants as verdict
 use Rattle.merge_conflict.specs.Losers.{losing_rows, our_row, their_row}
 use Rattle.merge_schema.specs.declared.publication.Publication.{Publication}
 use Rattle.merge_batch.specs.declared.request.UploadItem.{UploadItem}
-use Rattle.merge_model.specs.Acts.{Act, Fate, Met, New, Unknown, act_of, acts_from, conflict_of, case_met, decision_for, fate_by, is_new_row, key_of_item, left_by, lost_by, lost_from, made_by, purged_row, version_of_act, versions_of}
-use Rattle.merge_model.specs.ByHistory.{by_past}
+use Rattle.merge_model.specs.Publisher.Acts.{Act, Fate, Met, New, Unknown, act_of, acts_from, conflict_of, case_met, decision_for, fate_by, is_new_row, key_of_item, left_by, lost_by, lost_from, made_by, purged_row, version_of_act, versions_of}
+use Rattle.merge_model.specs.Judge.ByHistory.{by_past}
 use Rattle.merge_units.specs.Cases.{case_by, is_conflict}
 use Rattle.merge_units.specs.Results.{result_by}
-use Rattle.merge_model.specs.Changes.{change_refusal, key_of, version_after}
-use Rattle.merge_model.specs.Entries.{Entries}
+use Rattle.merge_model.specs.Tables.Changes.{change_refusal, key_of, version_after}
+use Rattle.merge_model.specs.Publisher.Entries.{Entries}
 use Rattle.merge_model.specs.History.{History, MadeChange, Past, has, past_at, past_in}
 use Rattle.merge_model.specs.Judge.{PublisherJudge}
-use Rattle.merge_model.specs.Keys.{row_at, same_key}
-use Rattle.merge_model.specs.Noting
-use Rattle.merge_model.specs.Pasts.{past_after, past_by}
-use Rattle.merge_model.specs.PublisherLocal.{version_at}
+use Rattle.merge_model.specs.Tables.Keys.{row_at, same_key}
+use Rattle.merge_model.specs.History.Noting
+use Rattle.merge_model.specs.History.Pasts.{past_after, past_by}
+use Rattle.merge_model.specs.Publisher.PublisherLocal.{version_at}
 use Rattle.merge_types.specs.declared.row_key.RowKey.{RowKey as Key}
 use Rattle.merge_units.specs.declared.site_row.PublisherRow.{PublisherRow}
 use Rattle.merge_model.specs.Tables.{PublisherTables}

@@ -31,13 +31,13 @@ use Rattle.merge_units.specs.Results.{result_by}
 use Rattle.merge_units.specs.Version.{tops_of}
 use Rattle.merge_units.specs.Changes.{new_cells}
 use Rattle.merge_units.specs.Changes.{new_row}
-use Rattle.merge_model.specs.Changes.{new_values, version_after}
+use Rattle.merge_model.specs.Tables.Changes.{new_values, version_after}
 use Rattle.merge_model.specs.History.{Past, has}
-use Rattle.merge_model.specs.Pasts.{past_after, past_by}
-use Rattle.merge_model.specs.Publications.{tracking_at}
+use Rattle.merge_model.specs.History.Pasts.{past_after, past_by}
+use Rattle.merge_model.specs.Tables.Publications.{tracking_at}
 use Rattle.merge_laws.specs.Knowledge.{same_dot}
 use Rattle.merge_laws.specs.Standing.{HeldTold, Tells, Told}
-use Rattle.merge_model.proofs.Finding.{all-weaker}
+use Rattle.merge_model.proofs.Lists.Finding.{all-weaker}
 use Rattle.merge_laws.proofs.LineagesTold.{tells-change, tells-merge}
 use Rattle.merge_laws.proofs.DotTests.{dot-first}
 

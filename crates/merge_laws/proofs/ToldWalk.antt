@@ -23,41 +23,41 @@ use Rattle.merge_batch.specs.declared.request.Outstanding.TheVariants as ask
 use Rattle.merge_batch.specs.declared.request.Request.TheVariants as request
 use Rattle.merge_batch.specs.declared.request.Upload.{Upload}
 use Rattle.merge_batch.specs.declared.request.UploadItem.{UploadItem}
-use Rattle.merge_model.specs.Acts.{Act, acting_items, key_of_item}
-use Rattle.merge_model.specs.ByHistory.{by_history, by_made, by_past}
-use Rattle.merge_model.specs.Changes.{change_refusal, key_of, version_after}
-use Rattle.merge_model.specs.Entries.{Changing, Entries}
+use Rattle.merge_model.specs.Publisher.Acts.{Act, acting_items, key_of_item}
+use Rattle.merge_model.specs.Judge.ByHistory.{by_history, by_made, by_past}
+use Rattle.merge_model.specs.Tables.Changes.{change_refusal, key_of, version_after}
+use Rattle.merge_model.specs.Publisher.Entries.{Changing, Entries}
 use Rattle.merge_model.specs.History.{History, Line, MadeChange, Past, past_at, past_in, pasts_at, pasts_with, no_history}
 use Rattle.merge_model.specs.Judge.{PublisherJudge, SubscriberJudge}
 use Rattle.merge_types.specs.RowKeys.{key_cmp}
-use Rattle.merge_model.specs.Keys.{put_number}
+use Rattle.merge_model.specs.Tables.Keys.{put_number}
 use Rattle.merge_model.specs.Laws.{AreSubSorted}
-use Rattle.merge_model.specs.Model.{empty_model}
-use Rattle.merge_model.specs.Noting
-use Rattle.merge_model.specs.Pasts.{past_after}
-use Rattle.merge_model.specs.Publications.{by_site}
+use Rattle.merge_model.specs.History.Model.{empty_model}
+use Rattle.merge_model.specs.History.Noting
+use Rattle.merge_model.specs.History.Pasts.{past_after}
+use Rattle.merge_model.specs.Tables.Publications.{by_site}
 use Rattle.merge_model.specs.Publisher.{closed, counters, last_closed}
-use Rattle.merge_model.specs.PublisherDownload.{asked, reply_to}
-use Rattle.merge_model.specs.PublisherJoin.{join_taken}
-use Rattle.merge_model.specs.PublisherLocal.{Drawn, changing_locally, local_refusal, made_locally, next_dot, version_at, with_draw}
-use Rattle.merge_model.specs.PublisherPurge.{is_old_tombstone, purge}
-use Rattle.merge_model.specs.PublisherRanges.{plans, ranged, with_grants}
-use Rattle.merge_model.specs.PublisherUpload.{changing_by, taken_in, upload_refusal, with_acts}
-use Rattle.merge_model.specs.Refusals.{counter_end}
-use Rattle.merge_model.specs.Reinit.{reinitialised}
-use Rattle.merge_model.specs.Sending.{join_of, upload_sent, want_of, with_message}
-use Rattle.merge_model.specs.Steps.{Forget, kept_decisions, upload_questions}
+use Rattle.merge_model.specs.Publisher.PublisherDownload.{asked, reply_to}
+use Rattle.merge_model.specs.Publisher.PublisherJoin.{join_taken}
+use Rattle.merge_model.specs.Publisher.PublisherLocal.{Drawn, changing_locally, local_refusal, made_locally, next_dot, version_at, with_draw}
+use Rattle.merge_model.specs.Publisher.PublisherPurge.{is_old_tombstone, purge}
+use Rattle.merge_model.specs.Publisher.PublisherRanges.{plans, ranged, with_grants}
+use Rattle.merge_model.specs.Publisher.PublisherUpload.{changing_by, taken_in, upload_refusal, with_acts}
+use Rattle.merge_model.specs.Tables.Refusals.{counter_end}
+use Rattle.merge_model.specs.Subscriber.Reinit.{reinitialised}
+use Rattle.merge_model.specs.Subscriber.Sending.{join_of, upload_sent, want_of, with_message}
+use Rattle.merge_model.specs.World.Steps.{Forget, kept_decisions, upload_questions}
 use Rattle.merge_model.specs.Subscriber.{is_joining, sub_at_moment, sub_closed, sub_counters, sub_last_closed, sub_local_refusal, sub_made_locally, sub_next_dot, sub_version_at, with_version_if}
 use Rattle.merge_types.specs.declared.row_key.RowKey.{RowKey as Key}
 use Rattle.merge_units.specs.declared.site_row.SubscriberRow.{SubscriberRow}
 use Rattle.merge_model.specs.Tables.{PublisherTables, SubscriberTables}
-use Rattle.merge_model.specs.Taking.{row_above, taken}
+use Rattle.merge_model.specs.Subscriber.Taking.{row_above, taken}
 use Rattle.merge_model.specs.World.{Saying, World, subscriber_at, with_publisher, with_subscriber}
 use Rattle.merge_model.specs.declared.letter.Message.TheVariants.{Asks, Replies}
-use Rattle.merge_model.proofs.Sorted.{key_total, step-sorted}
+use Rattle.merge_model.proofs.Publishers.Sorted.{key_total, step-sorted}
 use Rattle.merge_laws.specs.LineagesStand.{EveryVersion}
-use Rattle.merge_model.proofs.Refusals.{first-none}
-use Rattle.merge_model.proofs.Finding.{found-named}
+use Rattle.merge_model.proofs.Runs.Refusals.{first-none}
+use Rattle.merge_model.proofs.Lists.Finding.{found-named}
 use Rattle.merge_laws.proofs.Ground.{Ground}
 use Rattle.merge_model.proofs.Lists.{all-filter}
 use Rattle.merge_laws.proofs.Models.{begins-with}

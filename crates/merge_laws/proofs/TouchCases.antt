@@ -3,9 +3,9 @@ use Rattle.std.specs.Prelude.{◌≡◌, ◌≤◌, ◌<◌, ◌==◌, ◌&&◌,
 use Rattle.std.proofs.Common.{arith, inl, inr, subst, ap, ◌∙◌}
 use Rattle.merge_types.specs.declared.identifiers.SiteId.{SiteId}
 use Rattle.merge_units.specs.declared.version.Version.{Version}
-use Rattle.merge_model.specs.ByNumbers.{mapping_at, touch_by_mapping, touch_inside, touch_outside}
-use Rattle.merge_model.specs.Keys.{row_at}
-use Rattle.merge_model.specs.PublisherJoin.{is_left_of}
+use Rattle.merge_model.specs.Judge.ByNumbers.{mapping_at, touch_by_mapping, touch_inside, touch_outside}
+use Rattle.merge_model.specs.Tables.Keys.{row_at}
+use Rattle.merge_model.specs.Publisher.PublisherJoin.{is_left_of}
 use Rattle.merge_gens.specs.declared.moves.MoveKind.TheVariants.{Entered, Left}
 use Rattle.merge_types.specs.declared.row_key.RowKey.{RowKey as Key}
 use Rattle.merge_gens.specs.declared.moves.Mapping.{Mapping}
@@ -14,7 +14,7 @@ use Rattle.merge_units.specs.declared.site_row.PublisherRow.{PublisherRow}
 use Rattle.merge_gens.specs.declared.moves.RowSite.{RowSite}
 use Rattle.merge_gens.specs.Moves.{is_left}
 use Rattle.merge_model.specs.Tables.{PublisherTables}
-use Rattle.merge_model.proofs.PlaceLookUps.{kept}
+use Rattle.merge_model.proofs.Lists.PlaceLookUps.{kept}
 use Rattle.merge_laws.proofs.TouchEntries.{EntersHere, MovedTo, changed_of, generation_of}
 
 abbrev pub touch_of : Bool → Option PublisherRow → Option Mapping → ℕ

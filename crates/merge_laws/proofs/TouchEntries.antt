@@ -13,32 +13,32 @@ use Rattle.merge_gens.specs.Filling.{filled_by, generations_of}
 use Rattle.merge_schema.specs.declared.publication.Publication.{Publication}
 use Rattle.merge_schema.specs.declared.publication.Subscription.{Subscription}
 use Rattle.merge_schema.proofs.Searches.{any_map}
-use Rattle.merge_model.specs.Entries as entry
-use Rattle.merge_model.specs.Entries.{Changing, Entries, Parts, Touched, changed_by, changing_entries, entry_count, live_rows, move_of, moves_of, parts_of, returned, rows_after, touched_by, with_move, with_rows}
+use Rattle.merge_model.specs.Publisher.Entries as entry
+use Rattle.merge_model.specs.Publisher.Entries.{Changing, Entries, Parts, Touched, changed_by, changing_entries, entry_count, live_rows, move_of, moves_of, parts_of, returned, rows_after, touched_by, with_move, with_rows}
 use Rattle.merge_model.specs.Judge.{PublisherJudge}
 use Rattle.merge_types.specs.RowKeys.{key_cmp}
 use Rattle.merge_gens.specs.Moves.{row_site_cmp}
-use Rattle.merge_model.specs.Keys.{at_row_site, has_key, row_at, same_key}
+use Rattle.merge_model.specs.Tables.Keys.{at_row_site, has_key, row_at, same_key}
 use Rattle.merge_resolve.specs.Priorities.{subscription_at}
-use Rattle.merge_model.specs.PublisherDownload.{inside_keys}
+use Rattle.merge_model.specs.Publisher.PublisherDownload.{inside_keys}
 use Rattle.merge_types.specs.declared.row_key.RowKey.{RowKey as Key}
 use Rattle.merge_gens.specs.declared.moves.Mapping.{Mapping}
 use Rattle.merge_gens.specs.declared.moves.MoveKind.{MoveKind}
 use Rattle.merge_units.specs.declared.site_row.PublisherRow.{PublisherRow}
 use Rattle.merge_gens.specs.declared.moves.RowSite.{RowSite}
 use Rattle.merge_model.specs.Tables.{PublisherTables}
-use Rattle.merge_model.proofs.Sorted.{key_total, row_site_total}
+use Rattle.merge_model.proofs.Publishers.Sorted.{key_total, row_site_total}
 use Rattle.merge_laws.specs.Settled.{last_used}
-use Rattle.merge_model.proofs.Downloads.{inside-held}
-use Rattle.merge_model.proofs.Finding.{all-weaker}
-use Rattle.merge_model.proofs.KeyLookUps.{key-test}
+use Rattle.merge_model.proofs.Entries.Downloads.{inside-held}
+use Rattle.merge_model.proofs.Lists.Finding.{all-weaker}
+use Rattle.merge_model.proofs.Lists.KeyLookUps.{key-test}
 use Rattle.merge_laws.proofs.LastLineAdded.{moves-ascend}
-use Rattle.merge_model.proofs.PlaceLookUps.{at-dropped, has_place, is_place, place-is}
+use Rattle.merge_model.proofs.Lists.PlaceLookUps.{at-dropped, has_place, is_place, place-is}
 use Rattle.merge_model.proofs.Lists.{all-of}
-use Rattle.merge_model.proofs.EntryLists.{all-dropped, all-numbered, all-taken, any-numbered, none-all, puts-hold}
+use Rattle.merge_model.proofs.Entries.EntryLists.{all-dropped, all-numbered, all-taken, any-numbered, none-all, puts-hold}
 use Rattle.merge_laws.proofs.TouchLists.{IsNew, generations-many, generations-new, used-rises}
-use Rattle.merge_model.proofs.StepMoves.{IsMoveHere, move-made, moved_here, moves-are, none-returned}
-use Rattle.merge_model.proofs.StepParts.{CanBeSaid, IsPart, found-same, found_keys, keys-held, live-same, none-found, part-stands, parts-are, strangers-parts}
+use Rattle.merge_model.proofs.Entries.StepMoves.{IsMoveHere, move-made, moved_here, moves-are, none-returned}
+use Rattle.merge_model.proofs.Entries.StepParts.{CanBeSaid, IsPart, found-same, found_keys, keys-held, live-same, none-found, part-stands, parts-are, strangers-parts}
 
 -- the generation of a row's last change, 0 where it is not held
 abbrev pub changed_of : Option PublisherRow → ℕ

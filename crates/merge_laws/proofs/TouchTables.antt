@@ -20,35 +20,35 @@ use Rattle.merge_schema.specs.Places.{is_subscription}
 use Rattle.merge_batch.specs.declared.request.Download.{Download}
 use Rattle.merge_batch.specs.declared.request.Join.{Join}
 use Rattle.merge_batch.specs.declared.request.Upload.{Upload}
-use Rattle.merge_model.specs.Acts.{Act, acting_items, acts_of, key_of_item}
-use Rattle.merge_model.specs.ByNumbers.{mapping_at}
-use Rattle.merge_model.specs.Entries.{Changing, changed_by, live_row, live_rows, rows_after, touched_by}
+use Rattle.merge_model.specs.Publisher.Acts.{Act, acting_items, acts_of, key_of_item}
+use Rattle.merge_model.specs.Judge.ByNumbers.{mapping_at}
+use Rattle.merge_model.specs.Publisher.Entries.{Changing, changed_by, live_row, live_rows, rows_after, touched_by}
 use Rattle.merge_model.specs.Judge.{PublisherJudge}
 use Rattle.merge_types.specs.RowKeys.{key_cmp}
 use Rattle.merge_gens.specs.Moves.{row_site_cmp}
-use Rattle.merge_model.specs.Keys.{has_key, row_at}
+use Rattle.merge_model.specs.Tables.Keys.{has_key, row_at}
 use Rattle.merge_model.specs.Laws.{AreSorted}
 use Rattle.merge_resolve.specs.Priorities.{subscription_at}
 use Rattle.merge_model.specs.Publisher.{at_moment, closed, last_closed}
-use Rattle.merge_model.specs.PublisherDownload.{asked, inside_keys}
-use Rattle.merge_model.specs.PublisherJoin.{is_left_of, join_taken}
-use Rattle.merge_model.specs.PublisherLocal.{Drawn, changing_locally, made_locally, with_draw}
-use Rattle.merge_model.specs.PublisherPurge.{is_old, is_old_tombstone, purge}
-use Rattle.merge_model.specs.PublisherRanges.{with_grants}
-use Rattle.merge_model.specs.PublisherUpload.{changing_by, taken_in, with_acts}
+use Rattle.merge_model.specs.Publisher.PublisherDownload.{asked, inside_keys}
+use Rattle.merge_model.specs.Publisher.PublisherJoin.{is_left_of, join_taken}
+use Rattle.merge_model.specs.Publisher.PublisherLocal.{Drawn, changing_locally, made_locally, with_draw}
+use Rattle.merge_model.specs.Publisher.PublisherPurge.{is_old, is_old_tombstone, purge}
+use Rattle.merge_model.specs.Publisher.PublisherRanges.{with_grants}
+use Rattle.merge_model.specs.Publisher.PublisherUpload.{changing_by, taken_in, with_acts}
 use Rattle.merge_types.specs.declared.row_key.RowKey.{RowKey as Key}
 use Rattle.merge_gens.specs.declared.moves.Mapping.{Mapping}
 use Rattle.merge_units.specs.declared.site_row.PublisherRow.{PublisherRow}
 use Rattle.merge_gens.specs.declared.moves.RowSite.{RowSite}
 use Rattle.merge_model.specs.Tables.{PublisherTables}
-use Rattle.merge_model.proofs.Sorted.{key_total, row_site_total}
+use Rattle.merge_model.proofs.Publishers.Sorted.{key_total, row_site_total}
 use Rattle.merge_laws.specs.Settled.{owed_at, touched_at}
-use Rattle.merge_model.proofs.Downloads.{inside-held}
-use Rattle.merge_model.proofs.KeyLookUps.{keys-exact}
-use Rattle.merge_model.proofs.PlaceLookUps.{kept, kept-found, lookup-filter, places-exact}
+use Rattle.merge_model.proofs.Entries.Downloads.{inside-held}
+use Rattle.merge_model.proofs.Lists.KeyLookUps.{keys-exact}
+use Rattle.merge_model.proofs.Lists.PlaceLookUps.{kept, kept-found, lookup-filter, places-exact}
 use Rattle.merge_laws.proofs.TouchCases.{StaysOr, acted-case, in-case, old-case, other-case, out-case, owed-same, owed_of, stays, touch-case, touch-is, touch_of}
 use Rattle.merge_laws.proofs.TouchEntries.{enters, inside-after}
-use Rattle.merge_model.proofs.StepParts.{CanBeSaid, found-any, found-same, found_keys}
+use Rattle.merge_model.proofs.Entries.StepParts.{CanBeSaid, found-any, found-same, found_keys}
 use Rattle.merge_laws.proofs.TouchUploads.{acts-keys, held-changes}
 
 -- nothing changed of the row for the site

@@ -6,14 +6,14 @@ use Rattle.merge_types.specs.declared.identifiers.SiteId.{SiteId}
 use Rattle.merge_units.specs.declared.result.Decision.{Decision}
 use Rattle.merge_units.specs.declared.version.Version.{Version}
 use Rattle.merge_batch.specs.declared.request.UploadItem.{UploadItem}
-use Rattle.merge_model.specs.Acts.{Act, act_of, acts_from, fate_by, key_of_item, left_by, made_by, version_by, version_of_act, versions_of}
+use Rattle.merge_model.specs.Publisher.Acts.{Act, act_of, acts_from, fate_by, key_of_item, left_by, made_by, version_by, version_of_act, versions_of}
 use Rattle.merge_model.specs.Judge.{PublisherJudge}
-use Rattle.merge_model.specs.Keys.{has_key, row_at, same_key}
+use Rattle.merge_model.specs.Tables.Keys.{has_key, row_at, same_key}
 use Rattle.merge_types.specs.declared.row_key.RowKey.{RowKey as Key}
 use Rattle.merge_units.specs.declared.site_row.PublisherRow.{PublisherRow}
 use Rattle.merge_model.specs.Tables.{PublisherTables}
-use Rattle.merge_model.proofs.KeyLookUps.{keys-same}
-use Rattle.merge_model.proofs.EntryLists.{or-either}
+use Rattle.merge_model.proofs.Lists.KeyLookUps.{keys-same}
+use Rattle.merge_model.proofs.Entries.EntryLists.{or-either}
 
 abbrev key_of_version : Key × Version → Key
 key_of_version row = row.0

@@ -13,43 +13,43 @@ use Rattle.merge_schema.specs.declared.publication.Publication.{Publication}
 use Rattle.merge_batch.specs.declared.request.Join.{Join}
 use Rattle.merge_batch.specs.declared.request.Outstanding.TheVariants as ask
 use Rattle.merge_batch.specs.declared.request.Download.{Download}
-use Rattle.merge_model.specs.Acts.{Act}
-use Rattle.merge_model.specs.ByHistory.{by_history, by_made, by_past}
-use Rattle.merge_model.specs.ByNumbers.{mapping_at}
-use Rattle.merge_model.specs.Entries.{Changing, changed_by}
-use Rattle.merge_model.specs.Changes.{key_of, version_after}
+use Rattle.merge_model.specs.Publisher.Acts.{Act}
+use Rattle.merge_model.specs.Judge.ByHistory.{by_history, by_made, by_past}
+use Rattle.merge_model.specs.Judge.ByNumbers.{mapping_at}
+use Rattle.merge_model.specs.Publisher.Entries.{Changing, changed_by}
+use Rattle.merge_model.specs.Tables.Changes.{key_of, version_after}
 use Rattle.merge_model.specs.History.{History, Line, no_history, pasts_with}
 use Rattle.merge_model.specs.Judge.{PublisherJudge}
 use Rattle.merge_types.specs.RowKeys.{key_cmp}
 use Rattle.merge_gens.specs.Moves.{row_site_cmp}
-use Rattle.merge_model.specs.Keys.{at_number, has_key, put_number, row_at}
+use Rattle.merge_model.specs.Tables.Keys.{at_number, has_key, put_number, row_at}
 use Rattle.merge_model.specs.Laws.{AreSorted}
-use Rattle.merge_model.specs.Noting
-use Rattle.merge_model.specs.Promises.{base_of}
+use Rattle.merge_model.specs.History.Noting
+use Rattle.merge_model.specs.Laws.Promises.{base_of}
 use Rattle.merge_model.specs.Publisher.{at_moment, closed, empty_publisher, last_closed}
-use Rattle.merge_model.specs.PublisherDownload.{asked, inside_keys}
-use Rattle.merge_model.specs.PublisherJoin.{is_left_of, join_taken}
-use Rattle.merge_model.specs.PublisherLocal.{changing_locally, next_dot, with_draw}
-use Rattle.merge_model.specs.PublisherPurge.{is_old_left, is_old_tombstone, purge}
-use Rattle.merge_model.specs.PublisherRanges.{plans, with_grants}
-use Rattle.merge_model.specs.PublisherUpload.{changing_by, with_acts}
-use Rattle.merge_model.specs.Reinit.{reinitialised}
-use Rattle.merge_model.specs.Sending.{upload_sent, with_message}
+use Rattle.merge_model.specs.Publisher.PublisherDownload.{asked, inside_keys}
+use Rattle.merge_model.specs.Publisher.PublisherJoin.{is_left_of, join_taken}
+use Rattle.merge_model.specs.Publisher.PublisherLocal.{changing_locally, next_dot, with_draw}
+use Rattle.merge_model.specs.Publisher.PublisherPurge.{is_old_left, is_old_tombstone, purge}
+use Rattle.merge_model.specs.Publisher.PublisherRanges.{plans, with_grants}
+use Rattle.merge_model.specs.Publisher.PublisherUpload.{changing_by, with_acts}
+use Rattle.merge_model.specs.Subscriber.Reinit.{reinitialised}
+use Rattle.merge_model.specs.Subscriber.Sending.{upload_sent, with_message}
 use Rattle.merge_model.specs.Subscriber.{sub_at_moment, sub_closed, sub_last_closed, sub_made_locally, sub_next_dot, sub_version_at, with_version_if}
 use Rattle.merge_types.specs.declared.row_key.RowKey.{RowKey as Key}
 use Rattle.merge_gens.specs.declared.moves.Mapping.{Mapping}
 use Rattle.merge_units.specs.declared.site_row.PublisherRow.{PublisherRow}
 use Rattle.merge_gens.specs.declared.moves.RowSite.{RowSite}
 use Rattle.merge_model.specs.Tables.{PublisherTables, SubscriberTables}
-use Rattle.merge_model.specs.Taking.{taken}
+use Rattle.merge_model.specs.Subscriber.Taking.{taken}
 use Rattle.merge_model.specs.World.{Saying, World, empty_subscribers, empty_world, subscriber_at, with_subscriber}
-use Rattle.merge_model.proofs.Sorted.{closed_filling-rises, key_total, row_site_total}
+use Rattle.merge_model.proofs.Publishers.Sorted.{closed_filling-rises, key_total, row_site_total}
 use Rattle.merge_laws.specs.Settled.{OfPublisher, TouchedInOrder, last_used, touched_at}
-use Rattle.merge_model.proofs.Downloads.{inside-held}
-use Rattle.merge_model.proofs.Finding.{at_put_other, at_put_same}
+use Rattle.merge_model.proofs.Entries.Downloads.{inside-held}
+use Rattle.merge_model.proofs.Lists.Finding.{at_put_other, at_put_same}
 use Rattle.merge_laws.proofs.Ground.{Ground}
-use Rattle.merge_model.proofs.KeyLookUps.{keys-exact}
-use Rattle.merge_model.proofs.PlaceLookUps.{kept, lookup-filter, places-exact}
+use Rattle.merge_model.proofs.Lists.KeyLookUps.{keys-exact}
+use Rattle.merge_model.proofs.Lists.PlaceLookUps.{kept, lookup-filter, places-exact}
 use Rattle.merge_laws.proofs.Models.{begins-with}
 use Rattle.merge_laws.proofs.PurgeLists.{if-put, if-weaker}
 use Rattle.merge_laws.proofs.PurgeNotes.{anew-bases, lines-bases, purge-bases, taken-bases, upload-bases}
@@ -57,7 +57,7 @@ use Rattle.merge_laws.proofs.Subscribing.{number-decided, same_number}
 use Rattle.merge_laws.proofs.TouchCases.{touch-bound, touch-is}
 use Rattle.merge_laws.proofs.TouchEntries.{changed_of, generation_of, move-new, row-new, used-after, used-more}
 use Rattle.merge_laws.proofs.TouchLists.{used-closed, used-empty, used-low}
-use Rattle.merge_model.proofs.StepParts.{CanBeSaid}
+use Rattle.merge_model.proofs.Entries.StepParts.{CanBeSaid}
 use Rattle.merge_laws.proofs.TouchTables.{Touches, asked-touches, changed-touches, closed-touches, joined-in, joined-other, joined-out, purge-inside, purge-touched}
 use Rattle.merge_laws.proofs.UnsentKept.{reply-site, version-site}
 use Rattle.merge_laws.proofs.Walking.{StepsKeep, acts_in, here, join_noted, own_noted}

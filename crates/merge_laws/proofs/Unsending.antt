@@ -11,21 +11,21 @@ use Rattle.merge_table.proofs.Sorted.{sorted_put, sorted_take}
 use Rattle.merge_batch.specs.declared.reply.Act.{Act as Order}
 use Rattle.merge_batch.specs.declared.reply.Act.TheVariants as order
 use Rattle.merge_batch.specs.declared.reply.DownloadItem.{DownloadItem}
-use Rattle.merge_model.specs.ByNumbers.{last_between}
+use Rattle.merge_model.specs.Judge.ByNumbers.{last_between}
 use Rattle.merge_model.specs.History.{MadeChange}
 use Rattle.merge_model.specs.Judge.{SubscriberJudge}
 use Rattle.merge_types.specs.RowKeys.{key_cmp}
-use Rattle.merge_model.specs.Keys.{drop_row, put_row, row_at, same_key}
+use Rattle.merge_model.specs.Tables.Keys.{drop_row, put_row, row_at, same_key}
 use Rattle.merge_model.specs.Subscriber.{with_open}
 use Rattle.merge_types.specs.declared.row_key.RowKey.{RowKey as Key}
 use Rattle.merge_units.specs.declared.site_row.SubscriberRow.{SubscriberRow}
-use Rattle.merge_model.specs.Taking.{key_of_download, row_above, with_item, with_order}
-use Rattle.merge_model.proofs.Sorted.{key_total}
+use Rattle.merge_model.specs.Subscriber.Taking.{key_of_download, row_above, with_item, with_order}
+use Rattle.merge_model.proofs.Publishers.Sorted.{key_total}
 use Rattle.merge_laws.specs.Numbered.{InOrder}
 use Rattle.merge_laws.specs.Unsent.{RowsTell, gens_in, is_changed_above, last_made}
 use Rattle.merge_laws.proofs.Changed.{gens_of}
 use Rattle.merge_laws.proofs.Generations.{above-kept, between-kept, none-above, none-between, open-above, open-behind, open-beyond, open-between, order-above}
-use Rattle.merge_model.proofs.KeyLookUps.{keys-same, row-dropped, row-put}
+use Rattle.merge_model.proofs.Lists.KeyLookUps.{keys-same, row-dropped, row-put}
 use Rattle.merge_laws.proofs.Telling.{decided}
 
 -- The generations that are kept with a row.

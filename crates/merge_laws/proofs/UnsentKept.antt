@@ -17,37 +17,37 @@ use Rattle.merge_batch.specs.declared.request.Outstanding.TheVariants as ask
 use Rattle.merge_batch.specs.declared.reply.Reply.{Reply}
 use Rattle.merge_batch.specs.declared.reply.Reply.TheVariants as reply
 use Rattle.merge_model.specs.Failing.{Slips, faulty}
-use Rattle.merge_model.specs.Runs.{model_behind, model_behind_actions}
-use Rattle.merge_model.specs.Bridge.{SubscriberDecidesAlike}
-use Rattle.merge_model.specs.ByHistory.{by_history, by_made, by_past}
-use Rattle.merge_model.specs.Changes.{key_of, version_after}
-use Rattle.merge_model.specs.Faults.{reply_fault}
+use Rattle.merge_model.specs.Failing.Runs.{model_behind, model_behind_actions}
+use Rattle.merge_model.specs.Laws.Bridge.{SubscriberDecidesAlike}
+use Rattle.merge_model.specs.Judge.ByHistory.{by_history, by_made, by_past}
+use Rattle.merge_model.specs.Tables.Changes.{key_of, version_after}
+use Rattle.merge_model.specs.World.Faults.{reply_fault}
 use Rattle.merge_model.specs.History.{History, MadeChange, made_at, no_history, past_at, pasts_with}
 use Rattle.merge_model.specs.Judge.{PublisherJudge, SubscriberJudge}
-use Rattle.merge_model.specs.Keys.{at_number, put_number}
+use Rattle.merge_model.specs.Tables.Keys.{at_number, put_number}
 use Rattle.merge_model.specs.Laws.{AreSubSorted}
-use Rattle.merge_model.specs.Model.{Model, empty_model, model, model_step}
-use Rattle.merge_model.specs.Noting
-use Rattle.merge_model.specs.Pasts.{past_after}
-use Rattle.merge_model.specs.Reinit.{reinitialised}
-use Rattle.merge_model.specs.Publications.{by_site}
-use Rattle.merge_model.specs.Sending.{upload_sent, with_message}
-use Rattle.merge_model.specs.Steps.{Action}
+use Rattle.merge_model.specs.History.Model.{Model, empty_model, model, model_step}
+use Rattle.merge_model.specs.History.Noting
+use Rattle.merge_model.specs.History.Pasts.{past_after}
+use Rattle.merge_model.specs.Subscriber.Reinit.{reinitialised}
+use Rattle.merge_model.specs.Tables.Publications.{by_site}
+use Rattle.merge_model.specs.Subscriber.Sending.{upload_sent, with_message}
+use Rattle.merge_model.specs.World.Steps.{Action}
 use Rattle.merge_model.specs.Subscriber.{empty_subscriber, sub_at_moment, sub_closed, sub_last_closed, sub_local_refusal, sub_made_locally, sub_next_dot, sub_version_at, with_version_if}
 use Rattle.merge_types.specs.declared.row_key.RowKey.{RowKey as Key}
 use Rattle.merge_units.specs.declared.site_row.SubscriberRow.{SubscriberRow}
 use Rattle.merge_model.specs.Tables.{SubscriberTables}
-use Rattle.merge_model.specs.Taking.{row_above, seq_of, taken}
+use Rattle.merge_model.specs.Subscriber.Taking.{row_above, seq_of, taken}
 use Rattle.merge_model.specs.World.{Saying, World, empty_world, subscriber_at, with_subscriber}
 use Rattle.merge_model.specs.declared.event.Event.{Event}
 use Rattle.merge_model.proofs.Subscribers.{step-sub-sorted}
-use Rattle.merge_model.proofs.Actions.{failing-actions-keep}
+use Rattle.merge_model.proofs.Runs.Actions.{failing-actions-keep}
 use Rattle.merge_laws.proofs.Tallied.{numbered-tallied, received-tallied}
 use Rattle.merge_laws.specs.Numbered.{InOrder, Numbered}
 use Rattle.merge_laws.specs.Received.{Received}
 use Rattle.merge_laws.specs.Unsent.{RowsTell, Unsent, is_changed_above}
 use Rattle.merge_laws.proofs.Changed.{changed-same}
-use Rattle.merge_model.proofs.Finding.{at_put_other, at_put_same}
+use Rattle.merge_model.proofs.Lists.Finding.{at_put_other, at_put_same}
 use Rattle.merge_laws.proofs.Generations.{order-closed}
 use Rattle.merge_laws.proofs.Models.{begins, begins-with, model-fine}
 use Rattle.merge_laws.proofs.Noted.{anew-keep, own-keep, purge-keep, reply-keep}

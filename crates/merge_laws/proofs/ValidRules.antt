@@ -12,7 +12,7 @@ use Rattle.merge_schema.specs.Valid.{HasValidIdentity, HasValidRanges, IsValid, 
 use Rattle.merge_schema.specs.declared.publication.Article.{Article}
 use Rattle.merge_schema.specs.declared.publication.Identity.{Identity}
 use Rattle.merge_schema.specs.declared.publication.Publication.{Publication}
-use Rattle.merge_model.specs.Publications.{identity_of, rule_of, rules_of}
+use Rattle.merge_model.specs.Tables.Publications.{identity_of, rule_of, rules_of}
 use Rattle.merge_laws.specs.Promised.{ValidRulesHaveValues}
 
 -- What the ranges of a file give of a rule holds of each rule of a valid publication.

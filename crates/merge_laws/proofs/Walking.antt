@@ -28,32 +28,32 @@ use Rattle.merge_batch.specs.declared.reply.Ranged.{Ranged}
 use Rattle.merge_batch.specs.declared.reply.Reply.{Reply}
 use Rattle.merge_batch.specs.declared.reply.Reply.TheVariants as reply
 use Rattle.merge_batch.specs.declared.reply.Uploaded.{Uploaded}
-use Rattle.merge_model.specs.Acts.{Act, acts_of}
-use Rattle.merge_model.specs.ByHistory.{by_history, by_made, by_past}
-use Rattle.merge_model.specs.Faults.{reply_fault}
+use Rattle.merge_model.specs.Publisher.Acts.{Act, acts_of}
+use Rattle.merge_model.specs.Judge.ByHistory.{by_history, by_made, by_past}
+use Rattle.merge_model.specs.World.Faults.{reply_fault}
 use Rattle.merge_model.specs.History.{History, pasts_with}
 use Rattle.merge_model.specs.Judge.{PublisherJudge, SubscriberJudge}
-use Rattle.merge_model.specs.Keys.{at_number, put_number}
-use Rattle.merge_model.specs.Model.{Model, model_step, noted, noted_if, noted_letter, did_something, with_letter, with_posted}
-use Rattle.merge_model.specs.Noting
+use Rattle.merge_model.specs.Tables.Keys.{at_number, put_number}
+use Rattle.merge_model.specs.History.Model.{Model, model_step, noted, noted_if, noted_letter, did_something, with_letter, with_posted}
+use Rattle.merge_model.specs.History.Noting
 use Rattle.merge_model.specs.Publisher.{at_moment, closed, counters, last_closed}
-use Rattle.merge_model.specs.PublisherDownload.{asked, download_refusal, reply_to}
-use Rattle.merge_model.specs.PublisherJoin.{join, join_acts, join_refusal, join_taken, joined}
-use Rattle.merge_model.specs.PublisherLocal.{Drawn, drawn, local_refusal, made_locally, next_dot}
-use Rattle.merge_model.specs.PublisherPurge.{purge}
-use Rattle.merge_model.specs.PublisherRanges.{plans, ranged, ranges_refusal, with_grants}
-use Rattle.merge_model.specs.PublisherUpload.{brings_news, taken_in, upload_refusal, uploaded}
-use Rattle.merge_model.specs.Refusals.{counter_end, unless}
-use Rattle.merge_model.specs.Reinit.{reinitialised}
-use Rattle.merge_model.specs.Sending.{join_made, join_of, ranges_made, sending_refusal, unsent_rows, upload_made, upload_sent, want_of, with_message}
-use Rattle.merge_model.specs.Steps.{Action, CloseAt, Deliver, Forget, Look, Make, MakeAnew, Pass, Send, SendDownload, SendJoin, SendRanges, SendUpload, Sending, answered, at_subscriber, close_at, close_publisher, close_subscriber, deliver_letter, deliver_reply, deliver_request, kept_decisions, make_anew, make_at, make_at_publisher, make_at_subscriber, post, posted, send_from, step_by, unless_refused, upload_questions}
+use Rattle.merge_model.specs.Publisher.PublisherDownload.{asked, download_refusal, reply_to}
+use Rattle.merge_model.specs.Publisher.PublisherJoin.{join, join_acts, join_refusal, join_taken, joined}
+use Rattle.merge_model.specs.Publisher.PublisherLocal.{Drawn, drawn, local_refusal, made_locally, next_dot}
+use Rattle.merge_model.specs.Publisher.PublisherPurge.{purge}
+use Rattle.merge_model.specs.Publisher.PublisherRanges.{plans, ranged, ranges_refusal, with_grants}
+use Rattle.merge_model.specs.Publisher.PublisherUpload.{brings_news, taken_in, upload_refusal, uploaded}
+use Rattle.merge_model.specs.Tables.Refusals.{counter_end, unless}
+use Rattle.merge_model.specs.Subscriber.Reinit.{reinitialised}
+use Rattle.merge_model.specs.Subscriber.Sending.{join_made, join_of, ranges_made, sending_refusal, unsent_rows, upload_made, upload_sent, want_of, with_message}
+use Rattle.merge_model.specs.World.Steps.{Action, CloseAt, Deliver, Forget, Look, Make, MakeAnew, Pass, Send, SendDownload, SendJoin, SendRanges, SendUpload, Sending, answered, at_subscriber, close_at, close_publisher, close_subscriber, deliver_letter, deliver_reply, deliver_request, kept_decisions, make_anew, make_at, make_at_publisher, make_at_subscriber, post, posted, send_from, step_by, unless_refused, upload_questions}
 use Rattle.merge_resolve.specs.Questions.{question_of as asked_of}
 use Rattle.merge_model.specs.declared.outcome.Outcome.TheVariants.{Closes, Discards, Made, NoLetter, Refuses, Took}
 use Rattle.merge_model.specs.declared.outcome.Outcome.{Outcome}
 use Rattle.merge_model.specs.Subscriber.{sub_at_moment, sub_closed, sub_counters, sub_drawn, sub_last_closed, sub_local_refusal, sub_made_locally, sub_next_dot}
 use Rattle.merge_types.specs.declared.row_key.RowKey.{RowKey as Key}
 use Rattle.merge_model.specs.Tables.{PublisherTables, SubscriberTables}
-use Rattle.merge_model.specs.Taking.{met_by, seq_of, taken}
+use Rattle.merge_model.specs.Subscriber.Taking.{met_by, seq_of, taken}
 use Rattle.merge_model.specs.declared.outcome.Taken.TheVariants.{Acted, Missed}
 use Rattle.merge_model.specs.declared.outcome.Taken.{Taken}
 use Rattle.merge_model.specs.World.{Saying, World, letter_at, subscriber_at, with_publisher, with_subscriber}
@@ -62,7 +62,7 @@ use Rattle.merge_model.specs.declared.letter.Letter.{Letter}
 use Rattle.merge_model.specs.declared.letter.Message.{Message}
 use Rattle.merge_resolve.specs.Asked.{tallies_after}
 use Rattle.merge_laws.specs.Received.{JoinFits, MessageFits, Received, UploadFits, joined_at}
-use Rattle.merge_model.proofs.Finding.{all-at}
+use Rattle.merge_model.proofs.Lists.Finding.{all-at}
 use Rattle.merge_laws.proofs.Steps.{own-at}
 
 abbrev pub here : World → PublisherTables

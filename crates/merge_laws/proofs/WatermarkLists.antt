@@ -8,13 +8,13 @@ use Rattle.merge_gens.specs.declared.sites.SiteState.{SiteState}
 use Rattle.merge_batch.specs.declared.request.Download.{Download}
 use Rattle.merge_batch.specs.declared.request.Request.TheVariants as request
 use Rattle.merge_model.specs.Tables.{SubscriberTables}
-use Rattle.merge_model.specs.Keys.{at_number, put_number}
+use Rattle.merge_model.specs.Tables.Keys.{at_number, put_number}
 use Rattle.merge_model.specs.Publisher.{no_state}
 use Rattle.merge_model.specs.declared.letter.Letter.{Letter}
 use Rattle.merge_model.specs.declared.letter.Message.{Message}
 use Rattle.merge_model.specs.declared.letter.Message.TheVariants.{Asks, Replies}
 use Rattle.merge_laws.specs.Watermarks.{AskHolds, LetterHolds, MessageHolds, StateHolds, Watermarks, state_in}
-use Rattle.merge_model.proofs.Finding.{all-more, all-weaker, at_put_same, at_put_other}
+use Rattle.merge_model.proofs.Lists.Finding.{all-more, all-weaker, at_put_same, at_put_other}
 use Rattle.merge_laws.proofs.Subscribing.{same_number, number-decided}
 use Rattle.merge_laws.proofs.PurgeLists.{if-put, if-weaker}
 

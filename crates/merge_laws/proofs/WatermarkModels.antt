@@ -21,38 +21,38 @@ use Rattle.merge_batch.specs.declared.request.Request.TheVariants as request
 use Rattle.merge_batch.specs.declared.reply.Reply.{Reply}
 use Rattle.merge_batch.specs.declared.reply.Reply.TheVariants as reply
 use Rattle.merge_model.specs.Failing.{Slips, faulty}
-use Rattle.merge_model.specs.Runs.{model_behind, model_behind_actions}
+use Rattle.merge_model.specs.Failing.Runs.{model_behind, model_behind_actions}
 use Rattle.merge_model.specs.declared.event.Event.{Event}
 use Rattle.merge_model.specs.Tables.{PublisherTables, SubscriberTables}
-use Rattle.merge_model.specs.Keys.{at_number, put_number}
-use Rattle.merge_model.specs.Acts.{Act}
+use Rattle.merge_model.specs.Tables.Keys.{at_number, put_number}
+use Rattle.merge_model.specs.Publisher.Acts.{Act}
 use Rattle.merge_model.specs.Judge.{PublisherJudge, SubscriberJudge}
-use Rattle.merge_model.specs.Refusals.{first_refusal, refused_if}
-use Rattle.merge_model.specs.Publications.{by_site}
+use Rattle.merge_model.specs.Tables.Refusals.{first_refusal, refused_if}
+use Rattle.merge_model.specs.Tables.Publications.{by_site}
 use Rattle.merge_model.specs.Publisher.{later, no_state, site_refusal, state_of, state_refusal, unknown_site}
-use Rattle.merge_model.specs.PublisherJoin.{join_acts, join_taken, joined, joined_state}
-use Rattle.merge_model.specs.PublisherUpload.{state_seeing, taken_in}
-use Rattle.merge_model.specs.PublisherDownload.{asked, download_refusal, reply_to, synced}
+use Rattle.merge_model.specs.Publisher.PublisherJoin.{join_acts, join_taken, joined, joined_state}
+use Rattle.merge_model.specs.Publisher.PublisherUpload.{state_seeing, taken_in}
+use Rattle.merge_model.specs.Publisher.PublisherDownload.{asked, download_refusal, reply_to, synced}
 use Rattle.merge_model.specs.Subscriber.{empty_subscriber, sub_at_moment, sub_closed, sub_made_locally}
-use Rattle.merge_model.specs.Sending.{join_of, upload_end, upload_to, want_of, with_message}
-use Rattle.merge_model.specs.Reinit.{reinitialised}
+use Rattle.merge_model.specs.Subscriber.Sending.{join_of, upload_end, upload_to, want_of, with_message}
+use Rattle.merge_model.specs.Subscriber.Reinit.{reinitialised}
 use Rattle.merge_model.specs.World.{Saying, World, letter_at, subscriber_at, with_publisher, with_subscriber}
 use Rattle.merge_model.specs.declared.letter.Message.TheVariants.{Asks, Replies}
 use Rattle.merge_model.specs.declared.letter.Letter.{Letter}
 use Rattle.merge_model.specs.declared.letter.Message.{Message}
-use Rattle.merge_model.specs.Steps.{Action, post}
+use Rattle.merge_model.specs.World.Steps.{Action, post}
 use Rattle.merge_model.specs.History.{History, pasts_with}
-use Rattle.merge_model.specs.Model.{Model, empty_model, model}
-use Rattle.merge_model.specs.Events.{after}
-use Rattle.merge_model.specs.ByHistory.{by_made, by_past}
-use Rattle.merge_model.specs.PublisherRanges.{plans, ranged}
-use Rattle.merge_model.specs.Taking.{seq_of, taken}
-use Rattle.merge_model.proofs.Actions.{failing-actions-keep}
+use Rattle.merge_model.specs.History.Model.{Model, empty_model, model}
+use Rattle.merge_model.specs.World.Events.{after}
+use Rattle.merge_model.specs.Judge.ByHistory.{by_made, by_past}
+use Rattle.merge_model.specs.Publisher.PublisherRanges.{plans, ranged}
+use Rattle.merge_model.specs.Subscriber.Taking.{seq_of, taken}
+use Rattle.merge_model.proofs.Runs.Actions.{failing-actions-keep}
 use Rattle.merge_laws.proofs.Tallied.{received-tallied}
 use Rattle.merge_laws.specs.Received.{joined_at, JoinFits, MessageFits, LetterFits, Received}
 use Rattle.merge_laws.specs.Watermarks.{AskHolds, HoldsWatermark, HoldsWatermarks, LetterHolds, StateHolds, Watermarks, WatermarksAreHeld, state_in}
-use Rattle.merge_model.proofs.Refusals.{first-none}
-use Rattle.merge_model.proofs.Finding.{all-at, at_put_same}
+use Rattle.merge_model.proofs.Runs.Refusals.{first-none}
+use Rattle.merge_model.proofs.Lists.Finding.{all-at, at_put_same}
 use Rattle.merge_laws.proofs.Models.{model-fine, received-always}
 use Rattle.merge_laws.proofs.PurgeSteps.{if-entry, taken_entry}
 use Rattle.merge_laws.proofs.Subscribing.{number-decided}

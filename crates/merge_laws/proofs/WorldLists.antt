@@ -1,9 +1,9 @@
 -- What is said of each subscriber, after one was put.
 use Rattle.std.specs.Prelude.{◌≡◌, ◌==◌, ℕ, List, Bool, true, false, Some}
 use Rattle.std.proofs.Common.{subst, sym, ap, ◌∙◌}
-use Rattle.merge_model.specs.Keys.{at_number, put_number}
+use Rattle.merge_model.specs.Tables.Keys.{at_number, put_number}
 use Rattle.merge_model.specs.Tables.{SubscriberTables}
-use Rattle.merge_model.proofs.Finding.{at_put_other, at_put_same}
+use Rattle.merge_model.proofs.Lists.Finding.{at_put_other, at_put_same}
 use Rattle.merge_laws.proofs.Subscribing.{number-decided, same_number}
 
 subscriber-cases : (S : ℕ → SubscriberTables → Type 0) (subscribers : List (ℕ × SubscriberTables)) (site : ℕ) (t v : SubscriberTables) (n : ℕ) (b : Bool) → same_number n site b → S site t

@@ -6,9 +6,9 @@ use Rattle.std.proofs.lemmas.Bool.Decides.{nat_tests}
 use Rattle.merge_types.specs.declared.identifiers.SiteId.{SiteId}
 use Rattle.merge_batch.specs.declared.request.Join.{Join}
 use Rattle.merge_model.specs.Tables.{PublisherTables, SubscriberTables}
-use Rattle.merge_model.specs.Keys.{at_number, put_number}
-use Rattle.merge_model.specs.ByNumbers.{received_by_number}
-use Rattle.merge_model.specs.ByHistory.{received_by_done, is_gap_by_done}
+use Rattle.merge_model.specs.Tables.Keys.{at_number, put_number}
+use Rattle.merge_model.specs.Judge.ByNumbers.{received_by_number}
+use Rattle.merge_model.specs.Judge.ByHistory.{received_by_done, is_gap_by_done}
 use Rattle.merge_model.specs.Publisher.{no_state}
 use Rattle.merge_model.specs.Subscriber.{sub_last_closed}
 use Rattle.merge_model.specs.World.{World, with_publisher, with_subscriber}
@@ -16,10 +16,10 @@ use Rattle.merge_model.specs.declared.letter.Letter.{Letter}
 use Rattle.merge_model.specs.declared.letter.Message.{Message}
 use Rattle.merge_model.specs.History.{History, is_done}
 use Rattle.merge_laws.specs.Received.{joined_at, JoinFits, MessageFits, LetterFits, SubscriberFits, AllFit, DoneIsReceived, Received}
-use Rattle.merge_model.proofs.Finding.{all-more, all-weaker}
+use Rattle.merge_model.proofs.Lists.Finding.{all-more, all-weaker}
 use Rattle.merge_laws.proofs.Publishing.{SameNumbers, greatest-step, member-step}
 use Rattle.merge_laws.proofs.Subscribing.{Goes, all-fit, letters-go}
-use Rattle.merge_model.proofs.Tests.{numbers-same}
+use Rattle.merge_model.proofs.Lists.Tests.{numbers-same}
 
 -- only what has acted counts of a history
 pub history-same : (w : World) (h k : History) → k.done ≡ h.done → Received w h → Received w k

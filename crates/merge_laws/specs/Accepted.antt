@@ -6,9 +6,9 @@ use Rattle.merge_batch.specs.Makers.{maker_of}
 use Rattle.merge_batch.specs.declared.reply.Reply.TheVariants as reply
 use Rattle.merge_batch.specs.declared.request.Request.TheVariants as request
 use Rattle.merge_batch.specs.declared.request.UploadItem.{UploadItem}
-use Rattle.merge_model.specs.Acts.{key_of_item}
+use Rattle.merge_model.specs.Publisher.Acts.{key_of_item}
 use Rattle.merge_model.specs.History.{History, MadeChange, Past, has, pasts_at}
-use Rattle.merge_model.specs.Keys.{at_number, same_key}
+use Rattle.merge_model.specs.Tables.Keys.{at_number, same_key}
 use Rattle.merge_types.specs.declared.row_key.RowKey.{RowKey as Key}
 use Rattle.merge_model.specs.Tables.{SubscriberTables}
 use Rattle.merge_model.specs.World.{World}

@@ -12,10 +12,10 @@ use Rattle.merge_schema.specs.declared.publication.Publication.{Publication}
 use Rattle.merge_batch.specs.declared.request.Request.TheVariants as request
 use Rattle.merge_model.specs.History.{Chains, History, MadeChange, OfCells, OfDead, Past, has, is_done, past_at, past_in, pasts_at}
 use Rattle.merge_types.specs.RowKeys.{key_cmp}
-use Rattle.merge_model.specs.Keys.{at_number, has_key, same_key}
-use Rattle.merge_model.specs.Pasts.{cell_count}
-use Rattle.merge_model.specs.Promises.{InCell, InRow, Place, descends}
-use Rattle.merge_model.specs.PublisherLocal.{version_at}
+use Rattle.merge_model.specs.Tables.Keys.{at_number, has_key, same_key}
+use Rattle.merge_model.specs.History.Pasts.{cell_count}
+use Rattle.merge_model.specs.Laws.Promises.{InCell, InRow, Place, descends}
+use Rattle.merge_model.specs.Publisher.PublisherLocal.{version_at}
 use Rattle.merge_model.specs.Subscriber.{sub_version_at}
 use Rattle.merge_types.specs.declared.row_key.RowKey.{RowKey as Key}
 use Rattle.merge_model.specs.Tables.{SubscriberTables}

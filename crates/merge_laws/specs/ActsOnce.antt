@@ -9,16 +9,16 @@ use Rattle.merge_batch.specs.declared.request.Request.TheVariants as request
 use Rattle.merge_batch.specs.declared.request.Upload.{Upload}
 use Rattle.merge_batch.specs.declared.request.UploadItem.{UploadItem}
 use Rattle.merge_model.specs.Failing.{Slips}
-use Rattle.merge_model.specs.Runs.{model_after, model_after_actions}
+use Rattle.merge_model.specs.Failing.Runs.{model_after, model_after_actions}
 use Rattle.merge_model.specs.declared.event.Event.{Event}
-use Rattle.merge_model.specs.Acts.{key_of_item}
-use Rattle.merge_model.specs.ByHistory.{received_by_done}
+use Rattle.merge_model.specs.Publisher.Acts.{key_of_item}
+use Rattle.merge_model.specs.Judge.ByHistory.{received_by_done}
 use Rattle.merge_model.specs.History.{History, MadeChange, Past, is_done, past_at}
-use Rattle.merge_model.specs.Keys.{row_at, same_key}
-use Rattle.merge_model.specs.Model.{Model, did_something, model_step}
-use Rattle.merge_model.specs.Promises.{key_of_conflict}
+use Rattle.merge_model.specs.Tables.Keys.{row_at, same_key}
+use Rattle.merge_model.specs.History.Model.{Model, did_something, model_step}
+use Rattle.merge_model.specs.Laws.Promises.{key_of_conflict}
 use Rattle.merge_model.specs.Publisher.{at_moment}
-use Rattle.merge_model.specs.Steps.{Action, Deliver}
+use Rattle.merge_model.specs.World.Steps.{Action, Deliver}
 use Rattle.merge_model.specs.declared.outcome.Outcome.{Outcome}
 use Rattle.merge_types.specs.declared.row_key.RowKey.{RowKey as Key}
 use Rattle.merge_units.specs.declared.site_row.PublisherRow.{PublisherRow}

@@ -3,9 +3,9 @@ use Rattle.std.specs.Prelude.{◌≡◌, ◌+◌, ◌-◌, ℕ, None, Some, true
 use Rattle.merge_types.specs.declared.identifiers.SiteId.{SiteId}
 use Rattle.merge_schema.specs.declared.publication.Publication.{Publication}
 use Rattle.merge_batch.specs.declared.reply.Downloaded.{Downloaded}
-use Rattle.merge_model.specs.Model.{Model, model}
-use Rattle.merge_model.specs.Session.{Session, Stepping, after_download, all_downloads, all_uploads, downloading, exchange, unsent_generations, uploading, with_answer}
-use Rattle.merge_model.specs.Steps.{SendDownload}
+use Rattle.merge_model.specs.History.Model.{Model, model}
+use Rattle.merge_model.specs.World.Session.{Session, Stepping, after_download, all_downloads, all_uploads, downloading, exchange, unsent_generations, uploading, with_answer}
+use Rattle.merge_model.specs.World.Steps.{SendDownload}
 use Rattle.merge_model.specs.Tables.{SubscriberTables}
 use Rattle.merge_model.specs.World.{Saying, subscriber_at}
 

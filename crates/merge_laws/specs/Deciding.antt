@@ -8,14 +8,14 @@ use Rattle.merge_batch.specs.declared.request.Request.TheVariants as request
 use Rattle.merge_batch.specs.declared.request.Upload.{Upload}
 use Rattle.merge_batch.specs.declared.request.UploadItem.{UploadItem}
 use Rattle.merge_model.specs.Failing.{Slips}
-use Rattle.merge_model.specs.Runs.{model_behind, world_behind, machine_says, model_says}
-use Rattle.merge_model.specs.Acts.{key_of_item}
-use Rattle.merge_model.specs.Bridge.{CaseDecidesAlike, StepsAlike}
-use Rattle.merge_model.specs.Events.{after, machine, machine_answers}
+use Rattle.merge_model.specs.Failing.Runs.{model_behind, world_behind, machine_says, model_says}
+use Rattle.merge_model.specs.Publisher.Acts.{key_of_item}
+use Rattle.merge_model.specs.Laws.Bridge.{CaseDecidesAlike, StepsAlike}
+use Rattle.merge_model.specs.World.Events.{after, machine, machine_answers}
 use Rattle.merge_model.specs.History.{pasts_with}
-use Rattle.merge_model.specs.Keys.{row_at}
-use Rattle.merge_model.specs.Model.{Model, empty_model, model, model_answers}
-use Rattle.merge_model.specs.Steps.{Action}
+use Rattle.merge_model.specs.Tables.Keys.{row_at}
+use Rattle.merge_model.specs.History.Model.{Model, empty_model, model, model_answers}
+use Rattle.merge_model.specs.World.Steps.{Action}
 use Rattle.merge_units.specs.declared.site_row.PublisherRow.{PublisherRow}
 use Rattle.merge_model.specs.World.{Saying, empty_world, letter_at}
 use Rattle.merge_model.specs.declared.letter.Message.TheVariants.{Asks}

@@ -5,17 +5,17 @@ use Rattle.merge_types.specs.declared.identifiers.SiteId.{SiteId}
 use Rattle.merge_schema.specs.declared.publication.Publication.{Publication}
 use Rattle.merge_batch.specs.declared.request.Upload.{Upload}
 use Rattle.merge_batch.specs.declared.request.UploadItem.{UploadItem}
-use Rattle.merge_model.specs.Acts.{acting_items}
-use Rattle.merge_model.specs.ByHistory.{by_past}
-use Rattle.merge_model.specs.ByNumbers.{by_numbers}
-use Rattle.merge_model.specs.Events.{after}
+use Rattle.merge_model.specs.Publisher.Acts.{acting_items}
+use Rattle.merge_model.specs.Judge.ByHistory.{by_past}
+use Rattle.merge_model.specs.Judge.ByNumbers.{by_numbers}
+use Rattle.merge_model.specs.World.Events.{after}
 use Rattle.merge_model.specs.Failing.{Faulty, Slips, failing, fails, faulty}
 use Rattle.merge_model.specs.History.{is_done, pasts_with}
 use Rattle.merge_model.specs.Judge.{PublisherJudge}
-use Rattle.merge_model.specs.Model.{Model, did_something, empty_model, model}
-use Rattle.merge_model.specs.PublisherUpload.{brings_news}
-use Rattle.merge_model.specs.Runs.{after_actions}
-use Rattle.merge_model.specs.Steps.{Action, Deliver}
+use Rattle.merge_model.specs.History.Model.{Model, did_something, empty_model, model}
+use Rattle.merge_model.specs.Publisher.PublisherUpload.{brings_news}
+use Rattle.merge_model.specs.Failing.Runs.{after_actions}
+use Rattle.merge_model.specs.World.Steps.{Action, Deliver}
 use Rattle.merge_model.specs.World.{Saying}
 use Rattle.merge_model.specs.declared.event.Event.{Event}
 use Rattle.merge_laws.specs.ActsOnce.{IsUpload, delivered}

@@ -8,7 +8,7 @@ use Rattle.merge_units.specs.declared.version.Version.{Version}
 use Rattle.merge_batch.specs.Makers.{maker_of}
 use Rattle.merge_model.specs.History.{History, MadeChange, Past, has, past_in, pasts_at}
 use Rattle.merge_types.specs.RowKeys.{key_cmp}
-use Rattle.merge_model.specs.Keys.{at_number, row_at}
+use Rattle.merge_model.specs.Tables.Keys.{at_number, row_at}
 use Rattle.merge_types.specs.declared.row_key.RowKey.{RowKey as Key}
 use Rattle.merge_model.specs.Tables.{SubscriberTables}
 use Rattle.merge_model.specs.World.{World}

@@ -3,13 +3,13 @@ use Rattle.std.specs.Prelude.{◌≡◌, ◌==◌, ℕ, List, Bool, true, false,
 use Rattle.std.specs.List.{list_any}
 use Rattle.merge_types.specs.declared.identifiers.SiteId.{SiteId}
 use Rattle.merge_schema.specs.declared.publication.Publication.{Publication}
-use Rattle.merge_model.specs.ByHistory.{has_left_by_line, is_change_of, is_line_for, last_change, last_line, touch_by_line}
-use Rattle.merge_model.specs.ByNumbers.{changed_in, has_left_by_mapping, mapping_at, touch_by_mapping}
+use Rattle.merge_model.specs.Judge.ByHistory.{has_left_by_line, is_change_of, is_line_for, last_change, last_line, touch_by_line}
+use Rattle.merge_model.specs.Judge.ByNumbers.{changed_in, has_left_by_mapping, mapping_at, touch_by_mapping}
 use Rattle.merge_model.specs.History.{Changed, EnteredFor, GoneFor, LeftFor, Line}
-use Rattle.merge_model.specs.Keys.{at_row_site, row_at}
-use Rattle.merge_model.specs.Model.{Model}
-use Rattle.merge_model.specs.Noting.{site_of_subscription}
-use Rattle.merge_model.specs.Publications.{by_site}
+use Rattle.merge_model.specs.Tables.Keys.{at_row_site, row_at}
+use Rattle.merge_model.specs.History.Model.{Model}
+use Rattle.merge_model.specs.History.Noting.{site_of_subscription}
+use Rattle.merge_model.specs.Tables.Publications.{by_site}
 use Rattle.merge_gens.specs.declared.moves.MoveKind.TheVariants.{Entered, Left}
 use Rattle.merge_types.specs.declared.row_key.RowKey.{RowKey as Key}
 use Rattle.merge_gens.specs.declared.moves.Mapping.{Mapping}

@@ -3,22 +3,22 @@ use Rattle.std.specs.Prelude.{true, ◌≡◌, ◌≤◌, ◌<◌, ℕ, List, So
 use Rattle.merge_schema.specs.Valid.{IsValid}
 use Rattle.merge_schema.specs.declared.publication.Publication.{Publication}
 use Rattle.merge_model.specs.Failing.{Slips}
-use Rattle.merge_model.specs.Runs.{model_behind, model_behind_actions}
-use Rattle.merge_model.specs.Steps.{Action}
+use Rattle.merge_model.specs.Failing.Runs.{model_behind, model_behind_actions}
+use Rattle.merge_model.specs.World.Steps.{Action}
 use Rattle.merge_model.specs.declared.event.Event.{Event}
 use Rattle.merge_types.specs.declared.identifiers.SiteId.{SiteId}
 use Rattle.merge_gens.specs.Book.{moment_of}
 use Rattle.merge_batch.specs.declared.request.Upload.{Upload}
 use Rattle.merge_batch.specs.declared.request.Request.TheVariants as request
-use Rattle.merge_model.specs.ByNumbers.{received_by_number, received_number_by_number, has_acted_by_number, is_gap_by_number, is_unmet_by_number}
-use Rattle.merge_model.specs.ByHistory.{received_by_done, received_number_by_done, has_acted_by_done, is_gap_by_done, is_unmet_by_done}
-use Rattle.merge_model.specs.Bridge.{SubscriberDecidesAlike}
-use Rattle.merge_model.specs.Keys.{at_number}
+use Rattle.merge_model.specs.Judge.ByNumbers.{received_by_number, received_number_by_number, has_acted_by_number, is_gap_by_number, is_unmet_by_number}
+use Rattle.merge_model.specs.Judge.ByHistory.{received_by_done, received_number_by_done, has_acted_by_done, is_gap_by_done, is_unmet_by_done}
+use Rattle.merge_model.specs.Laws.Bridge.{SubscriberDecidesAlike}
+use Rattle.merge_model.specs.Tables.Keys.{at_number}
 use Rattle.merge_model.specs.Tables.{SubscriberTables}
 use Rattle.merge_model.specs.Subscriber.{sub_last_closed}
 use Rattle.merge_model.specs.World.{Saying, letter_at}
 use Rattle.merge_model.specs.declared.letter.Message.TheVariants.{Asks}
-use Rattle.merge_model.specs.Model.{Model}
+use Rattle.merge_model.specs.History.Model.{Model}
 use Rattle.merge_laws.specs.Lineages.{LineagesAreMade}
 use Rattle.merge_laws.specs.Numbered.{last_through}
 

@@ -10,14 +10,14 @@ use Rattle.merge_schema.specs.Valid.{IsValid}
 use Rattle.merge_schema.specs.declared.publication.Publication.{Publication}
 use Rattle.merge_batch.specs.declared.request.Join.{Join}
 use Rattle.merge_batch.specs.declared.request.Request.TheVariants as request
-use Rattle.merge_model.specs.Entries.{Changing, changed_by, changing_entries}
+use Rattle.merge_model.specs.Publisher.Entries.{Changing, changed_by, changing_entries}
 use Rattle.merge_model.specs.Judge.{PublisherJudge}
-use Rattle.merge_model.specs.Keys.{has_key}
-use Rattle.merge_model.specs.Model.{Model}
-use Rattle.merge_model.specs.Promises.{is_expired_at}
-use Rattle.merge_model.specs.PublisherDownload.{inside_keys}
-use Rattle.merge_model.specs.PublisherJoin.{join_acts, joined}
-use Rattle.merge_model.specs.PublisherPurge.{purge}
+use Rattle.merge_model.specs.Tables.Keys.{has_key}
+use Rattle.merge_model.specs.History.Model.{Model}
+use Rattle.merge_model.specs.Laws.Promises.{is_expired_at}
+use Rattle.merge_model.specs.Publisher.PublisherDownload.{inside_keys}
+use Rattle.merge_model.specs.Publisher.PublisherJoin.{join_acts, joined}
+use Rattle.merge_model.specs.Publisher.PublisherPurge.{purge}
 use Rattle.merge_model.specs.Tables.{PublisherTables, SubscriberTables}
 use Rattle.merge_model.specs.World.{letter_at, subscriber_at}
 use Rattle.merge_model.specs.declared.letter.Message.TheVariants.{Asks}

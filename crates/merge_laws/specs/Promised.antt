@@ -4,13 +4,13 @@ use Rattle.std.specs.List.{AllByRecursion}
 use Rattle.merge_ident.specs.Books.{IsRule}
 use Rattle.merge_schema.specs.Valid.{IsValid}
 use Rattle.merge_schema.specs.declared.publication.Publication.{Publication}
-use Rattle.merge_model.specs.Bridge.{PublisherDecidesAlike}
+use Rattle.merge_model.specs.Laws.Bridge.{PublisherDecidesAlike}
 use Rattle.merge_model.specs.Failing.{Slips}
 use Rattle.merge_model.specs.Laws.{AreSorted, AreSubSorted}
-use Rattle.merge_model.specs.Model.{Model}
-use Rattle.merge_model.specs.Promises.{AllAccounted, AllStand, IdentitiesApart, NoneActsTwice, OldIsPast, RangesApart, RepliesStayInside, SessionSettles, SettledHoldsPartition}
-use Rattle.merge_model.specs.Publications.{rules_of}
-use Rattle.merge_model.specs.Runs.{world_behind}
+use Rattle.merge_model.specs.History.Model.{Model}
+use Rattle.merge_model.specs.Laws.Promises.{AllAccounted, AllStand, IdentitiesApart, NoneActsTwice, OldIsPast, RangesApart, RepliesStayInside, SessionSettles, SettledHoldsPartition}
+use Rattle.merge_model.specs.Tables.Publications.{rules_of}
+use Rattle.merge_model.specs.Failing.Runs.{world_behind}
 use Rattle.merge_model.specs.Tables.{SubscriberTables}
 use Rattle.merge_model.specs.World.{Saying, World}
 use Rattle.merge_model.specs.declared.event.Event.{Event}

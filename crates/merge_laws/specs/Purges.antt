@@ -4,7 +4,7 @@ use Rattle.std.specs.List.{AllByRecursion}
 use Rattle.merge_gens.specs.Book.{Book}
 use Rattle.merge_gens.specs.declared.closings.Closing.{Closing}
 use Rattle.merge_gens.specs.declared.sites.SiteState.{SiteState}
-use Rattle.merge_model.specs.Keys.{at_number}
+use Rattle.merge_model.specs.Tables.Keys.{at_number}
 use Rattle.merge_model.specs.Tables.{PublisherTables}
 
 abbrev pub AllClosings : (Closing → Type 0) → Book → Type 0

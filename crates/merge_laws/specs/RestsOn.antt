@@ -6,11 +6,11 @@ use Rattle.merge_types.specs.declared.row_key.RowKey.{RowKey as Key}
 use Rattle.merge_ident.specs.Grants.{is_in}
 use Rattle.merge_ident.specs.Holders.{Received as ReceivedRange}
 use Rattle.merge_schema.specs.declared.publication.Publication.{Publication}
-use Rattle.merge_model.specs.ByNumbers.{received_by_number}
+use Rattle.merge_model.specs.Judge.ByNumbers.{received_by_number}
 use Rattle.merge_model.specs.History.{has, is_accepted, past_at}
-use Rattle.merge_model.specs.Keys.{row_at}
-use Rattle.merge_model.specs.Model.{Model}
-use Rattle.merge_model.specs.Promises.{is_expired_at}
+use Rattle.merge_model.specs.Tables.Keys.{row_at}
+use Rattle.merge_model.specs.History.Model.{Model}
+use Rattle.merge_model.specs.Laws.Promises.{is_expired_at}
 use Rattle.merge_model.specs.Tables.{SubscriberTables}
 use Rattle.merge_model.specs.World.{subscriber_at}
 use Rattle.merge_laws.specs.Accounts.{OfAccounts}

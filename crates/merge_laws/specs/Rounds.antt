@@ -3,9 +3,9 @@ use Rattle.std.specs.Prelude.{◌≡◌, ◌==◌, Bool, List, [], ◌∷◌, No
 use Rattle.std.specs.List.{list_any}
 use Rattle.merge_types.specs.declared.identifiers.SiteId.{SiteId}
 use Rattle.merge_schema.specs.declared.publication.Publication.{Publication}
-use Rattle.merge_model.specs.Model.{Model, model}
-use Rattle.merge_model.specs.Promises.{IsSettled}
-use Rattle.merge_model.specs.Session.{Session, all_downloads, all_uploads}
+use Rattle.merge_model.specs.History.Model.{Model, model}
+use Rattle.merge_model.specs.Laws.Promises.{IsSettled}
+use Rattle.merge_model.specs.World.Session.{Session, all_downloads, all_uploads}
 use Rattle.merge_model.specs.Tables.{SubscriberTables}
 use Rattle.merge_model.specs.World.{Saying, subscriber_at}
 

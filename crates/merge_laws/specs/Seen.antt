@@ -3,7 +3,7 @@ use Rattle.std.specs.Prelude.{◌≡◌, ◌≤◌, ◌==◌, ℕ, List, None, i
 use Rattle.std.specs.List.{fold}
 use Rattle.merge_gens.specs.declared.sites.SiteState.{SiteState}
 use Rattle.merge_types.specs.declared.identifiers.Dot.{Dot}
-use Rattle.merge_model.specs.Keys.{at_number}
+use Rattle.merge_model.specs.Tables.Keys.{at_number}
 
 abbrev pub greatest_in : List Dot → ℕ → ℕ
 greatest_in dots site = fold (λ (most : ℕ) (dot : Dot). if dot.site.0 == site then max most dot.number else most) 0 dots

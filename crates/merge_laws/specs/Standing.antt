@@ -13,10 +13,10 @@ use Rattle.merge_schema.specs.declared.publication.Publication.{Publication}
 use Rattle.merge_units.specs.Version.{Knowing, new_tops, tops_of}
 use Rattle.merge_units.specs.Cases.{case_by}
 use Rattle.merge_units.specs.Results.{result_by}
-use Rattle.merge_model.specs.Changes.{version_after}
+use Rattle.merge_model.specs.Tables.Changes.{version_after}
 use Rattle.merge_model.specs.History.{MadeChange, Past, has}
-use Rattle.merge_model.specs.Keys.{same_key}
-use Rattle.merge_model.specs.Pasts.{past_after, past_by}
+use Rattle.merge_model.specs.Tables.Keys.{same_key}
+use Rattle.merge_model.specs.History.Pasts.{past_after, past_by}
 use Rattle.merge_types.specs.declared.row_key.RowKey.{RowKey as Key}
 use Rattle.merge_laws.specs.Knowledge.{Knows, same_dot}
 

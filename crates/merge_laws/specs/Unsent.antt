@@ -1,10 +1,10 @@
 -- What a subscriber keeps of its own changes with each row is what it made of the row.
 use Rattle.std.specs.Prelude.{◌≡◌, ◌≤◌, ◌&&◌, ℕ, List, [], Bool, Option, Some, find, nat_lt, option_map, unwrap_or}
 use Rattle.std.specs.List.{list_any}
-use Rattle.merge_model.specs.ByHistory.{is_between_made}
-use Rattle.merge_model.specs.ByNumbers.{last_between}
+use Rattle.merge_model.specs.Judge.ByHistory.{is_between_made}
+use Rattle.merge_model.specs.Judge.ByNumbers.{last_between}
 use Rattle.merge_model.specs.History.{History, MadeChange, made_at}
-use Rattle.merge_model.specs.Keys.{at_number, row_at, same_key}
+use Rattle.merge_model.specs.Tables.Keys.{at_number, row_at, same_key}
 use Rattle.merge_types.specs.declared.row_key.RowKey.{RowKey as Key}
 use Rattle.merge_units.specs.declared.site_row.SubscriberRow.{SubscriberRow}
 use Rattle.merge_model.specs.Tables.{SubscriberTables}

@@ -2,8 +2,8 @@
 ghost use Rattle.merge_laws.specs.Laws.{OfEveryModel, ReceivedIsDone, ActedIsDone, GapIsDone, TakesOnlyClosed, ReceivedNumberIsDone, UnmetIsDone, ClosingsKeepTheLast, UploadsTellTheLast, SubscribersDecideAlike, KnowsOnlyMade, JoinedTakesActed, OfEach, OfEveryRun, OfEveryDecidedRun, OfEveryValidRun};
 ghost use Rattle.merge_laws.specs.ActsOnce.{ActedItemsDoNothing, ActedRowsStay, ActedUploadsOnlyAnswer, DoneStays, LettersStay, TakenHaveActed, TakenOnlyAnswer};
 ghost use Rattle.merge_laws.specs.LastLines.{MappingIsLastLine, ChangedIsLastChange, LeftByLine, TouchedInsideByLine, TouchedOutsideByLine};
-ghost use Rattle.merge_model.specs.Bridge.{PublisherDecidesAlike};
-ghost use Rattle.merge_model.specs.Promises.{AllAccounted, AllStand, IdentitiesApart, OldIsPast, RepliesStayInside, SessionSettles, SettledHoldsPartition};
+ghost use Rattle.merge_model.specs.Laws.Bridge.{PublisherDecidesAlike};
+ghost use Rattle.merge_model.specs.Laws.Promises.{AllAccounted, AllStand, IdentitiesApart, OldIsPast, RepliesStayInside, SessionSettles, SettledHoldsPartition};
 ghost use Rattle.merge_laws.specs.Deciding.{CasesDecideAlike, EachStepAlike, AnswersAlike, FailingAnswersAlike, FailingTablesAlike, TablesAlike};
 ghost use Rattle.merge_laws.specs.Identities.{OfEveryRuledModel, TakenWereGranted};
 ghost use Rattle.merge_laws.specs.Watermarks.{WatermarksAreHeld};

@@ -3,8 +3,8 @@ use Rattle.std.specs.Prelude.{Bool, List, [], codes, count_by, length, map, nat_
 use Rattle.std.specs.List.{flat_map, starts_with, zip}
 use Rattle.std.specs.Fmt.{decimal}
 use Rattle.merge_script.specs.Lines.{lines_of}
-use Rattle.merge_model.specs.Play.{names_of}
-use Rattle.merge_model.specs.Text.{line, text_of}
+use Rattle.merge_model.specs.Script.Play.{names_of}
+use Rattle.merge_model.specs.Script.Text.{line, text_of}
 use Rattle.merge_model.specs.declared.answer.Answer.{Answer}
 use Rattle.merge_model.specs.declared.event.Event.{Event}
 use Rattle.merge_model.specs.declared.event.Event.TheVariants as event

@@ -1,9 +1,9 @@
 //! What is told of the answers.
 ghost use Rattle.std.specs.Prelude.{◌≡◌, ◌++◌, ◌+◌, ◌<◌, ◌^◌, IfOk, OnOk, [], cond, length};
 ghost use Rattle.std.specs.List.{flat_map};
-ghost use Rattle.merge_model.specs.Play.{names_of};
-ghost use Rattle.merge_model.specs.Proper.{IsProperAnswer};
-ghost use Rattle.merge_model.specs.Text.{text_of};
+ghost use Rattle.merge_model.specs.Script.Play.{names_of};
+ghost use Rattle.merge_model.specs.Script.Proper.{IsProperAnswer};
+ghost use Rattle.merge_model.specs.Script.Text.{text_of};
 ghost use Rattle.merge_make.specs.Publication.{made};
 ghost use Rattle.merge_make.specs.Script.{script};
 ghost use Rattle.merge_make.specs.Summary.{is_refusal, last_line, made_line, shown, told};

@@ -1,9 +1,17 @@
 -- What holds of each element of a list, of some element, of what a filter leaves, and of two lists side by side.
+-- The room holds tests, and what is found in lists of rows, sites and letters.
+pub mod Tests
+pub mod Finding
+pub mod KeyLookUps
+pub mod KeyLists
+pub mod PlaceLookUps
+pub mod Places
+pub mod SitesInOrder
 use Rattle.std.specs.Prelude.{◌≡◌, ◌++◌, ◌||◌, List, [], ◌∷◌, Bool, true, false, Option, Some, None, refl, cond, filter, filter_map, map, option_map}
 use Rattle.std.specs.List.{AllByRecursion, AllZip, cons_option, list_any}
 use Rattle.std.proofs.Common.{arith, ap, ◌∙◌}
-use Rattle.merge_model.proofs.Finding.{all-weaker}
-use Rattle.merge_model.proofs.Tests.{either, or-onward, or-second}
+use Rattle.merge_model.proofs.Lists.Finding.{all-weaker}
+use Rattle.merge_model.proofs.Lists.Tests.{either, or-onward, or-second}
 
 -- Of each element.
 

@@ -1,4 +1,9 @@
 -- What the publisher's own steps keep.
+-- The room holds what follows of steps and runs: numbers that rise, lists that stay sorted, generations that act once.
+pub mod PublisherSteps
+pub mod Rising
+pub mod Sorted
+pub mod DoneOnce
 use Rattle.std.specs.Prelude.{ℕ, ℤ, List, [], ◌∷◌, Bool, true, false, Option, Some, None, Result, Ok, Err, if◌then◌else◌, IfOk, max, map}
 use Rattle.merge_types.specs.declared.identifiers.Moment.{Moment}
 use Rattle.merge_types.specs.declared.identifiers.RowId.{RowId}
@@ -20,24 +25,24 @@ use Rattle.merge_batch.specs.declared.request.RangeAsk.{RangeAsk}
 use Rattle.merge_batch.specs.declared.request.Download.{Download}
 use Rattle.merge_schema.specs.declared.publication.Publication.{Publication}
 use Rattle.merge_model.specs.Tables.{PublisherTables}
-use Rattle.merge_model.specs.Publications.{rules_of}
-use Rattle.merge_model.specs.Refusals.{unless, counter_end}
+use Rattle.merge_model.specs.Tables.Publications.{rules_of}
+use Rattle.merge_model.specs.Tables.Refusals.{unless, counter_end}
 use Rattle.merge_batch.specs.declared.reply.Joined.{Joined}
 use Rattle.merge_batch.specs.declared.reply.Uploaded.{Uploaded}
 use Rattle.merge_batch.specs.declared.reply.Ranged.{Ranged}
 use Rattle.merge_batch.specs.declared.reply.Downloaded.{Downloaded}
-use Rattle.merge_model.specs.Keys.{at_number}
+use Rattle.merge_model.specs.Tables.Keys.{at_number}
 use Rattle.merge_model.specs.Judge.{PublisherJudge}
-use Rattle.merge_model.specs.Acts.{acts_of}
+use Rattle.merge_model.specs.Publisher.Acts.{acts_of}
 use Rattle.merge_model.specs.Publisher.{close_generation, at_moment, closed, last_closed, counters}
-use Rattle.merge_model.specs.PublisherLocal.{local, local_refusal, drawn, Drawn, drawn_from, taken_from, no_draw, after_answer, own_ask, made_locally}
-use Rattle.merge_model.specs.PublisherJoin.{join, join_refusal, join_taken, join_acts, joined}
-use Rattle.merge_model.specs.PublisherUpload.{upload, uploaded, taken_in, brings_news, upload_refusal}
-use Rattle.merge_model.specs.PublisherRanges.{ranges, ranges_refusal, ranged, plans, with_grants, ask_by}
-use Rattle.merge_model.specs.PublisherDownload.{download, download_refusal, asked, reply_to}
+use Rattle.merge_model.specs.Publisher.PublisherLocal.{local, local_refusal, drawn, Drawn, drawn_from, taken_from, no_draw, after_answer, own_ask, made_locally}
+use Rattle.merge_model.specs.Publisher.PublisherJoin.{join, join_refusal, join_taken, join_acts, joined}
+use Rattle.merge_model.specs.Publisher.PublisherUpload.{upload, uploaded, taken_in, brings_news, upload_refusal}
+use Rattle.merge_model.specs.Publisher.PublisherRanges.{ranges, ranges_refusal, ranged, plans, with_grants, ask_by}
+use Rattle.merge_model.specs.Publisher.PublisherDownload.{download, download_refusal, asked, reply_to}
 use Rattle.merge_model.specs.World.{World, Judges, Saying}
-use Rattle.merge_model.specs.Steps.{Action, step_by}
-use Rattle.merge_model.proofs.PublisherSteps.{step-holds}
+use Rattle.merge_model.specs.World.Steps.{Action, step_by}
+use Rattle.merge_model.proofs.Publishers.PublisherSteps.{step-holds}
 
 -- where nothing refuses, the step is made
 unless-ok : {A : Type 0} (P : A → Type 0) (refusal : Option Refusal) (a : A) → P a → IfOk (unless refusal a) P

@@ -1,4 +1,12 @@
 -- From steps to every list of events.
+-- The room holds the way from steps to sessions, events and lists of actions, refusals and reports, and worlds that answer alike.
+pub mod Kept
+pub mod Events
+pub mod Actions
+pub mod Refusals
+pub mod Refused
+pub mod Reports
+pub mod Alike
 use Rattle.std.specs.Prelude.{ℕ, List, [], ◌∷◌, All, map}
 use Rattle.std.specs.List.Sorted.{IsStrictlySortedBy}
 use Rattle.std.proofs.Common.{arith}
@@ -11,19 +19,19 @@ use Rattle.merge_model.specs.declared.event.Event.{Event}
 use Rattle.merge_types.specs.declared.identifiers.SiteId.{SiteId}
 use Rattle.merge_schema.specs.declared.publication.Subscription.{Subscription}
 use Rattle.merge_model.specs.Subscriber.{empty_subscriber}
-use Rattle.merge_model.specs.Publications.{rules_of, by_site}
+use Rattle.merge_model.specs.Tables.Publications.{rules_of, by_site}
 use Rattle.merge_model.specs.Publisher.{empty_publisher}
 use Rattle.merge_model.specs.World.{World, Saying, empty_world, by_tables}
-use Rattle.merge_model.specs.Events.{machine}
-use Rattle.merge_model.specs.ByHistory.{by_history}
-use Rattle.merge_model.specs.Model.{Model, model, empty_model}
+use Rattle.merge_model.specs.World.Events.{machine}
+use Rattle.merge_model.specs.Judge.ByHistory.{by_history}
+use Rattle.merge_model.specs.History.Model.{Model, model, empty_model}
 use Rattle.merge_model.specs.Laws.{AreSorted, AreSubSorted}
 use Rattle.merge_model.specs.Failing.{Slips, faulty}
-use Rattle.merge_model.specs.Runs.{model_behind, world_behind}
-use Rattle.merge_model.proofs.KeptFailing.{runs-keep}
+use Rattle.merge_model.specs.Failing.Runs.{model_behind, world_behind}
+use Rattle.merge_model.proofs.Failing.KeptFailing.{runs-keep}
 use Rattle.merge_model.proofs.Publishers.{step-book}
-use Rattle.merge_model.proofs.Sorted.{step-sorted}
-use Rattle.merge_model.proofs.SubscriberSteps.{AllHold}
+use Rattle.merge_model.proofs.Publishers.Sorted.{step-sorted}
+use Rattle.merge_model.proofs.Subscribers.SubscriberSteps.{AllHold}
 use Rattle.merge_model.proofs.Subscribers.{step-sub-sorted}
 
 no_book : (rules : List Rule) → All IsRule rules → IsBook rules []

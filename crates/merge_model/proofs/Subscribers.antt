@@ -1,4 +1,6 @@
 -- What the calls of a subscriber keep.
+-- The room holds what follows of steps.
+pub mod SubscriberSteps
 use Rattle.std.specs.Prelude.{◌≡◌, ◌+◌, ◌==◌, ℕ, List, [], ◌∷◌, Bool, true, false, Option, Some, None, Result, Ok, Err, refl, if◌then◌else◌, IfOk, map, nat_lt}
 use Rattle.std.specs.List.{fold}
 use Rattle.std.specs.List.Sorted.{IsStrictlySortedBy}
@@ -23,24 +25,24 @@ use Rattle.merge_types.specs.declared.row_key.RowKey.{RowKey as Key}
 use Rattle.merge_units.specs.declared.site_row.SubscriberRow.{SubscriberRow}
 use Rattle.merge_model.specs.Tables.{SubscriberTables}
 use Rattle.merge_types.specs.RowKeys.{key_cmp}
-use Rattle.merge_model.specs.Refusals.{unless, counter_end}
-use Rattle.merge_model.specs.Changes.{key_of, version_after}
+use Rattle.merge_model.specs.Tables.Refusals.{unless, counter_end}
+use Rattle.merge_model.specs.Tables.Changes.{key_of, version_after}
 use Rattle.merge_model.specs.Judge.{SubscriberJudge}
-use Rattle.merge_model.specs.Faults.{reply_fault}
+use Rattle.merge_model.specs.World.Faults.{reply_fault}
 use Rattle.merge_model.specs.Subscriber.{sub_local, sub_local_refusal, sub_drawn, sub_made_locally, sub_version_at, sub_next_dot, with_version_if, close_sub_generation, sub_closed, sub_at_moment, sub_counters, sub_last_closed}
-use Rattle.merge_model.specs.Sending.{with_message}
+use Rattle.merge_model.specs.Subscriber.Sending.{with_message}
 use Rattle.merge_gens.proofs.ClosedGenerations.{sound_kept}
-use Rattle.merge_model.specs.Taking.{taken, take_reply, met_by, seq_of, row_above, with_received, with_item, with_order, key_of_download}
+use Rattle.merge_model.specs.Subscriber.Taking.{taken, take_reply, met_by, seq_of, row_above, with_received, with_item, with_order, key_of_download}
 use Rattle.merge_model.specs.declared.outcome.Taken.{Taken}
 use Rattle.merge_model.specs.declared.outcome.Taken.TheVariants.{Acted, Missed}
-use Rattle.merge_model.specs.Reinit.{reinitialise, reinitialised}
+use Rattle.merge_model.specs.Subscriber.Reinit.{reinitialise, reinitialised}
 use Rattle.merge_model.specs.World.{World, Judges, Saying}
-use Rattle.merge_model.specs.Steps.{Action, step_by}
+use Rattle.merge_model.specs.World.Steps.{Action, step_by}
 use Rattle.merge_model.specs.Laws.{SubscriberRises, SubscriberNumbersRise, AreSubSorted}
-use Rattle.merge_model.proofs.Sorted.{key_total, closed_filling-small, closed_filling-rises, entered-sound, closed-sound}
+use Rattle.merge_model.proofs.Publishers.Sorted.{key_total, closed_filling-small, closed_filling-rises, entered-sound, closed-sound}
 use Rattle.std.specs.BTreeMap.{is_at}
 use Rattle.merge_table.proofs.Sorted.{sorted_put, sorted_take}
-use Rattle.merge_model.proofs.SubscriberSteps.{AllHold, sub-step-holds}
+use Rattle.merge_model.proofs.Subscribers.SubscriberSteps.{AllHold, sub-step-holds}
 
 unless-ok : {A : Type 0} (P : A → Type 0) (refusal : Option Refusal) (a : A) → P a → IfOk (unless refusal a) P
 unless-ok P (Some refusal) a h = tt

@@ -1,13 +1,16 @@
 -- Worlds in which steps may fail: a step is answered with a fault of the store or with want of memory, and all tables
 -- stay as they were.
+-- The room holds what such worlds reach, and runs.
+pub mod Reach
+pub mod Runs
 use Rattle.std.specs.Prelude.{Bool, List, None, Option, Some, [], false, if◌then◌else◌, not, take, true, ℕ, ◌==◌, ◌||◌, ◌∷◌}
 use Rattle.merge_resolve.specs.declared.case.ConflictCase.{ConflictCase}
 use Rattle.merge_resolve.specs.Asked.{tallies_after}
 use Rattle.merge_schema.specs.declared.publication.Publication.{Publication}
 use Rattle.merge_batch.specs.declared.refusal.Refusal.{Refusal}
-use Rattle.merge_model.specs.Calls.{closing_commits, questions_on, request_commits, taken_commits}
-use Rattle.merge_model.specs.Session.{Stepping}
-use Rattle.merge_model.specs.Steps.{Action, CloseAt, Deliver, Pass}
+use Rattle.merge_model.specs.World.Calls.{closing_commits, questions_on, request_commits, taken_commits}
+use Rattle.merge_model.specs.World.Session.{Stepping}
+use Rattle.merge_model.specs.World.Steps.{Action, CloseAt, Deliver, Pass}
 use Rattle.merge_model.specs.Tables.{SubscriberTables}
 use Rattle.merge_model.specs.World.{World, letter_at, subscriber_at}
 use Rattle.merge_model.specs.declared.letter.Letter.{Letter}

@@ -1,8 +1,12 @@
 -- The history of a world: what the promises speak of, and what no table holds.
+-- The room holds pasts, what each step notes, and the model.
+pub mod Pasts
+pub mod Noting
+pub mod Model
 use Rattle.std.specs.List.{list_any}
 use Rattle.std.specs.Prelude.{Bool, List, Option, [], filter, slice_get, suc, unwrap_or, zero, ℕ, ℤ, ◌&&◌, ◌==◌, ◌||◌}
 use Rattle.merge_types.specs.declared.identifiers.Dot.{Dot}
-use Rattle.merge_model.specs.Keys.{at_number, row_at}
+use Rattle.merge_model.specs.Tables.Keys.{at_number, row_at}
 use Rattle.merge_types.specs.declared.row_key.RowKey.{RowKey as Key}
 
 -- whether a list of changes, read as a set, has one

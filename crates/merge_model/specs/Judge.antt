@@ -1,4 +1,7 @@
 -- What a site decides by. A step reads these and neither lineages nor histories itself.
+-- The room holds the two ways to decide: by tables, and by the history.
+pub mod ByNumbers
+pub mod ByHistory
 use Rattle.std.specs.Prelude.{Bool, List, Option, ℕ}
 use Rattle.merge_units.specs.declared.version.Version.{Version}
 use Rattle.merge_units.specs.Version.{Knowing}

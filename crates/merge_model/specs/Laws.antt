@@ -1,4 +1,9 @@
 -- What holds of every step.
+-- The room holds all that is promised or said of steps, calls and runs.
+pub mod Promises
+pub mod Bridge
+pub mod SlipLaws
+pub mod Quiet
 use Rattle.std.specs.List.{AllByRecursion, list_all}
 use Rattle.std.specs.List.Sorted.{IsStrictlySortedBy}
 use Rattle.std.specs.Map.{keys_of}
@@ -15,25 +20,25 @@ use Rattle.merge_batch.specs.declared.refusal.Refusal.{Refusal}
 use Rattle.merge_batch.specs.declared.reply.Reply.{Reply}
 use Rattle.merge_batch.specs.declared.request.Outstanding.{Outstanding}
 use Rattle.merge_batch.specs.declared.request.Upload.{Upload}
-use Rattle.merge_model.specs.Events.{after, happens, machine}
+use Rattle.merge_model.specs.World.Events.{after, happens, machine}
 use Rattle.merge_model.specs.Failing.{Slips, failing, faulty}
 use Rattle.merge_model.specs.History.{History, is_done}
 use Rattle.merge_model.specs.Judge.{PublisherJudge, SubscriberJudge}
 use Rattle.merge_types.specs.RowKeys.{key_cmp}
 use Rattle.merge_gens.specs.Moves.{row_site_cmp}
-use Rattle.merge_model.specs.Model.{Model, model, model_step}
-use Rattle.merge_model.specs.Promises.{NoneActsTwice, acting_generations}
-use Rattle.merge_model.specs.Publications.{rules_of}
-use Rattle.merge_model.specs.Runs.{model_behind, world_behind}
+use Rattle.merge_model.specs.History.Model.{Model, model, model_step}
+use Rattle.merge_model.specs.Laws.Promises.{NoneActsTwice, acting_generations}
+use Rattle.merge_model.specs.Tables.Publications.{rules_of}
+use Rattle.merge_model.specs.Failing.Runs.{model_behind, world_behind}
 use Rattle.merge_model.specs.Publisher.{at_moment}
-use Rattle.merge_model.specs.PublisherUpload.{brings_news, upload}
-use Rattle.merge_model.specs.Reinit.{reinitialise}
-use Rattle.merge_model.specs.Sending.{with_message}
-use Rattle.merge_model.specs.Steps.{Action, step, step_by}
+use Rattle.merge_model.specs.Publisher.PublisherUpload.{brings_news, upload}
+use Rattle.merge_model.specs.Subscriber.Reinit.{reinitialise}
+use Rattle.merge_model.specs.Subscriber.Sending.{with_message}
+use Rattle.merge_model.specs.World.Steps.{Action, step, step_by}
 use Rattle.merge_model.specs.declared.outcome.Outcome.TheVariants.{Refuses}
 use Rattle.merge_model.specs.Subscriber.{close_sub_generation, sub_at_moment, sub_closed, sub_local}
 use Rattle.merge_model.specs.Tables.{PublisherTables, SubscriberTables}
-use Rattle.merge_model.specs.Taking.{take_reply}
+use Rattle.merge_model.specs.Subscriber.Taking.{take_reply}
 use Rattle.merge_model.specs.World.{Judges, Saying, World}
 use Rattle.merge_model.specs.declared.event.Event.{Event}
 use Rattle.merge_model.specs.declared.event.Event.TheVariants as event

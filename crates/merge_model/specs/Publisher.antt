@@ -1,4 +1,13 @@
 -- The publisher's tables: how they begin, their moment and generations, and what every request is refused for.
+-- The room holds its steps: local changes, joins, uploads with their acts, ranges, downloads, purges, and the entries that they make.
+pub mod PublisherLocal
+pub mod PublisherJoin
+pub mod PublisherUpload
+pub mod PublisherRanges
+pub mod PublisherDownload
+pub mod PublisherPurge
+pub mod Acts
+pub mod Entries
 use Rattle.std.specs.Prelude.{List, None, Option, Result, Some, [], map, max, nat_le, not, unwrap_or, ℕ, ◌∷◌}
 use Rattle.merge_types.specs.declared.identifiers.Moment.{Moment}
 use Rattle.merge_types.specs.declared.identifiers.SiteId.{SiteId}
@@ -11,9 +20,9 @@ use Rattle.merge_schema.specs.declared.publication.Publication.{Publication}
 use Rattle.merge_schema.specs.Places.{is_subscription}
 use Rattle.merge_batch.specs.declared.refusal.Refusal.{Refusal}
 use Rattle.merge_batch.specs.declared.refusal.Refusal.TheVariants.{Expired, NotJoined, Stale, UnknownSite}
-use Rattle.merge_model.specs.Keys.{at_number, put_number}
-use Rattle.merge_model.specs.Publications.{identities}
-use Rattle.merge_model.specs.Refusals.{counter_end, first_refusal, refused_if, unless}
+use Rattle.merge_model.specs.Tables.Keys.{at_number, put_number}
+use Rattle.merge_model.specs.Tables.Publications.{identities}
+use Rattle.merge_model.specs.Tables.Refusals.{counter_end, first_refusal, refused_if, unless}
 use Rattle.merge_model.specs.Tables.{PublisherTables}
 
 -- The empty tables: each identity article holds no range.

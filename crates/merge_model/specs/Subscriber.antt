@@ -1,4 +1,8 @@
 -- The subscriber's tables: how they begin, their generations, and local changes.
+-- The room holds its steps: the messages that it makes, the replies that it takes, and making anew.
+pub mod Sending
+pub mod Taking
+pub mod Reinit
 use Rattle.std.specs.Prelude.{Err, List, None, Ok, Option, Result, Some, [], false, filter, length, nat_lt, not, option_map, unwrap_or, ℕ, ℤ, ◌++◌, ◌+◌, ◌∷◌}
 use Rattle.merge_types.specs.declared.changes.Change.{Change}
 use Rattle.merge_types.specs.declared.changes.Change.TheVariants.{Insert}
@@ -15,10 +19,10 @@ use Rattle.merge_ident.specs.declared.ranges.IdentityUsedUp.{IdentityUsedUp as I
 use Rattle.merge_schema.specs.declared.publication.Publication.{Publication}
 use Rattle.merge_batch.specs.declared.refusal.Refusal.{Refusal}
 use Rattle.merge_batch.specs.declared.refusal.Refusal.TheVariants.{IdentityUsedUp, Joining}
-use Rattle.merge_model.specs.Changes.{change_refusal, key_of, version_after}
-use Rattle.merge_model.specs.Keys.{at_number, put_number, put_row, row_at}
+use Rattle.merge_model.specs.Tables.Changes.{change_refusal, key_of, version_after}
+use Rattle.merge_model.specs.Tables.Keys.{at_number, put_number, put_row, row_at}
 use Rattle.merge_model.specs.Publisher.{later, new_holders, no_generations}
-use Rattle.merge_model.specs.Refusals.{counter_end, first_refusal, refused_if, unless}
+use Rattle.merge_model.specs.Tables.Refusals.{counter_end, first_refusal, refused_if, unless}
 use Rattle.merge_types.specs.declared.row_key.RowKey.{RowKey as Key}
 use Rattle.merge_units.specs.declared.site_row.SubscriberRow.{SubscriberRow}
 use Rattle.merge_model.specs.Tables.{SubscriberTables}

@@ -1,4 +1,9 @@
 -- The tables of the sites: what the stored records of a site hold, as lists.
+-- The room holds what steps are written in: keys, what a publication says, local changes, and refusals in order.
+pub mod Keys
+pub mod Publications
+pub mod Changes
+pub mod Refusals
 use Rattle.std.specs.Prelude.{Bool, List, Option, ℕ}
 use Rattle.merge_types.specs.declared.identifiers.Moment.{Moment}
 use Rattle.merge_types.specs.declared.identifiers.SiteId.{SiteId}

@@ -1,4 +1,13 @@
 -- The world: all sites, all messages that were ever made, and the moment.
+-- The room holds what happens in it: steps, calls, sessions, events, reports, and what is wrong in a message.
+pub mod Steps
+pub mod Calls
+pub mod Faults
+pub mod Session
+pub mod Parts
+pub mod Naming
+pub mod Events
+pub mod Reports
 use Rattle.std.specs.Prelude.{List, None, Option, [], map, slice_get, suc, zero, ℕ}
 use Rattle.merge_types.specs.declared.identifiers.Moment.{Moment}
 use Rattle.merge_types.specs.declared.identifiers.SiteId.{SiteId}
@@ -6,10 +15,10 @@ use Rattle.merge_units.specs.declared.result.Decision.{Decision}
 use Rattle.merge_resolve.specs.declared.case.ConflictCase.{ConflictCase}
 use Rattle.merge_schema.specs.declared.publication.Publication.{Publication}
 use Rattle.merge_schema.specs.declared.publication.Subscription.{Subscription}
-use Rattle.merge_model.specs.ByNumbers.{by_numbers, by_rows}
+use Rattle.merge_model.specs.Judge.ByNumbers.{by_numbers, by_rows}
 use Rattle.merge_model.specs.Judge.{PublisherJudge, SubscriberJudge}
-use Rattle.merge_model.specs.Keys.{at_number, put_number}
-use Rattle.merge_model.specs.Publications.{by_site}
+use Rattle.merge_model.specs.Tables.Keys.{at_number, put_number}
+use Rattle.merge_model.specs.Tables.Publications.{by_site}
 use Rattle.merge_model.specs.Publisher.{empty_publisher}
 use Rattle.merge_model.specs.Subscriber.{empty_subscriber}
 use Rattle.merge_model.specs.Tables.{PublisherTables, SubscriberTables}

@@ -1,7 +1,7 @@
 //! What holds of the reading of scripts. These functions do nothing: their contracts are the laws.
-ghost use Rattle.merge_model.specs.Grammar.{ReadsEvents, ReadsLines};
-ghost use Rattle.merge_model.specs.Literals.{ReadsLiterals, ReadsRows};
-ghost use Rattle.merge_model.specs.Reading.{FindsFirstFault};
+ghost use Rattle.merge_model.specs.Script.Grammar.{ReadsEvents, ReadsLines};
+ghost use Rattle.merge_model.specs.Script.Literals.{ReadsLiterals, ReadsRows};
+ghost use Rattle.merge_model.specs.Script.Reading.{FindsFirstFault};
 
 /// A text is read as a value exactly where it is a literal of it, and as a row exactly where it
 /// names the row.

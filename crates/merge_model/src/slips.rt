@@ -1,6 +1,6 @@
 //! What holds of runs in which steps may fail. These functions do nothing: their contracts are the laws.
-ghost use Rattle.merge_model.specs.Quiet.{QuietClosings, QuietReplies, QuietRequests, QuietSubClosings};
-ghost use Rattle.merge_model.specs.SlipLaws.{CallsAreSteps, FailuresShow, FailuresShowInModel, NoneFails, NoneFailsInModel};
+ghost use Rattle.merge_model.specs.Laws.Quiet.{QuietClosings, QuietReplies, QuietRequests, QuietSubClosings};
+ghost use Rattle.merge_model.specs.Laws.SlipLaws.{CallsAreSteps, FailuresShow, FailuresShowInModel, NoneFails, NoneFailsInModel};
 
 /// Where no step fails, a run is that of a world in which none can.
 pub fn steps_without_slips_are_plain()

@@ -16,10 +16,10 @@ use Rattle.merge_resolve.specs.declared.asking.Question.{Question}
 use Rattle.merge_schema.specs.declared.publication.Publication.{Publication}
 use Rattle.merge_batch.specs.declared.request.Upload.{Upload}
 use Rattle.merge_batch.specs.declared.request.UploadItem.{UploadItem}
-use Rattle.merge_model.specs.Acts.{Act, Fate, Met, New, Unknown, act_of, acting_items, acts_from, acts_of, asked_at, case_met, decision_for, fate_by, is_new_row, key_of_item, left_by, made_by, meeting_of, question_of, question_on, questions_of, without_first}
+use Rattle.merge_model.specs.Publisher.Acts.{Act, Fate, Met, New, Unknown, act_of, acting_items, acts_from, acts_of, asked_at, case_met, decision_for, fate_by, is_new_row, key_of_item, left_by, made_by, meeting_of, question_of, question_on, questions_of, without_first}
 use Rattle.merge_model.specs.Judge.{PublisherJudge}
-use Rattle.merge_model.specs.Keys.{row_at}
-use Rattle.merge_model.specs.Steps.{kept_decision, kept_decisions}
+use Rattle.merge_model.specs.Tables.Keys.{row_at}
+use Rattle.merge_model.specs.World.Steps.{kept_decision, kept_decisions}
 use Rattle.merge_model.specs.Tables.{PublisherTables}
 use Rattle.merge_model.specs.World.{Saying}
 use Rattle.merge_owed.proofs.BodyValues.{IsCounted}

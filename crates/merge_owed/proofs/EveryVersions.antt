@@ -17,15 +17,15 @@ use Rattle.merge_batch.specs.declared.reply.DownloadItem.{DownloadItem}
 use Rattle.merge_batch.specs.declared.reply.Reply.TheVariants as reply
 use Rattle.merge_batch.specs.declared.request.Request.TheVariants as request
 use Rattle.merge_batch.specs.declared.request.UploadItem.{UploadItem}
-use Rattle.merge_model.specs.Acts.{key_of_item}
+use Rattle.merge_model.specs.Publisher.Acts.{key_of_item}
 use Rattle.merge_model.specs.History.{History, MadeChange, Past, has, past_at, past_in}
-use Rattle.merge_model.specs.Model.{Model}
-use Rattle.merge_model.specs.Taking.{key_of_download}
+use Rattle.merge_model.specs.History.Model.{Model}
+use Rattle.merge_model.specs.Subscriber.Taking.{key_of_download}
 use Rattle.merge_model.specs.World.{World}
 use Rattle.merge_model.specs.declared.letter.Letter.{Letter}
 use Rattle.merge_model.specs.declared.letter.Message.TheVariants.{Asks, Replies}
 use Rattle.merge_model.specs.declared.letter.Message.{Message}
-use Rattle.merge_model.proofs.Finding.{all-weaker}
+use Rattle.merge_model.proofs.Lists.Finding.{all-weaker}
 use Rattle.merge_model.proofs.Lists.{all-both, all-filter, zip-second}
 use Rattle.merge_laws.specs.Knowledge.{AllKnow, AreNumbered, Knowledge, Knows, RowKnows, is_made}
 use Rattle.merge_laws.specs.LineagesStand.{AllTold, EveryVersion, OfMessage, OfOrder, lost_at}

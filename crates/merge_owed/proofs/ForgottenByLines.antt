@@ -14,17 +14,17 @@ use Rattle.merge_gens.specs.declared.moves.Mapping.{Mapping}
 use Rattle.merge_gens.specs.declared.moves.RowSite.{RowSite}
 use Rattle.merge_schema.proofs.Searches.{any_map}
 use Rattle.merge_schema.specs.declared.publication.Publication.{Publication}
-use Rattle.merge_model.specs.ByHistory.{is_line_for, last_change, says_left}
-use Rattle.merge_model.specs.Entries as entry
+use Rattle.merge_model.specs.Judge.ByHistory.{is_line_for, last_change, says_left}
+use Rattle.merge_model.specs.Publisher.Entries as entry
 use Rattle.merge_model.specs.History.{Changed, EnteredFor, GoneFor, LeftFor, Line, LineKind}
-use Rattle.merge_model.specs.Keys.{row_at, same_key}
-use Rattle.merge_model.specs.Model.{Model}
-use Rattle.merge_model.specs.Noting.{gone_for, site_of_subscription}
-use Rattle.merge_model.specs.Publications.{by_site}
-use Rattle.merge_model.specs.PublisherJoin.{is_left_of}
-use Rattle.merge_model.specs.PublisherPurge.{is_old}
-use Rattle.merge_model.specs.Runs.{model_behind_actions}
-use Rattle.merge_model.proofs.KeyLookUps.{keys-same}
+use Rattle.merge_model.specs.Tables.Keys.{row_at, same_key}
+use Rattle.merge_model.specs.History.Model.{Model}
+use Rattle.merge_model.specs.History.Noting.{gone_for, site_of_subscription}
+use Rattle.merge_model.specs.Tables.Publications.{by_site}
+use Rattle.merge_model.specs.Publisher.PublisherJoin.{is_left_of}
+use Rattle.merge_model.specs.Publisher.PublisherPurge.{is_old}
+use Rattle.merge_model.specs.Failing.Runs.{model_behind_actions}
+use Rattle.merge_model.proofs.Lists.KeyLookUps.{keys-same}
 use Rattle.merge_model.proofs.Lists.{all-filter, all-kept, all-of, any-leads}
 use Rattle.merge_laws.specs.LastLines.{move_in, move_told}
 use Rattle.merge_laws.specs.Laws.{OfEveryActions, OfEveryValidActions}

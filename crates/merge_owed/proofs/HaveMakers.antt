@@ -12,7 +12,7 @@ use Rattle.merge_batch.specs.LocalChanges.{key_of, version_after}
 use Rattle.merge_batch.specs.Makers.{maker_of}
 use Rattle.merge_batch.proofs.Makers.{maker_of-made}
 use Rattle.merge_model.specs.History.{MadeChange, Past}
-use Rattle.merge_model.specs.Pasts.{past_after}
+use Rattle.merge_model.specs.History.Pasts.{past_after}
 use Rattle.merge_laws.proofs.ToldRows.{HeldFits}
 use Rattle.merge_owed.proofs.VersionKept.{GoesOn, IsCarried}
 

@@ -21,26 +21,26 @@ use Rattle.merge_schema.specs.declared.publication.Publication.{Publication}
 use Rattle.merge_batch.specs.declared.refusal.Refusal.{Refusal}
 use Rattle.merge_batch.specs.declared.reply.RangeGrant.{RangeGrant}
 use Rattle.merge_batch.specs.declared.reply.Reply.TheVariants as reply
-use Rattle.merge_model.specs.ByHistory.{by_made}
+use Rattle.merge_model.specs.Judge.ByHistory.{by_made}
 use Rattle.merge_model.specs.Failing.{Slips}
 use Rattle.merge_model.specs.History.{History, no_history}
 use Rattle.merge_model.specs.Judge.{SubscriberJudge}
-use Rattle.merge_model.specs.Keys.{at_number, put_number}
-use Rattle.merge_model.specs.Publications.{identity_of}
+use Rattle.merge_model.specs.Tables.Keys.{at_number, put_number}
+use Rattle.merge_model.specs.Tables.Publications.{identity_of}
 use Rattle.merge_model.specs.Publisher.{holder_for}
-use Rattle.merge_model.specs.Reinit.{reinitialised}
-use Rattle.merge_model.specs.Model.{Model}
-use Rattle.merge_model.specs.Runs.{model_behind, model_behind_actions}
-use Rattle.merge_model.specs.Sending.{upload_sent, with_message}
+use Rattle.merge_model.specs.Subscriber.Reinit.{reinitialised}
+use Rattle.merge_model.specs.History.Model.{Model}
+use Rattle.merge_model.specs.Failing.Runs.{model_behind, model_behind_actions}
+use Rattle.merge_model.specs.Subscriber.Sending.{upload_sent, with_message}
 use Rattle.merge_model.specs.Subscriber.{sub_at_moment, sub_closed, sub_drawn, sub_made_locally, taken_value, with_version_if}
 use Rattle.merge_model.specs.Tables.{SubscriberTables}
-use Rattle.merge_model.specs.Taking.{taken, with_grant}
+use Rattle.merge_model.specs.Subscriber.Taking.{taken, with_grant}
 use Rattle.merge_model.specs.World.{Saying, World, empty_world, with_subscriber}
 use Rattle.merge_model.specs.declared.event.Event.{Event}
 use Rattle.merge_batch.specs.declared.reply.Reply.{Reply}
 use Rattle.merge_batch.specs.declared.request.Outstanding.TheVariants as ask
-use Rattle.merge_model.proofs.Finding.{at_put_other, at_put_same, some_same}
-use Rattle.merge_model.specs.Steps.{Action}
+use Rattle.merge_model.proofs.Lists.Finding.{at_put_other, at_put_same, some_same}
+use Rattle.merge_model.specs.World.Steps.{Action}
 use Rattle.merge_laws.proofs.Ground.{Ground, grounded-by-actions}
 use Rattle.merge_laws.proofs.Models.{begins-with}
 use Rattle.merge_laws.proofs.Subscribing.{number-decided, same_number}

@@ -34,16 +34,16 @@ use Rattle.merge_schema.specs.declared.publication.Publication.{Publication}
 use Rattle.merge_batch.specs.LocalChanges.{change_refusal, identity_column, is_insert, key_of, no_row, sets_identity, tracking_at, types_at, version_after}
 use Rattle.merge_batch.specs.Uploads.{whole_number}
 use Rattle.merge_batch.specs.declared.refusal.Refusal.TheVariants.{IdentityColumn}
-use Rattle.merge_model.specs.Acts.{Met, meeting_of}
+use Rattle.merge_model.specs.Publisher.Acts.{Met, meeting_of}
 use Rattle.merge_model.specs.History.{MadeChange, Past, has}
 use Rattle.merge_model.specs.Judge.{PublisherJudge}
-use Rattle.merge_model.specs.Pasts.{past_after}
-use Rattle.merge_model.specs.Publications.{resolver_at, resolver_column}
+use Rattle.merge_model.specs.History.Pasts.{past_after}
+use Rattle.merge_model.specs.Tables.Publications.{resolver_at, resolver_column}
 use Rattle.merge_model.specs.Tables.{PublisherTables}
-use Rattle.merge_model.proofs.Finding.{some_same}
-use Rattle.merge_model.proofs.KeyLookUps.{key-itself}
-use Rattle.merge_model.proofs.Refusals.{first-none}
-use Rattle.merge_model.specs.Noting
+use Rattle.merge_model.proofs.Lists.Finding.{some_same}
+use Rattle.merge_model.proofs.Lists.KeyLookUps.{key-itself}
+use Rattle.merge_model.proofs.Runs.Refusals.{first-none}
+use Rattle.merge_model.specs.History.Noting
 use Rattle.merge_batch.proofs.Makers.{maker_of-made}
 use Rattle.merge_laws.proofs.AccountElements.{IsIn}
 use Rattle.merge_laws.proofs.Arrivals.{not-refused}

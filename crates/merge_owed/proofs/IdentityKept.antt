@@ -18,11 +18,11 @@ use Rattle.merge_batch.specs.LocalChanges.{identity_column}
 use Rattle.merge_batch.specs.Makers.{maker_of}
 use Rattle.merge_batch.specs.Uploads.{identity_at, identity_in, identity_value, whole_number}
 use Rattle.merge_model.specs.History.{MadeChange, Past}
-use Rattle.merge_model.specs.Keys.{same_key}
-use Rattle.merge_model.specs.Model.{Model}
-use Rattle.merge_model.specs.Runs.{model_after_actions, model_behind_actions}
-use Rattle.merge_model.proofs.Finding.{some_same}
-use Rattle.merge_model.proofs.KeyLookUps.{keys-same}
+use Rattle.merge_model.specs.Tables.Keys.{same_key}
+use Rattle.merge_model.specs.History.Model.{Model}
+use Rattle.merge_model.specs.Failing.Runs.{model_after_actions, model_behind_actions}
+use Rattle.merge_model.proofs.Lists.Finding.{some_same}
+use Rattle.merge_model.proofs.Lists.KeyLookUps.{keys-same}
 use Rattle.merge_laws.specs.Knowledge.{changes_of, same_dot}
 use Rattle.merge_laws.specs.Laws.{OfEveryValidActions, OfEveryValidRun}
 use Rattle.merge_laws.proofs.AccountElements.{IsIn, all-in, each-in}

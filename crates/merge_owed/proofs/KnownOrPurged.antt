@@ -9,14 +9,14 @@ use Rattle.merge_schema.specs.Valid.{IsValid}
 use Rattle.merge_schema.specs.declared.publication.Publication.{Publication}
 use Rattle.merge_model.specs.Failing.{Faulty, Slips, faulty}
 use Rattle.merge_model.specs.History.{has, is_accepted, past_at}
-use Rattle.merge_model.specs.Keys.{has_key, row_at}
-use Rattle.merge_model.specs.Model.{Model, empty_model, model}
+use Rattle.merge_model.specs.Tables.Keys.{has_key, row_at}
+use Rattle.merge_model.specs.History.Model.{Model, empty_model, model}
 use Rattle.merge_model.specs.Laws.{AreSorted}
-use Rattle.merge_model.specs.Runs.{model_behind, model_behind_actions}
-use Rattle.merge_model.specs.Steps.{Action}
+use Rattle.merge_model.specs.Failing.Runs.{model_behind, model_behind_actions}
+use Rattle.merge_model.specs.World.Steps.{Action}
 use Rattle.merge_model.specs.World.{Saying}
 use Rattle.merge_model.specs.declared.event.Event.{Event}
-use Rattle.merge_model.proofs.Actions.{failing-actions-keep}
+use Rattle.merge_model.proofs.Runs.Actions.{failing-actions-keep}
 use Rattle.merge_laws.specs.Knowledge.{is_made}
 use Rattle.merge_laws.proofs.KnownRows.{held-knows}
 use Rattle.merge_laws.proofs.LineagesAlways.{Kept, ground, kept-always, kept-step, kept-tallied}

@@ -3,17 +3,17 @@ use Rattle.std.specs.Prelude.{Bool, List, None, Some, [], false, refl, true, ◌
 use Rattle.std.proofs.Common.{ap, arith, inl, inr, sym, ◌∙◌}
 use Rattle.merge_types.specs.declared.row_key.RowKey.{RowKey as Key}
 use Rattle.merge_schema.specs.declared.publication.Publication.{Publication}
-use Rattle.merge_model.specs.ByHistory.{by_history}
+use Rattle.merge_model.specs.Judge.ByHistory.{by_history}
 use Rattle.merge_model.specs.Failing.{Faulty, Slips, failing, faulty, is_allowed}
-use Rattle.merge_model.specs.Keys.{has_key, row_at}
+use Rattle.merge_model.specs.Tables.Keys.{has_key, row_at}
 use Rattle.merge_model.specs.Laws.{AreSorted}
-use Rattle.merge_model.specs.Model.{Model, model, model_step}
-use Rattle.merge_model.specs.Session.{Stepping}
-use Rattle.merge_model.specs.Steps.{Action, CloseAt, Deliver, Forget, Look, Make, MakeAnew, Pass, Send}
+use Rattle.merge_model.specs.History.Model.{Model, model, model_step}
+use Rattle.merge_model.specs.World.Session.{Stepping}
+use Rattle.merge_model.specs.World.Steps.{Action, CloseAt, Deliver, Forget, Look, Make, MakeAnew, Pass, Send}
 use Rattle.merge_model.specs.World.{Saying}
-use Rattle.merge_model.proofs.Actions.{failing-actions-keep}
-use Rattle.merge_model.proofs.KeptFailing.{fails-keep}
-use Rattle.merge_model.proofs.Sorted.{step-sorted}
+use Rattle.merge_model.proofs.Runs.Actions.{failing-actions-keep}
+use Rattle.merge_model.proofs.Failing.KeptFailing.{fails-keep}
+use Rattle.merge_model.proofs.Publishers.Sorted.{step-sorted}
 use Rattle.merge_owed.specs.Purged.{WasPurgedByActions, behind_actions}
 use Rattle.merge_owed.proofs.PurgeEvents.{IsLeft, IsMade, act-leaves, made-purged, old_in, purge-has, slip-either, step-has, without_purges}
 use Rattle.merge_owed.proofs.PurgedRows.{Dropped, keys_old, was-dropped}

@@ -12,25 +12,25 @@ use Rattle.merge_schema.specs.declared.publication.Publication.{Publication}
 use Rattle.merge_batch.specs.declared.refusal.Refusal.{Refusal}
 use Rattle.merge_batch.specs.declared.request.Request.{Request}
 use Rattle.merge_batch.specs.declared.request.Request.TheVariants as request
-use Rattle.merge_model.specs.Acts.{Act, acts_of}
-use Rattle.merge_model.specs.ByHistory.{by_history}
-use Rattle.merge_model.specs.Entries.{Entries}
-use Rattle.merge_model.specs.Events.{happens}
+use Rattle.merge_model.specs.Publisher.Acts.{Act, acts_of}
+use Rattle.merge_model.specs.Judge.ByHistory.{by_history}
+use Rattle.merge_model.specs.Publisher.Entries.{Entries}
+use Rattle.merge_model.specs.World.Events.{happens}
 use Rattle.merge_model.specs.Failing.{Faulty, Slip, Slips, failing, faulty, is_allowed, slip_if}
 use Rattle.merge_model.specs.History.{History, Line, Past, pasts_with}
 use Rattle.merge_model.specs.Judge.{PublisherJudge}
-use Rattle.merge_model.specs.Keys.{has_key, row_at}
+use Rattle.merge_model.specs.Tables.Keys.{has_key, row_at}
 use Rattle.merge_model.specs.Laws.{AreSorted}
-use Rattle.merge_model.specs.Model.{Model, did_something, model, model_step, noted, noted_if, noted_letter, noted_make, noted_request, with_letter, with_posted}
-use Rattle.merge_model.specs.Noting
-use Rattle.merge_model.specs.Publications.{by_site}
+use Rattle.merge_model.specs.History.Model.{Model, did_something, model, model_step, noted, noted_if, noted_letter, noted_make, noted_request, with_letter, with_posted}
+use Rattle.merge_model.specs.History.Noting
+use Rattle.merge_model.specs.Tables.Publications.{by_site}
 use Rattle.merge_model.specs.Publisher.{at_moment, last_closed}
-use Rattle.merge_model.specs.PublisherJoin.{join_acts}
-use Rattle.merge_model.specs.PublisherLocal.{Drawn, drawn, next_dot}
-use Rattle.merge_model.specs.PublisherPurge.{is_old_tombstone}
-use Rattle.merge_model.specs.PublisherUpload.{brings_news}
-use Rattle.merge_model.specs.Session.{Stepping}
-use Rattle.merge_model.specs.Steps.{Action, CloseAt, Deliver, Forget, Look, Make, MakeAnew, Pass, Send, kept_decisions, step_by, upload_questions}
+use Rattle.merge_model.specs.Publisher.PublisherJoin.{join_acts}
+use Rattle.merge_model.specs.Publisher.PublisherLocal.{Drawn, drawn, next_dot}
+use Rattle.merge_model.specs.Publisher.PublisherPurge.{is_old_tombstone}
+use Rattle.merge_model.specs.Publisher.PublisherUpload.{brings_news}
+use Rattle.merge_model.specs.World.Session.{Stepping}
+use Rattle.merge_model.specs.World.Steps.{Action, CloseAt, Deliver, Forget, Look, Make, MakeAnew, Pass, Send, kept_decisions, step_by, upload_questions}
 use Rattle.merge_model.specs.Subscriber.{sub_drawn, sub_last_closed, sub_next_dot}
 use Rattle.merge_model.specs.Tables.{PublisherTables, SubscriberTables}
 use Rattle.merge_model.specs.World.{Judges, Saying, World, letter_at, subscriber_at}
@@ -41,9 +41,9 @@ use Rattle.merge_model.specs.declared.letter.Message.{Message}
 use Rattle.merge_model.specs.declared.letter.Message.TheVariants.{Asks, Replies}
 use Rattle.merge_model.specs.declared.outcome.Outcome.{Outcome}
 use Rattle.merge_model.specs.declared.outcome.Outcome.TheVariants.{Passed, Posted}
-use Rattle.merge_model.proofs.KeptFailing.{fails-keep, runs-keep}
-use Rattle.merge_model.proofs.Events.{event-keeps}
-use Rattle.merge_model.proofs.Sorted.{step-sorted}
+use Rattle.merge_model.proofs.Failing.KeptFailing.{fails-keep, runs-keep}
+use Rattle.merge_model.proofs.Runs.Events.{event-keeps}
+use Rattle.merge_model.proofs.Publishers.Sorted.{step-sorted}
 use Rattle.merge_laws.proofs.NotesLeave.{acts-leave, anew-leave, fold-leave, if-leave, taker-leave}
 use Rattle.merge_owed.specs.Forgotten.{going_over}
 use Rattle.merge_owed.specs.Purged.{WasPurged, behind}

@@ -9,11 +9,11 @@ use Rattle.merge_types.specs.RowKeys.{key_cmp}
 use Rattle.merge_types.specs.declared.row_key.RowKey.{RowKey as Key}
 use Rattle.merge_units.specs.declared.site_row.PublisherRow.{PublisherRow}
 use Rattle.merge_model.specs.History.{History}
-use Rattle.merge_model.specs.Keys.{has_key, row_at, same_key}
-use Rattle.merge_model.specs.Noting
-use Rattle.merge_model.proofs.KeyLookUps.{key-test, keys-exact}
-use Rattle.merge_model.proofs.PlaceLookUps.{kept, lookup-filter}
-use Rattle.merge_model.proofs.Sorted.{key_total}
+use Rattle.merge_model.specs.Tables.Keys.{has_key, row_at, same_key}
+use Rattle.merge_model.specs.History.Noting
+use Rattle.merge_model.proofs.Lists.KeyLookUps.{key-test, keys-exact}
+use Rattle.merge_model.proofs.Lists.PlaceLookUps.{kept, lookup-filter}
+use Rattle.merge_model.proofs.Publishers.Sorted.{key_total}
 
 -- a key is among the keys of rows just where a row is found
 found-step : (q : Key) (row : Key × PublisherRow) (b c : Bool) (rest : Option PublisherRow) → is_at (key_cmp q) row.0 ≡ b → same_key q row.0 ≡ b → c ≡ is_some rest → (same_key q row.0 || c) ≡ is_some (let found : Option PublisherRow = cond (is_at (key_cmp q) row.0) (Some row.1) rest in found)

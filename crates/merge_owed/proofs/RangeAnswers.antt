@@ -19,12 +19,12 @@ use Rattle.merge_ident.proofs.Added.{count_by-with_grant, find-with_other, great
 use Rattle.merge_batch.specs.Asks.{wanted_article}
 use Rattle.merge_batch.specs.Search.{are_distinct}
 use Rattle.merge_batch.specs.declared.reply.RangeGrant.{RangeGrant}
-use Rattle.merge_model.specs.Keys.{at_number, put_number}
-use Rattle.merge_model.specs.PublisherRanges.{ask_by, grant_of, granted_by}
-use Rattle.merge_model.specs.Sending.{want_of}
-use Rattle.merge_model.specs.Taking.{with_grant as receives}
-use Rattle.merge_model.proofs.Finding.{at_put_other, at_put_same, some_same}
-use Rattle.merge_model.proofs.Tests.{number-itself, numbers-same}
+use Rattle.merge_model.specs.Tables.Keys.{at_number, put_number}
+use Rattle.merge_model.specs.Publisher.PublisherRanges.{ask_by, grant_of, granted_by}
+use Rattle.merge_model.specs.Subscriber.Sending.{want_of}
+use Rattle.merge_model.specs.Subscriber.Taking.{with_grant as receives}
+use Rattle.merge_model.proofs.Lists.Finding.{at_put_other, at_put_same, some_same}
+use Rattle.merge_model.proofs.Lists.Tests.{number-itself, numbers-same}
 
 -- what a holder of an article is answered that asks, over these grants
 abbrev pub answered : List Rule → SiteId → List Grant → ℕ → Holder → Answer

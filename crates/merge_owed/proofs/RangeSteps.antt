@@ -16,7 +16,7 @@ use Rattle.merge_ident.specs.declared.grants.IdentFault.TheVariants.{NoRange, To
 use Rattle.merge_ident.specs.declared.grants.Range.{Range}
 use Rattle.merge_ident.specs.declared.grants.Rule.{Rule}
 use Rattle.merge_batch.specs.declared.reply.RangeGrant.{RangeGrant}
-use Rattle.merge_model.specs.PublisherRanges.{granted_by}
+use Rattle.merge_model.specs.Publisher.PublisherRanges.{granted_by}
 use Rattle.merge_owed.proofs.RangeAnswers.{OwnAfter, SameAt, answered, received, same-answer}
 
 -- the answer brings nothing

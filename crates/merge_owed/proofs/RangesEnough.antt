@@ -17,21 +17,21 @@ use Rattle.merge_ident.proofs.Taken.{unused_has_values}
 use Rattle.merge_schema.specs.declared.publication.Publication.{Publication}
 use Rattle.merge_batch.specs.Replies.{Heard, grant_fits}
 use Rattle.merge_batch.specs.declared.reply.RangeGrant.{RangeGrant}
-use Rattle.merge_model.specs.Faults.{heard_by}
-use Rattle.merge_model.specs.Keys.{at_number}
-use Rattle.merge_model.specs.Model.{Model, model, model_step}
-use Rattle.merge_model.specs.Publications.{rules_of}
-use Rattle.merge_model.specs.PublisherRanges.{granted_by}
-use Rattle.merge_model.specs.Runs.{model_behind_actions}
-use Rattle.merge_model.specs.Session.{Session, answered_as, arrived, as_it_is, ask, asking_ranges, exchange, has_grant, last_message}
-use Rattle.merge_model.specs.Steps.{Deliver, Send, SendRanges, Sending}
+use Rattle.merge_model.specs.World.Faults.{heard_by}
+use Rattle.merge_model.specs.Tables.Keys.{at_number}
+use Rattle.merge_model.specs.History.Model.{Model, model, model_step}
+use Rattle.merge_model.specs.Tables.Publications.{rules_of}
+use Rattle.merge_model.specs.Publisher.PublisherRanges.{granted_by}
+use Rattle.merge_model.specs.Failing.Runs.{model_behind_actions}
+use Rattle.merge_model.specs.World.Session.{Session, answered_as, arrived, as_it_is, ask, asking_ranges, exchange, has_grant, last_message}
+use Rattle.merge_model.specs.World.Steps.{Deliver, Send, SendRanges, Sending}
 use Rattle.merge_model.specs.Tables.{SubscriberTables}
-use Rattle.merge_model.specs.Taking.{with_grant as receives}
+use Rattle.merge_model.specs.Subscriber.Taking.{with_grant as receives}
 use Rattle.merge_model.specs.World.{Saying}
 use Rattle.merge_model.specs.declared.letter.Message.{Message}
 use Rattle.merge_model.specs.declared.outcome.Outcome.{Outcome}
 use Rattle.merge_model.specs.declared.outcome.Outcome.TheVariants.{NoPost, Posted, Refuses, Took}
-use Rattle.merge_model.proofs.Finding.{some_same}
+use Rattle.merge_model.proofs.Lists.Finding.{some_same}
 use Rattle.merge_laws.specs.Bounds.{under_way}
 use Rattle.merge_laws.specs.Laws.{OfEveryValidActions}
 use Rattle.merge_laws.proofs.SessionLaw.{At, Known, at_next, deliver-known, ends-here, own, same-site, step-known}

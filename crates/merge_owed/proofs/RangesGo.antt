@@ -13,27 +13,27 @@ use Rattle.merge_batch.specs.declared.reply.Reply.TheVariants as reply
 use Rattle.merge_batch.specs.declared.request.Outstanding.TheVariants as ask
 use Rattle.merge_batch.specs.declared.request.RangeAsk.{RangeAsk}
 use Rattle.merge_batch.specs.declared.request.Request.TheVariants as request
-use Rattle.merge_model.specs.ByHistory.{by_made, by_past}
-use Rattle.merge_model.specs.Faults.{fault_of, heard_by, known_by, ranges_fault, reply_fault}
+use Rattle.merge_model.specs.Judge.ByHistory.{by_made, by_past}
+use Rattle.merge_model.specs.World.Faults.{fault_of, heard_by, known_by, ranges_fault, reply_fault}
 use Rattle.merge_model.specs.History.{History, pasts_with}
 use Rattle.merge_model.specs.Judge.{PublisherJudge, SubscriberJudge}
-use Rattle.merge_model.specs.Model.{Model, model}
-use Rattle.merge_model.specs.Publications.{rules_of}
+use Rattle.merge_model.specs.History.Model.{Model, model}
+use Rattle.merge_model.specs.Tables.Publications.{rules_of}
 use Rattle.merge_model.specs.Publisher.{site_refusal}
-use Rattle.merge_model.specs.PublisherRanges.{plans, ranged, ranges_refusal, with_grants}
-use Rattle.merge_model.specs.Sending.{ranges_made, sending_refusal, want_of, with_message}
-use Rattle.merge_model.specs.Session.{ask as asking}
-use Rattle.merge_model.specs.Steps.{SendRanges, post, posted}
+use Rattle.merge_model.specs.Publisher.PublisherRanges.{plans, ranged, ranges_refusal, with_grants}
+use Rattle.merge_model.specs.Subscriber.Sending.{ranges_made, sending_refusal, want_of, with_message}
+use Rattle.merge_model.specs.World.Session.{ask as asking}
+use Rattle.merge_model.specs.World.Steps.{SendRanges, post, posted}
 use Rattle.merge_model.specs.Tables.{PublisherTables, SubscriberTables}
-use Rattle.merge_model.specs.Taking.{taken, with_grant as receives}
+use Rattle.merge_model.specs.Subscriber.Taking.{taken, with_grant as receives}
 use Rattle.merge_model.specs.World.{Saying, World, subscriber_at, with_publisher, with_subscriber}
 use Rattle.merge_model.specs.declared.letter.Letter.{Letter}
 use Rattle.merge_model.specs.declared.letter.Message.{Message}
 use Rattle.merge_model.specs.declared.letter.Message.TheVariants.{Asks, Replies}
 use Rattle.merge_model.specs.declared.outcome.Outcome.{Outcome}
 use Rattle.merge_types.specs.declared.identifiers.Moment.{Moment}
-use Rattle.merge_model.proofs.Finding.{at_put_same}
-use Rattle.merge_model.proofs.Refusals.{first-none}
+use Rattle.merge_model.proofs.Lists.Finding.{at_put_same}
+use Rattle.merge_model.proofs.Runs.Refusals.{first-none}
 use Rattle.merge_laws.proofs.SessionSteps.{After, Answered, Sent, back-step, comes-step, post-step, posted_model, reply-step, send-step, unless-step}
 use Rattle.merge_laws.proofs.Walking.{here}
 use Rattle.merge_owed.proofs.RangeAnswers.{and-both, articles_in, brought, planned}

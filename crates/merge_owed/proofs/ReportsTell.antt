@@ -3,11 +3,11 @@ use Rattle.std.specs.Prelude.{List, Option, Some, length, option_map, unwrap_or,
 use Rattle.std.proofs.Common.{ap, arith, sym, ◌∙◌}
 use Rattle.merge_types.specs.declared.row_key.RowKey.{RowKey as Key}
 use Rattle.merge_gens.specs.declared.sites.SiteState.{SiteState}
-use Rattle.merge_model.specs.Keys.{at_number}
-use Rattle.merge_model.specs.Model.{Model}
-use Rattle.merge_model.specs.Runs.{model_behind_actions}
+use Rattle.merge_model.specs.Tables.Keys.{at_number}
+use Rattle.merge_model.specs.History.Model.{Model}
+use Rattle.merge_model.specs.Failing.Runs.{model_behind_actions}
 use Rattle.merge_model.specs.Subscriber.{sub_last_closed}
-use Rattle.merge_model.proofs.Finding.{found-named}
+use Rattle.merge_model.proofs.Lists.Finding.{found-named}
 use Rattle.merge_laws.specs.Laws.{OfEveryValidActions}
 use Rattle.merge_laws.proofs.LineagesAlways.{ground, kept-by-actions, publisher-alike}
 use Rattle.merge_laws.proofs.UnsentKept.{decides-alike, unsent-by-actions}

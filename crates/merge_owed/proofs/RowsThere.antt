@@ -15,27 +15,27 @@ use Rattle.merge_batch.proofs.Makers.{made-maker_of}
 use Rattle.merge_batch.specs.declared.request.Request.TheVariants as request
 use Rattle.merge_batch.specs.declared.request.Upload.{Upload}
 use Rattle.merge_batch.specs.declared.request.UploadItem.{UploadItem}
-use Rattle.merge_model.specs.Acts.{Act, Fate, Met, New, Unknown, act_of, acting_items, acts_from, fate_by, is_new_row, key_of_item, left_by, made_by, version_by, versions_of}
-use Rattle.merge_model.specs.ByHistory.{by_past}
-use Rattle.merge_model.specs.ByNumbers.{received_number_by_number}
-use Rattle.merge_model.specs.Entries.{Changing, Entries, changed_by}
+use Rattle.merge_model.specs.Publisher.Acts.{Act, Fate, Met, New, Unknown, act_of, acting_items, acts_from, fate_by, is_new_row, key_of_item, left_by, made_by, version_by, versions_of}
+use Rattle.merge_model.specs.Judge.ByHistory.{by_past}
+use Rattle.merge_model.specs.Judge.ByNumbers.{received_number_by_number}
+use Rattle.merge_model.specs.Publisher.Entries.{Changing, Entries, changed_by}
 use Rattle.merge_model.specs.History.{History, Line, MadeChange, Past, has, past_in, pasts_with}
 use Rattle.merge_model.specs.Judge.{PublisherJudge}
-use Rattle.merge_model.specs.Keys.{has_key, row_at, same_key}
-use Rattle.merge_model.specs.Noting
-use Rattle.merge_model.specs.Promises.{is_given_up}
+use Rattle.merge_model.specs.Tables.Keys.{has_key, row_at, same_key}
+use Rattle.merge_model.specs.History.Noting
+use Rattle.merge_model.specs.Laws.Promises.{is_given_up}
 use Rattle.merge_model.specs.Publisher.{last_closed}
-use Rattle.merge_model.specs.PublisherLocal.{version_at}
-use Rattle.merge_model.specs.PublisherUpload.{changing_by, taken_in, upload_refusal, with_acts}
-use Rattle.merge_model.specs.Steps.{kept_decisions, upload_questions}
+use Rattle.merge_model.specs.Publisher.PublisherLocal.{version_at}
+use Rattle.merge_model.specs.Publisher.PublisherUpload.{changing_by, taken_in, upload_refusal, with_acts}
+use Rattle.merge_model.specs.World.Steps.{kept_decisions, upload_questions}
 use Rattle.merge_model.specs.Tables.{PublisherTables}
 use Rattle.merge_model.specs.World.{Saying, World}
 use Rattle.merge_model.specs.declared.letter.Letter.{Letter}
 use Rattle.merge_model.specs.declared.letter.Message.TheVariants.{Asks}
-use Rattle.merge_model.proofs.Finding.{all-weaker, letter-zip}
-use Rattle.merge_model.proofs.KeyLookUps.{keys-same}
+use Rattle.merge_model.proofs.Lists.Finding.{all-weaker, letter-zip}
+use Rattle.merge_model.proofs.Lists.KeyLookUps.{keys-same}
 use Rattle.merge_model.proofs.Lists.{all-both, any-among, any-mono}
-use Rattle.merge_model.proofs.Tests.{numbers-same}
+use Rattle.merge_model.proofs.Lists.Tests.{numbers-same}
 use Rattle.merge_laws.specs.Accepted.{SendsAccepted}
 use Rattle.merge_laws.specs.Accepting.{accepts}
 use Rattle.merge_laws.specs.Knowledge.{AllKnow, changes_of, is_made, same_dot}

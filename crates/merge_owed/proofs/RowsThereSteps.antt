@@ -11,21 +11,21 @@ use Rattle.merge_units.specs.declared.site_row.PublisherRow.{PublisherRow}
 use Rattle.merge_units.specs.declared.version.Version.{Version}
 use Rattle.merge_schema.specs.declared.publication.Publication.{Publication}
 use Rattle.merge_batch.specs.declared.request.Join.{Join}
-use Rattle.merge_model.specs.ByHistory.{by_made, by_past}
-use Rattle.merge_model.specs.Changes.{is_insert, key_of}
+use Rattle.merge_model.specs.Judge.ByHistory.{by_made, by_past}
+use Rattle.merge_model.specs.Tables.Changes.{is_insert, key_of}
 use Rattle.merge_model.specs.History.{History, MadeChange, pasts_with}
 use Rattle.merge_model.specs.Judge.{PublisherJudge}
-use Rattle.merge_model.specs.Keys.{has_key, put_number, row_at, same_key}
-use Rattle.merge_model.specs.Noting
-use Rattle.merge_model.specs.Publications.{by_site}
+use Rattle.merge_model.specs.Tables.Keys.{has_key, put_number, row_at, same_key}
+use Rattle.merge_model.specs.History.Noting
+use Rattle.merge_model.specs.Tables.Publications.{by_site}
 use Rattle.merge_model.specs.Publisher.{last_closed}
-use Rattle.merge_model.specs.PublisherLocal.{Drawn, changing_locally, local_refusal, made_locally, next_dot, with_draw}
-use Rattle.merge_model.specs.PublisherPurge.{is_old_tombstone, purge}
-use Rattle.merge_model.specs.Reinit.{discarded}
+use Rattle.merge_model.specs.Publisher.PublisherLocal.{Drawn, changing_locally, local_refusal, made_locally, next_dot, with_draw}
+use Rattle.merge_model.specs.Publisher.PublisherPurge.{is_old_tombstone, purge}
+use Rattle.merge_model.specs.Subscriber.Reinit.{discarded}
 use Rattle.merge_model.specs.Subscriber.{sub_last_closed, sub_next_dot}
 use Rattle.merge_model.specs.Tables.{PublisherTables, SubscriberTables}
 use Rattle.merge_model.specs.World.{Saying, World, subscriber_at, with_publisher}
-use Rattle.merge_model.proofs.KeyLookUps.{key-itself}
+use Rattle.merge_model.proofs.Lists.KeyLookUps.{key-itself}
 use Rattle.merge_laws.proofs.LineagesAlways.{Kept}
 use Rattle.merge_laws.proofs.MakerChanges.{own-held}
 use Rattle.merge_laws.proofs.NotesLeave.{fold-leave}

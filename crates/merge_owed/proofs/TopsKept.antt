@@ -32,8 +32,8 @@ use Rattle.merge_units.specs.declared.version.Version.{Version}
 use Rattle.merge_schema.specs.declared.publication.Publication.{Publication}
 use Rattle.merge_batch.specs.LocalChanges.{change_refusal, columns_at, identity_column, key_of, new_value, no_row, tracking_at, version_after}
 use Rattle.merge_model.specs.History.{Chains, MadeChange, OfCells, OfDead, Past, has}
-use Rattle.merge_model.specs.Pasts.{cell_chains, cell_count, chain_after, chains_by, merged_chain, merged_chains, past_after, past_by, set_cells}
-use Rattle.merge_model.proofs.Refusals.{first-none}
+use Rattle.merge_model.specs.History.Pasts.{cell_chains, cell_count, chain_after, chains_by, merged_chain, merged_chains, past_after, past_by, set_cells}
+use Rattle.merge_model.proofs.Runs.Refusals.{first-none}
 use Rattle.merge_laws.specs.Knowledge.{same_dot}
 use Rattle.merge_laws.specs.Laws.{OfEveryValidActions}
 use Rattle.merge_laws.proofs.AccountCells.{AreFour}

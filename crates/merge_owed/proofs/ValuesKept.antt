@@ -26,31 +26,31 @@ use Rattle.merge_batch.specs.declared.reply.Reply.TheVariants as reply
 use Rattle.merge_batch.specs.declared.request.Outstanding.TheVariants as ask
 use Rattle.merge_batch.specs.declared.request.Request.TheVariants as request
 use Rattle.merge_batch.specs.declared.request.Upload.{Upload}
-use Rattle.merge_model.specs.Acts.{Act, Fate, Met, New, Unknown, acting_items, version_by}
-use Rattle.merge_model.specs.ByHistory.{by_made, by_past}
+use Rattle.merge_model.specs.Publisher.Acts.{Act, Fate, Met, New, Unknown, acting_items, version_by}
+use Rattle.merge_model.specs.Judge.ByHistory.{by_made, by_past}
 use Rattle.merge_model.specs.Failing.{Slips, faulty}
 use Rattle.merge_model.specs.History.{History, MadeChange, Past, has, past_at, past_in, pasts_with}
 use Rattle.merge_model.specs.Judge.{PublisherJudge}
-use Rattle.merge_model.specs.Keys.{same_key}
-use Rattle.merge_model.specs.Model.{Model, empty_model, model}
-use Rattle.merge_model.specs.Noting
-use Rattle.merge_model.specs.Pasts.{past_after}
+use Rattle.merge_model.specs.Tables.Keys.{same_key}
+use Rattle.merge_model.specs.History.Model.{Model, empty_model, model}
+use Rattle.merge_model.specs.History.Noting
+use Rattle.merge_model.specs.History.Pasts.{past_after}
 use Rattle.merge_model.specs.Publisher.{closed}
-use Rattle.merge_model.specs.PublisherJoin.{join_taken}
-use Rattle.merge_model.specs.PublisherLocal.{Drawn, made_locally, next_dot, version_at}
-use Rattle.merge_model.specs.PublisherRanges.{plans, ranged, with_grants}
-use Rattle.merge_model.specs.PublisherUpload.{taken_in, upload_refusal}
-use Rattle.merge_model.specs.Runs.{model_after_actions, model_behind_actions}
-use Rattle.merge_model.specs.Sending.{join_of, want_of, with_message}
-use Rattle.merge_model.specs.Steps.{Action, kept_decisions, upload_questions}
+use Rattle.merge_model.specs.Publisher.PublisherJoin.{join_taken}
+use Rattle.merge_model.specs.Publisher.PublisherLocal.{Drawn, made_locally, next_dot, version_at}
+use Rattle.merge_model.specs.Publisher.PublisherRanges.{plans, ranged, with_grants}
+use Rattle.merge_model.specs.Publisher.PublisherUpload.{taken_in, upload_refusal}
+use Rattle.merge_model.specs.Failing.Runs.{model_after_actions, model_behind_actions}
+use Rattle.merge_model.specs.Subscriber.Sending.{join_of, want_of, with_message}
+use Rattle.merge_model.specs.World.Steps.{Action, kept_decisions, upload_questions}
 use Rattle.merge_model.specs.Subscriber.{sub_at_moment, sub_closed, sub_last_closed, sub_made_locally, sub_next_dot, sub_version_at}
 use Rattle.merge_model.specs.Tables.{PublisherTables, SubscriberTables}
 use Rattle.merge_model.specs.World.{Saying, World, subscriber_at, with_publisher, with_subscriber}
 use Rattle.merge_model.specs.declared.letter.Message.TheVariants.{Asks, Replies}
-use Rattle.merge_model.proofs.Finding.{all-weaker}
-use Rattle.merge_model.proofs.KeyLookUps.{key-itself, keys-same}
+use Rattle.merge_model.proofs.Lists.Finding.{all-weaker}
+use Rattle.merge_model.proofs.Lists.KeyLookUps.{key-itself, keys-same}
 use Rattle.merge_model.proofs.Lists.{all-both}
-use Rattle.merge_model.proofs.Actions.{failing-actions-keep}
+use Rattle.merge_model.proofs.Runs.Actions.{failing-actions-keep}
 use Rattle.merge_laws.specs.Knowledge.{changes_of, is_made, same_dot}
 use Rattle.merge_laws.specs.Laws.{OfEveryValidActions}
 use Rattle.merge_laws.proofs.AccountElements.{IsIn, any-out}

@@ -18,12 +18,12 @@ use Rattle.merge_conflict.specs.declared.losers.Conflict.{Conflict}
 use Rattle.merge_conflict.specs.declared.row.ConflictRow.{ConflictRow}
 use Rattle.merge_conflict.specs.declared.row.Verdict.TheVariants as verdict
 use Rattle.merge_schema.specs.declared.publication.Publication.{Publication}
-use Rattle.merge_model.specs.Acts.{Act, Fate, Met, New, Unknown, conflict_of, lost_by, lost_from, purged_row, version_of_act, versions_of}
-use Rattle.merge_model.specs.Entries.{Entries}
+use Rattle.merge_model.specs.Publisher.Acts.{Act, Fate, Met, New, Unknown, conflict_of, lost_by, lost_from, purged_row, version_of_act, versions_of}
+use Rattle.merge_model.specs.Publisher.Entries.{Entries}
 use Rattle.merge_model.specs.History.{History, MadeChange, Past, has, past_at, past_in}
-use Rattle.merge_model.specs.Keys.{same_key}
-use Rattle.merge_model.specs.Noting
-use Rattle.merge_model.specs.Pasts.{past_by}
+use Rattle.merge_model.specs.Tables.Keys.{same_key}
+use Rattle.merge_model.specs.History.Noting
+use Rattle.merge_model.specs.History.Pasts.{past_by}
 use Rattle.merge_model.proofs.Lists.{all-both}
 use Rattle.merge_laws.proofs.Noted.{DecidesAsOwn}
 use Rattle.merge_laws.proofs.ToldHistories.{Goes, goes-lost, goes-others, goes-put, past-elsewhere}

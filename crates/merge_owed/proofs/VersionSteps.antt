@@ -23,20 +23,20 @@ use Rattle.merge_batch.specs.declared.request.Join.{Join}
 use Rattle.merge_batch.specs.declared.request.Request.TheVariants as request
 use Rattle.merge_batch.specs.declared.request.Upload.{Upload}
 use Rattle.merge_batch.specs.declared.request.UploadItem.{UploadItem}
-use Rattle.merge_model.specs.Acts.{Act, acting_items, key_of_item}
-use Rattle.merge_model.specs.ByHistory.{by_history, by_made, by_past}
-use Rattle.merge_model.specs.Changes.{key_of, version_after}
-use Rattle.merge_model.specs.Entries.{Changing, Entries, key_of_live, keys_of as all_keys, live_rows, partition_keys}
+use Rattle.merge_model.specs.Publisher.Acts.{Act, acting_items, key_of_item}
+use Rattle.merge_model.specs.Judge.ByHistory.{by_history, by_made, by_past}
+use Rattle.merge_model.specs.Tables.Changes.{key_of, version_after}
+use Rattle.merge_model.specs.Publisher.Entries.{Changing, Entries, key_of_live, keys_of as all_keys, live_rows, partition_keys}
 use Rattle.merge_model.specs.History.{History, Line, MadeChange, Past, past_at, past_in, pasts_at, pasts_with}
 use Rattle.merge_model.specs.Judge.{PublisherJudge, SubscriberJudge}
 use Rattle.merge_types.specs.RowKeys.{key_cmp}
-use Rattle.merge_model.specs.Keys.{has_key, put_number, row_at, same_key}
+use Rattle.merge_model.specs.Tables.Keys.{has_key, put_number, row_at, same_key}
 use Rattle.merge_model.specs.Laws.{AreSubSorted}
-use Rattle.merge_model.specs.Noting
-use Rattle.merge_model.specs.Pasts.{past_after}
-use Rattle.merge_model.specs.Publications.{by_site}
+use Rattle.merge_model.specs.History.Noting
+use Rattle.merge_model.specs.History.Pasts.{past_after}
+use Rattle.merge_model.specs.Tables.Publications.{by_site}
 use Rattle.merge_model.specs.Publisher.{last_closed}
-use Rattle.merge_model.specs.PublisherDownload.{TouchedRow, asked, inside_keys, item_of, reply_to, touched_row}
+use Rattle.merge_model.specs.Publisher.PublisherDownload.{TouchedRow, asked, inside_keys, item_of, reply_to, touched_row}
 use Rattle.merge_batch.specs.Orders.{order_by}
 use Rattle.merge_batch.specs.declared.reply.DownloadItem.{DownloadItem}
 use Rattle.merge_resolve.specs.Priorities.{subscription_at}
@@ -46,23 +46,23 @@ use Rattle.merge_units.specs.Version.{cells_of, is_live}
 use Rattle.merge_units.specs.declared.version.Body.{Body}
 use Rattle.merge_units.specs.declared.version.Body.TheVariants.{Dead, Live}
 use Rattle.merge_units.specs.declared.site_row.PublisherRow.{PublisherRow}
-use Rattle.merge_model.specs.PublisherJoin.{join_taken}
-use Rattle.merge_model.specs.PublisherLocal.{Drawn, changing_locally, made_locally, next_dot, version_at, with_draw}
-use Rattle.merge_model.specs.PublisherPurge.{is_old_tombstone, purge}
-use Rattle.merge_model.specs.PublisherUpload.{changing_by, taken_in, upload_refusal, with_acts}
-use Rattle.merge_model.specs.Reinit.{reinitialised}
-use Rattle.merge_model.specs.Sending.{upload_sent}
-use Rattle.merge_model.specs.Steps.{Forget, kept_decisions, upload_questions}
+use Rattle.merge_model.specs.Publisher.PublisherJoin.{join_taken}
+use Rattle.merge_model.specs.Publisher.PublisherLocal.{Drawn, changing_locally, made_locally, next_dot, version_at, with_draw}
+use Rattle.merge_model.specs.Publisher.PublisherPurge.{is_old_tombstone, purge}
+use Rattle.merge_model.specs.Publisher.PublisherUpload.{changing_by, taken_in, upload_refusal, with_acts}
+use Rattle.merge_model.specs.Subscriber.Reinit.{reinitialised}
+use Rattle.merge_model.specs.Subscriber.Sending.{upload_sent}
+use Rattle.merge_model.specs.World.Steps.{Forget, kept_decisions, upload_questions}
 use Rattle.merge_model.specs.Subscriber.{sub_at_moment, sub_closed, sub_last_closed, sub_made_locally, sub_next_dot, sub_version_at, with_version_if}
 use Rattle.merge_types.specs.declared.row_key.RowKey.{RowKey as Key}
 use Rattle.merge_units.specs.declared.site_row.SubscriberRow.{SubscriberRow}
 use Rattle.merge_model.specs.Tables.{PublisherTables, SubscriberTables}
-use Rattle.merge_model.specs.Taking.{key_of_download, row_above, taken}
+use Rattle.merge_model.specs.Subscriber.Taking.{key_of_download, row_above, taken}
 use Rattle.merge_model.specs.World.{Saying, World, subscriber_at, with_publisher, with_subscriber}
 use Rattle.merge_model.specs.declared.letter.Message.TheVariants.{Asks, Replies}
-use Rattle.merge_model.proofs.Sorted.{key_total, step-sorted}
+use Rattle.merge_model.proofs.Publishers.Sorted.{key_total, step-sorted}
 use Rattle.merge_laws.specs.LineagesStand.{OfOrder}
-use Rattle.merge_model.proofs.Finding.{found-named}
+use Rattle.merge_model.proofs.Lists.Finding.{found-named}
 use Rattle.merge_laws.proofs.Ground.{Ground}
 use Rattle.merge_model.proofs.Lists.{OfSome, all-filter, all-filter_map, all-map, all-unit}
 use Rattle.merge_laws.proofs.Noted.{acts-own}
@@ -71,7 +71,7 @@ use Rattle.merge_laws.proofs.ToldItems.{acts-apart}
 use Rattle.merge_laws.proofs.ToldLetters.{letter-fits, sent-fit}
 use Rattle.merge_laws.proofs.LetterPasts.{orders-sent, removed-order}
 use Rattle.merge_laws.proofs.AccountAnswers.{among-lives}
-use Rattle.merge_model.proofs.Downloads.{any-map, inside-live}
+use Rattle.merge_model.proofs.Entries.Downloads.{any-map, inside-live}
 use Rattle.merge_laws.proofs.ToldReplies.{anew-goes, items-go, versions-above}
 use Rattle.merge_laws.proofs.ToldRows.{HeldFits, drop_version, found-put, found_in, keyed, put_if, put_version}
 use Rattle.merge_laws.proofs.ToldSites.{Every, letter-goes, own_version, publisher-begins, publisher-goes, publisher-stays, subscriber-begins, subscriber-goes, subscriber-stays}

@@ -9,8 +9,8 @@ use Rattle.merge_units.specs.declared.version.Cell.{Cell}
 use Rattle.merge_units.specs.declared.version.Version.{Version}
 use Rattle.merge_schema.specs.declared.publication.Publication.{Publication}
 use Rattle.merge_model.specs.History.{Chains, OfCells, OfDead, Past, has}
-use Rattle.merge_model.specs.Model.{Model}
-use Rattle.merge_model.specs.Pasts.{cell_count}
+use Rattle.merge_model.specs.History.Model.{Model}
+use Rattle.merge_model.specs.History.Pasts.{cell_count}
 use Rattle.merge_model.specs.World.{Saying}
 use Rattle.merge_laws.specs.LineagesStand.{EveryVersion}
 

@@ -11,17 +11,17 @@ use Rattle.merge_gens.specs.declared.moves.Mapping.{Mapping}
 use Rattle.merge_gens.specs.declared.moves.RowSite.{RowSite}
 use Rattle.merge_gens.specs.declared.sites.SiteState.{SiteState}
 use Rattle.merge_schema.specs.declared.publication.Publication.{Publication}
-use Rattle.merge_model.specs.ByHistory.{by_made, by_past, last_change, received_by_done, received_number_by_done, seen_by_accepted}
+use Rattle.merge_model.specs.Judge.ByHistory.{by_made, by_past, last_change, received_by_done, received_number_by_done, seen_by_accepted}
 use Rattle.merge_model.specs.History.{History}
-use Rattle.merge_model.specs.Keys.{at_number, at_row_site, row_at, same_key}
-use Rattle.merge_model.specs.Model.{Model}
-use Rattle.merge_model.specs.Noting.{gone_for, left_rows, old_left, site_of_subscription}
-use Rattle.merge_model.specs.Publications.{by_site}
+use Rattle.merge_model.specs.Tables.Keys.{at_number, at_row_site, row_at, same_key}
+use Rattle.merge_model.specs.History.Model.{Model}
+use Rattle.merge_model.specs.History.Noting.{gone_for, left_rows, old_left, site_of_subscription}
+use Rattle.merge_model.specs.Tables.Publications.{by_site}
 use Rattle.merge_model.specs.Publisher.{at_moment}
-use Rattle.merge_model.specs.PublisherJoin.{is_left_of}
-use Rattle.merge_model.specs.PublisherPurge.{is_old, is_old_left, is_old_tombstone}
-use Rattle.merge_model.specs.Reports.{unsent_count}
-use Rattle.merge_model.specs.Sending.{unsent_rows}
+use Rattle.merge_model.specs.Publisher.PublisherJoin.{is_left_of}
+use Rattle.merge_model.specs.Publisher.PublisherPurge.{is_old, is_old_left, is_old_tombstone}
+use Rattle.merge_model.specs.World.Reports.{unsent_count}
+use Rattle.merge_model.specs.Subscriber.Sending.{unsent_rows}
 use Rattle.merge_model.specs.Tables.{PublisherTables, SubscriberTables}
 use Rattle.merge_model.specs.World.{Saying}
 

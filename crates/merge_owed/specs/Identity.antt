@@ -11,10 +11,10 @@ use Rattle.merge_batch.specs.Makers.{maker_of}
 use Rattle.merge_batch.specs.Uploads.{identity_value}
 use Rattle.merge_model.specs.Failing.{Slips}
 use Rattle.merge_model.specs.History.{MadeChange, Past}
-use Rattle.merge_model.specs.Keys.{same_key}
-use Rattle.merge_model.specs.Model.{Model}
-use Rattle.merge_model.specs.Runs.{model_after, model_after_actions}
-use Rattle.merge_model.specs.Steps.{Action}
+use Rattle.merge_model.specs.Tables.Keys.{same_key}
+use Rattle.merge_model.specs.History.Model.{Model}
+use Rattle.merge_model.specs.Failing.Runs.{model_after, model_after_actions}
+use Rattle.merge_model.specs.World.Steps.{Action}
 use Rattle.merge_model.specs.World.{Saying}
 use Rattle.merge_model.specs.declared.event.Event.{Event}
 use Rattle.merge_laws.specs.LineagesStand.{EveryVersion}

@@ -5,14 +5,14 @@ use Rattle.merge_types.specs.declared.row_key.RowKey.{RowKey as Key}
 use Rattle.merge_units.specs.declared.site_row.PublisherRow.{PublisherRow}
 use Rattle.merge_schema.specs.Valid.{IsValid}
 use Rattle.merge_schema.specs.declared.publication.Publication.{Publication}
-use Rattle.merge_model.specs.Events.{after}
+use Rattle.merge_model.specs.World.Events.{after}
 use Rattle.merge_model.specs.Failing.{Faulty, Slips, failing, faulty}
 use Rattle.merge_model.specs.History.{has, is_accepted, past_at}
-use Rattle.merge_model.specs.Keys.{has_key, row_at}
-use Rattle.merge_model.specs.Model.{Model, empty_model, model}
-use Rattle.merge_model.specs.PublisherPurge.{is_old_tombstone}
-use Rattle.merge_model.specs.Runs.{after_actions}
-use Rattle.merge_model.specs.Steps.{Action, Forget}
+use Rattle.merge_model.specs.Tables.Keys.{has_key, row_at}
+use Rattle.merge_model.specs.History.Model.{Model, empty_model, model}
+use Rattle.merge_model.specs.Publisher.PublisherPurge.{is_old_tombstone}
+use Rattle.merge_model.specs.Failing.Runs.{after_actions}
+use Rattle.merge_model.specs.World.Steps.{Action, Forget}
 use Rattle.merge_model.specs.World.{Saying}
 use Rattle.merge_model.specs.declared.event.Event.{Event}
 use Rattle.merge_model.specs.declared.event.Event.TheVariants as event

@@ -2,8 +2,8 @@
 use Rattle.std.specs.Prelude.{◌+◌, ◌≡◌, Some, ℕ}
 use Rattle.merge_types.specs.declared.identifiers.SiteId.{SiteId}
 use Rattle.merge_schema.specs.declared.publication.Publication.{Publication}
-use Rattle.merge_model.specs.Model.{Model, model}
-use Rattle.merge_model.specs.Session.{Session, Stepping, all_ranges, asking_ranges, range_asks}
+use Rattle.merge_model.specs.History.Model.{Model, model}
+use Rattle.merge_model.specs.World.Session.{Session, Stepping, all_ranges, asking_ranges, range_asks}
 use Rattle.merge_model.specs.Tables.{SubscriberTables}
 use Rattle.merge_model.specs.World.{Saying, subscriber_at}
 use Rattle.merge_laws.specs.Bounds.{under_way}

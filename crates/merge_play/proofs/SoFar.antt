@@ -10,9 +10,9 @@ use Rattle.merge_ports.specs.Parts.{AppendsFront}
 use Rattle.merge_ports.proofs.Known.{Appends-append}
 use Rattle.merge_script.specs.Lines.{lines_of}
 use Rattle.merge_schema.specs.declared.publication.Publication.{Publication}
-use Rattle.merge_model.specs.Play.{names_of}
-use Rattle.merge_model.specs.Reading.{events_of, fault_by, fault_from, fault_of, line_of}
-use Rattle.merge_model.specs.Text.{Names, text_of, texts_of}
+use Rattle.merge_model.specs.Script.Play.{names_of}
+use Rattle.merge_model.specs.Script.Reading.{events_of, fault_by, fault_from, fault_of, line_of}
+use Rattle.merge_model.specs.Script.Text.{Names, text_of, texts_of}
 use Rattle.merge_model.specs.World.{Saying, World}
 use Rattle.merge_model.specs.declared.answer.Answer.{Answer}
 use Rattle.merge_model.specs.declared.event.Event.{Event}

@@ -5,13 +5,13 @@ ghost use Rattle.merge_batch.specs.declared.refusal.Refusal.{Refusal as Refused}
 ghost use Rattle.merge_ports.specs.Faults.{Rose};
 ghost use Rattle.merge_ports.specs.Parts.{AppendsFront};
 ghost use Rattle.merge_script.specs.Lines.{lines_of};
-ghost use Rattle.merge_model.specs.Play.{names_of};
-ghost use Rattle.merge_model.specs.Reading.{fault_of, line_of};
-ghost use Rattle.merge_model.specs.Text.{text_of};
+ghost use Rattle.merge_model.specs.Script.Play.{names_of};
+ghost use Rattle.merge_model.specs.Script.Reading.{fault_of, line_of};
+ghost use Rattle.merge_model.specs.Script.Text.{text_of};
 ghost use Rattle.merge_model.specs.declared.event.Line.TheVariants.{Event as Does, NoEvent};
 ghost use Rattle.merge_play.specs.Played.{LineAnswered, LineInPart, Played, PlayedInPart};
 ghost use Rattle.merge_play.specs.declared.stop.Stop.TheVariants as stop;
-ghost use Rattle.merge_model.specs.Proper.{IsProperAnswer};
+ghost use Rattle.merge_model.specs.Script.Proper.{IsProperAnswer};
 ghost use Rattle.merge_world.specs.Restarts.{IsLost};
 ghost use Rattle.merge_world.specs.Views.{IsOrdered, handed_view};
 

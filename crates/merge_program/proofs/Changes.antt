@@ -10,7 +10,7 @@ use Rattle.merge_schema.specs.Answers.{IsAnswer}
 use Rattle.merge_schema.specs.declared.fault.SchemaFault.{SchemaFault}
 use Rattle.merge_schema.specs.declared.fault.SchemaFault.TheVariants as schema
 use Rattle.merge_schema.specs.declared.publication.Publication.{Publication}
-use Rattle.merge_model.specs.Events.{is_site}
+use Rattle.merge_model.specs.World.Events.{is_site}
 use Rattle.merge_keeper.specs.Start.{Loaded}
 use Rattle.merge_world.specs.Views.{SitesView}
 use Rattle.merge_command.specs.Changed.{Changed, ChangedInPart}

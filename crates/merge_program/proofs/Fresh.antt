@@ -8,11 +8,11 @@ use Rattle.std.proofs.lemmas.Bool.Decides.{nat_tests}
 use Rattle.std.proofs.lemmas.Map.Keys.{Less-from_sorted}
 use Rattle.merge_schema.specs.declared.publication.Publication.{Publication}
 use Rattle.merge_schema.specs.declared.publication.Subscription.{Subscription}
-use Rattle.merge_model.specs.Publications.{by_site}
+use Rattle.merge_model.specs.Tables.Publications.{by_site}
 use Rattle.merge_model.specs.Subscriber.{empty_subscriber}
 use Rattle.merge_model.specs.Tables.{SubscriberTables}
 use Rattle.merge_model.specs.World.{empty_world}
-use Rattle.merge_model.proofs.SitesInOrder.{AreKeyed, sites-ascend, sites-keyed}
+use Rattle.merge_model.proofs.Lists.SitesInOrder.{AreKeyed, sites-ascend, sites-keyed}
 use Rattle.merge_world.specs.Views.{IsOrdered, entry_of, publication_of, site_of, world_of}
 use Rattle.merge_program.specs.Fresh.{fresh_view}
 use Rattle.merge_program.specs.Stores.{fresh_at, fresh_subscribers}

@@ -5,8 +5,8 @@ use Rattle.merge_ports.specs.Faults.{Rose}
 use Rattle.merge_schema.specs.Valid.{IsValid}
 use Rattle.merge_schema.specs.declared.publication.Publication.{Publication}
 use Rattle.merge_batch.specs.declared.refusal.Refusal.{Refusal}
-use Rattle.merge_model.specs.Reach.{is_store_fault}
-use Rattle.merge_model.specs.Reading.{events_of, fault_of}
+use Rattle.merge_model.specs.Failing.Reach.{is_store_fault}
+use Rattle.merge_model.specs.Script.Reading.{events_of, fault_of}
 use Rattle.merge_model.specs.declared.answer.Answer.{Answer}
 use Rattle.merge_model.specs.declared.event.Event.{Event}
 use Rattle.merge_world.specs.Playing.{AllHappened}

@@ -13,7 +13,7 @@ use Rattle.merge_schema.specs.Answers.{IsAnswer}
 use Rattle.merge_schema.specs.declared.fault.SchemaFault.{SchemaFault}
 use Rattle.merge_schema.specs.declared.fault.SchemaFault.TheVariants as schema
 use Rattle.merge_schema.specs.declared.publication.Publication.{Publication}
-use Rattle.merge_model.specs.Naming.{article_by, article_place}
+use Rattle.merge_model.specs.World.Naming.{article_by, article_place}
 use Rattle.merge_program.specs.declared.ending.Ending.{Ending}
 use Rattle.merge_program.specs.declared.ending.Ending.TheVariants.{NoMemory, ReadFault, TooLong}
 use Rattle.merge_program.specs.Endings.{refused_for, unopened_text, unread}

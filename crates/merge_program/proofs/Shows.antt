@@ -8,8 +8,8 @@ use Rattle.merge_ports.specs.Faults.{Rose}
 use Rattle.merge_ports.specs.Parts.{AppendsFront}
 use Rattle.merge_schema.specs.Answers.{IsAnswer}
 use Rattle.merge_schema.specs.declared.publication.Publication.{Publication}
-use Rattle.merge_model.specs.Events.{is_site}
-use Rattle.merge_model.specs.Naming.{article_by}
+use Rattle.merge_model.specs.World.Events.{is_site}
+use Rattle.merge_model.specs.World.Naming.{article_by}
 use Rattle.merge_keeper.specs.Start.{Loaded}
 use Rattle.merge_world.specs.Views.{SitesView}
 use Rattle.merge_command.specs.Shown.{shown_text}

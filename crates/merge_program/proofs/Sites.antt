@@ -9,11 +9,11 @@ use Rattle.merge_ports.specs.declared.outside.Counts.{Counts}
 use Rattle.merge_schema.specs.declared.publication.Publication.{Publication}
 use Rattle.merge_keeper.specs.PublisherStart.{publisher_loaded}
 use Rattle.merge_keeper.specs.SubscriberStart.{subscriber_loaded}
-use Rattle.merge_model.specs.Keys.{at_number}
+use Rattle.merge_model.specs.Tables.Keys.{at_number}
 use Rattle.merge_model.specs.Publisher.{new_holders}
 use Rattle.merge_model.specs.Tables.{SubscriberTables}
 use Rattle.merge_model.specs.declared.letter.Letter.{Letter}
-use Rattle.merge_model.proofs.Finding.{at_put_same}
+use Rattle.merge_model.proofs.Lists.Finding.{at_put_same}
 use Rattle.merge_site.specs.Kept.{IsKept}
 use Rattle.merge_site.specs.Loading.{IsRead}
 use Rattle.merge_site.specs.Publishers.{publisher_stored, records_of as publisher_records}

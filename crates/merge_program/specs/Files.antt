@@ -7,8 +7,8 @@ use Rattle.merge_schema.specs.declared.fault.SchemaFault.{SchemaFault}
 use Rattle.merge_schema.specs.declared.fault.SchemaFault.TheVariants.{NoMemory as Lacking}
 use Rattle.merge_schema.specs.declared.publication.Publication.{Publication}
 use Rattle.merge_schema.specs.Places.{is_subscription}
-use Rattle.merge_model.specs.Events.{is_site}
-use Rattle.merge_model.specs.Naming.{article_by}
+use Rattle.merge_model.specs.World.Events.{is_site}
+use Rattle.merge_model.specs.World.Naming.{article_by}
 use Rattle.merge_program.specs.declared.ending.Ending.{Ending}
 use Rattle.merge_program.specs.declared.ending.Ending.TheVariants.{NoMemory, ReadFault, Refused, TooLong, UnknownArticle, UnknownSite}
 

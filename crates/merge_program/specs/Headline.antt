@@ -8,9 +8,9 @@ use Rattle.merge_schema.specs.declared.fault.SchemaFault.TheVariants.{NoMemory a
 use Rattle.merge_schema.specs.declared.publication.Publication.{Publication}
 use Rattle.merge_script.specs.Input.{publication_of, script_of}
 use Rattle.merge_script.specs.Lines.{lines_of}
-use Rattle.merge_model.specs.Play.{names_of}
-use Rattle.merge_model.specs.Reading.{events_of, fault_of}
-use Rattle.merge_model.specs.Text.{texts_of}
+use Rattle.merge_model.specs.Script.Play.{names_of}
+use Rattle.merge_model.specs.Script.Reading.{events_of, fault_of}
+use Rattle.merge_model.specs.Script.Text.{texts_of}
 use Rattle.merge_model.specs.declared.answer.Answer.{Answer}
 use Rattle.merge_model.specs.declared.event.Event.{Event}
 use Rattle.merge_world.specs.Views.{HandedView}

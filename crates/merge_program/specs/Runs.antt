@@ -2,8 +2,8 @@
 use Rattle.std.specs.Prelude.{List, Option, count_by, ℕ, ◌≡◌}
 use Rattle.merge_schema.specs.declared.publication.Publication.{Publication}
 use Rattle.merge_model.specs.Failing.{Slips}
-use Rattle.merge_model.specs.Reach.{is_store_fault}
-use Rattle.merge_model.specs.Runs.{machine_says, world_behind}
+use Rattle.merge_model.specs.Failing.Reach.{is_store_fault}
+use Rattle.merge_model.specs.Failing.Runs.{machine_says, world_behind}
 use Rattle.merge_model.specs.declared.answer.Answer.{Answer}
 use Rattle.merge_model.specs.declared.event.Event.{Event}
 use Rattle.merge_world.specs.Views.{HandedView}

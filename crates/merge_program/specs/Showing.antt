@@ -6,7 +6,7 @@ use Rattle.merge_ports.specs.Entries.{Map}
 use Rattle.merge_ports.specs.Faults.{Rose}
 use Rattle.merge_ports.specs.Parts.{AppendsFront}
 use Rattle.merge_schema.specs.declared.publication.Publication.{Publication}
-use Rattle.merge_model.specs.Naming.{article_by}
+use Rattle.merge_model.specs.World.Naming.{article_by}
 use Rattle.merge_world.specs.Views.{SitesView}
 use Rattle.merge_command.specs.Shown.{shown_text}
 use Rattle.merge_program.specs.declared.command.Place.{Place}

@@ -5,7 +5,7 @@ use Rattle.merge_types.specs.declared.identifiers.SiteId.{SiteId}
 use Rattle.merge_ports.specs.Faults.{Rose}
 use Rattle.merge_schema.specs.declared.publication.Publication.{Publication}
 use Rattle.merge_schema.specs.declared.publication.Subscription.{Subscription}
-use Rattle.merge_model.specs.Publications.{by_site}
+use Rattle.merge_model.specs.Tables.Publications.{by_site}
 use Rattle.merge_model.specs.Publisher.{empty_publisher}
 use Rattle.merge_model.specs.Subscriber.{empty_subscriber}
 use Rattle.merge_world.specs.Views.{PublisherView, SubscriberView}

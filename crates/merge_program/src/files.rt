@@ -2,8 +2,8 @@
 ghost use Rattle.std.specs.Prelude.{◌≡◌, ◌≤◌, Err, IfErr, IfOk, IfSome, Ok, OnOk, ℕ, false, length, true};
 ghost use Rattle.merge_schema.specs.Answers.{IsAnswer};
 ghost use Rattle.merge_schema.specs.Valid.{IsValid};
-ghost use Rattle.merge_model.specs.Events.{is_site};
-ghost use Rattle.merge_model.specs.Naming.{article_by};
+ghost use Rattle.merge_model.specs.World.Events.{is_site};
+ghost use Rattle.merge_model.specs.World.Naming.{article_by};
 ghost use Rattle.merge_program.specs.Files.{IsUnpublished, IsUnread};
 ghost use Rattle.merge_program.specs.declared.ending.Ending.TheVariants as ending;
 

@@ -1,8 +1,8 @@
 //! The rows of an article at one site are shown.
 ghost use Rattle.std.specs.Prelude.{◌≡◌, ◌≢◌, IfErr, IfOk, List, Ok, Option, ℕ, true};
 ghost use Rattle.merge_schema.specs.Valid.{IsValid};
-ghost use Rattle.merge_model.specs.Events.{is_site};
-ghost use Rattle.merge_model.specs.Naming.{article_by};
+ghost use Rattle.merge_model.specs.World.Events.{is_site};
+ghost use Rattle.merge_model.specs.World.Naming.{article_by};
 ghost use Rattle.merge_world.specs.Views.{IsOrdered};
 ghost use Rattle.merge_program.specs.Files.{IsNamed, IsUnnamed};
 ghost use Rattle.merge_program.specs.Showing.{RowsEnd, ShowEnds, ShownBy};

@@ -2,7 +2,7 @@
 ghost use Rattle.std.specs.Prelude.{◌≡◌, ◌+◌, ◌++◌, ◌∷◌, ◌<◌, [], IfErr, IfOk, List, OnOk, map, sum_by, vec_capacity, vec_len, ℕ};
 ghost use Rattle.merge_types.specs.declared.identifiers.SiteId.{SiteId as Site};
 ghost use Rattle.merge_schema.specs.Valid.{IsValid};
-ghost use Rattle.merge_model.specs.Publications.{by_site};
+ghost use Rattle.merge_model.specs.Tables.Publications.{by_site};
 ghost use Rattle.merge_world.specs.Views.{faults_of, site_of};
 ghost use Rattle.merge_program.specs.Stores.{AreRooms, IsUnstarted, RoseBy, fresh_publisher, fresh_subscriber, fresh_subscribers};
 

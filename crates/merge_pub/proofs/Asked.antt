@@ -12,14 +12,14 @@ use Rattle.merge_batch.specs.declared.reply.Ranged.{Ranged}
 use Rattle.merge_batch.specs.declared.request.Download.{Download}
 use Rattle.merge_batch.specs.declared.request.Join.{Join}
 use Rattle.merge_batch.specs.declared.request.RangeAsk.{RangeAsk}
-use Rattle.merge_model.specs.ByNumbers.{by_numbers}
-use Rattle.merge_model.specs.Keys.{at_number}
+use Rattle.merge_model.specs.Judge.ByNumbers.{by_numbers}
+use Rattle.merge_model.specs.Tables.Keys.{at_number}
 use Rattle.merge_model.specs.Publisher.{at_moment, closed, later, no_state, state_of, with_state}
 use Rattle.merge_ident.specs.declared.grants.GrantPlan.{GrantPlan}
-use Rattle.merge_model.specs.PublisherJoin.{join, join_acts, join_refusal, join_taken, joined, joined_state, without_left}
-use Rattle.merge_model.specs.PublisherRanges.{plans, ranged, ranges, ranges_refusal, with_grants}
-use Rattle.merge_model.specs.PublisherDownload.{asked, download, download_refusal, reply_to, synced}
-use Rattle.merge_model.specs.Refusals.{unless}
+use Rattle.merge_model.specs.Publisher.PublisherJoin.{join, join_acts, join_refusal, join_taken, joined, joined_state, without_left}
+use Rattle.merge_model.specs.Publisher.PublisherRanges.{plans, ranged, ranges, ranges_refusal, with_grants}
+use Rattle.merge_model.specs.Publisher.PublisherDownload.{asked, download, download_refusal, reply_to, synced}
+use Rattle.merge_model.specs.Tables.Refusals.{unless}
 use Rattle.merge_model.specs.Tables.{PublisherTables}
 
 -- where nothing refuses a call, it is made

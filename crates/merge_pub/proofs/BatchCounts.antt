@@ -13,9 +13,9 @@ use Rattle.merge_types.specs.declared.identifiers.SiteId.{SiteId}
 use Rattle.merge_types.specs.declared.row_key.RowKey.{RowKey as Key}
 use Rattle.merge_batch.specs.declared.reply.DownloadItem.{DownloadItem}
 use Rattle.merge_schema.specs.declared.publication.Publication.{Publication}
-use Rattle.merge_model.specs.ByNumbers.{by_numbers, touch_by_mapping}
-use Rattle.merge_model.specs.Keys.{has_key}
-use Rattle.merge_model.specs.PublisherDownload.{TouchedRow, batch_end, inside_keys, is_between, item_of, touched_rows}
+use Rattle.merge_model.specs.Judge.ByNumbers.{by_numbers, touch_by_mapping}
+use Rattle.merge_model.specs.Tables.Keys.{has_key}
+use Rattle.merge_model.specs.Publisher.PublisherDownload.{TouchedRow, batch_end, inside_keys, is_between, item_of, touched_rows}
 use Rattle.merge_model.specs.Tables.{PublisherTables}
 use Rattle.merge_pub.specs.Touches.{HasTouched, is_in_between, item_at, item_between, kept_if, touched_between, touched_up_to}
 use Rattle.merge_pub.specs.Walks.{walk}

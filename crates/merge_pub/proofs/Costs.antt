@@ -14,8 +14,8 @@ use Rattle.merge_schema.specs.declared.publication.Publication.{Publication}
 use Rattle.merge_batch.specs.declared.request.UploadItem.{UploadItem}
 use Rattle.merge_part.specs.Taking.{count_if_some, living}
 use Rattle.merge_batch.specs.LocalChanges.{key_of, version_after}
-use Rattle.merge_model.specs.Acts.{Act, key_of_item, version_of_act}
-use Rattle.merge_model.specs.Keys.{row_at}
+use Rattle.merge_model.specs.Publisher.Acts.{Act, key_of_item, version_of_act}
+use Rattle.merge_model.specs.Tables.Keys.{row_at}
 use Rattle.merge_model.specs.World.{Saying}
 use Rattle.merge_pub.specs.Held.{Held, publication_of}
 use Rattle.merge_pub.specs.Local.{changed_version, versions_after}

@@ -17,8 +17,8 @@ use Rattle.merge_gens.specs.declared.moves.Mapping.{Mapping}
 use Rattle.merge_gens.specs.declared.moves.RowSite.{RowSite}
 use Rattle.merge_schema.specs.declared.publication.Publication.{Publication}
 use Rattle.merge_batch.specs.declared.request.RangeAsk.{RangeAsk}
-use Rattle.merge_model.specs.Publications.{rules_of}
-use Rattle.merge_model.specs.PublisherRanges.{ask_by, plans, with_grants}
+use Rattle.merge_model.specs.Tables.Publications.{rules_of}
+use Rattle.merge_model.specs.Publisher.PublisherRanges.{ask_by, plans, with_grants}
 use Rattle.merge_model.specs.Tables.{PublisherTables}
 use Rattle.merge_pub.specs.After.{after}
 use Rattle.merge_pub.specs.Forgetting.{LeavesAll}

@@ -17,10 +17,10 @@ use Rattle.merge_gens.specs.Index.{AddsRowsBetween}
 use Rattle.merge_gens.specs.declared.moves.Mapping.{Mapping}
 use Rattle.merge_gens.proofs.RowLists.{added_rows}
 use Rattle.merge_schema.proofs.ListMembers.{any_at, any_found}
-use Rattle.merge_model.specs.ByNumbers.{changed_in, mapping_at}
-use Rattle.merge_model.specs.Keys.{row_at}
+use Rattle.merge_model.specs.Judge.ByNumbers.{changed_in, mapping_at}
+use Rattle.merge_model.specs.Tables.Keys.{row_at}
 use Rattle.merge_model.specs.Tables.{PublisherTables}
-use Rattle.merge_model.proofs.Sorted.{key_total}
+use Rattle.merge_model.proofs.Publishers.Sorted.{key_total}
 use Rattle.merge_steps.specs.Indexed.{AreIndexed, AreMoved, has_entry, is_changed, is_moved}
 use Rattle.merge_steps.specs.MoveEntries.{move_entry, move_entry_cmp}
 use Rattle.merge_steps.specs.MoveWalks.{is_in_walk, is_within, key_of_move, keys_in_walk}

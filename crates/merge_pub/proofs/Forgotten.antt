@@ -20,11 +20,11 @@ use Rattle.merge_gens.specs.Moves.{is_left, row_site_cmp, row_site_exact}
 use Rattle.merge_gens.specs.declared.moves.Mapping.{Mapping}
 use Rattle.merge_gens.specs.declared.moves.RowSite.{RowSite}
 use Rattle.merge_schema.proofs.ListMembers.{any_at, any_found, contains_filter, contains_from_filter}
-use Rattle.merge_model.specs.Keys.{at_row_site}
-use Rattle.merge_model.specs.PublisherJoin.{is_left_of}
-use Rattle.merge_model.proofs.KeyLookUps.{keys-exact}
-use Rattle.merge_model.proofs.PlaceLookUps.{places-exact}
-use Rattle.merge_model.proofs.Sorted.{row_site_total}
+use Rattle.merge_model.specs.Tables.Keys.{at_row_site}
+use Rattle.merge_model.specs.Publisher.PublisherJoin.{is_left_of}
+use Rattle.merge_model.proofs.Lists.KeyLookUps.{keys-exact}
+use Rattle.merge_model.proofs.Lists.PlaceLookUps.{places-exact}
+use Rattle.merge_model.proofs.Publishers.Sorted.{row_site_total}
 use Rattle.merge_pub.specs.Forgetting.{is_left_at, place_at, take_at}
 use Rattle.merge_steps.specs.Indexed.{AreMoved, is_moved}
 use Rattle.merge_steps.specs.MoveWalks.{keys_in_walk}

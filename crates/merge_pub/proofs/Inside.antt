@@ -9,9 +9,9 @@ use Rattle.merge_schema.specs.declared.publication.Publication.{Publication}
 use Rattle.merge_schema.specs.declared.publication.Subscription.{Subscription}
 use Rattle.merge_part.specs.Live.{Live, live_rows as listed}
 use Rattle.merge_resolve.specs.Priorities.{subscription_at}
-use Rattle.merge_model.specs.Entries.{live_rows, partition_keys}
-use Rattle.merge_model.specs.Keys.{has_key}
-use Rattle.merge_model.specs.PublisherDownload.{inside_keys}
+use Rattle.merge_model.specs.Publisher.Entries.{live_rows, partition_keys}
+use Rattle.merge_model.specs.Tables.Keys.{has_key}
+use Rattle.merge_model.specs.Publisher.PublisherDownload.{inside_keys}
 use Rattle.merge_model.specs.Tables.{PublisherTables}
 use Rattle.merge_steps.specs.LiveRows.{live_pairs}
 use Rattle.merge_steps.proofs.Follows.{pairs-listed}

@@ -11,7 +11,7 @@ use Rattle.merge_table.specs.declared.edit.Edit.{Edit}
 use Rattle.merge_gens.specs.Moves.{row_site_cmp}
 use Rattle.merge_gens.specs.declared.moves.Mapping.{Mapping}
 use Rattle.merge_gens.specs.declared.moves.RowSite.{RowSite}
-use Rattle.merge_model.specs.PublisherJoin.{without_left}
+use Rattle.merge_model.specs.Publisher.PublisherJoin.{without_left}
 use Rattle.merge_pub.specs.Forgetting.{is_left_at, take_at}
 use Rattle.merge_pub.specs.Held.{Held, tables_of}
 use Rattle.merge_steps.specs.Indexed.{AreMoved}

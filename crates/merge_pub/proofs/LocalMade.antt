@@ -28,14 +28,14 @@ use Rattle.merge_batch.specs.LocalChanges.{article_of, counter_end, key_of, new_
 use Rattle.merge_batch.specs.declared.refusal.Refusal.{Refusal}
 use Rattle.merge_batch.specs.declared.refusal.Refusal.TheVariants.{NoMemory}
 use Rattle.merge_change.specs.Allowed.{CanBeAsked, FitsHeld, IsNewAt}
-use Rattle.merge_model.specs.ByNumbers.{by_numbers}
-use Rattle.merge_model.specs.Entries.{Changing, changed_by}
-use Rattle.merge_model.specs.Keys.{at_number, row_at}
+use Rattle.merge_model.specs.Judge.ByNumbers.{by_numbers}
+use Rattle.merge_model.specs.Publisher.Entries.{Changing, changed_by}
+use Rattle.merge_model.specs.Tables.Keys.{at_number, row_at}
 use Rattle.merge_model.specs.Publisher.{at_moment, counters, last_closed, later}
-use Rattle.merge_model.specs.PublisherLocal.{Drawn, changing_locally, drawn, local, local_refusal, next_dot, with_draw}
+use Rattle.merge_model.specs.Publisher.PublisherLocal.{Drawn, changing_locally, drawn, local, local_refusal, next_dot, with_draw}
 use Rattle.merge_model.specs.Tables.{PublisherTables}
-use Rattle.merge_model.proofs.Finding.{some_same}
-use Rattle.merge_model.proofs.KeyLookUps.{keys-exact}
+use Rattle.merge_model.proofs.Lists.Finding.{some_same}
+use Rattle.merge_model.proofs.Lists.KeyLookUps.{keys-exact}
 use Rattle.merge_pub.specs.After.{after}
 use Rattle.merge_steps.specs.Drawing.{Draws, KeepsHeld, drawn_by}
 use Rattle.merge_steps.specs.Keeps.{FitsHere, KeepsRules, RowFits}

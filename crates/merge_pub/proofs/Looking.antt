@@ -12,9 +12,9 @@ use Rattle.merge_gens.specs.declared.moves.Mapping.{Mapping}
 use Rattle.merge_schema.specs.Partition.{is_in_at}
 use Rattle.merge_part.specs.Live.{live_rows as listed}
 use Rattle.merge_part.specs.View.{live_in}
-use Rattle.merge_model.specs.ByNumbers.{touch_by_mapping, touch_inside, touch_outside}
-use Rattle.merge_model.specs.Keys.{at_row_site, has_key, row_at}
-use Rattle.merge_model.specs.PublisherDownload.{inside_keys}
+use Rattle.merge_model.specs.Judge.ByNumbers.{touch_by_mapping, touch_inside, touch_outside}
+use Rattle.merge_model.specs.Tables.Keys.{at_row_site, has_key, row_at}
+use Rattle.merge_model.specs.Publisher.PublisherDownload.{inside_keys}
 use Rattle.merge_pub.specs.Held.{Held, publication_of, tables_of}
 use Rattle.merge_steps.specs.Indexed.{AreIndexed, AreMoved}
 use Rattle.merge_steps.specs.LiveRows.{live_pairs}

@@ -19,7 +19,7 @@ use Rattle.merge_gens.specs.declared.index.IndexEntry.{IndexEntry}
 use Rattle.merge_gens.specs.declared.moves.Mapping.{Mapping}
 use Rattle.merge_gens.specs.declared.moves.RowSite.{RowSite}
 use Rattle.merge_schema.specs.declared.publication.Publication.{Publication}
-use Rattle.merge_model.specs.Entries.{Changing}
+use Rattle.merge_model.specs.Publisher.Entries.{Changing}
 use Rattle.merge_model.specs.Tables.{PublisherTables}
 use Rattle.std.specs.List.{AllByRecursion}
 use Rattle.merge_units.specs.declared.version.Version.{Version}

@@ -25,9 +25,9 @@ use Rattle.merge_gens.specs.declared.closings.Closing.{Closing}
 use Rattle.merge_gens.specs.declared.moves.Mapping.{Mapping}
 use Rattle.merge_gens.specs.declared.moves.RowSite.{RowSite}
 use Rattle.merge_schema.proofs.ListMembers.{any_at, any_found}
-use Rattle.merge_model.specs.Keys.{at_row_site}
-use Rattle.merge_model.proofs.KeyLookUps.{keys-exact}
-use Rattle.merge_model.proofs.Sorted.{row_site_total}
+use Rattle.merge_model.specs.Tables.Keys.{at_row_site}
+use Rattle.merge_model.proofs.Lists.KeyLookUps.{keys-exact}
+use Rattle.merge_model.proofs.Publishers.Sorted.{row_site_total}
 use Rattle.merge_pub.specs.Forgetting.{place_at}
 use Rattle.merge_pub.specs.Held.{Held, tables_of}
 use Rattle.merge_steps.specs.Indexed.{AreMoved, has_entry, is_moved}

@@ -18,9 +18,9 @@ use Rattle.merge_gens.specs.Index.{AddsRowsBetween}
 use Rattle.merge_gens.specs.declared.closings.Closing.{Closing}
 use Rattle.merge_gens.specs.declared.index.IndexEntry.{IndexEntry}
 use Rattle.merge_schema.proofs.ListMembers.{any_at, any_found}
-use Rattle.merge_model.specs.Keys.{row_at}
+use Rattle.merge_model.specs.Tables.Keys.{row_at}
 use Rattle.merge_model.specs.Tables.{PublisherTables}
-use Rattle.merge_model.proofs.Sorted.{key_total}
+use Rattle.merge_model.proofs.Publishers.Sorted.{key_total}
 use Rattle.merge_pub.specs.Held.{Held, tables_of}
 use Rattle.merge_steps.specs.Indexed.{AreIndexed}
 use Rattle.merge_steps.specs.OldSpans.{HasChanged, IsSpan}

@@ -21,13 +21,13 @@ use Rattle.merge_schema.proofs.ListMembers.{any_at}
 use Rattle.merge_schema.proofs.PartitionOrder.{Ascend, IsAbove, partition_ascends}
 use Rattle.merge_schema.proofs.Searches.{all_members}
 use Rattle.merge_resolve.specs.Priorities.{subscription_at}
-use Rattle.merge_model.specs.Entries.{key_of_live, live_row, live_rows, partition_keys}
-use Rattle.merge_model.specs.Keys.{has_key, same_key}
-use Rattle.merge_model.specs.PublisherDownload.{inside_keys}
-use Rattle.merge_model.specs.Reports.{partition_rows}
+use Rattle.merge_model.specs.Publisher.Entries.{key_of_live, live_row, live_rows, partition_keys}
+use Rattle.merge_model.specs.Tables.Keys.{has_key, same_key}
+use Rattle.merge_model.specs.Publisher.PublisherDownload.{inside_keys}
+use Rattle.merge_model.specs.World.Reports.{partition_rows}
 use Rattle.merge_model.specs.Tables.{PublisherTables}
-use Rattle.merge_model.proofs.KeyLookUps.{key-itself}
-use Rattle.merge_model.proofs.Sorted.{key_total}
+use Rattle.merge_model.proofs.Lists.KeyLookUps.{key-itself}
+use Rattle.merge_model.proofs.Publishers.Sorted.{key_total}
 use Rattle.merge_pub.specs.Held.{Held, publication_of, tables_of}
 use Rattle.merge_steps.proofs.Told.{in-partition, in-rows}
 use Rattle.merge_steps.proofs.Whole.{has-is}

@@ -22,10 +22,10 @@ use Rattle.merge_gens.specs.declared.moves.RowSite.{RowSite}
 use Rattle.merge_gens.specs.declared.sites.SiteState.{SiteState}
 use Rattle.merge_schema.specs.declared.publication.Publication.{Publication}
 use Rattle.merge_model.specs.Publisher.{later}
-use Rattle.merge_model.specs.PublisherPurge.{cutoff, purge}
+use Rattle.merge_model.specs.Publisher.PublisherPurge.{cutoff, purge}
 use Rattle.merge_model.specs.Tables.{PublisherTables}
 use Rattle.merge_model.specs.declared.outcome.Forgotten.{Forgotten}
-use Rattle.merge_model.proofs.Sorted.{key_total, row_site_total}
+use Rattle.merge_model.proofs.Publishers.Sorted.{key_total, row_site_total}
 use Rattle.merge_pub.specs.Forgetting.{LeavesAll}
 use Rattle.merge_pub.specs.Held.{Held, IsSound, publication_of, tables_of}
 use Rattle.merge_steps.specs.Indexed.{AreIndexed}

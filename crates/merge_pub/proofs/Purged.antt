@@ -28,11 +28,11 @@ use Rattle.merge_gens.specs.declared.moves.Mapping.{Mapping}
 use Rattle.merge_gens.specs.declared.moves.RowSite.{RowSite}
 use Rattle.merge_gens.proofs.EntryLists.{entry_total}
 use Rattle.merge_schema.specs.declared.publication.Publication.{Publication}
-use Rattle.merge_model.specs.Keys.{row_at, same_key}
+use Rattle.merge_model.specs.Tables.Keys.{row_at, same_key}
 use Rattle.merge_model.specs.Tables.{PublisherTables}
-use Rattle.merge_model.proofs.KeyLookUps.{key-test, none-behind}
+use Rattle.merge_model.proofs.Lists.KeyLookUps.{key-test, none-behind}
 use Rattle.merge_model.proofs.Lists.{all-filter}
-use Rattle.merge_model.proofs.Sorted.{key_total}
+use Rattle.merge_model.proofs.Publishers.Sorted.{key_total}
 use Rattle.merge_steps.specs.Indexed.{AreIndexed, is_changed}
 use Rattle.merge_steps.specs.Keeps.{KeepsRules, RowFits}
 use Rattle.merge_steps.specs.LiveRows.{live_pair, live_pairs, values_in}

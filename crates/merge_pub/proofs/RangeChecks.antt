@@ -14,10 +14,10 @@ use Rattle.merge_batch.specs.declared.refusal.Refusal.TheVariants.{UnknownSite}
 use Rattle.merge_batch.specs.declared.request.RangeAsk.{RangeAsk}
 use Rattle.merge_batch.specs.declared.request.Want.{Want}
 use Rattle.merge_batch.specs.declared.rules.BrokenRule.{BrokenRule}
-use Rattle.merge_model.specs.Faults.{fault_of}
-use Rattle.merge_model.specs.Keys.{at_number}
+use Rattle.merge_model.specs.World.Faults.{fault_of}
+use Rattle.merge_model.specs.Tables.Keys.{at_number}
 use Rattle.merge_model.specs.Publisher.{later, site_refusal, state_refusal}
-use Rattle.merge_model.specs.Refusals.{first_refusal, refused_if}
+use Rattle.merge_model.specs.Tables.Refusals.{first_refusal, refused_if}
 use Rattle.merge_model.specs.Tables.{PublisherTables}
 use Rattle.merge_pub.specs.Ranging.{AreRuled, IsForOthers}
 

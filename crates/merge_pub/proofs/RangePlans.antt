@@ -23,11 +23,11 @@ use Rattle.merge_schema.specs.declared.publication.Subscription.{Subscription}
 use Rattle.merge_batch.specs.Asks.{has_identity}
 use Rattle.merge_batch.specs.declared.request.RangeAsk.{RangeAsk}
 use Rattle.merge_batch.specs.declared.request.Want.{Want}
-use Rattle.merge_model.specs.Publications.{identities, identity_of, rules_of}
-use Rattle.merge_model.specs.Publications as publications
-use Rattle.merge_model.specs.PublisherRanges.{ask_by, plans, with_grants}
+use Rattle.merge_model.specs.Tables.Publications.{identities, identity_of, rules_of}
+use Rattle.merge_model.specs.Tables.Publications as publications
+use Rattle.merge_model.specs.Publisher.PublisherRanges.{ask_by, plans, with_grants}
 use Rattle.merge_model.specs.Tables.{PublisherTables}
-use Rattle.merge_model.proofs.Finding.{all-weaker}
+use Rattle.merge_model.proofs.Lists.Finding.{all-weaker}
 use Rattle.merge_steps.specs.Keeps.{KeepsRules}
 use Rattle.merge_pub.specs.Ranging.{AreRuled}
 

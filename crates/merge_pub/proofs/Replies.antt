@@ -5,9 +5,9 @@ use Rattle.merge_batch.specs.declared.reply.Downloaded.{Downloaded}
 use Rattle.merge_batch.specs.declared.reply.DownloadItem.{DownloadItem}
 use Rattle.merge_batch.specs.declared.request.Download.{Download}
 use Rattle.merge_schema.specs.declared.publication.Publication.{Publication}
-use Rattle.merge_model.specs.ByNumbers.{by_numbers}
+use Rattle.merge_model.specs.Judge.ByNumbers.{by_numbers}
 use Rattle.merge_model.specs.Publisher.{closed, last_closed}
-use Rattle.merge_model.specs.PublisherDownload.{batch_end, is_between, item_of, reply_to, touched_rows}
+use Rattle.merge_model.specs.Publisher.PublisherDownload.{batch_end, is_between, item_of, reply_to, touched_rows}
 use Rattle.merge_model.specs.Tables.{PublisherTables}
 use Rattle.merge_pub.specs.Touches.{touched_up_to}
 

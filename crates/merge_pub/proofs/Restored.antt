@@ -31,12 +31,12 @@ use Rattle.merge_part.specs.Taking.{EachRowOnce, FitsArticle, key_of_change}
 use Rattle.merge_part.specs.View.{live_in}
 use Rattle.merge_part.specs.declared.change.RowChange.{RowChange}
 use Rattle.merge_change.proofs.SortedRows.{put_of, puts-made}
-use Rattle.merge_model.proofs.KeyLookUps.{key-test}
+use Rattle.merge_model.proofs.Lists.KeyLookUps.{key-test}
 use Rattle.merge_model.proofs.Lists.{all-map}
-use Rattle.merge_model.proofs.Sorted.{key_total, row_site_total}
-use Rattle.merge_model.specs.Entries.{with_rows}
-use Rattle.merge_model.specs.Keys.{has_key, put_row, same_key}
-use Rattle.merge_model.specs.Publications.{rules_of}
+use Rattle.merge_model.proofs.Publishers.Sorted.{key_total, row_site_total}
+use Rattle.merge_model.specs.Publisher.Entries.{with_rows}
+use Rattle.merge_model.specs.Tables.Keys.{has_key, put_row, same_key}
+use Rattle.merge_model.specs.Tables.Publications.{rules_of}
 use Rattle.merge_model.specs.Tables.{PublisherTables}
 use Rattle.merge_steps.proofs.Fitting.{changes-fit}
 use Rattle.merge_steps.proofs.MoveFollows.{moves-follow}

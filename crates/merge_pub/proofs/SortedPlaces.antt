@@ -10,7 +10,7 @@ use Rattle.std.proofs.lemmas.List.Sorted.{Contains-permutation, IsPermutation-sy
 use Rattle.merge_types.specs.RowKeys.{key_cmp}
 use Rattle.merge_gens.specs.Moves.{row_site_cmp, row_site_exact}
 use Rattle.merge_gens.specs.declared.moves.RowSite.{RowSite}
-use Rattle.merge_model.proofs.Sorted.{row_site_total}
+use Rattle.merge_model.proofs.Publishers.Sorted.{row_site_total}
 
 abbrev same_place : RowSite → RowSite → Bool
 same_place x y = (nat_eq x.key.article y.key.article && nat_eq x.key.row.0 y.key.row.0) && nat_eq x.site y.site

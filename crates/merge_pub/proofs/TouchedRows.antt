@@ -18,12 +18,12 @@ use Rattle.merge_gens.specs.declared.moves.MoveKind.{MoveKind}
 use Rattle.merge_gens.specs.declared.moves.MoveKind.TheVariants.{Entered, Left}
 use Rattle.merge_gens.specs.declared.moves.RowSite.{RowSite}
 use Rattle.merge_schema.specs.declared.publication.Publication.{Publication}
-use Rattle.merge_model.specs.ByNumbers.{by_numbers, changed_in, mapping_at, moved_rows_by_mapping, touch_by_mapping, touch_inside, touch_outside}
-use Rattle.merge_model.specs.Entries.{keys_of as all_keys}
-use Rattle.merge_model.specs.Keys.{at_row_site, has_key, row_at}
-use Rattle.merge_model.specs.PublisherDownload.{TouchedRow, inside_keys, is_between, touched_row, touched_rows}
+use Rattle.merge_model.specs.Judge.ByNumbers.{by_numbers, changed_in, mapping_at, moved_rows_by_mapping, touch_by_mapping, touch_inside, touch_outside}
+use Rattle.merge_model.specs.Publisher.Entries.{keys_of as all_keys}
+use Rattle.merge_model.specs.Tables.Keys.{at_row_site, has_key, row_at}
+use Rattle.merge_model.specs.Publisher.PublisherDownload.{TouchedRow, inside_keys, is_between, touched_row, touched_rows}
 use Rattle.merge_model.specs.Tables.{PublisherTables}
-use Rattle.merge_model.proofs.Sorted.{key_total}
+use Rattle.merge_model.proofs.Publishers.Sorted.{key_total}
 use Rattle.merge_steps.proofs.HeldKeys.{all-has, all-sorted}
 use Rattle.merge_pub.specs.Touches.{AreDue, IsDue, kept_if, touched_between}
 

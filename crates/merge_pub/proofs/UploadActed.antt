@@ -24,7 +24,7 @@ use Rattle.merge_batch.specs.Search.{is_below}
 use Rattle.merge_batch.specs.Uploads.{row_of}
 use Rattle.merge_batch.specs.declared.request.Upload.{Upload}
 use Rattle.merge_batch.specs.declared.request.UploadItem.{UploadItem}
-use Rattle.merge_model.specs.Acts.{Act, Fate, Met, New, Unknown, act_of, acts_from, changes_by, conflict_of, key_of_item, left_by, lost_by, lost_from, made_by, version_by, version_of_act, versions_of}
+use Rattle.merge_model.specs.Publisher.Acts.{Act, Fate, Met, New, Unknown, act_of, acts_from, changes_by, conflict_of, key_of_item, left_by, lost_by, lost_from, made_by, version_by, version_of_act, versions_of}
 use Rattle.merge_model.specs.Judge.{PublisherJudge}
 use Rattle.merge_model.specs.Tables.{PublisherTables}
 use Rattle.merge_steps.specs.Working.{row_change}

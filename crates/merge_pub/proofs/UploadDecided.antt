@@ -11,9 +11,9 @@ use Rattle.merge_units.specs.declared.site_row.PublisherRow.{PublisherRow}
 use Rattle.merge_resolve.specs.declared.asking.Question.{Question}
 use Rattle.merge_schema.specs.declared.publication.Publication.{Publication}
 use Rattle.merge_batch.specs.declared.request.UploadItem.{UploadItem}
-use Rattle.merge_model.specs.Acts.{Fate, New, Unknown, key_of_item}
-use Rattle.merge_model.specs.Keys.{row_at}
-use Rattle.merge_model.specs.Steps.{kept_decisions}
+use Rattle.merge_model.specs.Publisher.Acts.{Fate, New, Unknown, key_of_item}
+use Rattle.merge_model.specs.Tables.Keys.{row_at}
+use Rattle.merge_model.specs.World.Steps.{kept_decisions}
 use Rattle.merge_model.specs.World.{Saying}
 use Rattle.merge_steps.specs.Uploading.{Pass, acts_in, after_act, after_item, after_items, decided_by, decision_on, fate_at, is_made_by, pass_at, question_at, questions_in, tallies_on}
 use Rattle.merge_steps.specs.declared.acting.Acting.{Acting}

@@ -17,8 +17,8 @@ use Rattle.merge_batch.specs.Laws.{IsValidItem, IsValidUpload}
 use Rattle.merge_batch.specs.Uploads.{was_seen}
 use Rattle.merge_batch.specs.declared.request.Upload.{Upload}
 use Rattle.merge_batch.specs.declared.request.UploadItem.{UploadItem}
-use Rattle.merge_model.specs.Acts.{Act, acts_of}
-use Rattle.merge_model.specs.ByNumbers.{by_numbers}
+use Rattle.merge_model.specs.Publisher.Acts.{Act, acts_of}
+use Rattle.merge_model.specs.Judge.ByNumbers.{by_numbers}
 use Rattle.merge_model.specs.Publisher.{at_moment, later}
 use Rattle.merge_model.specs.Tables.{PublisherTables}
 use Rattle.merge_model.specs.World.{Saying}

@@ -18,8 +18,8 @@ use Rattle.merge_schema.specs.declared.publication.Subscription.{Subscription}
 use Rattle.merge_table.specs.declared.edit.Edit.{Edit}
 use Rattle.merge_table.specs.Edits.{rows_after_all}
 use Rattle.merge_batch.specs.declared.request.Upload.{Upload}
-use Rattle.merge_model.specs.ByNumbers.{by_numbers}
-use Rattle.merge_model.specs.Entries.{changed_by}
+use Rattle.merge_model.specs.Judge.ByNumbers.{by_numbers}
+use Rattle.merge_model.specs.Publisher.Entries.{changed_by}
 use Rattle.merge_model.specs.Tables.{PublisherTables}
 use Rattle.merge_pub.specs.After.{after}
 use Rattle.merge_units.specs.declared.version.Version.{Version}

@@ -17,13 +17,13 @@ use Rattle.merge_batch.specs.declared.refusal.Refusal.{Refusal}
 use Rattle.merge_batch.specs.declared.reply.Uploaded.{Uploaded}
 use Rattle.merge_batch.specs.declared.request.Upload.{Upload}
 use Rattle.merge_batch.specs.declared.request.UploadItem.{UploadItem}
-use Rattle.merge_model.specs.Acts.{Act, act_of, acts_from, acts_of, left_by, made_by, question_of}
-use Rattle.merge_model.specs.ByNumbers.{by_numbers}
-use Rattle.merge_model.specs.Entries.{changed_by}
+use Rattle.merge_model.specs.Publisher.Acts.{Act, act_of, acts_from, acts_of, left_by, made_by, question_of}
+use Rattle.merge_model.specs.Judge.ByNumbers.{by_numbers}
+use Rattle.merge_model.specs.Publisher.Entries.{changed_by}
 use Rattle.merge_model.specs.Publisher.{at_moment, later}
-use Rattle.merge_model.specs.PublisherUpload.{changing_by, seen_in, state_seeing, taken_in, upload_refusal, uploaded, with_acts, with_taken}
-use Rattle.merge_model.specs.Refusals.{unless}
-use Rattle.merge_model.specs.Steps.{kept_decisions, upload_questions}
+use Rattle.merge_model.specs.Publisher.PublisherUpload.{changing_by, seen_in, state_seeing, taken_in, upload_refusal, uploaded, with_acts, with_taken}
+use Rattle.merge_model.specs.Tables.Refusals.{unless}
+use Rattle.merge_model.specs.World.Steps.{kept_decisions, upload_questions}
 use Rattle.merge_model.specs.Tables.{PublisherTables}
 use Rattle.merge_model.specs.World.{Saying}
 use Rattle.merge_pub.specs.Uploaded.{acted_tables, arrival_of, asked_on, decided_on, none_acted, taken_tables, upload_by}

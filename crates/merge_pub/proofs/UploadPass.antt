@@ -20,11 +20,11 @@ use Rattle.merge_schema.specs.declared.publication.Publication.{Publication}
 use Rattle.merge_batch.specs.declared.request.Upload.{Upload}
 use Rattle.merge_batch.specs.declared.request.UploadItem.{UploadItem}
 use Rattle.merge_conflict.specs.Losers.{publisher_site}
-use Rattle.merge_model.specs.Acts.{Act, Fate, Met, New, Unknown, act_of, asked_at, meeting_of, question_of, without_first, acts_from, changes_by, decision_for, fate_by, key_of_item, left_by, lost_by, lost_from, made_by, version_of_act, versions_of}
-use Rattle.merge_model.specs.ByNumbers.{by_numbers}
-use Rattle.merge_model.specs.Keys.{row_at}
+use Rattle.merge_model.specs.Publisher.Acts.{Act, Fate, Met, New, Unknown, act_of, asked_at, meeting_of, question_of, without_first, acts_from, changes_by, decision_for, fate_by, key_of_item, left_by, lost_by, lost_from, made_by, version_of_act, versions_of}
+use Rattle.merge_model.specs.Judge.ByNumbers.{by_numbers}
+use Rattle.merge_model.specs.Tables.Keys.{row_at}
 use Rattle.merge_model.specs.Publisher.{at_moment, later}
-use Rattle.merge_model.specs.Steps.{kept_decisions}
+use Rattle.merge_model.specs.World.Steps.{kept_decisions}
 use Rattle.merge_model.specs.Tables.{PublisherTables}
 use Rattle.merge_model.specs.World.{Saying}
 use Rattle.merge_pub.specs.Uploaded.{arrival_of}

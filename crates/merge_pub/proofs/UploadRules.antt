@@ -20,14 +20,14 @@ use Rattle.merge_batch.specs.declared.refusal.Refusal.TheVariants.{Gap, TooManyR
 use Rattle.merge_batch.specs.declared.request.Upload.{Upload}
 use Rattle.merge_batch.specs.declared.request.UploadItem.{UploadItem}
 use Rattle.merge_batch.specs.declared.rules.BrokenRule.{BrokenRule}
-use Rattle.merge_model.specs.Acts.{Act, Fate, Met, New, Unknown, act_of, acts_from, acts_of, fate_by, key_of_item, left_by, made_by}
-use Rattle.merge_model.specs.ByNumbers.{by_numbers}
-use Rattle.merge_model.specs.Faults.{fault_of, judged_state, known_by, upload_fault}
-use Rattle.merge_model.specs.Keys.{at_number, row_at}
+use Rattle.merge_model.specs.Publisher.Acts.{Act, Fate, Met, New, Unknown, act_of, acts_from, acts_of, fate_by, key_of_item, left_by, made_by}
+use Rattle.merge_model.specs.Judge.ByNumbers.{by_numbers}
+use Rattle.merge_model.specs.World.Faults.{fault_of, judged_state, known_by, upload_fault}
+use Rattle.merge_model.specs.Tables.Keys.{at_number, row_at}
 use Rattle.merge_model.specs.Publisher.{later, site_refusal, state_refusal}
-use Rattle.merge_model.specs.Refusals.{first_refusal}
+use Rattle.merge_model.specs.Tables.Refusals.{first_refusal}
 use Rattle.merge_schema.specs.Places.{is_subscription}
-use Rattle.merge_model.specs.PublisherUpload.{is_new, too_many_new}
+use Rattle.merge_model.specs.Publisher.PublisherUpload.{is_new, too_many_new}
 use Rattle.merge_model.specs.Tables.{PublisherTables}
 use Rattle.merge_pub.specs.Refused.{refusal_of}
 use Rattle.merge_pub.specs.Uploaded.{arrival_of, known_in}

@@ -4,7 +4,7 @@ use Rattle.std.specs.List.{last_or, range_with_len}
 use Rattle.std.proofs.Common.{arith, sym, ap, ◌∙◌}
 use Rattle.std.proofs.lemmas.Bool.Decides.{nat_tests}
 use Rattle.merge_types.specs.Limits.{generation_limit, item_limit}
-use Rattle.merge_model.specs.PublisherDownload.{batch_end}
+use Rattle.merge_model.specs.Publisher.PublisherDownload.{batch_end}
 use Rattle.merge_pub.specs.Walks.{walk}
 
 abbrev fits : (ℕ → ℕ) → ℕ → Bool

@@ -24,7 +24,7 @@ use Rattle.merge_schema.specs.Valid.{IsValid}
 use Rattle.merge_schema.specs.declared.publication.Publication.{Publication}
 use Rattle.merge_part.specs.Live.{Live}
 use Rattle.merge_part.specs.View.{IsPrepared, Plan, View, live_after_plan, live_in}
-use Rattle.merge_model.specs.Publications.{rules_of}
+use Rattle.merge_model.specs.Tables.Publications.{rules_of}
 use Rattle.merge_model.specs.Tables.{PublisherTables}
 use Rattle.merge_pub.specs.After.{after}
 use Rattle.merge_steps.specs.Indexed.{AreIndexed, AreMoved}

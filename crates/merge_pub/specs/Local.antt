@@ -13,7 +13,7 @@ use Rattle.merge_batch.specs.declared.refusal.Refusal.{Refusal}
 use Rattle.merge_batch.specs.declared.refusal.Refusal.TheVariants.{NoMemory}
 use Rattle.merge_ident.specs.Holders.{Holder}
 use Rattle.merge_ident.specs.declared.grants.Grant.{Grant}
-use Rattle.merge_model.specs.Keys.{row_at}
+use Rattle.merge_model.specs.Tables.Keys.{row_at}
 use Rattle.merge_steps.specs.Drawing.{Draws}
 
 -- the version of a row that is held

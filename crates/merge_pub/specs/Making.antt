@@ -4,7 +4,7 @@ use Rattle.std.specs.Ordering.{nat_cmp}
 use Rattle.merge_table.specs.Edits.{rows_after_all}
 use Rattle.merge_ident.specs.Answers.{grants_with_all}
 use Rattle.merge_schema.specs.declared.publication.Publication.{Publication}
-use Rattle.merge_model.specs.Entries.{Changing, changed_by}
+use Rattle.merge_model.specs.Publisher.Entries.{Changing, changed_by}
 use Rattle.merge_model.specs.Judge.{PublisherJudge}
 use Rattle.merge_model.specs.Tables.{PublisherTables}
 use Rattle.merge_steps.specs.declared.changes.Besides.{Besides}

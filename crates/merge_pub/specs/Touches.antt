@@ -7,11 +7,11 @@ use Rattle.merge_schema.specs.declared.publication.Publication.{Publication}
 use Rattle.merge_types.specs.RowKeys.{key_cmp}
 use Rattle.merge_types.specs.declared.row_key.RowKey.{RowKey as Key}
 use Rattle.merge_gens.specs.declared.moves.Mapping.{Mapping}
-use Rattle.merge_model.specs.ByNumbers.{by_numbers, changed_in, mapping_at}
+use Rattle.merge_model.specs.Judge.ByNumbers.{by_numbers, changed_in, mapping_at}
 use Rattle.merge_batch.specs.Orders.{order_by}
 use Rattle.merge_batch.specs.declared.reply.DownloadItem.{DownloadItem}
-use Rattle.merge_model.specs.PublisherLocal.{version_at}
-use Rattle.merge_model.specs.PublisherDownload.{TouchedRow, inside_keys, is_between, touched_row, touched_rows}
+use Rattle.merge_model.specs.Publisher.PublisherLocal.{version_at}
+use Rattle.merge_model.specs.Publisher.PublisherDownload.{TouchedRow, inside_keys, is_between, touched_row, touched_rows}
 use Rattle.merge_model.specs.Tables.{PublisherTables}
 
 -- the generation of a move

@@ -13,12 +13,12 @@ use Rattle.merge_batch.specs.Known.{Known}
 use Rattle.merge_batch.specs.declared.refusal.Refusal.{Refusal}
 use Rattle.merge_batch.specs.declared.reply.Uploaded.{Uploaded}
 use Rattle.merge_batch.specs.declared.request.Upload.{Upload}
-use Rattle.merge_model.specs.ByNumbers.{by_numbers, received_by_number, received_number_by_number}
-use Rattle.merge_model.specs.Entries.{changed_by}
+use Rattle.merge_model.specs.Judge.ByNumbers.{by_numbers, received_by_number, received_number_by_number}
+use Rattle.merge_model.specs.Publisher.Entries.{changed_by}
 use Rattle.merge_model.specs.Judge.{PublisherJudge}
 use Rattle.merge_model.specs.Publisher.{later}
-use Rattle.merge_model.specs.PublisherUpload.{upload}
-use Rattle.merge_model.specs.Steps.{kept_decisions, upload_questions}
+use Rattle.merge_model.specs.Publisher.PublisherUpload.{upload}
+use Rattle.merge_model.specs.World.Steps.{kept_decisions, upload_questions}
 use Rattle.merge_model.specs.Tables.{PublisherTables}
 use Rattle.merge_model.specs.World.{Saying}
 use Rattle.merge_steps.specs.Keeps.{FitsHere}

@@ -3,9 +3,9 @@ ghost use Rattle.std.specs.Prelude.{◌≡◌, ◌<◌, ◌≤◌, ◌+◌, ◌-
 ghost use Rattle.std.specs.Option.{option_to_list};
 ghost use Rattle.merge_types.specs.Limits.{generation_limit};
 ghost use Rattle.merge_batch.specs.Orders.{order_by};
-ghost use Rattle.merge_model.specs.ByNumbers.{by_numbers};
-ghost use Rattle.merge_model.specs.PublisherDownload.{batch_end, is_between, item_of, touched_rows};
-ghost use Rattle.merge_model.specs.PublisherLocal.{version_at};
+ghost use Rattle.merge_model.specs.Judge.ByNumbers.{by_numbers};
+ghost use Rattle.merge_model.specs.Publisher.PublisherDownload.{batch_end, is_between, item_of, touched_rows};
+ghost use Rattle.merge_model.specs.Publisher.PublisherLocal.{version_at};
 ghost use Rattle.merge_pub.specs.Held.{publication_of, tables_of};
 ghost use Rattle.merge_pub.specs.Touches.{item_between, touched_between, touched_up_to};
 

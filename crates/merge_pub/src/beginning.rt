@@ -2,7 +2,7 @@
 ghost use Rattle.std.specs.Prelude.{◌≡◌, ℕ, All, IfOk, OnOk};
 ghost use Rattle.merge_ident.specs.Books.{IsRule};
 ghost use Rattle.merge_schema.specs.Valid.{IsValid};
-ghost use Rattle.merge_model.specs.Publications.{rules_of};
+ghost use Rattle.merge_model.specs.Tables.Publications.{rules_of};
 ghost use Rattle.merge_model.specs.Publisher.{empty_publisher, new_holders};
 ghost use Rattle.merge_steps.specs.Beginning.{with_holder, with_rule};
 ghost use Rattle.merge_pub.specs.Held.{publication_of, tables_of};

@@ -1,11 +1,11 @@
 //! Whether a request that is not refused changes a record. One that changes none is not committed.
 ghost use Rattle.std.specs.List.{list_any};
 ghost use Rattle.std.specs.Prelude.{◌≡◌, ◌||◌, nat_lt};
-ghost use Rattle.merge_model.specs.ByNumbers.{by_numbers};
-ghost use Rattle.merge_model.specs.Calls.{is_behind, is_later, is_new_grant};
+ghost use Rattle.merge_model.specs.Judge.ByNumbers.{by_numbers};
+ghost use Rattle.merge_model.specs.World.Calls.{is_behind, is_later, is_new_grant};
 ghost use Rattle.merge_model.specs.Publisher.{state_of};
-ghost use Rattle.merge_model.specs.PublisherJoin.{join_acts};
-ghost use Rattle.merge_model.specs.PublisherUpload.{brings_news};
+ghost use Rattle.merge_model.specs.Publisher.PublisherJoin.{join_acts};
+ghost use Rattle.merge_model.specs.Publisher.PublisherUpload.{brings_news};
 ghost use Rattle.merge_pub.specs.Held.{tables_of};
 
 use crate::publisher::Publisher;

@@ -2,10 +2,10 @@
 ghost use Rattle.std.specs.Prelude.{◌≡◌, ◌<◌, ◌≤◌, ◌⊎◌, ◌^◌, Err, IfOk, Ok, OnOk, Some};
 ghost use Rattle.merge_batch.specs.declared.refusal.Refusal.{Refusal as OneRefusal};
 ghost use Rattle.merge_batch.specs.declared.refusal.Refusal.TheVariants.{NoMemory as no_memory};
-ghost use Rattle.merge_model.specs.ByNumbers.{by_numbers};
-ghost use Rattle.merge_model.specs.Keys.{at_number};
+ghost use Rattle.merge_model.specs.Judge.ByNumbers.{by_numbers};
+ghost use Rattle.merge_model.specs.Tables.Keys.{at_number};
 ghost use Rattle.merge_model.specs.Publisher.{closed};
-ghost use Rattle.merge_model.specs.PublisherDownload.{download, download_refusal, in_step, reply_to, synced};
+ghost use Rattle.merge_model.specs.Publisher.PublisherDownload.{download, download_refusal, in_step, reply_to, synced};
 ghost use Rattle.merge_pub.specs.After.{after};
 ghost use Rattle.merge_pub.specs.Held.{IsDrafted, publication_of, tables_of};
 ghost use Rattle.merge_pub.specs.Refused.{RefusesAs, refusal_of};

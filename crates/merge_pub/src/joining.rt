@@ -5,7 +5,7 @@ ghost use Rattle.merge_batch.specs.declared.refusal.Refusal.TheVariants.{NoMemor
 ghost use Rattle.merge_gens.specs.Moves.{row_site_cmp};
 ghost use Rattle.merge_table.specs.Edits.{rows_after_all};
 ghost use Rattle.merge_model.specs.Publisher.{state_of, with_state};
-ghost use Rattle.merge_model.specs.PublisherJoin.{join, join_refusal, joined_state, without_left};
+ghost use Rattle.merge_model.specs.Publisher.PublisherJoin.{join, join_refusal, joined_state, without_left};
 ghost use Rattle.merge_pub.specs.After.{after};
 ghost use Rattle.merge_pub.specs.Forgetting.{is_left_at, take_at};
 ghost use Rattle.merge_pub.specs.Held.{IsDrafted, publication_of, tables_of};

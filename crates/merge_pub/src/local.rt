@@ -8,9 +8,9 @@ ghost use Rattle.merge_batch.specs.LocalChanges.{article_of, settings_of, versio
 ghost use Rattle.merge_batch.specs.declared.refusal.Refusal.{Refusal as OneRefusal};
 ghost use Rattle.merge_batch.specs.declared.refusal.Refusal.TheVariants.{NoMemory as no_memory};
 ghost use Rattle.merge_change.specs.Allowed.{CanBeAsked, FitsHeld, HasIdentity, IsAllowed, IsNewAt};
-ghost use Rattle.merge_model.specs.ByNumbers.{by_numbers};
-ghost use Rattle.merge_model.specs.Publications.{rules_of};
-ghost use Rattle.merge_model.specs.PublisherLocal.{local};
+ghost use Rattle.merge_model.specs.Judge.ByNumbers.{by_numbers};
+ghost use Rattle.merge_model.specs.Tables.Publications.{rules_of};
+ghost use Rattle.merge_model.specs.Publisher.PublisherLocal.{local};
 ghost use Rattle.merge_pub.specs.After.{after};
 ghost use Rattle.merge_ident.specs.Books.{IsReady};
 ghost use Rattle.merge_steps.specs.Drawing.{Draws, KeepsHeld, drawn_by};

@@ -2,7 +2,7 @@
 ghost use Rattle.std.specs.Prelude.{◌≡◌, [], IfOk, count_by, filter, nat_lt, not};
 ghost use Rattle.merge_table.specs.Edits.{takes_of};
 ghost use Rattle.merge_gens.specs.Book.{purged};
-ghost use Rattle.merge_model.specs.PublisherPurge.{cutoff, purge};
+ghost use Rattle.merge_model.specs.Publisher.PublisherPurge.{cutoff, purge};
 ghost use Rattle.merge_pub.specs.After.{after};
 ghost use Rattle.merge_pub.specs.Forgetting.{LeavesAll};
 ghost use Rattle.merge_pub.specs.Held.{IsDrafted, publication_of, tables_of};

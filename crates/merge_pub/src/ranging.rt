@@ -3,8 +3,8 @@ ghost use Rattle.std.specs.Prelude.{◌≡◌, ◌⊎◌, Err, IfOk, Ok, OnOk, f
 ghost use Rattle.merge_batch.specs.declared.refusal.Refusal.{Refusal as OneRefusal};
 ghost use Rattle.merge_batch.specs.declared.refusal.Refusal.TheVariants.{NoMemory as no_memory};
 ghost use Rattle.merge_ident.specs.Books as granting;
-ghost use Rattle.merge_model.specs.ByNumbers.{by_numbers};
-ghost use Rattle.merge_model.specs.PublisherRanges.{ask_by, ended_by, granted_by, plans, ranged, ranges, ranges_refusal};
+ghost use Rattle.merge_model.specs.Judge.ByNumbers.{by_numbers};
+ghost use Rattle.merge_model.specs.Publisher.PublisherRanges.{ask_by, ended_by, granted_by, plans, ranged, ranges, ranges_refusal};
 ghost use Rattle.merge_pub.specs.After.{after};
 ghost use Rattle.merge_pub.specs.Held.{IsDrafted, publication_of, tables_of};
 ghost use Rattle.merge_pub.specs.Ranging.{AreRuled, IsForOthers};

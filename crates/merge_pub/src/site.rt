@@ -1,7 +1,7 @@
 //! What a request of a site is refused for.
 ghost use Rattle.std.specs.Prelude.{◌≡◌, IfOk, Some, unwrap_or};
-ghost use Rattle.merge_model.specs.Faults.{fault_of};
-ghost use Rattle.merge_model.specs.Keys.{at_number};
+ghost use Rattle.merge_model.specs.World.Faults.{fault_of};
+ghost use Rattle.merge_model.specs.Tables.Keys.{at_number};
 ghost use Rattle.merge_model.specs.Publisher.{later, no_state, site_refusal, state_refusal, unknown_site};
 ghost use Rattle.merge_pub.specs.Held.{publication_of, tables_of};
 ghost use Rattle.merge_pub.specs.Refused.{refusal_of};

@@ -3,7 +3,7 @@ ghost use Rattle.std.specs.Prelude.{◌≡◌, ◌<◌, ◌∷◌, ◌^◌, [], 
 ghost use Rattle.merge_table.specs.declared.edit.Edit.TheVariants.{Put};
 ghost use Rattle.merge_ident.specs.Books as granting;
 ghost use Rattle.merge_model.specs.Publisher.{closed, with_state};
-ghost use Rattle.merge_model.specs.PublisherRanges.{with_grants};
+ghost use Rattle.merge_model.specs.Publisher.PublisherRanges.{with_grants};
 ghost use Rattle.merge_pub.specs.After.{after};
 ghost use Rattle.merge_steps.specs.Keeps.{KeepsRules};
 ghost use Rattle.merge_pub.specs.Held.{IsDrafted, publication_of, tables_of};

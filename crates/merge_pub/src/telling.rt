@@ -2,9 +2,9 @@
 ghost use Rattle.std.specs.Prelude.{◌≡◌, IfOk, filter, length};
 ghost use Rattle.std.specs.Map.{keys_of};
 ghost use Rattle.merge_gens.specs.Book as gens;
-ghost use Rattle.merge_model.specs.Keys.{at_number, has_key};
-ghost use Rattle.merge_model.specs.PublisherDownload.{inside_keys};
-ghost use Rattle.merge_model.specs.Reports.{partition_rows};
+ghost use Rattle.merge_model.specs.Tables.Keys.{at_number, has_key};
+ghost use Rattle.merge_model.specs.Publisher.PublisherDownload.{inside_keys};
+ghost use Rattle.merge_model.specs.World.Reports.{partition_rows};
 ghost use Rattle.merge_pub.specs.Held.{publication_of, tables_of};
 
 use crate::publisher::Publisher;

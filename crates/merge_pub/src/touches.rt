@@ -1,8 +1,8 @@
 //! Which rows were touched for a site, found by their generations.
 ghost use Rattle.std.specs.Prelude.{◌≡◌, ◌<◌, ◌^◌, IfOk};
-ghost use Rattle.merge_model.specs.ByNumbers.{touch_by_mapping, touch_inside, touch_outside};
-ghost use Rattle.merge_model.specs.Keys.{has_key};
-ghost use Rattle.merge_model.specs.PublisherDownload.{inside_keys};
+ghost use Rattle.merge_model.specs.Judge.ByNumbers.{touch_by_mapping, touch_inside, touch_outside};
+ghost use Rattle.merge_model.specs.Tables.Keys.{has_key};
+ghost use Rattle.merge_model.specs.Publisher.PublisherDownload.{inside_keys};
 ghost use Rattle.merge_pub.specs.Held.{publication_of, tables_of};
 ghost use Rattle.merge_pub.specs.Touches.{HasTouched, is_in_between};
 

@@ -3,8 +3,8 @@ use Rattle.std.proofs.Common.{◌≡◌, ◌+◌, ◌<◌, ℕ, zero, suc, List,
 use Rattle.std.specs.List.{after_first, before_first, position_or_len}
 use Rattle.std.specs.Prelude.{option_map, option_and_then}
 use Rattle.merge_types.specs.declared.values.Value.{Value}
-use Rattle.merge_model.specs.Literals.{value_of_text}
-use Rattle.merge_model.specs.Reading.{Read, ◌>>=◌, is_equals_sign, made_out, name_of, setting_of, settings_in}
+use Rattle.merge_model.specs.Script.Literals.{value_of_text}
+use Rattle.merge_model.specs.Script.Reading.{Read, ◌>>=◌, is_equals_sign, made_out, name_of, setting_of, settings_in}
 use Rattle.merge_model.specs.declared.event.NamedValue.{NamedValue}
 
 abbrev pub named_value : List ℕ → Value → NamedValue

@@ -1,7 +1,7 @@
 -- How what a reader gives agrees with what the words say.
 use Rattle.std.specs.Prelude.{◌≡◌, ℕ, List, Option, Some, None, Result, Ok, Err}
 use Rattle.merge_types.specs.declared.identifiers.SiteId.{SiteId}
-use Rattle.merge_model.specs.Reading.{Read}
+use Rattle.merge_model.specs.Script.Reading.{Read}
 use Rattle.merge_model.specs.declared.event.Event.{Event}
 use Rattle.merge_model.specs.declared.event.Event.TheVariants.{SendJoin, SendUpload, SendRanges, SendDownload}
 use Rattle.merge_reading.specs.declared.stop.Stop.{Stop}

@@ -1,8 +1,8 @@
 //! The events, each by the words of its line.
 ghost use Rattle.std.specs.Prelude.{◌≡◌, ◌<◌, ◌+◌, ◌-◌, ◌^◌, drop, length, map, option_map};
 ghost use Rattle.merge_script.specs.Names.{decimal_of};
-ghost use Rattle.merge_model.specs.Literals.{row_of_text};
-ghost use Rattle.merge_model.specs.Reading.{delete_in, deliver_in, ends_before, event_in, insert_in, made_out, message_of, name_of, read_at, reader_of, seconds_of, send_in, settings_from, settings_in, show_in, site_event_in, site_of, update_in, wait_in, word_at};
+ghost use Rattle.merge_model.specs.Script.Literals.{row_of_text};
+ghost use Rattle.merge_model.specs.Script.Reading.{delete_in, deliver_in, ends_before, event_in, insert_in, made_out, message_of, name_of, read_at, reader_of, seconds_of, send_in, settings_from, settings_in, show_in, site_event_in, site_of, update_in, wait_in, word_at};
 ghost use Rattle.merge_types.specs.declared.SiteId.{SiteId as OneSite};
 ghost use Rattle.merge_model.specs.declared.Event.{Event as OneEvent};
 ghost use Rattle.merge_reading.specs.Telling.{Tells, TellsSending, TellsOf};

@@ -1,7 +1,7 @@
 //! What a line says.
 ghost use Rattle.std.specs.Prelude.{◌≡◌, IfOk, map};
 ghost use Rattle.merge_script.specs.Words.{is_quiet_by};
-ghost use Rattle.merge_model.specs.Reading.{line_of};
+ghost use Rattle.merge_model.specs.Script.Reading.{line_of};
 
 use crate::events::event;
 use crate::stop::Stop;

@@ -1,8 +1,8 @@
 //! What single words say.
 ghost use Rattle.std.specs.List.{after_first, before_first, position_or_len};
 ghost use Rattle.std.specs.Prelude.{◌≡◌, ◌≤◌, IfOk, length, option_map};
-ghost use Rattle.merge_model.specs.Literals.{row_of_text, same, value_of_text};
-ghost use Rattle.merge_model.specs.Reading.{is_equals_sign, message_of, name_of, seconds_of, setting_of, site_of};
+ghost use Rattle.merge_model.specs.Script.Literals.{row_of_text, same, value_of_text};
+ghost use Rattle.merge_model.specs.Script.Reading.{is_equals_sign, message_of, name_of, seconds_of, setting_of, site_of};
 ghost use Rattle.merge_reading.specs.Telling.{as_event};
 
 use merge_model::{Event, NamedValue};

@@ -12,7 +12,7 @@ use Rattle.merge_batch.specs.declared.refusal.Refusal.TheVariants.{UnknownSite, 
 use Rattle.merge_types.specs.Rows.{row_text}
 use Rattle.merge_units.specs.declared.version.Body.TheVariants.{Live}
 use Rattle.merge_model.specs.declared.answer.ShownRow.{ShownRow}
-use Rattle.merge_model.specs.Text.{Names, body_words, cell_words, conflict_line, joined, refusal_words, row_line}
+use Rattle.merge_model.specs.Script.Text.{Names, body_words, cell_words, conflict_line, joined, refusal_words, row_line}
 use Rattle.merge_report.specs.Words.{cells_text, first_word, lost_words, reason_words, spaced, spaced_word, value_word}
 
 -- the first word, and a blank before each other one

@@ -9,7 +9,7 @@ use Rattle.merge_types.specs.Rows.{row_text}
 use Rattle.merge_units.specs.declared.version.Cell.{Cell}
 use Rattle.merge_conflict.specs.Kinds.{number_of_kind}
 use Rattle.merge_conflict.specs.declared.row.ConflictRow.{ConflictRow}
-use Rattle.merge_model.specs.Text.{Names, verdict_text}
+use Rattle.merge_model.specs.Script.Text.{Names, verdict_text}
 
 -- a blank, and a word
 abbrev pub spaced_word : List ℕ → List ℕ

@@ -1,8 +1,8 @@
 //! The text of an answer.
 ghost use Rattle.std.specs.Prelude.{◌≡◌, ◌++◌, All, IfOk, OnOk, option_copied, string_bytes};
-ghost use Rattle.merge_model.specs.Play.{names_of};
-ghost use Rattle.merge_model.specs.Text.{line, refusal_words, text_of, texts_of};
-ghost use Rattle.merge_model.specs.Proper.{IsProperAnswer};
+ghost use Rattle.merge_model.specs.Script.Play.{names_of};
+ghost use Rattle.merge_model.specs.Script.Text.{line, refusal_words, text_of, texts_of};
+ghost use Rattle.merge_model.specs.Script.Proper.{IsProperAnswer};
 ghost use Rattle.merge_report.specs.Words.{called};
 
 use crate::conflicts::add_conflicts;

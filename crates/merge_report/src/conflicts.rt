@@ -1,10 +1,10 @@
 //! Versions that lost.
 ghost use Rattle.std.specs.Prelude.{◌≡◌, ◌++◌, All, OnOk, string_bytes};
-ghost use Rattle.merge_model.specs.Play.{names_of};
-ghost use Rattle.merge_model.specs.Text.{body_words, conflict_line, conflicts_text, joined, verdict_text};
+ghost use Rattle.merge_model.specs.Script.Play.{names_of};
+ghost use Rattle.merge_model.specs.Script.Text.{body_words, conflict_line, conflicts_text, joined, verdict_text};
 ghost use Rattle.merge_conflict.specs.declared.row.ConflictRow.{ConflictRow as Lost};
 ghost use Rattle.merge_units.specs.declared.version.Cell.{Cell as ACell};
-ghost use Rattle.merge_model.specs.Proper.{AreProper, IsProperBody};
+ghost use Rattle.merge_model.specs.Script.Proper.{AreProper, IsProperBody};
 ghost use Rattle.merge_report.specs.Words.{cells_text, lost_words, reason_words, spaced};
 
 use crate::names::article_name;

@@ -1,7 +1,7 @@
 //! Where sites stand in their generations.
 ghost use Rattle.std.specs.Prelude.{◌≡◌, ◌++◌, ◌∷◌, OnOk, Some, string_bytes};
 ghost use Rattle.std.specs.Fmt.{decimal};
-ghost use Rattle.merge_model.specs.Text.{line, publisher_text, state_words, subscriber_text, subscription_line};
+ghost use Rattle.merge_model.specs.Script.Text.{line, publisher_text, state_words, subscriber_text, subscription_line};
 
 use merge_gens::{Filling, Marks, SiteState};
 use merge_model::SiteStanding;

@@ -1,6 +1,6 @@
 //! The names of articles and columns, by their places.
 ghost use Rattle.std.specs.Prelude.{◌≡◌};
-ghost use Rattle.merge_model.specs.Play.{article_name};
+ghost use Rattle.merge_model.specs.Script.Play.{article_name};
 ghost use Rattle.merge_batch.specs.LocalChanges.{columns_at};
 ghost use Rattle.merge_report.specs.Words.{name_in};
 

@@ -1,7 +1,7 @@
 //! Ranges: those that the publisher granted, and those that a subscriber holds.
 ghost use Rattle.std.specs.Prelude.{◌≡◌, ◌≤◌, ◌++◌, OnOk, length, option_map, slice_get, string_bytes, sum_by};
-ghost use Rattle.merge_model.specs.Play.{names_of};
-ghost use Rattle.merge_model.specs.Text.{begin_and_end, grant_line, grants_text, held_count, holder_line, holders_text, next_and_end, number_words};
+ghost use Rattle.merge_model.specs.Script.Play.{names_of};
+ghost use Rattle.merge_model.specs.Script.Text.{begin_and_end, grant_line, grants_text, held_count, holder_line, holders_text, next_and_end, number_words};
 ghost use Rattle.merge_report.specs.Words.{spaced};
 
 use crate::names::article_name;

@@ -1,6 +1,6 @@
 //! Refusals, by their numbers and words.
 ghost use Rattle.std.specs.Prelude.{◌≡◌, ◌++◌, ◌∷◌, List, ℕ, OnOk, drop, option_copied, string_bytes};
-ghost use Rattle.merge_model.specs.Text.{refusal_words};
+ghost use Rattle.merge_model.specs.Script.Text.{refusal_words};
 ghost use Rattle.merge_report.specs.Words.{called, first_word, spaced};
 
 use crate::names::column_name;

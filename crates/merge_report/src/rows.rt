@@ -2,10 +2,10 @@
 ghost use Rattle.std.specs.Prelude.{◌≡◌, ◌++◌, All, OnOk, string_bytes};
 ghost use Rattle.std.specs.List.{flat_map};
 ghost use Rattle.merge_types.specs.Literal.{IsProper};
-ghost use Rattle.merge_model.specs.Play.{names_of};
-ghost use Rattle.merge_model.specs.Text.{counts_from, member_line, partition_text, row_line, rows_text};
+ghost use Rattle.merge_model.specs.Script.Play.{names_of};
+ghost use Rattle.merge_model.specs.Script.Text.{counts_from, member_line, partition_text, row_line, rows_text};
 ghost use Rattle.merge_model.specs.declared.answer.ShownRow.{ShownRow as Shown};
-ghost use Rattle.merge_model.specs.Proper.{AreProper};
+ghost use Rattle.merge_model.specs.Script.Proper.{AreProper};
 ghost use Rattle.merge_report.specs.Words.{value_word};
 
 use crate::names::article_name;

@@ -1,6 +1,6 @@
 //! Answers of a publication with the articles `item` and `tag`.
 ghost use Rattle.std.specs.Prelude.{IfOk};
-ghost use Rattle.merge_model.specs.Proper.{AreProper, IsProperAnswer, IsProperBody};
+ghost use Rattle.merge_model.specs.Script.Proper.{AreProper, IsProperAnswer, IsProperBody};
 
 use merge_batch::Refusal;
 use merge_conflict::{ConflictKind, ConflictRow, Verdict};

@@ -11,7 +11,7 @@ use Rattle.merge_schema.specs.Valid.{IsValid}
 use Rattle.merge_schema.specs.declared.publication.Article.{Article}
 use Rattle.merge_schema.specs.declared.publication.Identity.{Identity}
 use Rattle.merge_schema.specs.declared.publication.Publication.{Publication}
-use Rattle.merge_model.specs.Publications.{identities}
+use Rattle.merge_model.specs.Tables.Publications.{identities}
 use Rattle.merge_model.specs.Publisher.{empty_publisher, holder_for, new_holders}
 use Rattle.merge_model.specs.Subscriber.{empty_subscriber}
 use Rattle.merge_model.specs.Tables.{PublisherTables, SubscriberTables}

@@ -4,7 +4,7 @@ use Rattle.std.specs.Prelude.{Err, IfOk, Ok, Option, Result, Some}
 use Rattle.std.proofs.lemmas.Result.{IfOk-at_ok}
 use Rattle.merge_batch.specs.declared.refusal.Refusal.{Refusal}
 use Rattle.merge_batch.specs.declared.refusal.Refusal.TheVariants as refusal
-use Rattle.merge_model.specs.Calls.{Called, message_commits, message_or_none}
+use Rattle.merge_model.specs.World.Calls.{Called, message_commits, message_or_none}
 use Rattle.merge_site.specs.Calls.{IsRefused, StopsAs}
 
 module _ {T A : Type 0} (by : Result (T × A) Refusal) (commits : A → Bool) (old new : T) (before after : ℕ) where

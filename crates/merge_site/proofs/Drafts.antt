@@ -10,7 +10,7 @@ use Rattle.merge_batch.specs.declared.reply.Reply.TheVariants as reply
 use Rattle.merge_batch.specs.declared.reply.Uploaded.{Uploaded}
 use Rattle.merge_batch.specs.declared.request.Request.{Request}
 use Rattle.merge_json.specs.Sendable.{IsSendableReply}
-use Rattle.merge_model.specs.Calls.{as_reply, handled, request_commits}
+use Rattle.merge_model.specs.World.Calls.{as_reply, handled, request_commits}
 use Rattle.merge_model.specs.Tables.{PublisherTables}
 use Rattle.merge_model.specs.World.{Saying}
 use Rattle.merge_draft.specs.Drafting.{decided, decisions_on}

@@ -14,7 +14,7 @@ use Rattle.merge_schema.specs.declared.publication.Article.{Article}
 use Rattle.merge_schema.specs.declared.publication.Identity.{Identity}
 use Rattle.merge_schema.specs.declared.publication.Publication.{Publication}
 use Rattle.merge_batch.specs.LocalChanges.{identity_column}
-use Rattle.merge_model.specs.Publications.{identities}
+use Rattle.merge_model.specs.Tables.Publications.{identities}
 use Rattle.merge_model.specs.Publisher.{holder_for, new_holders}
 use Rattle.merge_record.specs.Reading.{◌>>=◌}
 use Rattle.merge_keeper.specs.Encoded.{AllKeys}

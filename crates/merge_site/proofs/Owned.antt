@@ -23,7 +23,7 @@ use Rattle.merge_schema.specs.declared.publication.Identity.{Identity}
 use Rattle.merge_schema.specs.declared.publication.Publication.{Publication}
 use Rattle.merge_batch.specs.Lineages.{is_site}
 use Rattle.merge_record.specs.declared.ranges.HeldRanges.{HeldRanges}
-use Rattle.merge_model.specs.Keys.{at_number}
+use Rattle.merge_model.specs.Tables.Keys.{at_number}
 use Rattle.merge_keeper.specs.Entries.{held_ranges, was_received}
 use Rattle.merge_keeper.specs.Given.{IsBeginning}
 use Rattle.merge_keeper.specs.PublisherRules.{held_pair, own_ranges, range_records, with_conflicts, with_records, IsRangeRecord, KeepRules}

@@ -24,8 +24,8 @@ use Rattle.merge_units.specs.declared.version.Body.TheVariants.{Dead, Live}
 use Rattle.merge_units.specs.declared.version.Cell.{Cell}
 use Rattle.merge_units.specs.declared.version.Version.{Version}
 use Rattle.merge_conflict.specs.declared.row.ConflictRow.{ConflictRow}
-use Rattle.merge_model.proofs.Finding.{all-weaker}
-use Rattle.merge_model.specs.Proper.{AreProper, IsProperBody}
+use Rattle.merge_model.proofs.Lists.Finding.{all-weaker}
+use Rattle.merge_model.specs.Script.Proper.{AreProper, IsProperBody}
 use Rattle.merge_record.specs.Versions.{IsBody, IsCell, IsShortBody, IsShortCell, IsShortValue, IsShortVersion, IsValue, IsVersion, is_day}
 use Rattle.merge_keeper.specs.Edits.{IsShortEdit, IsShortLoser}
 use Rattle.merge_world.specs.Printable.{AreLostPrintable, ArePrintable}

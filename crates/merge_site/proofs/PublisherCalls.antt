@@ -4,10 +4,10 @@ use Rattle.std.specs.Prelude.{Err, IfOk, Ok, Option, Result}
 use Rattle.merge_types.specs.declared.identifiers.Moment.{Moment}
 use Rattle.merge_schema.specs.declared.publication.Publication.{Publication}
 use Rattle.merge_batch.specs.declared.refusal.Refusal.{Refusal}
-use Rattle.merge_model.specs.Calls.{Called, always_commits, is_later}
+use Rattle.merge_model.specs.World.Calls.{Called, always_commits, is_later}
 use Rattle.merge_model.specs.Publisher.{close_generation}
-use Rattle.merge_model.proofs.Quiet.{closings-quiet}
-use Rattle.merge_model.specs.PublisherPurge.{purge}
+use Rattle.merge_model.proofs.Failing.Quiet.{closings-quiet}
+use Rattle.merge_model.specs.Publisher.PublisherPurge.{purge}
 use Rattle.merge_model.specs.Tables.{PublisherTables}
 use Rattle.merge_model.specs.declared.outcome.Forgotten.{Forgotten}
 use Rattle.merge_ports.specs.Entries.{Map}

@@ -12,12 +12,12 @@ use Rattle.merge_batch.specs.declared.reply.Reply.{Reply}
 use Rattle.merge_batch.specs.declared.request.RangeAsk.{RangeAsk}
 use Rattle.merge_batch.specs.declared.request.Request.{Request}
 use Rattle.merge_batch.specs.declared.request.Request.TheVariants as request
-use Rattle.merge_model.specs.Calls.{Called, Counted, as_reply, handled, is_later, is_new_grant, request_commits}
+use Rattle.merge_model.specs.World.Calls.{Called, Counted, as_reply, handled, is_later, is_new_grant, request_commits}
 use Rattle.merge_model.specs.Laws.{AreSorted}
-use Rattle.merge_model.specs.PublisherRanges.{plans}
+use Rattle.merge_model.specs.Publisher.PublisherRanges.{plans}
 use Rattle.merge_model.specs.Tables.{PublisherTables}
 use Rattle.merge_model.specs.World.{Saying}
-use Rattle.merge_model.proofs.Quiet.{requests-quiet}
+use Rattle.merge_model.proofs.Failing.Quiet.{requests-quiet}
 use Rattle.merge_pub.specs.After.{after}
 use Rattle.merge_pub.specs.Held.{Held, publication_of, tables_of}
 use Rattle.merge_steps.specs.declared.changes.Draft.{Draft}

@@ -27,7 +27,7 @@ use Rattle.merge_schema.specs.declared.publication.Publication.{Publication}
 use Rattle.merge_batch.specs.Articles.{fits_article}
 use Rattle.merge_batch.specs.Lineages.{knows_tops}
 use Rattle.merge_batch.specs.Makers.{maker_of}
-use Rattle.merge_model.specs.Publications.{identities}
+use Rattle.merge_model.specs.Tables.Publications.{identities}
 use Rattle.merge_model.specs.Publisher.{new_holders}
 use Rattle.merge_model.specs.Tables.{PublisherTables}
 use Rattle.merge_ports.specs.Entries.{Map, entry_cmp}

@@ -21,12 +21,12 @@ use Rattle.merge_batch.specs.declared.reply.Downloaded.{Downloaded}
 use Rattle.merge_batch.specs.declared.reply.Reply.TheVariants as reply
 use Rattle.merge_batch.specs.declared.request.Download.{Download}
 use Rattle.merge_json.specs.Sendable.{HasProperDays, IsProperAct, IsProperOrder, IsSendableReply}
-use Rattle.merge_model.specs.ByNumbers.{by_numbers}
-use Rattle.merge_model.specs.Keys.{row_at}
-use Rattle.merge_model.specs.Proper.{IsProperBody}
+use Rattle.merge_model.specs.Judge.ByNumbers.{by_numbers}
+use Rattle.merge_model.specs.Tables.Keys.{row_at}
+use Rattle.merge_model.specs.Script.Proper.{IsProperBody}
 use Rattle.merge_model.specs.Publisher.{at_moment}
-use Rattle.merge_model.specs.PublisherDownload.{TouchedRow, asked, download, download_refusal, is_between, item_of, reply_to, touched_rows}
-use Rattle.merge_model.specs.Refusals.{unless}
+use Rattle.merge_model.specs.Publisher.PublisherDownload.{TouchedRow, asked, download, download_refusal, is_between, item_of, reply_to, touched_rows}
+use Rattle.merge_model.specs.Tables.Refusals.{unless}
 use Rattle.merge_model.specs.Tables.{PublisherTables}
 use Rattle.merge_steps.specs.declared.changes.Draft.{Draft}
 use Rattle.merge_world.specs.Printable.{ArePrintable}

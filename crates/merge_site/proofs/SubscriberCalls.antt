@@ -5,13 +5,13 @@ use Rattle.merge_types.specs.declared.identifiers.Moment.{Moment}
 use Rattle.merge_schema.specs.declared.publication.Publication.{Publication}
 use Rattle.merge_batch.specs.declared.refusal.Refusal.{Refusal}
 use Rattle.merge_batch.specs.declared.reply.Reply.{Reply}
-use Rattle.merge_model.specs.ByNumbers.{by_rows}
-use Rattle.merge_model.specs.Calls.{Called, is_later, message_commits, message_or_none, reply_commits}
+use Rattle.merge_model.specs.Judge.ByNumbers.{by_rows}
+use Rattle.merge_model.specs.World.Calls.{Called, is_later, message_commits, message_or_none, reply_commits}
 use Rattle.merge_model.specs.Subscriber.{close_sub_generation}
 use Rattle.merge_model.specs.Tables.{SubscriberTables}
-use Rattle.merge_model.specs.Taking.{take_reply}
+use Rattle.merge_model.specs.Subscriber.Taking.{take_reply}
 use Rattle.merge_model.specs.declared.outcome.Taken.{Taken}
-use Rattle.merge_model.proofs.Quiet.{replies-quiet, sub-closings-quiet}
+use Rattle.merge_model.proofs.Failing.Quiet.{replies-quiet, sub-closings-quiet}
 use Rattle.merge_ports.specs.Entries.{Map}
 use Rattle.merge_sub.specs.Drafts.{after, after_if_any, drafted, drafted_if_any}
 use Rattle.merge_sub.specs.Held.{Held, tables_of}

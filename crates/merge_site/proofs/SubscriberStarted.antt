@@ -12,7 +12,7 @@ use Rattle.merge_conflict.specs.declared.row.ConflictRow.{ConflictRow}
 use Rattle.merge_ident.specs.Holders.{Holder}
 use Rattle.merge_schema.specs.Valid.{IsValid}
 use Rattle.merge_schema.specs.declared.publication.Publication.{Publication}
-use Rattle.merge_model.specs.Publications.{identities}
+use Rattle.merge_model.specs.Tables.Publications.{identities}
 use Rattle.merge_model.specs.Publisher.{new_holders}
 use Rattle.merge_model.specs.Tables.{SubscriberTables}
 use Rattle.merge_ports.specs.Entries.{Map}

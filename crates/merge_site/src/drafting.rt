@@ -4,7 +4,7 @@ ghost use Rattle.merge_batch.specs.declared.refusal.Refusal.{Refusal as OneRefus
 ghost use Rattle.merge_batch.specs.declared.reply.Reply.TheVariants as a_reply;
 ghost use Rattle.merge_batch.specs.declared.request.Request.TheVariants.{Download as a_download, Join as a_join, Ranges as a_range_ask, Upload as an_upload};
 ghost use Rattle.merge_draft.specs.Drafting.{decisions_on};
-ghost use Rattle.merge_model.specs.Calls.{handled, questions_on, request_commits};
+ghost use Rattle.merge_model.specs.World.Calls.{handled, questions_on, request_commits};
 ghost use Rattle.merge_model.specs.World.{Saying};
 ghost use Rattle.merge_pub.specs.Held.{publication_of, tables_of};
 ghost use Rattle.merge_resolve.specs.Asked.{says_at, tallies_after};

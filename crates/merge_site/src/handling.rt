@@ -2,11 +2,11 @@
 ghost use Rattle.std.specs.List.{list_any};
 ghost use Rattle.std.specs.Prelude.{◌≡◌, ◌≤◌, ◌||◌, ℕ, IfOk, map};
 ghost use Rattle.merge_batch.specs.declared.request.Request.TheVariants.{Download as a_download, Join as a_join, Ranges as a_range_ask, Upload as an_upload};
-ghost use Rattle.merge_model.specs.ByNumbers.{by_numbers};
-ghost use Rattle.merge_model.specs.Calls.{Counted, handled, is_later, is_new_grant, questions_on, request_commits};
-ghost use Rattle.merge_model.specs.PublisherDownload.{download};
-ghost use Rattle.merge_model.specs.PublisherJoin.{join};
-ghost use Rattle.merge_model.specs.PublisherRanges.{ranges};
+ghost use Rattle.merge_model.specs.Judge.ByNumbers.{by_numbers};
+ghost use Rattle.merge_model.specs.World.Calls.{Counted, handled, is_later, is_new_grant, questions_on, request_commits};
+ghost use Rattle.merge_model.specs.Publisher.PublisherDownload.{download};
+ghost use Rattle.merge_model.specs.Publisher.PublisherJoin.{join};
+ghost use Rattle.merge_model.specs.Publisher.PublisherRanges.{ranges};
 ghost use Rattle.merge_pub.specs.Held.{tables_of};
 ghost use Rattle.merge_pub.specs.Uploaded.{asked_on, upload_by};
 ghost use Rattle.merge_resolve.specs.Asked.{says_at};

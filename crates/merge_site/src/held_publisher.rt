@@ -3,7 +3,7 @@ ghost use Rattle.std.specs.Prelude.{◌≡◌, ◌≤◌, ◌+◌, ℕ, Err, IfO
 ghost use Rattle.merge_batch.specs.declared.refusal.Refusal.{Refusal as OneRefusal};
 ghost use Rattle.merge_batch.specs.declared.refusal.Refusal.TheVariants.{StoreFault as store_fault};
 ghost use Rattle.merge_draft.specs.Drafting.{decisions_on};
-ghost use Rattle.merge_model.specs.Calls.{handled, questions_on, request_commits};
+ghost use Rattle.merge_model.specs.World.Calls.{handled, questions_on, request_commits};
 ghost use Rattle.merge_ports.specs.declared.keeper.KeepFault.TheVariants.{Failed};
 ghost use Rattle.merge_pub.specs.After.{after};
 ghost use Rattle.merge_pub.specs.Held.{IsDrafted, publication_of, tables_of};

@@ -5,7 +5,7 @@ ghost use Rattle.merge_conflict.specs.Table as conflicts;
 ghost use Rattle.merge_gens.specs.Plan.{IsPrepared};
 ghost use Rattle.merge_ident.specs.Books as grants;
 ghost use Rattle.merge_keeper.specs.Edits.{ArePublisherShort};
-ghost use Rattle.merge_model.specs.Calls.{Called};
+ghost use Rattle.merge_model.specs.World.Calls.{Called};
 ghost use Rattle.merge_model.specs.Tables.{PublisherTables};
 ghost use Rattle.merge_pub.specs.After.{after};
 ghost use Rattle.merge_pub.specs.Held.{IsDrafted, publication_of, tables_of};

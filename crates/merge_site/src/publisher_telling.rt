@@ -1,7 +1,7 @@
 //! What a publisher that has a keeper tells of itself.
 ghost use Rattle.std.specs.Prelude.{◌≡◌, IfOk, length};
-ghost use Rattle.merge_model.specs.Keys.{at_number};
-ghost use Rattle.merge_model.specs.Reports.{partition_rows};
+ghost use Rattle.merge_model.specs.Tables.Keys.{at_number};
+ghost use Rattle.merge_model.specs.World.Reports.{partition_rows};
 ghost use Rattle.merge_world.specs.Printable.{AreLostPrintable, ArePrintable};
 
 use crate::publisher::KeptPublisher;

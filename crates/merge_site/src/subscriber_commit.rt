@@ -5,7 +5,7 @@ ghost use Rattle.merge_conflict.specs.Table as conflicts;
 ghost use Rattle.merge_gens.specs.Plan.{IsPrepared};
 ghost use Rattle.merge_keeper.specs.Edits.{AreSubscriberShort};
 ghost use Rattle.merge_keeper.specs.Stored.{FitSubscriber};
-ghost use Rattle.merge_model.specs.Calls.{Called, message_commits, message_or_none};
+ghost use Rattle.merge_model.specs.World.Calls.{Called, message_commits, message_or_none};
 ghost use Rattle.merge_model.specs.Tables.{SubscriberTables};
 ghost use Rattle.merge_sub.specs.Drafts.{IsDrafted, IsDraftedIfAny, after, drafted, drafted_if_any};
 ghost use Rattle.merge_sub.specs.Held.{tables_of};

@@ -54,7 +54,7 @@ use Rattle.merge_resolve.specs.declared.case.CaseKind.TheVariants as kind
 use Rattle.merge_resolve.specs.declared.case.ConflictCase.{ConflictCase}
 use Rattle.merge_resolve.specs.declared.question.Meeting.{Meeting}
 use Rattle.merge_resolve.proofs.CountedRows.{counted_fits, counted_stays_in_limit}
-use Rattle.merge_model.specs.Acts.{asked_at}
+use Rattle.merge_model.specs.Publisher.Acts.{asked_at}
 use Rattle.merge_steps.specs.Fits.{MayDecide}
 use Rattle.merge_steps.proofs.ColumnsFit.{are_good, cell-of-column, decided-good, good-at, good-fit, good-from, good-length, good-set, placed-own, placed-plain, row-own, row-plain, set_at, sides-good, types-aligned, fits_at, is_good_at}
 

@@ -27,11 +27,11 @@ use Rattle.merge_schema.specs.declared.publication.Publication.{Publication}
 use Rattle.merge_batch.specs.declared.refusal.Refusal.{Refusal}
 use Rattle.merge_batch.specs.declared.refusal.Refusal.TheVariants.{IdentityUsedUp}
 use Rattle.merge_change.specs.Allowed.{HasIdentity, IsIdentity}
-use Rattle.merge_model.specs.Keys.{at_number, put_number}
-use Rattle.merge_model.specs.Publications.{identity_column, rules_of}
-use Rattle.merge_model.specs.PublisherLocal.{Drawn, after_answer, drawn, drawn_from, own_ask, taken_from}
+use Rattle.merge_model.specs.Tables.Keys.{at_number, put_number}
+use Rattle.merge_model.specs.Tables.Publications.{identity_column, rules_of}
+use Rattle.merge_model.specs.Publisher.PublisherLocal.{Drawn, after_answer, drawn, drawn_from, own_ask, taken_from}
 use Rattle.merge_model.specs.Tables.{PublisherTables}
-use Rattle.merge_model.proofs.Finding.{at_put, some_same}
+use Rattle.merge_model.proofs.Lists.Finding.{at_put, some_same}
 use Rattle.merge_steps.specs.Drawing.{Draws, Gives, KeepsHeld, Takes, TakesGranted, TakesNext, drawn_by, granted_range, is_whole}
 use Rattle.merge_steps.specs.Keeps.{AreHeard, HaveColumns}
 use Rattle.merge_steps.specs.declared.drawing.Draw.{Draw}

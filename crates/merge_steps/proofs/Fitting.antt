@@ -18,8 +18,8 @@ use Rattle.merge_schema.specs.declared.publication.Article.{Article}
 use Rattle.merge_schema.specs.declared.publication.Publication.{Publication}
 use Rattle.merge_part.specs.Taking.{FitsArticle, fits_columns}
 use Rattle.merge_batch.specs.Articles.{body_fits, cells_fit, fits_article, row_values, values_fit}
-use Rattle.merge_model.specs.Keys.{put_row}
-use Rattle.merge_model.proofs.EntryLists.{all-put}
+use Rattle.merge_model.specs.Tables.Keys.{put_row}
+use Rattle.merge_model.proofs.Entries.EntryLists.{all-put}
 use Rattle.merge_steps.specs.Keeps.{FitsHere, RowFits}
 use Rattle.merge_steps.specs.LiveRows.{values_in}
 use Rattle.merge_steps.specs.Step.{KeepsFitting}

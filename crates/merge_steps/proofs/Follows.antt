@@ -23,15 +23,15 @@ use Rattle.merge_gens.specs.Entries.{entry_cmp, entry_of}
 use Rattle.merge_gens.specs.Index.{entries_after_all}
 use Rattle.merge_gens.specs.declared.index.IndexEntry.{IndexEntry}
 use Rattle.merge_part.specs.Live.{Live as LiveList, live_rows as listed, live_with}
-use Rattle.merge_model.specs.Entries.{live_row, live_rows}
+use Rattle.merge_model.specs.Publisher.Entries.{live_row, live_rows}
 use Rattle.merge_steps.specs.Indexed.{AreIndexed, is_changed}
 use Rattle.merge_types.specs.RowKeys.{key_cmp, key_exact}
-use Rattle.merge_model.specs.Keys.{put_row, row_at, same_key}
+use Rattle.merge_model.specs.Tables.Keys.{put_row, row_at, same_key}
 use Rattle.merge_steps.specs.LiveRows.{live_pair, live_pairs, values_in}
 use Rattle.merge_types.specs.declared.row_key.RowKey.{RowKey as Key}
 use Rattle.merge_units.specs.declared.site_row.PublisherRow.{PublisherRow}
-use Rattle.merge_model.proofs.Sorted.{key_total}
-use Rattle.merge_model.proofs.KeyLookUps.{keys-same}
+use Rattle.merge_model.proofs.Publishers.Sorted.{key_total}
+use Rattle.merge_model.proofs.Lists.KeyLookUps.{keys-same}
 
 -- The live rows as pairs are the live rows.
 

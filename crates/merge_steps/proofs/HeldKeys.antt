@@ -12,9 +12,9 @@ use Rattle.merge_table.proofs.Sorted.{sorted_put}
 use Rattle.merge_types.specs.RowKeys.{key_cmp}
 use Rattle.merge_types.specs.declared.row_key.RowKey.{RowKey as Key}
 use Rattle.merge_units.specs.declared.site_row.PublisherRow.{PublisherRow}
-use Rattle.merge_model.specs.Entries.{keys_of as all_keys}
-use Rattle.merge_model.specs.Keys.{put_row}
-use Rattle.merge_model.proofs.Sorted.{key_total}
+use Rattle.merge_model.specs.Publisher.Entries.{keys_of as all_keys}
+use Rattle.merge_model.specs.Tables.Keys.{put_row}
+use Rattle.merge_model.proofs.Publishers.Sorted.{key_total}
 
 or-turn : (a b c : Bool) → (a || (b || c)) ≡ ((b || a) || c)
 or-turn true true c = refl

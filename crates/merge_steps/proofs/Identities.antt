@@ -23,10 +23,10 @@ use Rattle.merge_ident.specs.declared.grants.Rule.{Rule}
 use Rattle.merge_schema.specs.declared.publication.Article.{Article}
 use Rattle.merge_schema.specs.declared.publication.Identity.{Identity}
 use Rattle.merge_schema.specs.declared.publication.Publication.{Publication}
-use Rattle.merge_model.proofs.EntryLists.{all-taken}
-use Rattle.merge_model.proofs.Finding.{some_same}
-use Rattle.merge_model.specs.Keys.{at_number}
-use Rattle.merge_model.specs.Publications.{identities, identity_column, identity_of, rule_of, rules_of}
+use Rattle.merge_model.proofs.Entries.EntryLists.{all-taken}
+use Rattle.merge_model.proofs.Lists.Finding.{some_same}
+use Rattle.merge_model.specs.Tables.Keys.{at_number}
+use Rattle.merge_model.specs.Tables.Publications.{identities, identity_column, identity_of, rule_of, rules_of}
 use Rattle.merge_model.specs.Publisher.{holder_for, new_holders}
 
 abbrev identities_from : ℕ → List Article → List (ℕ × Identity)

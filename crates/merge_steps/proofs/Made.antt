@@ -8,8 +8,8 @@ use Rattle.merge_table.specs.declared.edit.Edit.{Edit}
 use Rattle.merge_table.specs.declared.edit.Edit.TheVariants.{Put, Take}
 use Rattle.merge_table.specs.Edits.{rows_after_all}
 use Rattle.merge_gens.specs.Book.{entered}
-use Rattle.merge_model.specs.Entries.{Entries, with_entries, with_move}
-use Rattle.merge_model.specs.Keys.{drop_row_site, put_row}
+use Rattle.merge_model.specs.Publisher.Entries.{Entries, with_entries, with_move}
+use Rattle.merge_model.specs.Tables.Keys.{drop_row_site, put_row}
 use Rattle.merge_gens.specs.Moves.{row_site_cmp}
 use Rattle.merge_steps.specs.Rows.{mapping_edits, put_edit}
 use Rattle.merge_types.specs.declared.row_key.RowKey.{RowKey as Key}

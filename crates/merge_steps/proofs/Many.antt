@@ -19,9 +19,9 @@ use Rattle.merge_table.proofs.Sorted.{sorted_put}
 use Rattle.merge_part.specs.Moves.{AreMoves}
 use Rattle.merge_part.specs.declared.change.Move.{Move}
 use Rattle.merge_schema.specs.declared.publication.Publication.{Publication}
-use Rattle.merge_model.specs.Entries.{Changing, Entries, changed_by, keys_of as all_keys, live_rows, moves_of, parts_of, returned, rows_after, touched_by, with_entries, with_generations, with_move, with_rows}
+use Rattle.merge_model.specs.Publisher.Entries.{Changing, Entries, changed_by, keys_of as all_keys, live_rows, moves_of, parts_of, returned, rows_after, touched_by, with_entries, with_generations, with_move, with_rows}
 use Rattle.merge_model.specs.Judge.{PublisherJudge}
-use Rattle.merge_model.specs.Keys.{drop_row_site, has_key, put_row, put_row_site}
+use Rattle.merge_model.specs.Tables.Keys.{drop_row_site, has_key, put_row, put_row_site}
 use Rattle.merge_types.specs.RowKeys.{key_cmp}
 use Rattle.merge_gens.specs.Moves.{row_site_cmp}
 use Rattle.merge_resolve.specs.Priorities.{subscription_at}
@@ -32,10 +32,10 @@ use Rattle.merge_gens.specs.declared.moves.MoveKind.{MoveKind}
 use Rattle.merge_units.specs.declared.site_row.PublisherRow.{PublisherRow}
 use Rattle.merge_model.specs.Tables.{PublisherTables}
 use Rattle.merge_gens.specs.declared.moves.RowSite.{RowSite}
-use Rattle.merge_model.proofs.StepParts.{CanBeSaid}
+use Rattle.merge_model.proofs.Entries.StepParts.{CanBeSaid}
 use Rattle.merge_steps.specs.Working.{all_told, keys_in, outs_of, returns, version_edit, version_edits}
 use Rattle.merge_steps.proofs.Made.{entries_with, mappings-made, zip-length}
-use Rattle.merge_model.proofs.Sorted.{key_total, row_site_total}
+use Rattle.merge_model.proofs.Publishers.Sorted.{key_total, row_site_total}
 use Rattle.merge_steps.proofs.Moved.{place}
 use Rattle.merge_steps.proofs.Returns.{returns-same}
 use Rattle.merge_steps.proofs.Whole.{has-is, whole-moves}

@@ -35,7 +35,7 @@ use Rattle.merge_schema.specs.declared.publication.Publication.{Publication}
 use Rattle.merge_batch.specs.Articles.{fits_article}
 use Rattle.merge_batch.specs.LocalChanges.{tracking_at}
 use Rattle.merge_batch.specs.declared.request.UploadItem.{UploadItem}
-use Rattle.merge_model.specs.Acts.{Fate, New, Unknown, asked_at, conflict_of, purged_row, decided_changes, key_of_item, meeting_of}
+use Rattle.merge_model.specs.Publisher.Acts.{Fate, New, Unknown, asked_at, conflict_of, purged_row, decided_changes, key_of_item, meeting_of}
 use Rattle.merge_model.specs.World.{Saying}
 use Rattle.merge_steps.specs.Fits.{ItemFits, MayDecide}
 use Rattle.merge_steps.specs.Keeps.{FitsHere}

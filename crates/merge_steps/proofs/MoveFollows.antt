@@ -15,9 +15,9 @@ use Rattle.merge_table.specs.declared.edit.Edit.TheVariants.{Put, Take}
 use Rattle.merge_gens.specs.Moves.{row_site_cmp}
 use Rattle.merge_gens.specs.declared.moves.Mapping.{Mapping}
 use Rattle.merge_gens.specs.declared.moves.RowSite.{RowSite}
-use Rattle.merge_model.specs.Keys.{at_row_site}
-use Rattle.merge_model.proofs.Sorted.{key_total, row_site_total}
-use Rattle.merge_model.proofs.PlaceLookUps.{places-exact}
+use Rattle.merge_model.specs.Tables.Keys.{at_row_site}
+use Rattle.merge_model.proofs.Publishers.Sorted.{key_total, row_site_total}
+use Rattle.merge_model.proofs.Lists.PlaceLookUps.{places-exact}
 use Rattle.merge_steps.specs.Indexed.{AreMoved, has_entry, is_moved}
 use Rattle.merge_steps.specs.MoveEntries.{move_entry, move_entry_cmp}
 use Rattle.merge_steps.specs.Rows.{moved_edit, moved_edits, new_entry, old_entry}

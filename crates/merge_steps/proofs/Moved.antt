@@ -14,11 +14,11 @@ use Rattle.merge_types.specs.declared.identifiers.RowId.{RowId}
 use Rattle.merge_types.specs.declared.row_key.RowKey.{RowKey as Key}
 use Rattle.merge_gens.specs.declared.moves.RowSite.{RowSite}
 use Rattle.merge_gens.specs.declared.moves.MoveKind.{MoveKind}
-use Rattle.merge_model.specs.Keys.{at_row_site, has_key, same_key}
+use Rattle.merge_model.specs.Tables.Keys.{at_row_site, has_key, same_key}
 use Rattle.merge_types.specs.RowKeys.{key_cmp}
 use Rattle.merge_gens.specs.Moves.{row_site_cmp}
-use Rattle.merge_model.specs.Entries.{Parts, Touched, move_at, move_of, moves_of}
-use Rattle.merge_model.proofs.KeyLookUps.{keys-same}
+use Rattle.merge_model.specs.Publisher.Entries.{Parts, Touched, move_at, move_of, moves_of}
+use Rattle.merge_model.proofs.Lists.KeyLookUps.{keys-same}
 use Rattle.merge_model.proofs.Lists.{all-append}
 use Rattle.merge_steps.specs.Tie.{Says, moved_for}
 

@@ -21,8 +21,8 @@ use Rattle.merge_schema.specs.Partition.{LiveRow}
 use Rattle.merge_schema.specs.declared.publication.Publication.{Publication}
 use Rattle.merge_part.specs.Moves.{AreMoves}
 use Rattle.merge_part.specs.declared.change.Move.{Move}
-use Rattle.merge_model.specs.Entries.{move_of}
-use Rattle.merge_model.specs.Keys.{at_row_site, has_key}
+use Rattle.merge_model.specs.Publisher.Entries.{move_of}
+use Rattle.merge_model.specs.Tables.Keys.{at_row_site, has_key}
 use Rattle.merge_steps.specs.Rows.{has_left_at, mapping_edits, put_edit}
 use Rattle.merge_steps.specs.Tie.{entry_of}
 use Rattle.merge_steps.specs.Working.{AreApart, all_told, is_return, outs_of, places_of, returns}

@@ -23,8 +23,8 @@ use Rattle.merge_resolve.specs.declared.case.ConflictCase.{ConflictCase}
 use Rattle.merge_resolve.proofs.Asked.{tallies_after-append}
 use Rattle.merge_schema.specs.declared.publication.Publication.{Publication}
 use Rattle.merge_batch.specs.declared.request.UploadItem.{UploadItem}
-use Rattle.merge_model.specs.Acts.{key_of_item}
-use Rattle.merge_model.specs.Keys.{row_at}
+use Rattle.merge_model.specs.Publisher.Acts.{key_of_item}
+use Rattle.merge_model.specs.Tables.Keys.{row_at}
 use Rattle.merge_model.specs.World.{Saying}
 use Rattle.merge_steps.specs.Fits.{ItemFits}
 use Rattle.merge_steps.specs.Keeps.{FitsHere, RowFits}

@@ -17,28 +17,28 @@ use Rattle.merge_schema.specs.Partition.{LiveRow, is_in_at}
 use Rattle.merge_schema.specs.declared.publication.Publication.{Publication}
 use Rattle.merge_schema.specs.declared.publication.Subscription.{Subscription}
 use Rattle.merge_schema.proofs.ListMembers.{any_at, any_found, contains_cases, contains_filter, contains_flat_map, contains_from_filter, contains_from_flat_map, contains_none}
-use Rattle.merge_model.specs.Entries.{Parts, Touched, comes_back, live_rows, parts_of, partition_keys, returned}
+use Rattle.merge_model.specs.Publisher.Entries.{Parts, Touched, comes_back, live_rows, parts_of, partition_keys, returned}
 use Rattle.merge_model.specs.Judge.{PublisherJudge}
-use Rattle.merge_model.specs.Keys.{at_row_site, drop_row_site, has_key, same_key}
+use Rattle.merge_model.specs.Tables.Keys.{at_row_site, drop_row_site, has_key, same_key}
 use Rattle.merge_types.specs.RowKeys.{key_cmp}
 use Rattle.merge_gens.specs.Moves.{row_site_cmp}
 use Rattle.merge_gens.specs.Moves.{row_site_exact}
-use Rattle.merge_model.specs.Publications.{by_site}
+use Rattle.merge_model.specs.Tables.Publications.{by_site}
 use Rattle.merge_resolve.specs.Priorities.{subscription_at}
 use Rattle.merge_steps.specs.Rows.{has_left_at}
 use Rattle.merge_types.specs.declared.row_key.RowKey.{RowKey as Key}
 use Rattle.merge_gens.specs.declared.moves.Mapping.{Mapping}
 use Rattle.merge_units.specs.declared.site_row.PublisherRow.{PublisherRow}
 use Rattle.merge_gens.specs.declared.moves.RowSite.{RowSite}
-use Rattle.merge_model.proofs.StepParts.{CanBeSaid}
+use Rattle.merge_model.proofs.Entries.StepParts.{CanBeSaid}
 use Rattle.merge_steps.specs.Tie.{entry_of, is_entered, key_moved}
 use Rattle.merge_steps.specs.Working.{is_return, returns}
-use Rattle.merge_model.proofs.KeyLookUps.{keys-same}
+use Rattle.merge_model.proofs.Lists.KeyLookUps.{keys-same}
 use Rattle.merge_steps.proofs.Moved.{place, place-is}
-use Rattle.merge_model.proofs.Sorted.{row_site_total}
+use Rattle.merge_model.proofs.Publishers.Sorted.{row_site_total}
 use Rattle.merge_steps.proofs.Told.{EntryIsFound, contains-from_map, contains-map, part-in, same-bool, stands}
-use Rattle.merge_model.proofs.KeyLookUps.{key-itself}
-use Rattle.merge_model.proofs.StepParts.{sites-found}
+use Rattle.merge_model.proofs.Lists.KeyLookUps.{key-itself}
+use Rattle.merge_model.proofs.Entries.StepParts.{sites-found}
 
 -- What is left where places are dropped.
 

@@ -27,9 +27,9 @@ use Rattle.merge_gens.specs.declared.moves.MoveKind.TheVariants.{Entered, Left}
 use Rattle.merge_schema.specs.Partition.{LiveRow, is_in_at}
 use Rattle.merge_schema.specs.declared.publication.Publication.{Publication}
 use Rattle.merge_schema.proofs.ListMembers.{any_at, any_found}
-use Rattle.merge_model.specs.Entries.{Changing, with_rows}
+use Rattle.merge_model.specs.Publisher.Entries.{Changing, with_rows}
 use Rattle.merge_steps.specs.Indexed.{AreIndexed}
-use Rattle.merge_model.specs.Keys.{at_row_site, has_key, put_row, put_row_site, row_at, same_key}
+use Rattle.merge_model.specs.Tables.Keys.{at_row_site, has_key, put_row, put_row_site, row_at, same_key}
 use Rattle.merge_types.specs.RowKeys.{key_cmp}
 use Rattle.merge_gens.specs.Moves.{row_site_cmp}
 use Rattle.merge_steps.specs.LiveRows.{live_pairs}
@@ -42,10 +42,10 @@ use Rattle.merge_gens.specs.declared.moves.RowSite.{RowSite}
 use Rattle.merge_steps.specs.Tie.{entry_of, key_moved, told}
 use Rattle.merge_steps.specs.Working.{Apart, all_indexing, all_told, found_entries, found_out, found_outs, is_move_at, is_out, keys_in, left_edit, move_edit, outs_of, row_change}
 use Rattle.merge_steps.proofs.Follows.{changed-indexed, live-follows, new-indexed, row-put}
-use Rattle.merge_model.proofs.Sorted.{key_total, row_site_total}
-use Rattle.merge_model.proofs.KeyLookUps.{keys-same}
+use Rattle.merge_model.proofs.Publishers.Sorted.{key_total, row_site_total}
+use Rattle.merge_model.proofs.Lists.KeyLookUps.{keys-same}
 use Rattle.merge_steps.proofs.Moved.{or_else, place}
-use Rattle.merge_model.proofs.KeyLookUps.{key-itself}
+use Rattle.merge_model.proofs.Lists.KeyLookUps.{key-itself}
 use Rattle.merge_steps.proofs.Told.{ordered}
 use Rattle.merge_steps.proofs.Whole.{both-true}
 

@@ -25,10 +25,10 @@ use Rattle.merge_part.specs.Taking.{EachRowOnce, key_of_change}
 use Rattle.merge_schema.specs.declared.publication.Publication.{Publication}
 use Rattle.merge_schema.specs.Partition.{LiveRow}
 use Rattle.merge_steps.specs.declared.step.Worked.{Worked}
-use Rattle.merge_model.specs.Entries.{Changing, changed_by, live_rows, rows_after, with_rows}
+use Rattle.merge_model.specs.Publisher.Entries.{Changing, changed_by, live_rows, rows_after, with_rows}
 use Rattle.merge_steps.specs.Indexed.{AreIndexed, AreMoved}
 use Rattle.merge_model.specs.Judge.{PublisherJudge}
-use Rattle.merge_model.specs.Keys.{has_key, same_key}
+use Rattle.merge_model.specs.Tables.Keys.{has_key, same_key}
 use Rattle.merge_types.specs.RowKeys.{key_cmp}
 use Rattle.merge_gens.specs.Moves.{row_site_cmp}
 use Rattle.merge_steps.specs.LiveRows.{live_pairs}
@@ -40,7 +40,7 @@ use Rattle.merge_gens.specs.declared.moves.MoveKind.{MoveKind}
 use Rattle.merge_units.specs.declared.site_row.PublisherRow.{PublisherRow}
 use Rattle.merge_model.specs.Tables.{PublisherTables}
 use Rattle.merge_gens.specs.declared.moves.RowSite.{RowSite}
-use Rattle.merge_model.proofs.StepParts.{CanBeSaid}
+use Rattle.merge_model.proofs.Entries.StepParts.{CanBeSaid}
 use Rattle.merge_steps.specs.Working.{Apart, AreApart, all_indexing, all_told, found_entries, keys_in, outs_of, places_of, returns, row_change, version_edit, version_edits}
 use Rattle.merge_steps.specs.MoveEntries.{move_entry_cmp}
 use Rattle.merge_steps.specs.declared.site_moves.MoveEntry.{MoveEntry}
@@ -48,7 +48,7 @@ use Rattle.merge_steps.proofs.Follows.{pairs-listed}
 use Rattle.merge_steps.proofs.MoveFollows.{moves-follow}
 use Rattle.merge_steps.proofs.MovesApart.{edits-apart}
 use Rattle.merge_steps.proofs.Many.{changes-made, length-took, rows-made}
-use Rattle.merge_model.proofs.KeyLookUps.{keys-same}
+use Rattle.merge_model.proofs.Lists.KeyLookUps.{keys-same}
 use Rattle.merge_steps.proofs.Sound.{entries-found, firsts-zero, firsts-zip, index-many, live-many}
 
 abbrev Row : Type 0

@@ -7,7 +7,7 @@ use Rattle.merge_units.specs.declared.version.Version.{Version}
 use Rattle.merge_table.specs.declared.edit.Edit.{Edit}
 use Rattle.merge_table.specs.declared.edit.Edit.TheVariants.{Put, Take}
 use Rattle.merge_gens.specs.declared.index.IndexEntry.{IndexEntry}
-use Rattle.merge_model.specs.Keys.{row_at}
+use Rattle.merge_model.specs.Tables.Keys.{row_at}
 use Rattle.merge_steps.specs.Rows.{index_edits}
 use Rattle.merge_types.specs.declared.row_key.RowKey.{RowKey as Key}
 use Rattle.merge_units.specs.declared.site_row.PublisherRow.{PublisherRow}

@@ -30,12 +30,12 @@ use Rattle.merge_part.specs.declared.change.Move.{Move}
 use Rattle.merge_units.specs.declared.version.Body.{Body}
 use Rattle.merge_units.specs.declared.version.Body.TheVariants.{Dead, Live}
 use Rattle.merge_units.specs.declared.version.Cell.{Cell}
-use Rattle.merge_model.specs.Entries.{Parts, Touched, key_of_live, keys_of as all_keys, live_row, live_rows, move_of, moves_of, parts_of, partition_keys}
-use Rattle.merge_model.specs.Keys.{at_row_site, has_key, put_number, same_key}
+use Rattle.merge_model.specs.Publisher.Entries.{Parts, Touched, key_of_live, keys_of as all_keys, live_row, live_rows, move_of, moves_of, parts_of, partition_keys}
+use Rattle.merge_model.specs.Tables.Keys.{at_row_site, has_key, put_number, same_key}
 use Rattle.merge_types.specs.RowKeys.{key_cmp}
 use Rattle.merge_gens.specs.Moves.{row_site_cmp}
 use Rattle.merge_gens.specs.Moves.{row_site_exact}
-use Rattle.merge_model.specs.Publications.{by_site}
+use Rattle.merge_model.specs.Tables.Publications.{by_site}
 use Rattle.merge_resolve.specs.Priorities.{subscription_at}
 use Rattle.merge_types.specs.declared.row_key.RowKey.{RowKey as Key}
 use Rattle.merge_gens.specs.declared.moves.RowSite.{RowSite}
@@ -43,10 +43,10 @@ use Rattle.merge_gens.specs.declared.moves.MoveKind.{MoveKind}
 use Rattle.merge_gens.specs.declared.moves.MoveKind.TheVariants.{Entered, Left}
 use Rattle.merge_units.specs.declared.site_row.PublisherRow.{PublisherRow}
 use Rattle.merge_steps.specs.Tie.{Says, changed_alone, entry_of, is_entered, is_told, key_moved, told}
-use Rattle.merge_model.proofs.Finding.{some_same}
-use Rattle.merge_model.proofs.KeyLookUps.{key-itself, keys-same}
-use Rattle.merge_model.proofs.Sorted.{row_site_total}
-use Rattle.merge_model.proofs.StepParts.{CanBeSaid, site-stands, sites-found}
+use Rattle.merge_model.proofs.Lists.Finding.{some_same}
+use Rattle.merge_model.proofs.Lists.KeyLookUps.{key-itself, keys-same}
+use Rattle.merge_model.proofs.Publishers.Sorted.{row_site_total}
+use Rattle.merge_model.proofs.Entries.StepParts.{CanBeSaid, site-stands, sites-found}
 use Rattle.merge_steps.proofs.Moved.{moves-ascend, moves-found}
 
 pub same-bool : (a b : Bool) → (a ≡ true → b ≡ true) → (b ≡ true → a ≡ true) → a ≡ b

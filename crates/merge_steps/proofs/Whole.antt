@@ -15,12 +15,12 @@ use Rattle.merge_part.specs.declared.change.Move.{Move}
 use Rattle.merge_schema.specs.Partition.{LiveRow, is_in_at}
 use Rattle.merge_schema.specs.declared.publication.Publication.{Publication}
 use Rattle.merge_schema.specs.declared.publication.Subscription.{Subscription}
-use Rattle.merge_model.specs.Entries.{Parts, Touched, keys_of as all_keys, live_rows, move_of, moves_of, parts_of, partition_keys}
-use Rattle.merge_model.specs.Keys.{at_row_site, has_key, put_row_site, same_key}
+use Rattle.merge_model.specs.Publisher.Entries.{Parts, Touched, keys_of as all_keys, live_rows, move_of, moves_of, parts_of, partition_keys}
+use Rattle.merge_model.specs.Tables.Keys.{at_row_site, has_key, put_row_site, same_key}
 use Rattle.merge_types.specs.RowKeys.{key_cmp}
 use Rattle.merge_gens.specs.Moves.{row_site_cmp}
 use Rattle.merge_gens.specs.Moves.{row_site_exact}
-use Rattle.merge_model.specs.Publications.{by_site}
+use Rattle.merge_model.specs.Tables.Publications.{by_site}
 use Rattle.merge_resolve.specs.Priorities.{subscription_at}
 use Rattle.merge_types.specs.declared.row_key.RowKey.{RowKey as Key}
 use Rattle.merge_gens.specs.declared.moves.RowSite.{RowSite}
@@ -28,13 +28,13 @@ use Rattle.merge_gens.specs.declared.moves.MoveKind.{MoveKind}
 use Rattle.merge_gens.specs.declared.moves.MoveKind.TheVariants.{Entered, Left}
 use Rattle.merge_units.specs.declared.site_row.PublisherRow.{PublisherRow}
 use Rattle.merge_steps.specs.Tie.{Says, told}
-use Rattle.merge_model.proofs.StepParts.{CanBeSaid}
+use Rattle.merge_model.proofs.Entries.StepParts.{CanBeSaid}
 use Rattle.merge_steps.specs.Working.{all_told, is_out, left_edit, left_or, outs_of}
-use Rattle.merge_model.proofs.KeyLookUps.{keys-same}
+use Rattle.merge_model.proofs.Lists.KeyLookUps.{keys-same}
 use Rattle.merge_steps.proofs.Moved.{moves-ascend, moves-found, place, place-is}
-use Rattle.merge_model.proofs.Sorted.{row_site_total}
+use Rattle.merge_model.proofs.Publishers.Sorted.{row_site_total}
 use Rattle.merge_steps.proofs.Told.{EntryIsFound, and-false, or-first, or-second, ordered, part-in, part-stands, parts-ascend, stands, told-found}
-use Rattle.merge_model.proofs.StepParts.{site-stands, sites-found}
+use Rattle.merge_model.proofs.Entries.StepParts.{site-stands, sites-found}
 use Rattle.merge_steps.proofs.HeldKeys.{all-has, all-sorted}
 
 move-split : (b a c d : Bool) → left_or (d && not a) (move_of b a c false) ≡ move_of b a c d

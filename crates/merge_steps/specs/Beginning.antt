@@ -3,8 +3,8 @@ use Rattle.std.specs.Prelude.{ℕ, List, [], ◌∷◌, ◌++◌, Option, Some, 
 use Rattle.merge_ident.specs.Holders.{Holder, new_holder}
 use Rattle.merge_ident.specs.declared.grants.Rule.{Rule}
 use Rattle.merge_schema.specs.declared.publication.Identity.{Identity}
-use Rattle.merge_model.specs.Keys.{put_number}
-use Rattle.merge_model.specs.Publications.{rule_of}
+use Rattle.merge_model.specs.Tables.Keys.{put_number}
+use Rattle.merge_model.specs.Tables.Publications.{rule_of}
 
 abbrev pub with_rule : List Rule → ℕ → Option Identity → List Rule
 with_rule rules place None = rules

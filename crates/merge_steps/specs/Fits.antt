@@ -8,7 +8,7 @@ use Rattle.merge_units.specs.declared.version.Version.{Version}
 use Rattle.merge_schema.specs.declared.publication.Publication.{Publication}
 use Rattle.merge_batch.specs.Articles.{fits_article}
 use Rattle.merge_batch.specs.declared.request.UploadItem.{UploadItem}
-use Rattle.merge_model.specs.Acts.{key_of_item}
+use Rattle.merge_model.specs.Publisher.Acts.{key_of_item}
 use Rattle.merge_steps.specs.Keeps.{FitsHere}
 
 -- the decision may be applied, and the row that it gives fits its article

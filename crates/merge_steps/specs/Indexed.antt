@@ -8,7 +8,7 @@ use Rattle.merge_units.specs.declared.site_row.PublisherRow.{PublisherRow}
 use Rattle.merge_gens.specs.Entries.{entry_cmp, entry_of}
 use Rattle.merge_gens.specs.declared.moves.Mapping.{Mapping}
 use Rattle.merge_gens.specs.declared.moves.RowSite.{RowSite}
-use Rattle.merge_model.specs.Keys.{at_row_site, row_at}
+use Rattle.merge_model.specs.Tables.Keys.{at_row_site, row_at}
 use Rattle.merge_steps.specs.MoveEntries.{move_entry, move_entry_cmp}
 use Rattle.merge_steps.specs.declared.site_moves.MoveEntry.{MoveEntry}
 

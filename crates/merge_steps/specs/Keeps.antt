@@ -12,8 +12,8 @@ use Rattle.merge_conflict.specs.Rising.{AreRising}
 use Rattle.merge_conflict.specs.declared.row.ConflictRow.{ConflictRow}
 use Rattle.merge_schema.specs.declared.publication.Publication.{Publication}
 use Rattle.merge_batch.specs.Articles.{fits_article}
-use Rattle.merge_model.specs.Keys.{at_number}
-use Rattle.merge_model.specs.Publications.{identity_column}
+use Rattle.merge_model.specs.Tables.Keys.{at_number}
+use Rattle.merge_model.specs.Tables.Publications.{identity_column}
 use Rattle.merge_model.specs.Tables.{PublisherTables}
 
 -- a row fits its article, and of the publisher's changes it knows none that was not made

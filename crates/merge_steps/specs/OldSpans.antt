@@ -10,7 +10,7 @@ use Rattle.merge_gens.specs.Moves.{row_site_cmp}
 use Rattle.merge_gens.specs.declared.closings.Closing.{Closing}
 use Rattle.merge_gens.specs.declared.moves.RowSite.{RowSite}
 use Rattle.merge_gens.specs.declared.moves.Mapping.{Mapping}
-use Rattle.merge_model.specs.Keys.{at_row_site, row_at}
+use Rattle.merge_model.specs.Tables.Keys.{at_row_site, row_at}
 use Rattle.merge_steps.specs.Indexed.{has_entry}
 use Rattle.merge_steps.specs.Purging.{is_old_at}
 use Rattle.merge_steps.specs.declared.site_moves.MoveEntry.{MoveEntry}

@@ -13,7 +13,7 @@ use Rattle.merge_gens.specs.declared.closings.Closing.{Closing}
 use Rattle.merge_gens.specs.declared.index.IndexEntry.{IndexEntry}
 use Rattle.merge_gens.specs.declared.moves.Mapping.{Mapping}
 use Rattle.merge_gens.specs.declared.moves.RowSite.{RowSite}
-use Rattle.merge_model.specs.Keys.{at_row_site, row_at}
+use Rattle.merge_model.specs.Tables.Keys.{at_row_site, row_at}
 use Rattle.merge_steps.specs.Given.{given_by}
 
 -- whether a generation closed before a moment

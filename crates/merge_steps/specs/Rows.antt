@@ -5,7 +5,7 @@ use Rattle.merge_table.specs.declared.edit.Edit.{Edit}
 use Rattle.merge_table.specs.declared.edit.Edit.TheVariants.{Put, Take}
 use Rattle.merge_gens.specs.declared.index.IndexEntry.{IndexEntry}
 use Rattle.merge_table.specs.Edits.{key_of}
-use Rattle.merge_model.specs.Keys.{at_row_site}
+use Rattle.merge_model.specs.Tables.Keys.{at_row_site}
 use Rattle.merge_steps.specs.MoveEntries.{move_entry}
 use Rattle.merge_steps.specs.declared.site_moves.MoveEntry.{MoveEntry}
 use Rattle.merge_types.specs.declared.row_key.RowKey.{RowKey as Key}

@@ -10,7 +10,7 @@ use Rattle.merge_gens.specs.Index.{entries_after_all}
 use Rattle.merge_gens.specs.Plan.{settled}
 use Rattle.merge_schema.specs.declared.publication.Publication.{Publication}
 use Rattle.merge_steps.specs.declared.step.Worked.{Worked}
-use Rattle.merge_model.specs.Entries.{Changing, changed_by}
+use Rattle.merge_model.specs.Publisher.Entries.{Changing, changed_by}
 use Rattle.std.specs.List.{AllByRecursion}
 use Rattle.std.specs.List.Sorted.{IsStrictlySortedBy}
 use Rattle.std.specs.Map.{keys_of}
@@ -19,7 +19,7 @@ use Rattle.merge_steps.specs.Keeps.{FitsHere, RowFits}
 use Rattle.merge_steps.specs.MoveEntries.{move_entry_cmp}
 use Rattle.merge_steps.specs.declared.site_moves.MoveEntry.{MoveEntry}
 use Rattle.merge_model.specs.Judge.{PublisherJudge}
-use Rattle.merge_model.specs.Keys.{has_key}
+use Rattle.merge_model.specs.Tables.Keys.{has_key}
 use Rattle.merge_types.specs.RowKeys.{key_cmp}
 use Rattle.merge_gens.specs.Moves.{row_site_cmp}
 use Rattle.merge_resolve.specs.Priorities.{subscription_at}

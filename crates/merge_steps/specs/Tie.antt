@@ -5,8 +5,8 @@ use Rattle.merge_types.specs.declared.row_key.RowKey.{RowKey as Key}
 use Rattle.merge_gens.specs.Moves.{is_left}
 use Rattle.merge_gens.specs.declared.moves.RowSite.{RowSite}
 use Rattle.merge_gens.specs.declared.moves.MoveKind.{MoveKind}
-use Rattle.merge_model.specs.Keys.{has_key}
-use Rattle.merge_model.specs.Entries.{Parts, Touched, move_of}
+use Rattle.merge_model.specs.Tables.Keys.{has_key}
+use Rattle.merge_model.specs.Publisher.Entries.{Parts, Touched, move_of}
 
 -- how a row moved for a site's part
 abbrev pub moved_for : Touched → Key → Parts → Option MoveKind

@@ -26,10 +26,10 @@ use Rattle.merge_batch.specs.Makers.{maker_of}
 use Rattle.merge_batch.specs.Uploads.{identity_value}
 use Rattle.merge_batch.specs.declared.request.Upload.{Upload}
 use Rattle.merge_batch.specs.declared.request.UploadItem.{UploadItem}
-use Rattle.merge_model.specs.Acts.{Act, Fate, Met, New, Unknown, key_of_item, lost_by, made_by, question_on, version_of_act}
-use Rattle.merge_model.specs.ByNumbers.{by_numbers}
+use Rattle.merge_model.specs.Publisher.Acts.{Act, Fate, Met, New, Unknown, key_of_item, lost_by, made_by, question_on, version_of_act}
+use Rattle.merge_model.specs.Judge.ByNumbers.{by_numbers}
 use Rattle.merge_model.specs.Judge.{PublisherJudge}
-use Rattle.merge_model.specs.Keys.{at_number, row_at}
+use Rattle.merge_model.specs.Tables.Keys.{at_number, row_at}
 use Rattle.merge_model.specs.Publisher.{empty_publisher}
 use Rattle.merge_model.specs.World.{Saying}
 use Rattle.merge_steps.specs.Keeps.{FitsHere}

@@ -12,8 +12,8 @@ use Rattle.merge_schema.specs.Partition.{LiveRow, is_in_at}
 use Rattle.merge_schema.specs.declared.publication.Publication.{Publication}
 use Rattle.merge_part.specs.declared.change.Move.{Move}
 use Rattle.merge_part.specs.declared.change.RowChange.{RowChange}
-use Rattle.merge_model.specs.Entries.{Changing, Touched}
-use Rattle.merge_model.specs.Keys.{has_key, row_at, same_key}
+use Rattle.merge_model.specs.Publisher.Entries.{Changing, Touched}
+use Rattle.merge_model.specs.Tables.Keys.{has_key, row_at, same_key}
 use Rattle.merge_gens.specs.Moves.{row_site_cmp}
 use Rattle.merge_steps.specs.LiveRows.{values_in}
 use Rattle.merge_steps.specs.Rows.{has_left_at, index_edits, mapping_edits}

@@ -11,7 +11,7 @@ ghost use Rattle.merge_ident.specs.Grants.{granted_to};
 ghost use Rattle.merge_ident.specs.Holders.{Holder, after_take};
 ghost use Rattle.merge_ident.specs.declared.grants.Grant.{Grant as OneGrant};
 ghost use Rattle.merge_change.specs.Allowed.{HasIdentity};
-ghost use Rattle.merge_model.specs.Publications.{rules_of};
+ghost use Rattle.merge_model.specs.Tables.Publications.{rules_of};
 ghost use Rattle.merge_steps.specs.Drawing.{Draws, Gives, KeepsHeld, Takes, TakesGranted, TakesNext, granted_range, is_whole};
 ghost use Rattle.merge_steps.specs.Keeps.{AreHeard, HaveColumns};
 

@@ -4,7 +4,7 @@ ghost use Rattle.std.specs.List.{zip as zipped, list_any};
 ghost use Rattle.merge_table.specs.Edits.{rows_after_all};
 ghost use Rattle.merge_part.specs.Live.{live_rows as listed};
 ghost use Rattle.merge_part.specs.View.{live_in};
-ghost use Rattle.merge_model.specs.Keys.{has_key as one_has};
+ghost use Rattle.merge_model.specs.Tables.Keys.{has_key as one_has};
 ghost use Rattle.merge_gens.specs.Moves.{row_site_cmp};
 ghost use Rattle.merge_steps.specs.Rows as row;
 ghost use Rattle.merge_steps.specs.Tie as tie;

@@ -9,7 +9,7 @@ ghost use Rattle.merge_resolve.specs.Asked.{raised, says_at};
 ghost use Rattle.merge_schema.specs.Valid.{IsValid};
 ghost use Rattle.merge_batch.specs.Articles.{fits_article};
 ghost use Rattle.merge_batch.specs.LocalChanges.{tracking_at};
-ghost use Rattle.merge_model.specs.Acts.{decided_changes, key_of_item};
+ghost use Rattle.merge_model.specs.Publisher.Acts.{decided_changes, key_of_item};
 ghost use Rattle.merge_steps.specs.Fits.{ItemFits, MayDecide};
 ghost use Rattle.merge_steps.specs.Keeps.{FitsHere};
 ghost use Rattle.merge_steps.specs.Uploading.{AskedSome, Grows, KeepsFits, after_act, decision_on, met_act, pass_at, question_met, row_with, tallies_on, with_act};

@@ -10,7 +10,7 @@ use Rattle.merge_gens.specs.Book.{closing_at, closings_between, moment_of}
 use Rattle.merge_gens.specs.declared.closings.Closing.{Closing}
 use Rattle.merge_keeper.specs.SubscriberRules.{Run}
 use Rattle.merge_keeper.specs.SubscriberStart.{last_number}
-use Rattle.merge_model.proofs.Finding.{some_same}
+use Rattle.merge_model.proofs.Lists.Finding.{some_same}
 use Rattle.merge_model.proofs.Lists.{all-append}
 
 -- Generations from 1 on.

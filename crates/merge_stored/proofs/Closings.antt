@@ -13,12 +13,12 @@ use Rattle.merge_keeper.specs.SubscriberRules.{Run, with_closings}
 use Rattle.merge_keeper.specs.SubscriberStart as start_subscriber
 use Rattle.merge_keeper.specs.SubscriberStart.{last_number}
 use Rattle.merge_model.specs.History.{MadeChange, made_at}
-use Rattle.merge_model.specs.Model.{Model}
+use Rattle.merge_model.specs.History.Model.{Model}
 use Rattle.merge_model.specs.Publisher.{new_holders}
-use Rattle.merge_model.specs.Runs.{model_behind}
+use Rattle.merge_model.specs.Failing.Runs.{model_behind}
 use Rattle.merge_model.specs.Subscriber.{sub_last_closed}
 use Rattle.merge_model.specs.Tables.{PublisherTables, SubscriberTables}
-use Rattle.merge_model.proofs.Finding.{found-named}
+use Rattle.merge_model.proofs.Lists.Finding.{found-named}
 use Rattle.merge_model.proofs.Lists.{all-three}
 use Rattle.merge_typed.specs.Typed.{MomentFits}
 use Rattle.merge_laws.specs.Laws.{OfEveryValidRun}

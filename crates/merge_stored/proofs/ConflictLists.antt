@@ -16,10 +16,10 @@ use Rattle.merge_conflict.specs.declared.row.ConflictRow.{ConflictRow}
 use Rattle.merge_schema.specs.declared.publication.Publication.{Publication}
 use Rattle.merge_batch.specs.Lineages.{is_site}
 use Rattle.merge_keeper.specs.SubscriberRules.{Numbered}
-use Rattle.merge_model.specs.Acts.{Act, Fate, Met, New, Unknown, conflict_of, lost_by, lost_from}
-use Rattle.merge_model.specs.Reinit.{numbered_from}
+use Rattle.merge_model.specs.Publisher.Acts.{Act, Fate, Met, New, Unknown, conflict_of, lost_by, lost_from}
+use Rattle.merge_model.specs.Subscriber.Reinit.{numbered_from}
 use Rattle.merge_model.specs.Tables.{SubscriberTables}
-use Rattle.merge_model.proofs.Finding.{all-weaker}
+use Rattle.merge_model.proofs.Lists.Finding.{all-weaker}
 use Rattle.merge_model.proofs.Lists.{all-append}
 use Rattle.merge_stored.specs.Conflicts.{LostAt}
 

@@ -18,10 +18,10 @@ use Rattle.merge_keeper.specs.Start.{identity_at, replaced}
 use Rattle.merge_keeper.specs.SubscriberRules.{held_with}
 use Rattle.merge_record.specs.Reading.{◌>>=◌}
 use Rattle.merge_table.proofs.Room.{AreAbove}
-use Rattle.merge_model.specs.Keys.{at_number, put_number}
-use Rattle.merge_model.specs.Publications.{identities, identity_of}
+use Rattle.merge_model.specs.Tables.Keys.{at_number, put_number}
+use Rattle.merge_model.specs.Tables.Publications.{identities, identity_of}
 use Rattle.merge_model.specs.Publisher.{holder_for, new_holders}
-use Rattle.merge_model.proofs.Finding.{all-weaker, some_same}
+use Rattle.merge_model.proofs.Lists.Finding.{all-weaker, some_same}
 
 -- what stays of what is held
 abbrev pub key_threshold : ℕ × Holder → ℕ × ℕ

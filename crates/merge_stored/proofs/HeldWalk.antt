@@ -22,15 +22,15 @@ use Rattle.merge_batch.specs.declared.request.Outstanding.{Outstanding}
 use Rattle.merge_batch.specs.declared.request.Outstanding.TheVariants as ask
 use Rattle.merge_batch.specs.declared.request.RangeAsk.{RangeAsk}
 use Rattle.merge_batch.specs.declared.request.Upload.{Upload}
-use Rattle.merge_model.specs.Changes.{key_of, version_after}
-use Rattle.merge_model.specs.Faults.{reply_fault}
+use Rattle.merge_model.specs.Tables.Changes.{key_of, version_after}
+use Rattle.merge_model.specs.World.Faults.{reply_fault}
 use Rattle.merge_model.specs.Judge.{SubscriberJudge}
-use Rattle.merge_model.specs.Refusals.{counter_end, unless}
-use Rattle.merge_model.specs.Reinit.{reinitialised}
-use Rattle.merge_model.specs.Sending.{join_made, join_of, ranges_made, sending_refusal, unsent_rows, upload_made, upload_sent, want_of, with_message}
+use Rattle.merge_model.specs.Tables.Refusals.{counter_end, unless}
+use Rattle.merge_model.specs.Subscriber.Reinit.{reinitialised}
+use Rattle.merge_model.specs.Subscriber.Sending.{join_made, join_of, ranges_made, sending_refusal, unsent_rows, upload_made, upload_sent, want_of, with_message}
 use Rattle.merge_model.specs.Subscriber.{sub_at_moment, sub_closed, sub_counters, sub_drawn, sub_local_refusal, sub_made_locally, sub_next_dot, sub_version_at, with_version_if}
 use Rattle.merge_model.specs.Tables.{SubscriberTables}
-use Rattle.merge_model.specs.Taking.{met_by, seq_of, take_reply, taken}
+use Rattle.merge_model.specs.Subscriber.Taking.{met_by, seq_of, take_reply, taken}
 use Rattle.merge_model.specs.declared.outcome.Taken.{Taken}
 use Rattle.merge_model.specs.declared.outcome.Taken.TheVariants.{Acted, Missed}
 use Rattle.merge_honest.proofs.CallWalk.{CallsKeep, OfMade}
@@ -48,9 +48,9 @@ use Rattle.merge_ident.specs.declared.grants.Rule.{Rule}
 use Rattle.merge_schema.specs.declared.publication.Identity.{Identity}
 use Rattle.merge_batch.specs.Replies.{broken_by_reply, grant_fits}
 use Rattle.merge_batch.specs.declared.reply.Ranged.{Ranged}
-use Rattle.merge_model.specs.Faults.{heard_by}
-use Rattle.merge_model.proofs.EntryLists.{all-put}
-use Rattle.merge_model.proofs.Finding.{some_same}
+use Rattle.merge_model.specs.World.Faults.{heard_by}
+use Rattle.merge_model.proofs.Entries.EntryLists.{all-put}
+use Rattle.merge_model.proofs.Lists.Finding.{some_same}
 use Rattle.std.specs.BTreeMap.{is_at}
 use Rattle.std.specs.List.{list_all}
 use Rattle.std.specs.Prelude.{All, find, int_le, nat_le, pos, ◌≤ℤ◌}
@@ -64,23 +64,23 @@ use Rattle.merge_ident.specs.declared.grants.GrantAnswer.TheVariants.{Granted, K
 use Rattle.merge_ident.specs.declared.ranges.IdentityUsedUp.{IdentityUsedUp as IdentityEnd}
 use Rattle.merge_schema.specs.Valid.{IsValid}
 use Rattle.merge_batch.specs.declared.reply.RangeGrant.{RangeGrant}
-use Rattle.merge_model.specs.Acts.{acts_of}
-use Rattle.merge_model.specs.ByHistory.{by_history}
+use Rattle.merge_model.specs.Publisher.Acts.{acts_of}
+use Rattle.merge_model.specs.Judge.ByHistory.{by_history}
 use Rattle.merge_model.specs.Failing.{Slips}
 use Rattle.merge_model.specs.History.{History}
 use Rattle.merge_model.specs.Judge.{PublisherJudge}
-use Rattle.merge_model.specs.Keys.{at_number, put_number}
-use Rattle.merge_model.specs.Publications.{identities, rules_of}
+use Rattle.merge_model.specs.Tables.Keys.{at_number, put_number}
+use Rattle.merge_model.specs.Tables.Publications.{identities, rules_of}
 use Rattle.merge_model.specs.Publisher.{at_moment, closed, counters, holder_for, new_holders}
-use Rattle.merge_model.specs.PublisherDownload.{asked, download_refusal}
-use Rattle.merge_model.specs.PublisherJoin.{join_acts, join_refusal, join_taken, joined}
-use Rattle.merge_model.specs.PublisherLocal.{Drawn, after_answer, drawn, drawn_from, local_refusal, made_locally, no_draw, own_ask, taken_from}
-use Rattle.merge_model.specs.PublisherRanges.{plans, ranges_refusal, with_grants}
-use Rattle.merge_model.specs.PublisherUpload.{brings_news, taken_in, upload_refusal, uploaded}
-use Rattle.merge_model.specs.Runs.{model_behind}
+use Rattle.merge_model.specs.Publisher.PublisherDownload.{asked, download_refusal}
+use Rattle.merge_model.specs.Publisher.PublisherJoin.{join_acts, join_refusal, join_taken, joined}
+use Rattle.merge_model.specs.Publisher.PublisherLocal.{Drawn, after_answer, drawn, drawn_from, local_refusal, made_locally, no_draw, own_ask, taken_from}
+use Rattle.merge_model.specs.Publisher.PublisherRanges.{plans, ranges_refusal, with_grants}
+use Rattle.merge_model.specs.Publisher.PublisherUpload.{brings_news, taken_in, upload_refusal, uploaded}
+use Rattle.merge_model.specs.Failing.Runs.{model_behind}
 use Rattle.merge_model.specs.Subscriber.{taken_value}
 use Rattle.merge_model.specs.Tables.{PublisherTables}
-use Rattle.merge_model.specs.Taking.{with_grant}
+use Rattle.merge_model.specs.Subscriber.Taking.{with_grant}
 use Rattle.merge_model.specs.World.{Saying, World}
 use Rattle.merge_model.specs.declared.event.Event.{Event}
 use Rattle.merge_laws.proofs.Ground.{grounded-always}

@@ -29,12 +29,12 @@ use Rattle.merge_keeper.specs.Start.{KeepOneByOne, conflict_is_sound, version_is
 use Rattle.merge_keeper.specs.States.{IsConflict, has_kind}
 use Rattle.merge_keeper.specs.SubscriberRules.{Numbered, value_of}
 use Rattle.merge_model.specs.History.{History, MadeChange, Past, has}
-use Rattle.merge_model.specs.Keys.{same_key}
-use Rattle.merge_model.specs.Model.{Model}
-use Rattle.merge_model.specs.Promises.{key_of_conflict}
-use Rattle.merge_model.specs.Runs.{model_behind}
+use Rattle.merge_model.specs.Tables.Keys.{same_key}
+use Rattle.merge_model.specs.History.Model.{Model}
+use Rattle.merge_model.specs.Laws.Promises.{key_of_conflict}
+use Rattle.merge_model.specs.Failing.Runs.{model_behind}
 use Rattle.merge_model.specs.Tables.{PublisherTables}
-use Rattle.merge_model.proofs.KeyLookUps.{keys-same}
+use Rattle.merge_model.proofs.Lists.KeyLookUps.{keys-same}
 use Rattle.merge_model.proofs.Lists.{all-filter}
 use Rattle.merge_typed.specs.Typed.{BodyIsTyped, LostIsTyped}
 use Rattle.merge_laws.specs.Knowledge.{Knows, RowKnows, changes_of, same_dot}

@@ -25,22 +25,22 @@ use Rattle.merge_batch.specs.declared.request.Join.{Join}
 use Rattle.merge_batch.specs.declared.request.RangeAsk.{RangeAsk}
 use Rattle.merge_batch.specs.declared.request.Want.{Want}
 use Rattle.merge_batch.specs.declared.request.Upload.{Upload}
-use Rattle.merge_model.specs.Acts.{acts_of}
-use Rattle.merge_model.specs.ByHistory.{by_history}
+use Rattle.merge_model.specs.Publisher.Acts.{acts_of}
+use Rattle.merge_model.specs.Judge.ByHistory.{by_history}
 use Rattle.merge_model.specs.History.{History}
 use Rattle.merge_model.specs.Judge.{PublisherJudge}
-use Rattle.merge_model.specs.Keys.{at_number}
-use Rattle.merge_model.specs.Publications.{identities, rules_of}
+use Rattle.merge_model.specs.Tables.Keys.{at_number}
+use Rattle.merge_model.specs.Tables.Publications.{identities, rules_of}
 use Rattle.merge_model.specs.Publisher.{at_moment, closed, counters, site_refusal, unknown_site}
-use Rattle.merge_model.specs.PublisherDownload.{asked, download_refusal}
-use Rattle.merge_model.specs.PublisherJoin.{join_acts, join_refusal, join_taken, joined}
-use Rattle.merge_model.specs.PublisherLocal.{Drawn, after_answer, drawn, drawn_from, local_refusal, made_locally, no_draw, own_ask, taken_from}
-use Rattle.merge_model.specs.PublisherRanges.{ask_by, plans, ranges_refusal, with_grants}
-use Rattle.merge_model.specs.PublisherUpload.{brings_news, taken_in, upload_refusal, uploaded}
-use Rattle.merge_model.specs.Refusals.{counter_end, unless}
+use Rattle.merge_model.specs.Publisher.PublisherDownload.{asked, download_refusal}
+use Rattle.merge_model.specs.Publisher.PublisherJoin.{join_acts, join_refusal, join_taken, joined}
+use Rattle.merge_model.specs.Publisher.PublisherLocal.{Drawn, after_answer, drawn, drawn_from, local_refusal, made_locally, no_draw, own_ask, taken_from}
+use Rattle.merge_model.specs.Publisher.PublisherRanges.{ask_by, plans, ranges_refusal, with_grants}
+use Rattle.merge_model.specs.Publisher.PublisherUpload.{brings_news, taken_in, upload_refusal, uploaded}
+use Rattle.merge_model.specs.Tables.Refusals.{counter_end, unless}
 use Rattle.merge_model.specs.Tables.{PublisherTables}
 use Rattle.merge_model.specs.World.{World}
-use Rattle.merge_model.proofs.Refusals.{first-none}
+use Rattle.merge_model.proofs.Runs.Refusals.{first-none}
 use Rattle.merge_laws.proofs.Ground.{grounded-always}
 use Rattle.merge_stored.proofs.PublisherCalls.{PublisherCallsKeep, publisher-step}
 use Rattle.std.specs.Option.{option_map, option_or}
@@ -60,9 +60,9 @@ use Rattle.merge_schema.specs.Places.{is_subscription}
 use Rattle.merge_schema.specs.Valid.{IsValidSubscription}
 use Rattle.merge_schema.specs.declared.publication.Subscription.{Subscription}
 use Rattle.merge_batch.specs.declared.refusal.Refusal.TheVariants.{UnknownSite}
-use Rattle.merge_model.specs.Keys.{put_number}
+use Rattle.merge_model.specs.Tables.Keys.{put_number}
 use Rattle.merge_model.specs.Publisher.{holder_for, new_holders}
-use Rattle.merge_model.proofs.Finding.{at_put_other, at_put_same, some_same}
+use Rattle.merge_model.proofs.Lists.Finding.{at_put_other, at_put_same, some_same}
 use Rattle.merge_laws.specs.Laws.{OfEveryValidRun}
 use Rattle.merge_laws.proofs.Arrivals.{not-refused}
 use Rattle.merge_laws.proofs.ValidRules.{valid-rules}

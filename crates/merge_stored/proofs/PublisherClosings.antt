@@ -12,21 +12,21 @@ use Rattle.merge_schema.specs.declared.publication.Publication.{Publication}
 use Rattle.merge_batch.specs.declared.refusal.Refusal.{Refusal}
 use Rattle.merge_batch.specs.declared.request.Join.{Join}
 use Rattle.merge_batch.specs.declared.request.Upload.{Upload}
-use Rattle.merge_model.specs.Acts.{acts_of}
-use Rattle.merge_model.specs.ByHistory.{by_history}
-use Rattle.merge_model.specs.Entries.{changing_entries, entry_count}
+use Rattle.merge_model.specs.Publisher.Acts.{acts_of}
+use Rattle.merge_model.specs.Judge.ByHistory.{by_history}
+use Rattle.merge_model.specs.Publisher.Entries.{changing_entries, entry_count}
 use Rattle.merge_model.specs.Failing.{Slips}
 use Rattle.merge_model.specs.History.{History}
 use Rattle.merge_model.specs.Judge.{PublisherJudge}
 use Rattle.merge_model.specs.Publisher.{at_moment, closed, counters}
-use Rattle.merge_model.specs.PublisherDownload.{asked, download_refusal}
-use Rattle.merge_model.specs.PublisherJoin.{join_acts, join_refusal, join_taken, joined}
-use Rattle.merge_model.specs.PublisherLocal.{Drawn, changing_locally, drawn, local_refusal, made_locally, with_draw}
-use Rattle.merge_model.specs.PublisherPurge.{cutoff}
-use Rattle.merge_model.specs.PublisherRanges.{plans, ranges_refusal, with_grants}
-use Rattle.merge_model.specs.PublisherUpload.{brings_news, changing_by, taken_in, upload_refusal, uploaded, with_acts}
-use Rattle.merge_model.specs.Refusals.{counter_end, unless}
-use Rattle.merge_model.specs.Runs.{model_behind}
+use Rattle.merge_model.specs.Publisher.PublisherDownload.{asked, download_refusal}
+use Rattle.merge_model.specs.Publisher.PublisherJoin.{join_acts, join_refusal, join_taken, joined}
+use Rattle.merge_model.specs.Publisher.PublisherLocal.{Drawn, changing_locally, drawn, local_refusal, made_locally, with_draw}
+use Rattle.merge_model.specs.Publisher.PublisherPurge.{cutoff}
+use Rattle.merge_model.specs.Publisher.PublisherRanges.{plans, ranges_refusal, with_grants}
+use Rattle.merge_model.specs.Publisher.PublisherUpload.{brings_news, changing_by, taken_in, upload_refusal, uploaded, with_acts}
+use Rattle.merge_model.specs.Tables.Refusals.{counter_end, unless}
+use Rattle.merge_model.specs.Failing.Runs.{model_behind}
 use Rattle.merge_model.specs.Tables.{PublisherTables}
 use Rattle.merge_model.specs.World.{Saying, World}
 use Rattle.merge_model.specs.declared.event.Event.{Event}

@@ -24,22 +24,22 @@ use Rattle.merge_batch.specs.declared.request.Join.{Join}
 use Rattle.merge_batch.specs.declared.request.Upload.{Upload}
 use Rattle.merge_batch.proofs.Valid.{valid_upload}
 use Rattle.merge_keeper.specs.SubscriberRules.{Numbered}
-use Rattle.merge_model.specs.Acts.{Act, acts_of, lost_from}
-use Rattle.merge_model.specs.Faults.{known_by, upload_fault}
+use Rattle.merge_model.specs.Publisher.Acts.{Act, acts_of, lost_from}
+use Rattle.merge_model.specs.World.Faults.{known_by, upload_fault}
 use Rattle.merge_model.specs.Judge.{PublisherJudge}
 use Rattle.merge_model.specs.Publisher.{at_moment, counters, empty_publisher, site_refusal, unknown_site}
-use Rattle.merge_model.specs.PublisherJoin.{join_acts, join_taken, joined}
-use Rattle.merge_model.specs.PublisherLocal.{Drawn, drawn, local_refusal, made_locally}
-use Rattle.merge_model.specs.PublisherUpload.{brings_news, taken_in, too_many_new, upload_refusal, uploaded}
-use Rattle.merge_model.specs.Refusals.{counter_end, refused_if, unless}
+use Rattle.merge_model.specs.Publisher.PublisherJoin.{join_acts, join_taken, joined}
+use Rattle.merge_model.specs.Publisher.PublisherLocal.{Drawn, drawn, local_refusal, made_locally}
+use Rattle.merge_model.specs.Publisher.PublisherUpload.{brings_news, taken_in, too_many_new, upload_refusal, uploaded}
+use Rattle.merge_model.specs.Tables.Refusals.{counter_end, refused_if, unless}
 use Rattle.merge_model.specs.Tables.{PublisherTables}
-use Rattle.merge_model.specs.ByHistory.{by_history}
+use Rattle.merge_model.specs.Judge.ByHistory.{by_history}
 use Rattle.merge_model.specs.Failing.{Slips}
 use Rattle.merge_model.specs.History.{History}
-use Rattle.merge_model.specs.Runs.{model_behind}
+use Rattle.merge_model.specs.Failing.Runs.{model_behind}
 use Rattle.merge_model.specs.World.{Saying, World}
 use Rattle.merge_model.specs.declared.event.Event.{Event}
-use Rattle.merge_model.proofs.Refusals.{first-none}
+use Rattle.merge_model.proofs.Runs.Refusals.{first-none}
 use Rattle.merge_model.proofs.Lists.{all-append}
 use Rattle.merge_laws.proofs.Arrivals.{not-refused}
 use Rattle.merge_laws.proofs.Ground.{grounded-always}

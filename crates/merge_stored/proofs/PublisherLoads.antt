@@ -4,9 +4,9 @@ use Rattle.std.specs.Prelude.{Some, filter, ℕ, ◌≡◌}
 use Rattle.merge_ident.specs.Holders.{Holder}
 use Rattle.merge_keeper.specs.Entries.{held_ranges, was_received}
 use Rattle.merge_keeper.specs.Start.{holder_of, identity_at}
-use Rattle.merge_model.specs.Runs.{model_behind}
+use Rattle.merge_model.specs.Failing.Runs.{model_behind}
 use Rattle.merge_model.specs.Tables.{PublisherTables}
-use Rattle.merge_model.proofs.Finding.{all-weaker}
+use Rattle.merge_model.proofs.Lists.Finding.{all-weaker}
 use Rattle.merge_laws.specs.Laws.{OfEveryValidRun}
 use Rattle.merge_stored.specs.PublisherLoading.{PublisherLoads}
 use Rattle.merge_stored.specs.Ranges.{HeldLoads}

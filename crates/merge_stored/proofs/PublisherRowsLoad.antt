@@ -28,18 +28,18 @@ use Rattle.merge_keeper.specs.PublisherRules as of_publisher
 use Rattle.merge_keeper.specs.PublisherStart as start_publisher
 use Rattle.merge_keeper.specs.Start.{KeepOneByOne, row_was_made, version_is_sound}
 use Rattle.merge_keeper.specs.declared.stored.PublisherStored.{PublisherStored}
-use Rattle.merge_model.specs.Keys.{at_row_site, put_number}
-use Rattle.merge_model.specs.Model.{Model}
-use Rattle.merge_model.specs.Noting.{site_of_subscription}
-use Rattle.merge_model.specs.Publications.{by_site}
+use Rattle.merge_model.specs.Tables.Keys.{at_row_site, put_number}
+use Rattle.merge_model.specs.History.Model.{Model}
+use Rattle.merge_model.specs.History.Noting.{site_of_subscription}
+use Rattle.merge_model.specs.Tables.Publications.{by_site}
 use Rattle.merge_model.specs.Publisher.{new_holders}
-use Rattle.merge_model.specs.Runs.{model_behind}
+use Rattle.merge_model.specs.Failing.Runs.{model_behind}
 use Rattle.merge_model.specs.Tables.{PublisherTables}
-use Rattle.merge_model.proofs.EntryLists.{all-put}
-use Rattle.merge_model.proofs.Finding.{all-weaker}
-use Rattle.merge_model.proofs.KeyLists.{some-head}
+use Rattle.merge_model.proofs.Entries.EntryLists.{all-put}
+use Rattle.merge_model.proofs.Lists.Finding.{all-weaker}
+use Rattle.merge_model.proofs.Lists.KeyLists.{some-head}
 use Rattle.merge_model.proofs.Lists.{all-both, each-found}
-use Rattle.merge_model.proofs.Sorted.{row_site_total}
+use Rattle.merge_model.proofs.Publishers.Sorted.{row_site_total}
 use Rattle.merge_laws.specs.LastLines.{subscribes}
 use Rattle.merge_laws.specs.Laws.{OfEveryValidRun}
 use Rattle.merge_laws.proofs.ToldSites.{Every}

@@ -19,13 +19,13 @@ use Rattle.merge_keeper.specs.Entries.{held_ranges, was_received}
 use Rattle.merge_keeper.specs.PublisherRules as of_publisher
 use Rattle.merge_keeper.specs.Stored.{HasGrantKey}
 use Rattle.merge_model.specs.Failing.{Slips}
-use Rattle.merge_model.specs.Keys.{at_number}
+use Rattle.merge_model.specs.Tables.Keys.{at_number}
 use Rattle.merge_model.specs.Publisher.{new_holders}
-use Rattle.merge_model.specs.Runs.{model_behind}
+use Rattle.merge_model.specs.Failing.Runs.{model_behind}
 use Rattle.merge_model.specs.Tables.{PublisherTables}
 use Rattle.merge_model.specs.World.{Saying}
 use Rattle.merge_model.specs.declared.event.Event.{Event}
-use Rattle.merge_model.proofs.Finding.{all-weaker}
+use Rattle.merge_model.proofs.Lists.Finding.{all-weaker}
 use Rattle.merge_model.proofs.Lists.{all-both, all-filter, all-three}
 use Rattle.merge_typed.specs.Typed.{GrantIsTyped, HolderIsTyped, PublisherIsTyped}
 use Rattle.merge_laws.proofs.ValidRules.{valid-rules}

@@ -27,7 +27,7 @@ use Rattle.merge_keeper.specs.declared.publisher_record.PublisherRecord.TheVaria
 use Rattle.merge_keeper.proofs.Follow.{grant_apart, held_keys_order, keys_apart}
 use Rattle.merge_keeper.proofs.KeptLemmas.{entry_total}
 use Rattle.merge_keeper.proofs.PublisherReads.{entry_of}
-use Rattle.merge_model.proofs.EntryLists.{all-put}
+use Rattle.merge_model.proofs.Entries.EntryLists.{all-put}
 use Rattle.merge_model.proofs.Lists.{all-both, all-of}
 use Rattle.merge_stored.proofs.Tallies.{count-tally, counted, none-pass, second-all, tally, tally-none}
 

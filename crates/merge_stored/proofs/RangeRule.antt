@@ -33,10 +33,10 @@ use Rattle.merge_keeper.specs.SubscriberStart.{held_is_sound}
 use Rattle.merge_keeper.specs.declared.publisher_record.PublisherRecord.{PublisherRecord}
 use Rattle.merge_keeper.specs.declared.publisher_record.PublisherRecord.TheVariants.{Closed, Granted, Held, Lost, Mapped, Row, State, Subscribed}
 use Rattle.merge_keeper.specs.declared.stored.PublisherStored.{PublisherStored}
-use Rattle.merge_model.specs.Keys.{at_number}
-use Rattle.merge_model.specs.Publications.{identities, identity_of}
+use Rattle.merge_model.specs.Tables.Keys.{at_number}
+use Rattle.merge_model.specs.Tables.Publications.{identities, identity_of}
 use Rattle.merge_model.specs.Publisher.{holder_for, new_holders}
-use Rattle.merge_model.proofs.Finding.{all-weaker, some_same}
+use Rattle.merge_model.proofs.Lists.Finding.{all-weaker, some_same}
 use Rattle.merge_model.proofs.Lists.{all-both, all-map}
 use Rattle.merge_stored.specs.Own.{HoldsLast, OwnIsHeld}
 use Rattle.merge_stored.proofs.GrantRule.{GrantOk, RecordOk, Related, follows, front-count}

@@ -18,11 +18,11 @@ use Rattle.merge_keeper.specs.Start.{holder_of, identity_at}
 use Rattle.merge_keeper.specs.Stored.{HasGrantKey}
 use Rattle.merge_keeper.specs.SubscriberStart.{held_is_sound}
 use Rattle.merge_record.specs.Reading.{◌>>=◌}
-use Rattle.merge_model.specs.Model.{Model}
-use Rattle.merge_model.specs.Publications.{identities, rules_of}
+use Rattle.merge_model.specs.History.Model.{Model}
+use Rattle.merge_model.specs.Tables.Publications.{identities, rules_of}
 use Rattle.merge_model.specs.Publisher.{new_holders}
-use Rattle.merge_model.specs.Runs.{model_behind}
-use Rattle.merge_model.proofs.Finding.{all-weaker}
+use Rattle.merge_model.specs.Failing.Runs.{model_behind}
+use Rattle.merge_model.proofs.Lists.Finding.{all-weaker}
 use Rattle.merge_model.proofs.Lists.{all-both, all-kept}
 use Rattle.merge_typed.specs.Typed.{GrantIsTyped}
 use Rattle.merge_laws.specs.Laws.{OfEveryValidRun}

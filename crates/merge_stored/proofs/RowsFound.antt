@@ -9,8 +9,8 @@ use Rattle.std.proofs.Common.{ap, arith, sym, ◌∙◌}
 use Rattle.merge_types.specs.RowKeys.{key_cmp}
 use Rattle.merge_types.specs.declared.row_key.RowKey.{RowKey as Key}
 use Rattle.merge_table.proofs.Room.{AreAbove}
-use Rattle.merge_model.specs.Keys.{row_at}
-use Rattle.merge_model.proofs.KeyLookUps.{key-itself, key-test, keys-exact}
+use Rattle.merge_model.specs.Tables.Keys.{row_at}
+use Rattle.merge_model.proofs.Lists.KeyLookUps.{key-itself, key-test, keys-exact}
 
 module _ {R : Type 0} where
   abbrev pub Found : List (Key × R) → Key × R → Type 0

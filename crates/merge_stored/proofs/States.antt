@@ -12,9 +12,9 @@ use Rattle.merge_keeper.specs.States.{AreTalkNumbers, IsFront, asks, is_talk}
 use Rattle.merge_keeper.specs.Stored.{kind_of, outstanding_from, outstanding_number, outstanding_to, phase_number}
 use Rattle.merge_keeper.specs.SubscriberRules as of_subscriber
 use Rattle.merge_keeper.specs.SubscriberStart as start_subscriber
-use Rattle.merge_model.specs.Keys.{at_number}
-use Rattle.merge_model.specs.Model.{Model}
-use Rattle.merge_model.specs.Runs.{model_behind}
+use Rattle.merge_model.specs.Tables.Keys.{at_number}
+use Rattle.merge_model.specs.History.Model.{Model}
+use Rattle.merge_model.specs.Failing.Runs.{model_behind}
 use Rattle.merge_model.specs.Subscriber.{sub_last_closed}
 use Rattle.merge_model.specs.Tables.{PublisherTables, SubscriberTables}
 use Rattle.merge_typed.specs.Typed.{MomentFits}

@@ -31,30 +31,30 @@ use Rattle.merge_batch.specs.declared.reply.Reply.TheVariants as reply
 use Rattle.merge_batch.specs.declared.request.Outstanding.{Outstanding}
 use Rattle.merge_batch.specs.declared.request.Outstanding.TheVariants as ask
 use Rattle.merge_record.specs.Rows.{numbers_ascend}
-use Rattle.merge_model.specs.ByHistory.{by_made, is_unsent_by_made}
-use Rattle.merge_model.specs.Changes.{key_of, version_after}
+use Rattle.merge_model.specs.Judge.ByHistory.{by_made, is_unsent_by_made}
+use Rattle.merge_model.specs.Tables.Changes.{key_of, version_after}
 use Rattle.merge_model.specs.Failing.{Slips}
 use Rattle.merge_model.specs.History.{History, made_at, no_history}
 use Rattle.merge_model.specs.Judge.{SubscriberJudge}
-use Rattle.merge_model.specs.Keys.{at_number, drop_row, put_number, put_row, row_at}
+use Rattle.merge_model.specs.Tables.Keys.{at_number, drop_row, put_number, put_row, row_at}
 use Rattle.merge_model.specs.Laws.{AreSubSorted}
-use Rattle.merge_model.specs.Reinit.{discarded, reinitialised}
-use Rattle.merge_model.specs.Runs.{model_behind}
-use Rattle.merge_model.specs.Sending.{upload_sent, with_message}
+use Rattle.merge_model.specs.Subscriber.Reinit.{discarded, reinitialised}
+use Rattle.merge_model.specs.Failing.Runs.{model_behind}
+use Rattle.merge_model.specs.Subscriber.Sending.{upload_sent, with_message}
 use Rattle.merge_model.specs.Subscriber.{sub_at_moment, sub_closed, sub_last_closed, sub_next_dot, sub_version_at, with_open, with_version_if}
 use Rattle.merge_model.specs.Tables.{SubscriberTables}
-use Rattle.merge_model.specs.Taking.{key_of_download, row_above, taken, with_item, with_order}
+use Rattle.merge_model.specs.Subscriber.Taking.{key_of_download, row_above, taken, with_item, with_order}
 use Rattle.merge_model.specs.World.{Saying, World, empty_world, subscriber_at}
 use Rattle.merge_model.specs.declared.event.Event.{Event}
-use Rattle.merge_model.proofs.EntryLists.{all-put}
-use Rattle.merge_model.proofs.Finding.{all-weaker}
-use Rattle.merge_model.proofs.Sorted.{key_total}
+use Rattle.merge_model.proofs.Entries.EntryLists.{all-put}
+use Rattle.merge_model.proofs.Lists.Finding.{all-weaker}
+use Rattle.merge_model.proofs.Publishers.Sorted.{key_total}
 use Rattle.merge_laws.specs.Unsent.{RowsTell, gens_in}
 use Rattle.merge_laws.proofs.Ground.{Ground, grounded-always}
 use Rattle.merge_laws.proofs.Models.{begins-with}
 use Rattle.merge_laws.proofs.UnsentKept.{all-found, reply-site, version-site}
 use Rattle.merge_laws.proofs.Walking.{StepsKeep, step-keeps}
-use Rattle.merge_model.proofs.Finding.{found-named}
+use Rattle.merge_model.proofs.Lists.Finding.{found-named}
 use Rattle.merge_honest.proofs.PutFound.{put-each}
 use Rattle.merge_stored.specs.Entries.{Ascends, RowsHaveRoom, room_of, times, total}
 use Rattle.merge_stored.proofs.ConflictLists.{anew-long}

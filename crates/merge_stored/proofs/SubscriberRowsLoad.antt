@@ -14,12 +14,12 @@ use Rattle.merge_keeper.specs.Start.{KeepOneByOne, row_was_made, version_is_soun
 use Rattle.merge_keeper.specs.SubscriberRules as of_subscriber
 use Rattle.merge_keeper.specs.SubscriberStart as start_subscriber
 use Rattle.merge_keeper.specs.declared.stored.SubscriberStored.{SubscriberStored}
-use Rattle.merge_model.specs.Model.{Model}
+use Rattle.merge_model.specs.History.Model.{Model}
 use Rattle.merge_model.specs.Publisher.{new_holders}
-use Rattle.merge_model.specs.Runs.{model_behind}
+use Rattle.merge_model.specs.Failing.Runs.{model_behind}
 use Rattle.merge_model.specs.Subscriber.{sub_last_closed}
 use Rattle.merge_model.specs.Tables.{SubscriberTables}
-use Rattle.merge_model.proofs.Finding.{all-weaker}
+use Rattle.merge_model.proofs.Lists.Finding.{all-weaker}
 use Rattle.merge_laws.specs.Laws.{OfEveryValidRun}
 use Rattle.merge_honest.proofs.KnownItems.{all-true}
 use Rattle.merge_honest.proofs.Rules.{Known, known-always}

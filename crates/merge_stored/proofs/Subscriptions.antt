@@ -30,29 +30,29 @@ use Rattle.merge_batch.specs.declared.request.Join.{Join}
 use Rattle.merge_batch.specs.declared.request.Upload.{Upload}
 use Rattle.merge_batch.specs.declared.request.UploadItem.{UploadItem}
 use Rattle.merge_keeper.specs.PublisherStart.{site_is_sound}
-use Rattle.merge_model.specs.Acts.{Act, act_of, acting_items, acts_from, acts_of, left_by, made_by}
-use Rattle.merge_model.specs.ByHistory.{by_history}
+use Rattle.merge_model.specs.Publisher.Acts.{Act, act_of, acting_items, acts_from, acts_of, left_by, made_by}
+use Rattle.merge_model.specs.Judge.ByHistory.{by_history}
 use Rattle.merge_model.specs.Failing.{Slips}
-use Rattle.merge_model.specs.Faults.{join_fault, known_by}
+use Rattle.merge_model.specs.World.Faults.{join_fault, known_by}
 use Rattle.merge_model.specs.History.{History}
 use Rattle.merge_model.specs.Judge.{PublisherJudge}
-use Rattle.merge_model.specs.Keys.{at_number, put_number}
-use Rattle.merge_model.specs.Model.{Model}
+use Rattle.merge_model.specs.Tables.Keys.{at_number, put_number}
+use Rattle.merge_model.specs.History.Model.{Model}
 use Rattle.merge_model.specs.Publisher.{at_moment, closed, counters, last_closed, no_state, site_refusal, state_of, unknown_site}
-use Rattle.merge_model.specs.PublisherDownload.{asked, download_refusal, synced}
-use Rattle.merge_model.specs.PublisherJoin.{join_acts, join_refusal, join_taken, joined, joined_state}
-use Rattle.merge_model.specs.PublisherLocal.{Drawn, drawn, local_refusal, made_locally}
-use Rattle.merge_model.specs.PublisherRanges.{plans, ranges_refusal, with_grants}
-use Rattle.merge_model.specs.PublisherUpload.{brings_news, seen_in, state_seeing, taken_in, upload_refusal, uploaded, with_taken}
-use Rattle.merge_model.specs.Refusals.{counter_end, refused_if, unless}
-use Rattle.merge_model.specs.Runs.{model_behind}
+use Rattle.merge_model.specs.Publisher.PublisherDownload.{asked, download_refusal, synced}
+use Rattle.merge_model.specs.Publisher.PublisherJoin.{join_acts, join_refusal, join_taken, joined, joined_state}
+use Rattle.merge_model.specs.Publisher.PublisherLocal.{Drawn, drawn, local_refusal, made_locally}
+use Rattle.merge_model.specs.Publisher.PublisherRanges.{plans, ranges_refusal, with_grants}
+use Rattle.merge_model.specs.Publisher.PublisherUpload.{brings_news, seen_in, state_seeing, taken_in, upload_refusal, uploaded, with_taken}
+use Rattle.merge_model.specs.Tables.Refusals.{counter_end, refused_if, unless}
+use Rattle.merge_model.specs.Failing.Runs.{model_behind}
 use Rattle.merge_model.specs.Tables.{PublisherTables}
 use Rattle.merge_model.specs.World.{Saying, World}
 use Rattle.merge_model.specs.declared.event.Event.{Event}
-use Rattle.merge_model.proofs.EntryLists.{all-put}
-use Rattle.merge_model.proofs.Finding.{all-weaker}
+use Rattle.merge_model.proofs.Entries.EntryLists.{all-put}
+use Rattle.merge_model.proofs.Lists.Finding.{all-weaker}
 use Rattle.merge_model.proofs.Lists.{all-both, all-filter, all-map}
-use Rattle.merge_model.proofs.Refusals.{first-none}
+use Rattle.merge_model.proofs.Runs.Refusals.{first-none}
 use Rattle.merge_laws.specs.Laws.{OfEveryValidRun}
 use Rattle.merge_laws.proofs.Arrivals.{not-refused}
 use Rattle.merge_laws.proofs.Ground.{grounded-always}

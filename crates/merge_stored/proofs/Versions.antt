@@ -29,13 +29,13 @@ use Rattle.merge_record.specs.Tables.{IsRowKey}
 use Rattle.merge_record.specs.Versions.{IsBody, IsDot, IsLineage}
 use Rattle.merge_keeper.specs.Start.{cell_site_is_known, dot_site_is_known, row_was_made, top_sites_are_known, version_is_sound, was_made}
 use Rattle.merge_model.specs.History.{History, Past, has, past_at, pasts_at}
-use Rattle.merge_model.specs.Keys.{at_number, row_at}
-use Rattle.merge_model.specs.Model.{Model}
-use Rattle.merge_model.specs.Runs.{model_behind}
+use Rattle.merge_model.specs.Tables.Keys.{at_number, row_at}
+use Rattle.merge_model.specs.History.Model.{Model}
+use Rattle.merge_model.specs.Failing.Runs.{model_behind}
 use Rattle.merge_model.specs.Tables.{SubscriberTables}
-use Rattle.merge_model.proofs.Finding.{all-weaker}
-use Rattle.merge_model.proofs.KeyLists.{some-head}
-use Rattle.merge_model.proofs.KeyLookUps.{key-itself, key-test}
+use Rattle.merge_model.proofs.Lists.Finding.{all-weaker}
+use Rattle.merge_model.proofs.Lists.KeyLists.{some-head}
+use Rattle.merge_model.proofs.Lists.KeyLookUps.{key-itself, key-test}
 use Rattle.merge_model.proofs.Lists.{all-both, all-three}
 use Rattle.merge_typed.specs.Typed.{BodyIsTyped}
 use Rattle.merge_laws.specs.Knowledge.{Knows, changes_of}

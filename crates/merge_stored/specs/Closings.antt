@@ -7,8 +7,8 @@ use Rattle.merge_keeper.specs.PublisherStart as start_publisher
 use Rattle.merge_keeper.specs.Start.{KeepOneByOne}
 use Rattle.merge_keeper.specs.SubscriberRules.{Run, with_closings}
 use Rattle.merge_keeper.specs.SubscriberStart as start_subscriber
-use Rattle.merge_model.specs.Keys.{at_number}
-use Rattle.merge_model.specs.Model.{Model}
+use Rattle.merge_model.specs.Tables.Keys.{at_number}
+use Rattle.merge_model.specs.History.Model.{Model}
 use Rattle.merge_model.specs.Publisher.{new_holders}
 use Rattle.merge_model.specs.Subscriber.{sub_last_closed}
 use Rattle.merge_model.specs.Tables.{PublisherTables, SubscriberTables}

@@ -12,8 +12,8 @@ use Rattle.merge_keeper.specs.Start.{KeepOneByOne, holder_of, identity_at}
 use Rattle.merge_keeper.specs.Stored.{subscriber_records}
 use Rattle.merge_keeper.specs.SubscriberRules as of_subscriber
 use Rattle.merge_keeper.specs.SubscriberStart as start_subscriber
-use Rattle.merge_model.specs.Keys.{at_number}
-use Rattle.merge_model.specs.Model.{Model}
+use Rattle.merge_model.specs.Tables.Keys.{at_number}
+use Rattle.merge_model.specs.History.Model.{Model}
 use Rattle.merge_model.specs.Publisher.{new_holders}
 use Rattle.merge_model.specs.Tables.{SubscriberTables}
 use Rattle.merge_model.specs.World.{Saying}

@@ -5,8 +5,8 @@ use Rattle.merge_ident.specs.Grants.{granted_to, is_numbered}
 use Rattle.merge_ident.specs.Holders.{Holder, Received}
 use Rattle.merge_ident.specs.declared.grants.Grant.{Grant}
 use Rattle.merge_schema.specs.declared.publication.Publication.{Publication}
-use Rattle.merge_model.specs.Keys.{at_number}
-use Rattle.merge_model.specs.Model.{Model}
+use Rattle.merge_model.specs.Tables.Keys.{at_number}
+use Rattle.merge_model.specs.History.Model.{Model}
 use Rattle.merge_model.specs.World.{Saying}
 
 -- none is held, or the one with this number

@@ -13,7 +13,7 @@ use Rattle.merge_keeper.specs.Start.{KeepOneByOne}
 use Rattle.merge_keeper.specs.Stored.{publisher_records}
 use Rattle.merge_keeper.specs.declared.publisher_record.PublisherRecord.{PublisherRecord}
 use Rattle.merge_keeper.specs.declared.stored.PublisherStored.{PublisherStored}
-use Rattle.merge_model.specs.Model.{Model}
+use Rattle.merge_model.specs.History.Model.{Model}
 use Rattle.merge_model.specs.Publisher.{new_holders}
 use Rattle.merge_model.specs.Tables.{PublisherTables}
 use Rattle.merge_model.specs.World.{Saying}

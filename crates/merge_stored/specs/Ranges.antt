@@ -11,8 +11,8 @@ use Rattle.merge_keeper.specs.Start.{holder_of, identity_at}
 use Rattle.merge_keeper.specs.Stored.{HasGrantKey}
 use Rattle.merge_keeper.specs.SubscriberRules.{held_with}
 use Rattle.merge_keeper.specs.SubscriberStart.{held_is_sound}
-use Rattle.merge_model.specs.Keys.{at_number}
-use Rattle.merge_model.specs.Model.{Model}
+use Rattle.merge_model.specs.Tables.Keys.{at_number}
+use Rattle.merge_model.specs.History.Model.{Model}
 use Rattle.merge_model.specs.Publisher.{new_holders}
 use Rattle.merge_model.specs.Tables.{SubscriberTables}
 use Rattle.merge_model.specs.World.{Saying}

@@ -5,7 +5,7 @@ use Rattle.merge_gens.specs.declared.sites.SiteState.{SiteState}
 use Rattle.merge_schema.specs.declared.publication.Publication.{Publication}
 use Rattle.merge_record.specs.Tables.{IsSiteState}
 use Rattle.merge_keeper.specs.PublisherStart.{site_is_sound}
-use Rattle.merge_model.specs.Model.{Model}
+use Rattle.merge_model.specs.History.Model.{Model}
 use Rattle.merge_model.specs.Tables.{PublisherTables}
 use Rattle.merge_model.specs.World.{Saying}
 use Rattle.merge_typed.specs.Typed.{PublisherIsTyped}

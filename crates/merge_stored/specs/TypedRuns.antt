@@ -8,10 +8,10 @@ use Rattle.merge_keeper.specs.Stored.{publisher_records, subscriber_records}
 use Rattle.merge_keeper.specs.SubscriberRules as of_subscriber
 use Rattle.merge_keeper.specs.SubscriberStart as start_subscriber
 use Rattle.merge_model.specs.Failing.{Slips}
-use Rattle.merge_model.specs.Keys.{at_number}
-use Rattle.merge_model.specs.Model.{Model}
+use Rattle.merge_model.specs.Tables.Keys.{at_number}
+use Rattle.merge_model.specs.History.Model.{Model}
 use Rattle.merge_model.specs.Publisher.{new_holders}
-use Rattle.merge_model.specs.Runs.{model_behind}
+use Rattle.merge_model.specs.Failing.Runs.{model_behind}
 use Rattle.merge_model.specs.Tables.{SubscriberTables}
 use Rattle.merge_model.specs.World.{Saying}
 use Rattle.merge_model.specs.declared.event.Event.{Event}

@@ -9,8 +9,8 @@ use Rattle.merge_schema.specs.declared.publication.Publication.{Publication}
 use Rattle.merge_record.specs.Tables.{IsRowKey}
 use Rattle.merge_record.specs.Versions.{IsVersion}
 use Rattle.merge_keeper.specs.Start.{row_was_made, version_is_sound}
-use Rattle.merge_model.specs.Keys.{at_number}
-use Rattle.merge_model.specs.Model.{Model}
+use Rattle.merge_model.specs.Tables.Keys.{at_number}
+use Rattle.merge_model.specs.History.Model.{Model}
 use Rattle.merge_model.specs.Tables.{SubscriberTables}
 use Rattle.merge_model.specs.World.{Saying}
 use Rattle.merge_typed.specs.Typed.{PublisherIsTyped, SubscriberIsTyped}

@@ -36,16 +36,16 @@ use Rattle.merge_conflict.specs.Rising.{AreRising, RiseAbove}
 use Rattle.merge_conflict.specs.declared.row.ConflictRow.{ConflictRow}
 use Rattle.merge_conflict.proofs.RisingRows.{go_on_above}
 use Rattle.merge_ident.specs.Holders.{Holder}
-use Rattle.merge_model.specs.ByNumbers.{by_rows, is_unsent_by_rows}
-use Rattle.merge_model.specs.Keys.{row_at, same_key}
-use Rattle.merge_model.specs.Reinit.{discarded, made_anew, numbered_from, reinitialise}
+use Rattle.merge_model.specs.Judge.ByNumbers.{by_rows, is_unsent_by_rows}
+use Rattle.merge_model.specs.Tables.Keys.{row_at, same_key}
+use Rattle.merge_model.specs.Subscriber.Reinit.{discarded, made_anew, numbered_from, reinitialise}
 use Rattle.merge_model.specs.Publisher.{later}
-use Rattle.merge_model.specs.Refusals.{counter_end}
+use Rattle.merge_model.specs.Tables.Refusals.{counter_end}
 use Rattle.merge_model.specs.Subscriber.{sub_at_moment, sub_closed, sub_counters}
 use Rattle.merge_model.proofs.Lists.{all-append}
 use Rattle.merge_model.specs.Tables.{SubscriberTables}
-use Rattle.merge_model.proofs.KeyLookUps.{key-test, keys-same}
-use Rattle.merge_model.proofs.Sorted.{key_total}
+use Rattle.merge_model.proofs.Lists.KeyLookUps.{key-test, keys-same}
+use Rattle.merge_model.proofs.Publishers.Sorted.{key_total}
 use Rattle.merge_table.proofs.Room.{AreAbove}
 use Rattle.merge_sub.proofs.Indexed.{entries-append, is_among, taken-all}
 use Rattle.merge_sub.proofs.Opened.{GoesOn, forgotten-filling}

@@ -6,7 +6,7 @@ use Rattle.std.proofs.lemmas.Bool.Decides.{nat_tests}
 use Rattle.merge_types.specs.Limits.{generation_limit, item_limit}
 use Rattle.merge_types.specs.declared.row_key.RowKey.{RowKey}
 use Rattle.merge_units.specs.declared.site_row.SubscriberRow.{SubscriberRow}
-use Rattle.merge_model.specs.PublisherDownload.{batch_end}
+use Rattle.merge_model.specs.Publisher.PublisherDownload.{batch_end}
 use Rattle.merge_sub.proofs.ChangedRows.{count-rises, sent-count}
 use Rattle.merge_sub.specs.Sent.{AreChanged, changed_count}
 

@@ -22,13 +22,13 @@ use Rattle.merge_gens.specs.Index.{AddsRowsBetween, HasBetween}
 use Rattle.merge_gens.proofs.RowLists.{added_rows}
 use Rattle.merge_schema.proofs.ListMembers.{any_at, any_found}
 use Rattle.merge_batch.specs.declared.request.UploadItem.{UploadItem}
-use Rattle.merge_model.specs.ByNumbers.{changed_between_by_rows, changed_row_between, last_between}
-use Rattle.merge_model.specs.Keys.{row_at}
-use Rattle.merge_model.specs.Sending.{upload_item}
+use Rattle.merge_model.specs.Judge.ByNumbers.{changed_between_by_rows, changed_row_between, last_between}
+use Rattle.merge_model.specs.Tables.Keys.{row_at}
+use Rattle.merge_model.specs.Subscriber.Sending.{upload_item}
 use Rattle.merge_model.specs.Tables.{SubscriberTables}
-use Rattle.merge_model.proofs.KeyLookUps.{keys-exact}
+use Rattle.merge_model.proofs.Lists.KeyLookUps.{keys-exact}
 use Rattle.merge_model.proofs.Lists.{any-same}
-use Rattle.merge_model.proofs.Sorted.{key_total}
+use Rattle.merge_model.proofs.Publishers.Sorted.{key_total}
 use Rattle.merge_sub.proofs.Anewly.{AreFound, rows-found}
 use Rattle.merge_sub.specs.Held.{AreIndexed, entry_behind, keeps, kept_by}
 use Rattle.merge_sub.specs.Sent.{AreChanged, AreKeeping, is_in, item_at, item_of, keeps_in, row_item}

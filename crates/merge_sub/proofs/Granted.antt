@@ -14,11 +14,11 @@ use Rattle.merge_batch.specs.Replies.{Heard, grant_fits, granted_article, ranged
 use Rattle.merge_batch.specs.Search.{are_distinct}
 use Rattle.merge_batch.specs.declared.reply.RangeGrant.{RangeGrant}
 use Rattle.merge_batch.specs.declared.reply.Ranged.{Ranged}
-use Rattle.merge_model.specs.Faults.{heard_by}
-use Rattle.merge_model.specs.Keys.{at_number, put_number}
-use Rattle.merge_model.specs.Taking.{with_grant}
-use Rattle.merge_model.proofs.Finding.{at_put_other}
-use Rattle.merge_model.proofs.Tests.{number-itself, or-first, or-second}
+use Rattle.merge_model.specs.World.Faults.{heard_by}
+use Rattle.merge_model.specs.Tables.Keys.{at_number, put_number}
+use Rattle.merge_model.specs.Subscriber.Taking.{with_grant}
+use Rattle.merge_model.proofs.Lists.Finding.{at_put_other}
+use Rattle.merge_model.proofs.Lists.Tests.{number-itself, or-first, or-second}
 use Rattle.merge_sub.proofs.LocalChanges.{put-ranged}
 use Rattle.merge_sub.specs.Held.{AreRanged, Held as Parts, tables_of}
 use Rattle.merge_sub.specs.Taking.{granted, heard_in}

@@ -12,8 +12,8 @@ use Rattle.merge_gens.specs.Entries.{entry_cmp, entry_of}
 use Rattle.merge_gens.specs.Index.{entries_after, entries_after_all}
 use Rattle.merge_gens.specs.declared.index.IndexEntry.{IndexEntry}
 use Rattle.merge_gens.proofs.EntryLists.{entry_total}
-use Rattle.merge_model.specs.Keys.{put_row, row_at, same_key}
-use Rattle.merge_model.proofs.KeyLookUps.{keys-same, row-put}
+use Rattle.merge_model.specs.Tables.Keys.{put_row, row_at, same_key}
+use Rattle.merge_model.proofs.Lists.KeyLookUps.{keys-same, row-put}
 use Rattle.merge_sub.specs.Held.{AreIndexed, entry_behind, keeps, kept_by}
 use Rattle.merge_sub.specs.Local.{put_entry, reindexing, take_entry}
 

@@ -17,11 +17,11 @@ use Rattle.merge_table.proofs.Sorted.{sorted_after_all}
 use Rattle.merge_units.specs.declared.site_row.SubscriberRow.{SubscriberRow}
 use Rattle.merge_gens.specs.Entries.{entry_cmp}
 use Rattle.merge_gens.specs.Index.{entries_after_all}
-use Rattle.merge_model.specs.Keys.{put_row, row_at, same_key}
-use Rattle.merge_model.specs.Taking.{row_above}
-use Rattle.merge_model.proofs.KeyLookUps.{key-test, keys-same, keys-tied, row-put}
+use Rattle.merge_model.specs.Tables.Keys.{put_row, row_at, same_key}
+use Rattle.merge_model.specs.Subscriber.Taking.{row_above}
+use Rattle.merge_model.proofs.Lists.KeyLookUps.{key-test, keys-same, keys-tied, row-put}
 use Rattle.merge_model.proofs.Lists.{any-same}
-use Rattle.merge_model.proofs.Sorted.{key_total}
+use Rattle.merge_model.proofs.Publishers.Sorted.{key_total}
 use Rattle.merge_sub.proofs.ChangedRows.{has-kept}
 use Rattle.merge_sub.proofs.Indexed.{is_among, taken-each}
 use Rattle.merge_sub.specs.Held.{AreIndexed, entry_behind, keeps, kept_by}

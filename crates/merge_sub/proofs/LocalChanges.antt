@@ -34,7 +34,7 @@ use Rattle.merge_batch.specs.Articles.{fits_article, has_article}
 use Rattle.merge_batch.specs.LocalChanges.{article_of, change_refusal, counter_end, identity_column, key_of, no_row, settings_of, version_after}
 use Rattle.merge_batch.specs.declared.refusal.Refusal.{Refusal}
 use Rattle.merge_change.specs.Allowed.{CanBeAsked, FitsHeld, HasIdentity, IsIdentity, IsNewAt}
-use Rattle.merge_model.specs.Keys.{at_number, put_number, put_row, row_at}
+use Rattle.merge_model.specs.Tables.Keys.{at_number, put_number, put_row, row_at}
 use Rattle.merge_model.specs.Publisher.{later}
 use Rattle.merge_model.specs.Subscriber.{generations_at, sub_counters, sub_drawn, sub_last_closed, sub_local, sub_local_refusal, sub_next_dot, sub_version_at, taken_value, with_open}
 use Rattle.merge_model.specs.Tables.{SubscriberTables}

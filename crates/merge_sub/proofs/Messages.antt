@@ -5,8 +5,8 @@ use Rattle.merge_ident.specs.Holders.{Holder}
 use Rattle.merge_batch.specs.declared.request.Outstanding.TheVariants as ask
 use Rattle.merge_batch.specs.declared.request.RangeAsk.{RangeAsk}
 use Rattle.merge_batch.specs.declared.request.Want.{Want}
-use Rattle.merge_model.specs.Refusals.{unless}
-use Rattle.merge_model.specs.Sending.{make_ranges, ranges_made, sending_refusal, want_of, with_message}
+use Rattle.merge_model.specs.Tables.Refusals.{unless}
+use Rattle.merge_model.specs.Subscriber.Sending.{make_ranges, ranges_made, sending_refusal, want_of, with_message}
 use Rattle.merge_model.specs.Tables.{SubscriberTables}
 use Rattle.merge_sub.specs.Drafts.{after, drafted}
 use Rattle.merge_sub.specs.Held.{Held, tables_of}

@@ -11,7 +11,7 @@ use Rattle.merge_gens.specs.Plan.{settled}
 use Rattle.merge_gens.specs.declared.filling.Filling.{Filling}
 use Rattle.merge_gens.specs.declared.plan.GenPlan.{GenPlan}
 use Rattle.merge_model.proofs.Lists.{all-append}
-use Rattle.merge_model.specs.Keys.{put_row, row_at}
+use Rattle.merge_model.specs.Tables.Keys.{put_row, row_at}
 use Rattle.merge_model.specs.Subscriber.{with_open}
 use Rattle.merge_sub.proofs.Rows.{each-put}
 use Rattle.merge_sub.specs.Held.{HaveOpened, KeepOpened, Held, kept_by}

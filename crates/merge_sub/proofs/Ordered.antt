@@ -25,15 +25,15 @@ use Rattle.merge_batch.specs.declared.reply.Act.{Act}
 use Rattle.merge_batch.specs.declared.reply.Act.TheVariants as order
 use Rattle.merge_batch.specs.declared.reply.DownloadItem.{DownloadItem}
 use Rattle.merge_batch.specs.declared.standing.Standing.{Standing}
-use Rattle.merge_model.specs.ByNumbers.{by_rows}
-use Rattle.merge_model.specs.Faults.{standing_of}
-use Rattle.merge_model.specs.Keys.{row_at}
+use Rattle.merge_model.specs.Judge.ByNumbers.{by_rows}
+use Rattle.merge_model.specs.World.Faults.{standing_of}
+use Rattle.merge_model.specs.Tables.Keys.{row_at}
 use Rattle.merge_model.specs.Tables.{SubscriberTables}
-use Rattle.merge_model.specs.Taking.{key_of_download, row_above, with_item, with_order}
-use Rattle.merge_model.proofs.KeyLookUps.{keys-exact}
-use Rattle.merge_model.proofs.Finding.{all-weaker, some_same}
+use Rattle.merge_model.specs.Subscriber.Taking.{key_of_download, row_above, with_item, with_order}
+use Rattle.merge_model.proofs.Lists.KeyLookUps.{keys-exact}
+use Rattle.merge_model.proofs.Lists.Finding.{all-weaker, some_same}
 use Rattle.merge_model.proofs.Lists.{OfSome, all-filter_map, all-of, any-mono}
-use Rattle.merge_model.proofs.Sorted.{key_total}
+use Rattle.merge_model.proofs.Publishers.Sorted.{key_total}
 use Rattle.merge_sub.proofs.Indexed.{is_among}
 use Rattle.merge_sub.proofs.LetGo.{above-sorted, among-filter, and-none, row-above}
 use Rattle.merge_sub.specs.Held.{AreFitting, AreMade, EachRow, keeps, kept_by}

@@ -22,16 +22,16 @@ use Rattle.merge_batch.specs.declared.request.Outstanding.TheVariants as ask
 use Rattle.merge_batch.specs.declared.rules.BrokenRule.{BrokenRule}
 use Rattle.merge_batch.specs.declared.standing.Standing.{Standing}
 use Rattle.merge_batch.proofs.AllMet.{all_good, none_first, none_second}
-use Rattle.merge_model.specs.ByNumbers.{by_rows}
-use Rattle.merge_model.specs.Faults.{fault_of, heard_by, reply_fault, standing_of}
+use Rattle.merge_model.specs.Judge.ByNumbers.{by_rows}
+use Rattle.merge_model.specs.World.Faults.{fault_of, heard_by, reply_fault, standing_of}
 use Rattle.merge_model.specs.Judge.{SubscriberJudge}
 use Rattle.merge_model.specs.Publisher.{later}
-use Rattle.merge_model.specs.Refusals.{unless}
+use Rattle.merge_model.specs.Tables.Refusals.{unless}
 use Rattle.merge_model.specs.Tables.{SubscriberTables}
-use Rattle.merge_model.specs.Taking.{after_reply, met_by, seq_of, take_reply, taken}
+use Rattle.merge_model.specs.Subscriber.Taking.{after_reply, met_by, seq_of, take_reply, taken}
 use Rattle.merge_model.specs.declared.outcome.Taken.{Taken}
 use Rattle.merge_model.specs.declared.outcome.Taken.TheVariants.{Acted, Missed}
-use Rattle.merge_model.proofs.Tests.{if-true}
+use Rattle.merge_model.proofs.Lists.Tests.{if-true}
 use Rattle.merge_sub.specs.Drafts.{after}
 use Rattle.merge_sub.specs.Held.{Held, tables_of}
 use Rattle.merge_sub.specs.Taking.{AreOrders, answered}

@@ -24,10 +24,10 @@ use Rattle.merge_conflict.specs.Rising.{AreRising}
 use Rattle.merge_schema.specs.Valid.{IsValid}
 use Rattle.merge_schema.specs.declared.publication.Publication.{Publication}
 use Rattle.merge_batch.specs.Articles.{fits_article}
-use Rattle.merge_model.proofs.Finding.{all-weaker}
-use Rattle.merge_model.proofs.KeyLookUps.{key-test, keys-exact, none-behind}
+use Rattle.merge_model.proofs.Lists.Finding.{all-weaker}
+use Rattle.merge_model.proofs.Lists.KeyLookUps.{key-test, keys-exact, none-behind}
 use Rattle.merge_model.proofs.Lists.{all-three}
-use Rattle.merge_model.specs.Keys.{row_at, same_key}
+use Rattle.merge_model.specs.Tables.Keys.{row_at, same_key}
 use Rattle.merge_model.specs.Publisher.{new_holders}
 use Rattle.merge_model.specs.Tables.{SubscriberTables}
 use Rattle.merge_sub.proofs.Anewly.{rows-found, some_keeps}

@@ -7,8 +7,8 @@ use Rattle.merge_units.specs.declared.site_row.SubscriberRow.{SubscriberRow}
 use Rattle.merge_lineage.specs.Lineage.{number_of}
 use Rattle.merge_schema.specs.declared.publication.Publication.{Publication}
 use Rattle.merge_batch.specs.Articles.{fits_article}
-use Rattle.merge_model.specs.Keys.{drop_row, put_row, row_at, same_key}
-use Rattle.merge_model.proofs.KeyLookUps.{keys-same, row-put}
+use Rattle.merge_model.specs.Tables.Keys.{drop_row, put_row, row_at, same_key}
+use Rattle.merge_model.proofs.Lists.KeyLookUps.{keys-same, row-put}
 use Rattle.merge_sub.specs.Held.{AreFitting, AreMade, EachRow}
 
 each-put-by : (P : RowKey → SubscriberRow → Type 0) (rows : List (RowKey × SubscriberRow)) → EachRow P rows → (key : RowKey) (row : SubscriberRow) → P key row

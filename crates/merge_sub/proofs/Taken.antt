@@ -25,11 +25,11 @@ use Rattle.merge_batch.specs.declared.reply.Act.{Act}
 use Rattle.merge_batch.specs.declared.reply.Act.TheVariants as order
 use Rattle.merge_batch.specs.declared.reply.DownloadItem.{DownloadItem}
 use Rattle.merge_batch.specs.declared.reply.Ranged.{Ranged}
-use Rattle.merge_model.specs.Faults.{heard_by}
-use Rattle.merge_model.specs.Keys.{row_at}
+use Rattle.merge_model.specs.World.Faults.{heard_by}
+use Rattle.merge_model.specs.Tables.Keys.{row_at}
 use Rattle.merge_model.specs.Tables.{SubscriberTables}
-use Rattle.merge_model.specs.Taking.{key_of_download, row_above, with_grant, with_grants}
-use Rattle.merge_model.proofs.Finding.{some_same}
+use Rattle.merge_model.specs.Subscriber.Taking.{key_of_download, row_above, with_grant, with_grants}
+use Rattle.merge_model.proofs.Lists.Finding.{some_same}
 use Rattle.merge_model.proofs.Lists.{all-of}
 use Rattle.merge_sub.proofs.Granted.{grants-ranged, ranged-made}
 use Rattle.merge_sub.proofs.LetGo.{let-go-indexed, rows-let-go}

@@ -12,12 +12,12 @@ use Rattle.merge_batch.specs.declared.refusal.Refusal.{Refusal}
 use Rattle.merge_batch.specs.declared.request.Outstanding.TheVariants as ask
 use Rattle.merge_batch.specs.declared.request.Upload.{Upload}
 use Rattle.merge_batch.specs.declared.request.UploadItem.{UploadItem}
-use Rattle.merge_model.specs.ByNumbers.{by_rows, changed_between_by_rows}
+use Rattle.merge_model.specs.Judge.ByNumbers.{by_rows, changed_between_by_rows}
 use Rattle.merge_model.specs.Publisher.{later}
-use Rattle.merge_model.specs.PublisherDownload.{batch_end}
-use Rattle.merge_model.specs.Refusals.{unless}
-use Rattle.merge_model.specs.Reports.{unsent_count}
-use Rattle.merge_model.specs.Sending.{make_upload, sending_refusal, unsent_rows, upload_item, upload_made, upload_sent}
+use Rattle.merge_model.specs.Publisher.PublisherDownload.{batch_end}
+use Rattle.merge_model.specs.Tables.Refusals.{unless}
+use Rattle.merge_model.specs.World.Reports.{unsent_count}
+use Rattle.merge_model.specs.Subscriber.Sending.{make_upload, sending_refusal, unsent_rows, upload_item, upload_made, upload_sent}
 use Rattle.merge_model.specs.Subscriber.{sub_at_moment, sub_closed, sub_last_closed}
 use Rattle.merge_model.specs.Tables.{SubscriberTables}
 use Rattle.merge_sub.proofs.ChangedRows.{sent-count, sent-items}

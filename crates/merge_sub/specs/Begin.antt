@@ -4,8 +4,8 @@ use Rattle.std.specs.Prelude.{List, None, Option, Some, ℕ, filter_map, map}
 use Rattle.merge_ident.specs.Holders.{Holder, new_holder}
 use Rattle.merge_schema.specs.declared.publication.Article.{Article}
 use Rattle.merge_schema.specs.declared.publication.Identity.{Identity}
-use Rattle.merge_model.specs.Keys.{put_number}
-use Rattle.merge_model.specs.Publications.{identity_of}
+use Rattle.merge_model.specs.Tables.Keys.{put_number}
+use Rattle.merge_model.specs.Tables.Publications.{identity_of}
 use Rattle.merge_model.specs.Publisher.{holder_for}
 
 -- of articles that are numbered from one on

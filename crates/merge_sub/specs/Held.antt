@@ -19,7 +19,7 @@ use Rattle.merge_schema.specs.Valid.{IsValid}
 use Rattle.merge_schema.specs.declared.publication.Publication.{Publication}
 use Rattle.merge_batch.specs.Articles.{fits_article}
 use Rattle.merge_batch.specs.LocalChanges.{identity_column}
-use Rattle.merge_model.specs.Keys.{at_number, row_at}
+use Rattle.merge_model.specs.Tables.Keys.{at_number, row_at}
 use Rattle.merge_model.specs.Tables.{SubscriberTables}
 use Rattle.merge_sub.specs.declared.state.State.{State}
 

@@ -14,7 +14,7 @@ use Rattle.merge_schema.specs.declared.publication.Publication.{Publication}
 use Rattle.merge_batch.specs.Articles.{fits_article}
 use Rattle.merge_batch.specs.LocalChanges.{key_of, version_after}
 use Rattle.merge_change.specs.Allowed.{HasIdentity}
-use Rattle.merge_model.specs.Keys.{put_row}
+use Rattle.merge_model.specs.Tables.Keys.{put_row}
 use Rattle.merge_model.specs.Subscriber.{generations_at, sub_last_closed, sub_next_dot, sub_version_at, with_open}
 use Rattle.merge_model.specs.Tables.{SubscriberTables}
 use Rattle.merge_sub.specs.Held.{entry_behind}

@@ -9,8 +9,8 @@ use Rattle.merge_types.specs.RowKeys.{key_cmp}
 use Rattle.merge_types.specs.declared.row_key.RowKey.{RowKey}
 use Rattle.merge_units.specs.declared.site_row.SubscriberRow.{SubscriberRow}
 use Rattle.merge_batch.specs.declared.request.UploadItem.{UploadItem}
-use Rattle.merge_model.specs.ByNumbers.{changed_row_between, last_between}
-use Rattle.merge_model.specs.Keys.{row_at}
+use Rattle.merge_model.specs.Judge.ByNumbers.{changed_row_between, last_between}
+use Rattle.merge_model.specs.Tables.Keys.{row_at}
 use Rattle.merge_sub.specs.Held.{kept_by}
 
 -- whether a row keeps a generation from one on, below another

@@ -15,11 +15,11 @@ use Rattle.merge_batch.specs.declared.reply.Act.{Act}
 use Rattle.merge_batch.specs.declared.reply.Act.TheVariants as order
 use Rattle.merge_batch.specs.declared.reply.DownloadItem.{DownloadItem}
 use Rattle.merge_batch.specs.declared.reply.RangeGrant.{RangeGrant}
-use Rattle.merge_model.specs.ByNumbers.{by_rows}
-use Rattle.merge_model.specs.Faults.{standing_of}
-use Rattle.merge_model.specs.Keys.{at_number, row_at}
+use Rattle.merge_model.specs.Judge.ByNumbers.{by_rows}
+use Rattle.merge_model.specs.World.Faults.{standing_of}
+use Rattle.merge_model.specs.Tables.Keys.{at_number, row_at}
 use Rattle.merge_model.specs.Tables.{SubscriberTables}
-use Rattle.merge_model.specs.Taking.{key_of_download, row_above, with_item, with_received}
+use Rattle.merge_model.specs.Subscriber.Taking.{key_of_download, row_above, with_item, with_received}
 use Rattle.merge_sub.specs.Held.{kept_by}
 use Rattle.merge_sub.specs.Local.{take_entry}
 use Rattle.merge_sub.specs.declared.state.State.{State}

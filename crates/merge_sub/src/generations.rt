@@ -1,6 +1,6 @@
 //! The generations that rows keep.
 ghost use Rattle.std.specs.Prelude.{◌≡◌, ◌+◌, ◌++◌, IfOk, OnOk, map};
-ghost use Rattle.merge_model.specs.Keys.{row_at};
+ghost use Rattle.merge_model.specs.Tables.Keys.{row_at};
 ghost use Rattle.merge_model.specs.Subscriber.{with_open};
 ghost use Rattle.merge_sub.specs.Held.{entry_behind, kept_by};
 ghost use Rattle.merge_sub.specs.Local.{put_entry, reindexing, take_entry};

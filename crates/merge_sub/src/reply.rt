@@ -4,10 +4,10 @@ ghost use Rattle.std.specs.List.{flat_map};
 ghost use Rattle.merge_batch.specs.Replies.{grant_fits, ranged_fits};
 ghost use Rattle.merge_batch.specs.declared.refusal.Refusal.{Refusal as OneRefusal};
 ghost use Rattle.merge_batch.specs.declared.refusal.Refusal.TheVariants.{NoMemory as no_memory};
-ghost use Rattle.merge_model.specs.ByNumbers.{by_rows};
+ghost use Rattle.merge_model.specs.Judge.ByNumbers.{by_rows};
 ghost use Rattle.merge_batch.specs.declared.request.Outstanding.{Outstanding as OneMessage};
-ghost use Rattle.merge_model.specs.Faults.{heard_by, reply_fault};
-ghost use Rattle.merge_model.specs.Taking.{after_reply, take_reply, with_grants};
+ghost use Rattle.merge_model.specs.World.Faults.{heard_by, reply_fault};
+ghost use Rattle.merge_model.specs.Subscriber.Taking.{after_reply, take_reply, with_grants};
 ghost use Rattle.merge_sub.specs.Drafts.{IsDrafted, IsDraftedIfNeeded, after, after_if_any};
 ghost use Rattle.merge_sub.specs.Held.{tables_of};
 ghost use Rattle.merge_sub.specs.Local.{take_entry};
@@ -37,7 +37,7 @@ struct Heard<'a>(&'a Table<u8, Ranges>);
 impl HeardRanges for Heard<'_> {
     ghost use Rattle.std.specs.Prelude.{option_map};
     ghost use Rattle.merge_ident.specs.Holders.{Holder};
-    ghost use Rattle.merge_model.specs.Keys.{at_number};
+    ghost use Rattle.merge_model.specs.Tables.Keys.{at_number};
 
     ghost heard = { λ h. λ article. option_map (λ (holder : Holder). holder.have) (at_number h.0.now.rows article) };
 

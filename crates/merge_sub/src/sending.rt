@@ -3,7 +3,7 @@ ghost use Rattle.std.specs.Prelude.{◌≡◌, ◌<◌, ◌⊎◌, Err, IfOk, Ok
 ghost use Rattle.merge_types.specs.Limits.{counter_limit};
 ghost use Rattle.merge_batch.specs.declared.refusal.Refusal.{Refusal as OneRefusal};
 ghost use Rattle.merge_batch.specs.declared.refusal.Refusal.TheVariants.{NoMemory as no_memory};
-ghost use Rattle.merge_model.specs.Sending.{make_ask, make_join, make_ranges, want_of, with_message};
+ghost use Rattle.merge_model.specs.Subscriber.Sending.{make_ask, make_join, make_ranges, want_of, with_message};
 ghost use Rattle.merge_sub.specs.Drafts.{IsDrafted, IsDraftedIfAny, after, drafted, drafted_if_any};
 ghost use Rattle.merge_sub.specs.Held.{tables_of};
 

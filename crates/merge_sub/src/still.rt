@@ -2,8 +2,8 @@
 ghost use Rattle.std.specs.Prelude.{◌≡◌, ◌<◌, [], IfErr, None, OnOk, Some};
 ghost use Rattle.merge_types.specs.Limits.{counter_limit};
 ghost use Rattle.merge_model.specs.Publisher as tables;
-ghost use Rattle.merge_model.specs.Refusals.{counter_end};
-ghost use Rattle.merge_model.specs.Sending.{sending_refusal};
+ghost use Rattle.merge_model.specs.Tables.Refusals.{counter_end};
+ghost use Rattle.merge_model.specs.Subscriber.Sending.{sending_refusal};
 ghost use Rattle.merge_model.specs.Subscriber.{sub_counters};
 ghost use Rattle.merge_sub.specs.Held.{tables_of};
 

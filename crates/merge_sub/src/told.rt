@@ -1,6 +1,6 @@
 //! What a subscriber tells of itself.
 ghost use Rattle.std.specs.Prelude.{◌≡◌, IfOk};
-ghost use Rattle.merge_model.specs.Reports.{marks_of, outstanding_of, unsent_count};
+ghost use Rattle.merge_model.specs.World.Reports.{marks_of, outstanding_of, unsent_count};
 ghost use Rattle.merge_sub.specs.Held.{tables_of};
 
 use crate::Subscriber;

@@ -5,7 +5,7 @@ use Rattle.merge_batch.specs.declared.refusal.Refusal.{Refusal}
 use Rattle.merge_batch.specs.declared.refusal.Refusal.TheVariants as refusal
 use Rattle.merge_ports.specs.declared.outside.OpenFault.{OpenFault}
 use Rattle.merge_ports.specs.declared.outside.OpenFault.TheVariants as opening
-use Rattle.merge_model.specs.Text.{line}
+use Rattle.merge_model.specs.Script.Text.{line}
 use Rattle.merge_agent.specs.declared.fault.Done.{Done}
 use Rattle.merge_agent.specs.declared.fault.SessionFault.{SessionFault}
 use Rattle.merge_agent.specs.declared.fault.SessionFault.TheVariants as session

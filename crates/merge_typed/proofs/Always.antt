@@ -22,26 +22,26 @@ use Rattle.merge_batch.specs.declared.request.RangeAsk.{RangeAsk}
 use Rattle.merge_batch.specs.declared.request.Request.{Request}
 use Rattle.merge_batch.specs.declared.request.Upload.{Upload}
 use Rattle.merge_record.specs.Versions.{IsValue}
-use Rattle.merge_model.specs.ByHistory.{by_history}
+use Rattle.merge_model.specs.Judge.ByHistory.{by_history}
 use Rattle.merge_model.specs.Failing.{Slips, faulty}
-use Rattle.merge_model.specs.Keys.{at_number}
-use Rattle.merge_model.specs.Model.{Model, empty_model, model, model_step}
-use Rattle.merge_model.specs.Publications.{by_site, identities, rules_of}
+use Rattle.merge_model.specs.Tables.Keys.{at_number}
+use Rattle.merge_model.specs.History.Model.{Model, empty_model, model, model_step}
+use Rattle.merge_model.specs.Tables.Publications.{by_site, identities, rules_of}
 use Rattle.merge_model.specs.Publisher.{holder_for, new_holders}
-use Rattle.merge_model.specs.PublisherLocal.{Drawn, drawn}
-use Rattle.merge_model.specs.Reinit.{reinitialise}
-use Rattle.merge_model.specs.Runs.{model_behind}
-use Rattle.merge_model.specs.Steps.{Action, Pass, kept_decisions, upload_questions}
-use Rattle.merge_model.specs.Sending.{make_ask, make_join, make_ranges, make_upload}
+use Rattle.merge_model.specs.Publisher.PublisherLocal.{Drawn, drawn}
+use Rattle.merge_model.specs.Subscriber.Reinit.{reinitialise}
+use Rattle.merge_model.specs.Failing.Runs.{model_behind}
+use Rattle.merge_model.specs.World.Steps.{Action, Pass, kept_decisions, upload_questions}
+use Rattle.merge_model.specs.Subscriber.Sending.{make_ask, make_join, make_ranges, make_upload}
 use Rattle.merge_model.specs.Subscriber.{close_sub_generation, empty_subscriber, sub_drawn, sub_local}
 use Rattle.merge_model.specs.Tables.{PublisherTables, SubscriberTables}
-use Rattle.merge_model.specs.Taking.{take_reply}
+use Rattle.merge_model.specs.Subscriber.Taking.{take_reply}
 use Rattle.merge_model.specs.World.{Saying, World, empty_subscribers, empty_world}
 use Rattle.merge_model.specs.declared.outcome.Taken.{Taken}
 use Rattle.merge_model.specs.declared.event.Event.{Event}
 use Rattle.merge_model.specs.declared.letter.Message.{Message}
 use Rattle.merge_model.specs.declared.letter.Message.TheVariants.{Asks, Replies}
-use Rattle.merge_model.proofs.Finding.{all-weaker}
+use Rattle.merge_model.proofs.Lists.Finding.{all-weaker}
 use Rattle.merge_model.proofs.Lists.{OfSome, all-both, all-map, all-unit}
 use Rattle.merge_typed.specs.Laws.{MessagesAreTyped, OfEveryTypedRun, TablesAreTyped}
 use Rattle.merge_typed.specs.Messages.{LetterIsTyped, MessageIsTyped, RequestIsTyped}

@@ -11,14 +11,14 @@ use Rattle.merge_batch.specs.declared.refusal.Refusal.{Refusal}
 use Rattle.merge_batch.specs.declared.reply.Reply.{Reply}
 use Rattle.merge_batch.specs.declared.reply.Reply.TheVariants as reply
 use Rattle.merge_batch.specs.declared.request.Outstanding.{Outstanding}
-use Rattle.merge_model.specs.Faults.{reply_fault}
+use Rattle.merge_model.specs.World.Faults.{reply_fault}
 use Rattle.merge_model.specs.Judge.{PublisherJudge, SubscriberJudge}
 use Rattle.merge_model.specs.Publisher.{at_moment}
-use Rattle.merge_model.specs.PublisherLocal.{Drawn, drawn, local, local_refusal, made_locally}
-use Rattle.merge_model.specs.Refusals.{unless}
+use Rattle.merge_model.specs.Publisher.PublisherLocal.{Drawn, drawn, local, local_refusal, made_locally}
+use Rattle.merge_model.specs.Tables.Refusals.{unless}
 use Rattle.merge_model.specs.Subscriber.{sub_at_moment, sub_drawn, sub_local, sub_local_refusal, sub_made_locally}
 use Rattle.merge_model.specs.Tables.{PublisherTables, SubscriberTables}
-use Rattle.merge_model.specs.Taking.{met_by, seq_of, take_reply, taken}
+use Rattle.merge_model.specs.Subscriber.Taking.{met_by, seq_of, take_reply, taken}
 use Rattle.merge_model.specs.declared.outcome.Taken.{Taken}
 use Rattle.merge_model.specs.declared.outcome.Taken.TheVariants.{Acted, Missed}
 

@@ -19,7 +19,7 @@ use Rattle.merge_resolve.specs.declared.case.CaseKind.{CaseKind}
 use Rattle.merge_resolve.specs.declared.case.CaseKind.TheVariants as kind
 use Rattle.merge_resolve.specs.declared.case.ConflictCase.{ConflictCase}
 use Rattle.merge_record.specs.Versions.{IsValue}
-use Rattle.merge_model.specs.Steps.{kept_decision, kept_decisions}
+use Rattle.merge_model.specs.World.Steps.{kept_decision, kept_decisions}
 use Rattle.merge_model.specs.World.{Saying}
 use Rattle.merge_model.proofs.Lists.{OfSome}
 use Rattle.merge_typed.specs.Outside.{CaseIsTyped, DecisionIsTyped, SayingIsTyped, ValueIsTyped}

@@ -4,7 +4,7 @@ use Rattle.std.specs.List.{AllByRecursion, enumerate_from, zip}
 use Rattle.std.specs.Map.{lookup, remove_entry}
 use Rattle.std.specs.Prelude.{Bool, List, None, Option, Some, [], cond, drop, false, find, refl, slice_get, slice_set, suc, take, true, unwrap_or, zero, ℕ, ◌+◌, ◌≡◌, ◌∷◌}
 use Rattle.std.specs.declared.cmp.Ordering.{Ordering}
-use Rattle.merge_model.proofs.EntryLists.{all-put}
+use Rattle.merge_model.proofs.Entries.EntryLists.{all-put}
 use Rattle.merge_model.proofs.Lists.{OfSome}
 
 found-step : {X : Type 0} (P : X → Type 0) (b : Bool) (x : X) (rest : Option X) → P x → OfSome P rest → OfSome P (cond b (Some x) rest)

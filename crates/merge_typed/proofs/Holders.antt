@@ -12,7 +12,7 @@ use Rattle.merge_ident.specs.declared.grants.Range.{Range}
 use Rattle.merge_ident.proofs.Taken.{held-receive, held-take, next-has_values}
 use Rattle.merge_record.specs.Tables.{IsRange}
 use Rattle.merge_keeper.specs.Entries.{next_held}
-use Rattle.merge_model.proofs.Finding.{all-more}
+use Rattle.merge_model.proofs.Lists.Finding.{all-more}
 use Rattle.merge_model.proofs.Lists.{all-filter, all-map}
 use Rattle.merge_typed.specs.Typed.{HolderIsTyped}
 use Rattle.merge_typed.proofs.Entries.{all-left}

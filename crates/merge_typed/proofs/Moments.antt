@@ -24,18 +24,18 @@ use Rattle.merge_batch.specs.declared.request.Download.{Download}
 use Rattle.merge_batch.specs.declared.request.Join.{Join}
 use Rattle.merge_batch.specs.declared.request.RangeAsk.{RangeAsk}
 use Rattle.merge_batch.specs.declared.request.Upload.{Upload}
-use Rattle.merge_model.specs.Acts.{Act, acts_of}
-use Rattle.merge_model.specs.Entries.{Changing, Entries, changed_by, changing_entries, entry_count, with_entries}
+use Rattle.merge_model.specs.Publisher.Acts.{Act, acts_of}
+use Rattle.merge_model.specs.Publisher.Entries.{Changing, Entries, changed_by, changing_entries, entry_count, with_entries}
 use Rattle.merge_model.specs.Judge.{PublisherJudge}
-use Rattle.merge_model.specs.Keys.{at_number}
+use Rattle.merge_model.specs.Tables.Keys.{at_number}
 use Rattle.merge_model.specs.Publisher.{at_moment, close_generation, closed, counters, last_closed, no_state, state_of, with_state}
-use Rattle.merge_model.specs.PublisherDownload.{asked, download, download_refusal, in_step, reply_to, synced}
-use Rattle.merge_model.specs.PublisherJoin.{join, join_acts, join_refusal, join_taken, joined, joined_state}
-use Rattle.merge_model.specs.PublisherLocal.{changing_locally, local, with_draw}
-use Rattle.merge_model.specs.PublisherPurge.{purge}
-use Rattle.merge_model.specs.PublisherRanges.{plans, ranged, ranges, ranges_refusal, with_grants}
-use Rattle.merge_model.specs.PublisherUpload.{brings_news, changing_by, state_seeing, taken_in, upload, upload_refusal, uploaded, with_acts, with_taken}
-use Rattle.merge_model.specs.Refusals.{counter_end}
+use Rattle.merge_model.specs.Publisher.PublisherDownload.{asked, download, download_refusal, in_step, reply_to, synced}
+use Rattle.merge_model.specs.Publisher.PublisherJoin.{join, join_acts, join_refusal, join_taken, joined, joined_state}
+use Rattle.merge_model.specs.Publisher.PublisherLocal.{changing_locally, local, with_draw}
+use Rattle.merge_model.specs.Publisher.PublisherPurge.{purge}
+use Rattle.merge_model.specs.Publisher.PublisherRanges.{plans, ranged, ranges, ranges_refusal, with_grants}
+use Rattle.merge_model.specs.Publisher.PublisherUpload.{brings_news, changing_by, state_seeing, taken_in, upload, upload_refusal, uploaded, with_acts, with_taken}
+use Rattle.merge_model.specs.Tables.Refusals.{counter_end}
 use Rattle.merge_model.specs.Tables.{PublisherTables}
 use Rattle.merge_model.proofs.Lists.{OfSome, all-append, all-filter, all-map, all-unit, some-map}
 use Rattle.merge_typed.specs.Typed.{MomentFits}

@@ -36,21 +36,21 @@ use Rattle.merge_batch.specs.declared.request.Join.{Join}
 use Rattle.merge_batch.specs.declared.request.RangeAsk.{RangeAsk}
 use Rattle.merge_batch.specs.declared.request.Upload.{Upload}
 use Rattle.merge_record.specs.Versions.{IsValue}
-use Rattle.merge_model.specs.Acts.{acts_of}
+use Rattle.merge_model.specs.Publisher.Acts.{acts_of}
 use Rattle.merge_model.specs.Judge.{PublisherJudge}
-use Rattle.merge_model.specs.Keys.{at_number, put_number}
-use Rattle.merge_model.specs.Publications.{rules_of}
+use Rattle.merge_model.specs.Tables.Keys.{at_number, put_number}
+use Rattle.merge_model.specs.Tables.Publications.{rules_of}
 use Rattle.merge_model.specs.Publisher.{at_moment, close_generation, closed, counters, last_closed}
-use Rattle.merge_model.specs.PublisherDownload.{asked, download, download_refusal, reply_to}
-use Rattle.merge_model.specs.PublisherJoin.{join, join_acts, join_refusal, join_taken, joined}
-use Rattle.merge_model.specs.PublisherLocal.{Drawn, after_answer, drawn, drawn_from, local, no_draw, own_ask, taken_from}
-use Rattle.merge_model.specs.PublisherPurge.{purge}
-use Rattle.merge_model.specs.PublisherRanges.{ask_by, granted_by, plans, ranged, ranges, ranges_refusal, with_grants}
-use Rattle.merge_model.specs.PublisherUpload.{brings_news, taken_in, upload, upload_refusal, uploaded}
-use Rattle.merge_model.specs.Refusals.{counter_end}
+use Rattle.merge_model.specs.Publisher.PublisherDownload.{asked, download, download_refusal, reply_to}
+use Rattle.merge_model.specs.Publisher.PublisherJoin.{join, join_acts, join_refusal, join_taken, joined}
+use Rattle.merge_model.specs.Publisher.PublisherLocal.{Drawn, after_answer, drawn, drawn_from, local, no_draw, own_ask, taken_from}
+use Rattle.merge_model.specs.Publisher.PublisherPurge.{purge}
+use Rattle.merge_model.specs.Publisher.PublisherRanges.{ask_by, granted_by, plans, ranged, ranges, ranges_refusal, with_grants}
+use Rattle.merge_model.specs.Publisher.PublisherUpload.{brings_news, taken_in, upload, upload_refusal, uploaded}
+use Rattle.merge_model.specs.Tables.Refusals.{counter_end}
 use Rattle.merge_model.specs.Tables.{PublisherTables}
-use Rattle.merge_model.proofs.EntryLists.{all-put}
-use Rattle.merge_model.proofs.Finding.{all-weaker}
+use Rattle.merge_model.proofs.Entries.EntryLists.{all-put}
+use Rattle.merge_model.proofs.Lists.Finding.{all-weaker}
 use Rattle.merge_model.proofs.Lists.{OfSome, all-filter_map}
 use Rattle.merge_typed.specs.Messages.{ToldIsTyped}
 use Rattle.merge_typed.specs.Outside.{RuleIsTyped}

@@ -27,23 +27,23 @@ use Rattle.merge_batch.specs.declared.request.Join.{Join}
 use Rattle.merge_batch.specs.declared.request.RangeAsk.{RangeAsk}
 use Rattle.merge_batch.specs.declared.request.Upload.{Upload}
 use Rattle.merge_record.specs.Versions.{IsValue}
-use Rattle.merge_model.specs.Acts.{Act, acting_items, acts_of, lost_from}
-use Rattle.merge_model.specs.Entries.{Changing, Entries, changed_by, changing_entries, with_entries, with_rows}
+use Rattle.merge_model.specs.Publisher.Acts.{Act, acting_items, acts_of, lost_from}
+use Rattle.merge_model.specs.Publisher.Entries.{Changing, Entries, changed_by, changing_entries, with_entries, with_rows}
 use Rattle.merge_model.specs.Judge.{PublisherJudge}
-use Rattle.merge_model.specs.Keys.{put_row, row_at}
+use Rattle.merge_model.specs.Tables.Keys.{put_row, row_at}
 use Rattle.merge_model.specs.Publisher.{at_moment, close_generation, closed, counters, last_closed}
-use Rattle.merge_model.specs.PublisherDownload.{TouchedRow, asked, download, download_refusal, item_of, reply_to}
-use Rattle.merge_model.specs.PublisherJoin.{join, join_acts, join_refusal, join_taken, joined}
-use Rattle.merge_model.specs.PublisherLocal.{Drawn, changing_locally, drawn, local, local_refusal, made_locally, next_dot, version_at, with_draw}
-use Rattle.merge_model.specs.PublisherPurge.{purge}
-use Rattle.merge_model.specs.PublisherRanges.{plans, ranged, ranges, ranges_refusal, with_grants}
-use Rattle.merge_model.specs.PublisherUpload.{brings_news, changing_by, taken_in, upload, upload_refusal, uploaded, with_acts}
-use Rattle.merge_model.specs.Refusals.{counter_end}
-use Rattle.merge_model.specs.Steps.{kept_decisions, upload_questions}
+use Rattle.merge_model.specs.Publisher.PublisherDownload.{TouchedRow, asked, download, download_refusal, item_of, reply_to}
+use Rattle.merge_model.specs.Publisher.PublisherJoin.{join, join_acts, join_refusal, join_taken, joined}
+use Rattle.merge_model.specs.Publisher.PublisherLocal.{Drawn, changing_locally, drawn, local, local_refusal, made_locally, next_dot, version_at, with_draw}
+use Rattle.merge_model.specs.Publisher.PublisherPurge.{purge}
+use Rattle.merge_model.specs.Publisher.PublisherRanges.{plans, ranged, ranges, ranges_refusal, with_grants}
+use Rattle.merge_model.specs.Publisher.PublisherUpload.{brings_news, changing_by, taken_in, upload, upload_refusal, uploaded, with_acts}
+use Rattle.merge_model.specs.Tables.Refusals.{counter_end}
+use Rattle.merge_model.specs.World.Steps.{kept_decisions, upload_questions}
 use Rattle.merge_model.specs.Tables.{PublisherTables}
 use Rattle.merge_model.specs.World.{Saying}
 use Rattle.merge_model.proofs.Lists.{OfSome, all-append, all-filter, all-map, all-unit, some-map}
-use Rattle.merge_model.proofs.Refusals.{first-none}
+use Rattle.merge_model.proofs.Runs.Refusals.{first-none}
 use Rattle.merge_typed.specs.Messages.{ItemIsTyped, OrderIsTyped}
 use Rattle.merge_typed.specs.Outside.{ChangeIsTyped, SayingIsTyped}
 use Rattle.merge_typed.specs.Typed.{LostIsTyped, MomentFits}

@@ -25,8 +25,8 @@ use Rattle.merge_resolve.specs.declared.choice.ResolverChoice.TheVariants as cho
 use Rattle.merge_resolve.specs.declared.extremes.Extreme.{Extreme}
 use Rattle.merge_resolve.specs.declared.extremes.Extreme.TheVariants as extreme
 use Rattle.merge_record.specs.Versions.{IsValue}
-use Rattle.merge_model.specs.Resolvers.{rules_say}
-use Rattle.merge_model.proofs.Finding.{all-weaker}
+use Rattle.merge_model.specs.Script.Resolvers.{rules_say}
+use Rattle.merge_model.proofs.Lists.Finding.{all-weaker}
 use Rattle.merge_model.proofs.Lists.{OfSome, all-map, all-unit}
 use Rattle.merge_typed.specs.Outside.{CaseIsTyped, DecisionIsTyped, SayingIsTyped, ValueIsTyped}
 use Rattle.merge_typed.specs.Typed.{CellIsTyped}

@@ -14,14 +14,14 @@ use Rattle.merge_resolve.specs.Asked.{tallies_after}
 use Rattle.merge_schema.specs.Places.{is_subscription}
 use Rattle.merge_schema.specs.declared.publication.Publication.{Publication}
 use Rattle.merge_batch.specs.declared.refusal.Refusal.TheVariants.{UnknownName, UnknownSite}
-use Rattle.merge_model.specs.Events.{acting, after, changing, happens, is_site, looking, syncing, where_site, where_subscriber}
+use Rattle.merge_model.specs.World.Events.{acting, after, changing, happens, is_site, looking, syncing, where_site, where_subscriber}
 use Rattle.merge_model.specs.Failing.{Faulty, Slip, Slips, acting_with, failing, fails, is_allowed, questions_by, slip_if}
-use Rattle.merge_model.specs.Keys.{at_number, put_number}
+use Rattle.merge_model.specs.Tables.Keys.{at_number, put_number}
 use Rattle.merge_model.specs.Laws.{is_report}
-use Rattle.merge_model.specs.Naming.{and_then, article_by, column_place, delete_by, insert_by, placed, set_at, setting_of, settings_by, update_by}
-use Rattle.merge_model.specs.Publications.{columns_at}
-use Rattle.merge_model.specs.Session.{Stepping}
-use Rattle.merge_model.specs.Steps.{Action, CloseAt, Deliver, Forget, Look, Make, MakeAnew, Pass, Send, SendDownload, SendJoin, SendRanges, SendUpload}
+use Rattle.merge_model.specs.World.Naming.{and_then, article_by, column_place, delete_by, insert_by, placed, set_at, setting_of, settings_by, update_by}
+use Rattle.merge_model.specs.Tables.Publications.{columns_at}
+use Rattle.merge_model.specs.World.Session.{Stepping}
+use Rattle.merge_model.specs.World.Steps.{Action, CloseAt, Deliver, Forget, Look, Make, MakeAnew, Pass, Send, SendDownload, SendJoin, SendRanges, SendUpload}
 use Rattle.merge_model.specs.declared.answer.Answer.{Answer}
 use Rattle.merge_model.specs.declared.answer.Answer.TheVariants.{Refused}
 use Rattle.merge_model.specs.declared.event.Event.{Event}
@@ -29,7 +29,7 @@ use Rattle.merge_model.specs.declared.event.Event.TheVariants as event
 use Rattle.merge_model.specs.declared.event.NamedValue.{NamedValue}
 use Rattle.merge_model.specs.declared.outcome.Outcome.{Outcome}
 use Rattle.merge_model.proofs.Lists.{all-map}
-use Rattle.merge_model.proofs.Reports.{looking-leaves, report-looks}
+use Rattle.merge_model.proofs.Runs.Reports.{looking-leaves, report-looks}
 use Rattle.merge_typed.specs.Outside.{ChangeIsTyped, EventIsTyped, MomentsFit, NamedIsTyped, SettingIsTyped, ValueIsTyped, moment_after}
 use Rattle.merge_typed.proofs.Entries.{values-put}
 use Rattle.merge_typed.proofs.Sessions.{session-keeps}

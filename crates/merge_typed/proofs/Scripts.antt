@@ -14,8 +14,8 @@ use Rattle.merge_types.specs.declared.values.Value.{Value}
 use Rattle.merge_types.specs.declared.values.Value.TheVariants.{Bit, Bytes, Day, Guid, Int, Null, Text}
 use Rattle.merge_script.specs.Names.{decimal_of}
 use Rattle.merge_script.specs.Words.{is_quiet_by, words_of}
-use Rattle.merge_model.specs.Literals.{bytes_of_text, day_of_text, day_written, fits_int, guid_of_text, guid_printed_as, int_of_text, is_day, number_written, or_else, pieces_mean, quoted_of_text, row_of_text, same, some_if, text_between, utf8_only, value_of_text, value_of_word}
-use Rattle.merge_model.specs.Reading.{Read, delete_in, deliver_in, ends_before, event_in, events_by, events_of, insert_in, is_equals_sign, line_by, line_of, line_of_words, made_out, message_of, name_of, purge_in, read_at, reader_of, seconds_of, send_in, setting_of, settings_from, settings_in, show_in, site_event_in, site_of, some_settings_from, unknown_in, update_in, wait_in, word_at, ◌>>=◌}
+use Rattle.merge_model.specs.Script.Literals.{bytes_of_text, day_of_text, day_written, fits_int, guid_of_text, guid_printed_as, int_of_text, is_day, number_written, or_else, pieces_mean, quoted_of_text, row_of_text, same, some_if, text_between, utf8_only, value_of_text, value_of_word}
+use Rattle.merge_model.specs.Script.Reading.{Read, delete_in, deliver_in, ends_before, event_in, events_by, events_of, insert_in, is_equals_sign, line_by, line_of, line_of_words, made_out, message_of, name_of, purge_in, read_at, reader_of, seconds_of, send_in, setting_of, settings_from, settings_in, show_in, site_event_in, site_of, some_settings_from, unknown_in, update_in, wait_in, word_at, ◌>>=◌}
 use Rattle.merge_model.specs.declared.event.Event.{Event}
 use Rattle.merge_model.specs.declared.event.Event.TheVariants as event
 use Rattle.merge_model.specs.declared.event.Line.{Line}

@@ -3,8 +3,8 @@ use Rattle.std.specs.Prelude.{Bool, None, Option, Some, false, if◌then◌else�
 use Rattle.merge_types.specs.declared.identifiers.SiteId.{SiteId}
 use Rattle.merge_batch.specs.declared.refusal.Refusal.{Refusal}
 use Rattle.merge_batch.specs.declared.reply.Downloaded.{Downloaded}
-use Rattle.merge_model.specs.Session.{Session, Stepping, after_download, all_downloads, all_ranges, all_uploads, answered_as, arrived, as_it_is, ask, asking_ranges, downloaded_in, downloading, exchange, has_grant, is_joined_in, joining, last_message, range_asks, session, then_deliver, unless_stopped, unsent_generations, uploading, with_answer, with_download, with_upload}
-use Rattle.merge_model.specs.Steps.{Action, Deliver, Send, SendDownload, SendJoin, SendRanges, SendUpload, Sending}
+use Rattle.merge_model.specs.World.Session.{Session, Stepping, after_download, all_downloads, all_ranges, all_uploads, answered_as, arrived, as_it_is, ask, asking_ranges, downloaded_in, downloading, exchange, has_grant, is_joined_in, joining, last_message, range_asks, session, then_deliver, unless_stopped, unsent_generations, uploading, with_answer, with_download, with_upload}
+use Rattle.merge_model.specs.World.Steps.{Action, Deliver, Send, SendDownload, SendJoin, SendRanges, SendUpload, Sending}
 use Rattle.merge_model.specs.declared.outcome.Outcome.{Outcome}
 use Rattle.merge_model.specs.declared.outcome.Outcome.TheVariants.{Posted, Refuses, Took}
 use Rattle.merge_typed.proofs.Walk.{ActionIsTyped}

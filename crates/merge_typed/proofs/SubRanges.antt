@@ -33,16 +33,16 @@ use Rattle.merge_batch.specs.declared.request.Outstanding.{Outstanding}
 use Rattle.merge_batch.specs.declared.request.RangeAsk.{RangeAsk}
 use Rattle.merge_batch.specs.declared.request.Upload.{Upload}
 use Rattle.merge_record.specs.Versions.{IsValue}
-use Rattle.merge_model.specs.Faults.{reply_fault}
+use Rattle.merge_model.specs.World.Faults.{reply_fault}
 use Rattle.merge_model.specs.Judge.{SubscriberJudge}
-use Rattle.merge_model.specs.Keys.{at_number, put_number}
-use Rattle.merge_model.specs.Refusals.{counter_end}
-use Rattle.merge_model.specs.Reinit.{reinitialise, reinitialised}
-use Rattle.merge_model.specs.Sending.{join_made, join_of, make_ask, make_join, make_ranges, make_upload, ranges_made, sending_refusal, unsent_rows, upload_made, upload_sent, want_of, with_message}
+use Rattle.merge_model.specs.Tables.Keys.{at_number, put_number}
+use Rattle.merge_model.specs.Tables.Refusals.{counter_end}
+use Rattle.merge_model.specs.Subscriber.Reinit.{reinitialise, reinitialised}
+use Rattle.merge_model.specs.Subscriber.Sending.{join_made, join_of, make_ask, make_join, make_ranges, make_upload, ranges_made, sending_refusal, unsent_rows, upload_made, upload_sent, want_of, with_message}
 use Rattle.merge_model.specs.Subscriber.{close_sub_generation, sub_at_moment, sub_closed, sub_counters, sub_drawn, sub_last_closed, sub_local, sub_next_dot, sub_version_at, taken_value, with_version_if}
 use Rattle.merge_model.specs.Tables.{SubscriberTables}
-use Rattle.merge_model.specs.Taking.{after_reply, take_reply, with_grant}
-use Rattle.merge_model.proofs.Finding.{at_put_other}
+use Rattle.merge_model.specs.Subscriber.Taking.{after_reply, take_reply, with_grant}
+use Rattle.merge_model.proofs.Lists.Finding.{at_put_other}
 use Rattle.merge_model.proofs.Lists.{OfSome}
 use Rattle.merge_typed.specs.Messages.{ToldIsTyped, told_range}
 use Rattle.merge_typed.proofs.Calls.{ok-of, reply-ok, sub-local-ok, unless-ok}

@@ -26,15 +26,15 @@ use Rattle.merge_batch.specs.declared.request.RangeAsk.{RangeAsk}
 use Rattle.merge_batch.specs.declared.request.Upload.{Upload}
 use Rattle.merge_record.specs.Versions.{IsValue}
 use Rattle.merge_model.specs.Judge.{SubscriberJudge}
-use Rattle.merge_model.specs.Keys.{row_at}
-use Rattle.merge_model.specs.Refusals.{counter_end}
-use Rattle.merge_model.specs.Reinit.{discarded, numbered_from, reinitialise, reinitialised}
-use Rattle.merge_model.specs.Sending.{join_made, join_of, make_ask, make_join, make_ranges, make_upload, ranges_made, sending_refusal, unsent_rows, upload_item, upload_made, upload_sent, want_of, with_message}
+use Rattle.merge_model.specs.Tables.Keys.{row_at}
+use Rattle.merge_model.specs.Tables.Refusals.{counter_end}
+use Rattle.merge_model.specs.Subscriber.Reinit.{discarded, numbered_from, reinitialise, reinitialised}
+use Rattle.merge_model.specs.Subscriber.Sending.{join_made, join_of, make_ask, make_join, make_ranges, make_upload, ranges_made, sending_refusal, unsent_rows, upload_item, upload_made, upload_sent, want_of, with_message}
 use Rattle.merge_model.specs.Subscriber.{close_sub_generation, is_joining, sub_at_moment, sub_closed, sub_counters, sub_drawn, sub_last_closed, sub_local, sub_local_refusal, sub_made_locally, sub_next_dot, sub_version_at, with_version_if}
 use Rattle.merge_model.specs.Tables.{SubscriberTables}
-use Rattle.merge_model.specs.Taking.{after_reply, key_of_download, row_above, take_reply, with_item, with_order}
+use Rattle.merge_model.specs.Subscriber.Taking.{after_reply, key_of_download, row_above, take_reply, with_item, with_order}
 use Rattle.merge_model.proofs.Lists.{OfSome, all-append, all-filter_map, all-map, all-unit, some-map}
-use Rattle.merge_model.proofs.Refusals.{first-none}
+use Rattle.merge_model.proofs.Runs.Refusals.{first-none}
 use Rattle.merge_typed.specs.Messages.{ItemIsTyped, OrderIsTyped}
 use Rattle.merge_typed.specs.Outside.{ChangeIsTyped}
 use Rattle.merge_typed.specs.Typed.{BodyIsTyped, LostIsTyped, MomentFits}

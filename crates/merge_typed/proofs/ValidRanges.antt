@@ -6,7 +6,7 @@ use Rattle.std.proofs.lemmas.Int.{ints}
 use Rattle.jiff_core.proofs.SignedLemmas.{signed_arith}
 use Rattle.merge_schema.specs.Valid.{HasValidRanges}
 use Rattle.merge_schema.specs.declared.publication.Identity.{Identity}
-use Rattle.merge_model.specs.Publications.{rule_of}
+use Rattle.merge_model.specs.Tables.Publications.{rule_of}
 use Rattle.merge_typed.specs.Outside.{RuleIsTyped}
 use Rattle.merge_typed.proofs.Holders.{within}
 

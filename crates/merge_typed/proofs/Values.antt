@@ -26,7 +26,7 @@ use Rattle.merge_batch.specs.LocalChanges.{article_of, change_refusal, fits_type
 use Rattle.merge_batch.specs.declared.refusal.Refusal.TheVariants.{RowTooLong, WrongType}
 use Rattle.merge_record.specs.Versions.{IsValue}
 use Rattle.merge_model.proofs.Lists.{OfSome, all-map, all-three, all-unit, some-map}
-use Rattle.merge_model.proofs.Refusals.{first-none}
+use Rattle.merge_model.proofs.Runs.Refusals.{first-none}
 use Rattle.merge_typed.specs.Outside.{ChangeIsTyped, SettingIsTyped, ValueIsTyped}
 use Rattle.merge_typed.specs.Typed.{BodyIsTyped, CellIsTyped}
 use Rattle.merge_typed.proofs.Entries.{all-find, all-numbered, none-found, or-else}

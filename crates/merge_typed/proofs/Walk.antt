@@ -25,20 +25,20 @@ use Rattle.merge_batch.specs.declared.request.Request.{Request}
 use Rattle.merge_batch.specs.declared.request.Request.TheVariants as request
 use Rattle.merge_batch.specs.declared.request.Upload.{Upload}
 use Rattle.merge_model.specs.Judge.{PublisherJudge, SubscriberJudge}
-use Rattle.merge_model.specs.Keys.{at_number, put_number}
+use Rattle.merge_model.specs.Tables.Keys.{at_number, put_number}
 use Rattle.merge_model.specs.Publisher.{close_generation}
-use Rattle.merge_model.specs.PublisherDownload.{download}
-use Rattle.merge_model.specs.PublisherJoin.{join}
-use Rattle.merge_model.specs.PublisherLocal.{local}
-use Rattle.merge_model.specs.PublisherPurge.{purge}
-use Rattle.merge_model.specs.PublisherRanges.{ranges}
-use Rattle.merge_model.specs.PublisherUpload.{upload}
-use Rattle.merge_model.specs.Reinit.{reinitialise}
-use Rattle.merge_model.specs.Sending.{make_ask, make_join, make_ranges, make_upload}
-use Rattle.merge_model.specs.Steps.{Action, CloseAt, Deliver, Forget, Look, Make, MakeAnew, Pass, Send, SendDownload, SendJoin, SendRanges, SendUpload, Sending, after_upload, answered, at_subscriber, close_at, close_publisher, close_subscriber, deliver_letter, deliver_reply, deliver_request, kept_decisions, make_anew, make_at, make_at_publisher, make_at_subscriber, post, posted, send_from, step_by, unless_refused, upload_questions}
+use Rattle.merge_model.specs.Publisher.PublisherDownload.{download}
+use Rattle.merge_model.specs.Publisher.PublisherJoin.{join}
+use Rattle.merge_model.specs.Publisher.PublisherLocal.{local}
+use Rattle.merge_model.specs.Publisher.PublisherPurge.{purge}
+use Rattle.merge_model.specs.Publisher.PublisherRanges.{ranges}
+use Rattle.merge_model.specs.Publisher.PublisherUpload.{upload}
+use Rattle.merge_model.specs.Subscriber.Reinit.{reinitialise}
+use Rattle.merge_model.specs.Subscriber.Sending.{make_ask, make_join, make_ranges, make_upload}
+use Rattle.merge_model.specs.World.Steps.{Action, CloseAt, Deliver, Forget, Look, Make, MakeAnew, Pass, Send, SendDownload, SendJoin, SendRanges, SendUpload, Sending, after_upload, answered, at_subscriber, close_at, close_publisher, close_subscriber, deliver_letter, deliver_reply, deliver_request, kept_decisions, make_anew, make_at, make_at_publisher, make_at_subscriber, post, posted, send_from, step_by, unless_refused, upload_questions}
 use Rattle.merge_model.specs.Subscriber.{close_sub_generation, sub_local}
 use Rattle.merge_model.specs.Tables.{PublisherTables, SubscriberTables}
-use Rattle.merge_model.specs.Taking.{take_reply}
+use Rattle.merge_model.specs.Subscriber.Taking.{take_reply}
 use Rattle.merge_model.specs.World.{Judges, Saying, World, letter_at, subscriber_at, with_publisher, with_subscriber}
 use Rattle.merge_model.specs.declared.letter.Letter.{Letter}
 use Rattle.merge_model.specs.declared.letter.Message.{Message}
@@ -46,7 +46,7 @@ use Rattle.merge_model.specs.declared.letter.Message.TheVariants.{Asks, Replies}
 use Rattle.merge_model.specs.declared.outcome.Outcome.{Outcome}
 use Rattle.merge_model.specs.declared.outcome.Outcome.TheVariants.{Closes, Discards, Made, NoLetter, Refuses, Took}
 use Rattle.merge_model.specs.declared.outcome.Taken.{Taken}
-use Rattle.merge_model.proofs.Finding.{all-more, at_put, pool-at, some_same}
+use Rattle.merge_model.proofs.Lists.Finding.{all-more, at_put, pool-at, some_same}
 use Rattle.merge_typed.specs.Outside.{ChangeIsTyped}
 use Rattle.merge_typed.specs.Typed.{MomentFits}
 

@@ -13,7 +13,7 @@ use Rattle.merge_ident.specs.declared.grants.Rule.{Rule}
 use Rattle.merge_resolve.specs.declared.case.ConflictCase.{ConflictCase}
 use Rattle.merge_schema.specs.declared.publication.Publication.{Publication}
 use Rattle.merge_batch.specs.LocalChanges.{settings_of}
-use Rattle.merge_model.specs.Publications.{rules_of}
+use Rattle.merge_model.specs.Tables.Publications.{rules_of}
 use Rattle.merge_model.specs.World.{Saying}
 use Rattle.merge_model.specs.declared.event.Event.{Event}
 use Rattle.merge_model.specs.declared.event.Event.TheVariants as event

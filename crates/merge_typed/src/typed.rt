@@ -1,5 +1,5 @@
 //! Laws on values and moments.
-ghost use Rattle.merge_model.specs.Resolvers.{rules_say};
+ghost use Rattle.merge_model.specs.Script.Resolvers.{rules_say};
 ghost use Rattle.merge_typed.specs.Laws.{MessagesAreTyped, OfEveryTypedRun, TablesAreTyped};
 ghost use Rattle.merge_typed.specs.Outside.{SayingIsTyped};
 ghost use Rattle.merge_typed.specs.Scripts.{ScriptsAreTyped};

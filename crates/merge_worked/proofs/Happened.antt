@@ -13,9 +13,9 @@ use Rattle.merge_units.specs.declared.version.Version.{Version}
 use Rattle.merge_conflict.specs.declared.row.ConflictRow.{ConflictRow}
 use Rattle.merge_schema.specs.declared.publication.Publication.{Publication}
 use Rattle.merge_model.specs.History.{MadeChange, Past, has, past_at, past_in}
-use Rattle.merge_model.specs.Keys.{at_number, same_key}
-use Rattle.merge_model.specs.Model.{Model}
-use Rattle.merge_model.specs.Promises.{AllAccounted, AllStand, IsSettled, LetterStands, RowsStand, SettledHoldsPartition, StandsFor, TableStands, is_accounted, key_of_conflict, lineages_in, lost_at, publisher_versions, subscriber_versions, versions_held, versions_owed}
+use Rattle.merge_model.specs.Tables.Keys.{at_number, same_key}
+use Rattle.merge_model.specs.History.Model.{Model}
+use Rattle.merge_model.specs.Laws.Promises.{AllAccounted, AllStand, IsSettled, LetterStands, RowsStand, SettledHoldsPartition, StandsFor, TableStands, is_accounted, key_of_conflict, lineages_in, lost_at, publisher_versions, subscriber_versions, versions_held, versions_owed}
 use Rattle.merge_types.specs.declared.row_key.RowKey.{RowKey as Key}
 use Rattle.merge_model.specs.Tables.{SubscriberTables}
 use Rattle.merge_model.specs.World.{letter_at}

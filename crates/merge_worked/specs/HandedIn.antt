@@ -8,7 +8,7 @@ use Rattle.merge_worked.specs.Worked.{Worked}
 use Rattle.merge_types.specs.declared.values.Value.{Value}
 use Rattle.merge_types.specs.declared.values.Value.TheVariants.{Int}
 use Rattle.merge_units.specs.declared.result.Decision.TheVariants.{Custom}
-use Rattle.merge_model.specs.Resolvers.{rules_say}
+use Rattle.merge_model.specs.Script.Resolvers.{rules_say}
 use Rattle.merge_model.specs.World.{Saying}
 
 abbrev publication : Publication

@@ -14,19 +14,19 @@ use Rattle.merge_schema.specs.declared.publication.Publication.{Publication}
 use Rattle.merge_batch.specs.declared.reply.DownloadItem.{DownloadItem}
 use Rattle.merge_script.specs.Input.{script_of}
 use Rattle.merge_script.specs.Lines.{lines_of}
-use Rattle.merge_model.specs.ByHistory.{by_made, by_past}
-use Rattle.merge_model.specs.Events.{after}
+use Rattle.merge_model.specs.Judge.ByHistory.{by_made, by_past}
+use Rattle.merge_model.specs.World.Events.{after}
 use Rattle.merge_model.specs.History.{MadeChange, Past, has, past_at, past_in}
-use Rattle.merge_model.specs.Keys.{has_key, same_key}
-use Rattle.merge_model.specs.Model.{Model, empty_model, model}
-use Rattle.merge_model.specs.Promises.{Place, base_of, is_accounted, is_expired_at, is_given_up, is_kept_as_lost, is_kept_here, is_kept_unsent, is_put, key_of_conflict, lineages_in, lost_at, places_of, publisher_versions, stays_inside, subscriber_versions, versions_held, versions_owed, watermark_of}
+use Rattle.merge_model.specs.Tables.Keys.{has_key, same_key}
+use Rattle.merge_model.specs.History.Model.{Model, empty_model, model}
+use Rattle.merge_model.specs.Laws.Promises.{Place, base_of, is_accounted, is_expired_at, is_given_up, is_kept_as_lost, is_kept_here, is_kept_unsent, is_put, key_of_conflict, lineages_in, lost_at, places_of, publisher_versions, stays_inside, subscriber_versions, versions_held, versions_owed, watermark_of}
 use Rattle.merge_model.specs.Publisher.{at_moment, last_closed}
-use Rattle.merge_model.specs.PublisherDownload.{reply_to}
-use Rattle.merge_model.specs.PublisherPurge.{is_old}
-use Rattle.merge_model.specs.Reading.{events_of}
-use Rattle.merge_model.specs.Resolvers.{rules_say}
-use Rattle.merge_model.specs.Sending.{unsent_rows}
-use Rattle.merge_model.specs.Session.{Session, session}
+use Rattle.merge_model.specs.Publisher.PublisherDownload.{reply_to}
+use Rattle.merge_model.specs.Publisher.PublisherPurge.{is_old}
+use Rattle.merge_model.specs.Script.Reading.{events_of}
+use Rattle.merge_model.specs.Script.Resolvers.{rules_say}
+use Rattle.merge_model.specs.Subscriber.Sending.{unsent_rows}
+use Rattle.merge_model.specs.World.Session.{Session, session}
 use Rattle.merge_types.specs.declared.row_key.RowKey.{RowKey as Key}
 use Rattle.merge_model.specs.Tables.{SubscriberTables}
 use Rattle.merge_model.specs.World.{subscriber_at}

@@ -8,11 +8,11 @@ use Rattle.merge_schema.specs.declared.publication.SubKind.TheVariants as kind
 use Rattle.merge_script.specs.Input.{script_of}
 use Rattle.merge_script.specs.Lines.{lines_of}
 use Rattle.merge_model.specs.Failing.{Slip, Slips}
-use Rattle.merge_model.specs.Play.{names_of}
-use Rattle.merge_model.specs.Reading.{events_of}
-use Rattle.merge_model.specs.Resolvers.{rules_say}
-use Rattle.merge_model.specs.Runs.{machine_says, model_says}
-use Rattle.merge_model.specs.Text.{texts_of}
+use Rattle.merge_model.specs.Script.Play.{names_of}
+use Rattle.merge_model.specs.Script.Reading.{events_of}
+use Rattle.merge_model.specs.Script.Resolvers.{rules_say}
+use Rattle.merge_model.specs.Failing.Runs.{machine_says, model_says}
+use Rattle.merge_model.specs.Script.Text.{texts_of}
 use Rattle.merge_worked.specs.Worked.{Worked}
 
 -- the answers of a run with slips, by the machine and by the model

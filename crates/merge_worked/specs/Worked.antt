@@ -1,9 +1,9 @@
 -- A worked script: a publication, an input that the program gets behind it, and the answers.
 use Rattle.std.specs.Prelude.{◌≡◌, ℕ, List}
 use Rattle.merge_schema.specs.declared.publication.Publication.{Publication}
-use Rattle.merge_model.specs.Events.{after, machine}
-use Rattle.merge_model.specs.Play.{machine_text, model_text, played, told}
-use Rattle.merge_model.specs.Reading.{events_of}
+use Rattle.merge_model.specs.World.Events.{after, machine}
+use Rattle.merge_model.specs.Script.Play.{machine_text, model_text, played, told}
+use Rattle.merge_model.specs.Script.Reading.{events_of}
 use Rattle.merge_model.specs.World.{Saying, empty_world}
 use Rattle.merge_script.specs.Input.{script_of}
 use Rattle.merge_script.specs.Lines.{lines_of}

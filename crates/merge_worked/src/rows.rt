@@ -1,7 +1,7 @@
 //! One function for each script. They do nothing: their contracts say what is computed.
 ghost use Rattle.std.specs.Prelude.{◌≡◌, ◌∷◌, [], pos, true};
 ghost use Rattle.merge_schema.specs.Valid.{IsValid};
-ghost use Rattle.merge_model.specs.Promises.{AllAccounted, AllStand, SettledHoldsPartition};
+ghost use Rattle.merge_model.specs.Laws.Promises.{AllAccounted, AllStand, SettledHoldsPartition};
 ghost use Rattle.merge_worked.specs.Worked.{IsPlayed, IsPlayedBy, IsTold, IsToldBy, tallies_by};
 ghost use Rattle.merge_worked.specs.ARowGoesOver.{a_row_goes_over as a_row_goes_over_worked};
 ghost use Rattle.merge_worked.specs.FirstUpdateStays.{first_update_stays as first_update_stays_worked};

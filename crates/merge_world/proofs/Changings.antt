@@ -6,11 +6,11 @@ use Rattle.merge_types.specs.declared.identifiers.SiteId.{SiteId}
 use Rattle.merge_schema.specs.declared.publication.Publication.{Publication}
 use Rattle.merge_batch.specs.declared.refusal.Refusal.{Refusal}
 use Rattle.merge_batch.specs.declared.refusal.Refusal.TheVariants as refusal
-use Rattle.merge_model.specs.Events.{change_answer, changing, happens, is_site, where_site}
+use Rattle.merge_model.specs.World.Events.{change_answer, changing, happens, is_site, where_site}
 use Rattle.merge_model.specs.Failing.{Faulty, faulty}
-use Rattle.merge_model.specs.Naming.{delete_by, insert_by, update_by}
-use Rattle.merge_model.specs.Reach.{stepping}
-use Rattle.merge_model.specs.Steps.{Make}
+use Rattle.merge_model.specs.World.Naming.{delete_by, insert_by, update_by}
+use Rattle.merge_model.specs.Failing.Reach.{stepping}
+use Rattle.merge_model.specs.World.Steps.{Make}
 use Rattle.merge_model.specs.World.{Saying, World}
 use Rattle.merge_model.specs.declared.answer.Answer.{Answer}
 use Rattle.merge_model.specs.declared.answer.Answer.TheVariants.{Refused}

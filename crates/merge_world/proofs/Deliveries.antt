@@ -11,12 +11,12 @@ use Rattle.merge_batch.specs.declared.refusal.Refusal.TheVariants.{NoMemory, Unk
 use Rattle.merge_batch.specs.declared.reply.Reply.{Reply}
 use Rattle.merge_batch.specs.declared.reply.Reply.TheVariants as reply
 use Rattle.merge_batch.specs.declared.request.Request.{Request}
-use Rattle.merge_model.specs.ByNumbers.{by_rows}
-use Rattle.merge_model.specs.Calls.{Counted, handled, questions_on, reply_commits, request_commits, taken_commits}
-use Rattle.merge_model.specs.Parts.{pooled}
-use Rattle.merge_model.specs.Steps.{Action, Deliver, deliver_letter, deliver_reply, step, unless_refused}
+use Rattle.merge_model.specs.Judge.ByNumbers.{by_rows}
+use Rattle.merge_model.specs.World.Calls.{Counted, handled, questions_on, reply_commits, request_commits, taken_commits}
+use Rattle.merge_model.specs.World.Parts.{pooled}
+use Rattle.merge_model.specs.World.Steps.{Action, Deliver, deliver_letter, deliver_reply, step, unless_refused}
 use Rattle.merge_model.specs.Tables.{SubscriberTables}
-use Rattle.merge_model.specs.Taking.{take_reply}
+use Rattle.merge_model.specs.Subscriber.Taking.{take_reply}
 use Rattle.merge_model.specs.World.{Saying, World, by_tables, letter_at, subscriber_at, with_subscriber}
 use Rattle.merge_model.specs.declared.letter.Letter.{Letter}
 use Rattle.merge_model.specs.declared.letter.Message.{Message}
@@ -24,7 +24,7 @@ use Rattle.merge_model.specs.declared.letter.Message.TheVariants.{Asks, Replies}
 use Rattle.merge_model.specs.declared.outcome.Outcome.{Outcome}
 use Rattle.merge_model.specs.declared.outcome.Outcome.TheVariants.{NoLetter, Posted, Refuses, Took}
 use Rattle.merge_model.specs.declared.outcome.Taken.{Taken}
-use Rattle.merge_model.proofs.Calling.{calls, outcome_by}
+use Rattle.merge_model.proofs.Failing.Calling.{calls, outcome_by}
 use Rattle.merge_world.specs.Views.{Does, HandedView, IsOrdered, Moves, PublisherCall, PublisherView, SitesView, SubscriberCall, SubscriberView, faults_of, sites_view, world_of}
 use Rattle.merge_world.proofs.Doing.{acts-all, both-rise}
 use Rattle.merge_world.proofs.Finding.{found-place, is_of, placed, publication-place, unfound}

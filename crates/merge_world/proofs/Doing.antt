@@ -8,15 +8,15 @@ use Rattle.merge_types.specs.declared.identifiers.SiteId.{SiteId}
 use Rattle.merge_schema.specs.declared.publication.Publication.{Publication}
 use Rattle.merge_batch.specs.declared.refusal.Refusal.{Refusal}
 use Rattle.merge_model.specs.Failing.{Slips, commits, faulty}
-use Rattle.merge_model.specs.Keys.{put_number}
-use Rattle.merge_model.specs.Reach.{Acts, Reaches, stepping, with_outcome}
-use Rattle.merge_model.specs.Steps.{Action, step, unless_refused}
+use Rattle.merge_model.specs.Tables.Keys.{put_number}
+use Rattle.merge_model.specs.Failing.Reach.{Acts, Reaches, stepping, with_outcome}
+use Rattle.merge_model.specs.World.Steps.{Action, step, unless_refused}
 use Rattle.merge_model.specs.Tables.{PublisherTables, SubscriberTables}
 use Rattle.merge_model.specs.World.{Saying, World, subscriber_at, with_publisher, with_subscriber}
 use Rattle.merge_model.specs.declared.letter.Letter.{Letter}
 use Rattle.merge_model.specs.declared.outcome.Outcome.{Outcome}
-use Rattle.merge_model.proofs.Calling.{calls-plainly, outcome_by, takes}
-use Rattle.merge_model.proofs.Places.{found-in-place, put-in-place}
+use Rattle.merge_model.proofs.Failing.Calling.{calls-plainly, outcome_by, takes}
+use Rattle.merge_model.proofs.Lists.Places.{found-in-place, put-in-place}
 use Rattle.merge_world.specs.Views.{Does, IsOrdered, PublisherCall, PublisherView, SitesView, Stays, SubscriberCall, SubscriberView, entry_of, faults_of, publication_of, site_of, sites_view, world_of}
 
 -- the faults of one site rise by as many as those of all

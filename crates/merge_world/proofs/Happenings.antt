@@ -6,10 +6,10 @@ use Rattle.merge_schema.specs.declared.publication.Publication.{Publication}
 use Rattle.merge_schema.specs.Places.{is_subscription}
 use Rattle.merge_batch.specs.declared.refusal.Refusal.{Refusal}
 use Rattle.merge_batch.specs.declared.refusal.Refusal.TheVariants.{NoMemory, UnknownSite}
-use Rattle.merge_model.specs.Events.{acting, answered_by, happens, is_site, looked, looking, outcome_answer, session_answer, syncing, where_site, where_subscriber}
+use Rattle.merge_model.specs.World.Events.{acting, answered_by, happens, is_site, looked, looking, outcome_answer, session_answer, syncing, where_site, where_subscriber}
 use Rattle.merge_model.specs.Failing.{Faulty, Slips, faulty}
-use Rattle.merge_model.specs.Reach.{Acts, Reaches, at, stepping, with_outcome}
-use Rattle.merge_model.specs.Steps.{Action, CloseAt, Deliver, Forget, Look, MakeAnew, Send, SendDownload, SendJoin, SendRanges, SendUpload}
+use Rattle.merge_model.specs.Failing.Reach.{Acts, Reaches, at, stepping, with_outcome}
+use Rattle.merge_model.specs.World.Steps.{Action, CloseAt, Deliver, Forget, Look, MakeAnew, Send, SendDownload, SendJoin, SendRanges, SendUpload}
 use Rattle.merge_model.specs.World.{Saying, World}
 use Rattle.merge_model.specs.declared.letter.Letter.{Letter}
 use Rattle.merge_model.specs.declared.answer.Answer.{Answer}
@@ -18,9 +18,9 @@ use Rattle.merge_model.specs.declared.event.Event.{Event}
 use Rattle.merge_model.specs.declared.event.Event.TheVariants as event
 use Rattle.merge_model.specs.declared.outcome.Outcome.{Outcome}
 use Rattle.merge_model.specs.declared.outcome.Outcome.TheVariants.{Passed, Refuses}
-use Rattle.merge_model.proofs.Calling.{made, wants}
-use Rattle.merge_model.proofs.Reached.{same-start, under}
-use Rattle.merge_model.proofs.ReachedEvents.{synced, waiting}
+use Rattle.merge_model.proofs.Failing.Calling.{made, wants}
+use Rattle.merge_model.proofs.Failing.Reached.{same-start, under}
+use Rattle.merge_model.proofs.Failing.ReachedEvents.{synced, waiting}
 use Rattle.merge_world.proofs.Doing.{same-count}
 use Rattle.merge_world.proofs.Locals.{stays-same}
 use Rattle.merge_world.specs.Happenings.{Comes, Happened, Proceeds, seconds_of, send_event}

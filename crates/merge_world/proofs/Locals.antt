@@ -10,14 +10,14 @@ use Rattle.merge_types.specs.declared.identifiers.SiteId.{SiteId}
 use Rattle.merge_schema.specs.declared.publication.Publication.{Publication}
 use Rattle.merge_batch.specs.declared.refusal.Refusal.{Refusal}
 use Rattle.merge_batch.specs.declared.refusal.Refusal.TheVariants.{NoMemory, UnknownSite}
-use Rattle.merge_model.specs.ByNumbers.{by_numbers, by_rows}
-use Rattle.merge_model.specs.Calls.{always_commits, closing_commits}
+use Rattle.merge_model.specs.Judge.ByNumbers.{by_numbers, by_rows}
+use Rattle.merge_model.specs.World.Calls.{always_commits, closing_commits}
 use Rattle.merge_model.specs.Failing.{closing_at_subscriber, commits}
 use Rattle.merge_model.specs.Publisher.{close_generation}
-use Rattle.merge_model.specs.PublisherLocal.{local}
-use Rattle.merge_model.specs.PublisherPurge.{purge}
-use Rattle.merge_model.specs.Reinit.{reinitialise}
-use Rattle.merge_model.specs.Steps.{Action, CloseAt, Forget, Make, MakeAnew, at_subscriber, close_publisher, close_subscriber, make_anew, make_at_publisher, make_at_subscriber, step, unless_refused}
+use Rattle.merge_model.specs.Publisher.PublisherLocal.{local}
+use Rattle.merge_model.specs.Publisher.PublisherPurge.{purge}
+use Rattle.merge_model.specs.Subscriber.Reinit.{reinitialise}
+use Rattle.merge_model.specs.World.Steps.{Action, CloseAt, Forget, Make, MakeAnew, at_subscriber, close_publisher, close_subscriber, make_anew, make_at_publisher, make_at_subscriber, step, unless_refused}
 use Rattle.merge_model.specs.Subscriber.{close_sub_generation, sub_local}
 use Rattle.merge_model.specs.Tables.{SubscriberTables}
 use Rattle.merge_model.specs.World.{Saying, World, by_tables, subscriber_at, with_subscriber}
@@ -25,7 +25,7 @@ use Rattle.merge_model.specs.declared.letter.Letter.{Letter}
 use Rattle.merge_model.specs.declared.outcome.Forgotten.{Forgotten}
 use Rattle.merge_model.specs.declared.outcome.Outcome.{Outcome}
 use Rattle.merge_model.specs.declared.outcome.Outcome.TheVariants.{Closes, Discards, Forgot, Made, Refuses}
-use Rattle.merge_model.proofs.Calling.{made, outcome_by, takes, wants}
+use Rattle.merge_model.proofs.Failing.Calling.{made, outcome_by, takes, wants}
 use Rattle.merge_world.specs.Views.{Does, IsOrdered, PublisherCall, PublisherView, SitesView, Stays, SubscriberCall, SubscriberView, sites_view, world_of}
 use Rattle.merge_world.proofs.Doing.{publisher-does, same-count, subscriber-does}
 use Rattle.merge_world.proofs.Finding.{at-place, found-place, is_of, placed, publication-place, unfound, within}

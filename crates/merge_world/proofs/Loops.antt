@@ -4,11 +4,11 @@ use Rattle.merge_types.specs.declared.identifiers.SiteId.{SiteId}
 use Rattle.merge_schema.specs.declared.publication.Publication.{Publication}
 use Rattle.merge_batch.specs.declared.refusal.Refusal.{Refusal}
 use Rattle.merge_model.specs.Failing.{Faulty, Slips}
-use Rattle.merge_model.specs.Reach.{Reaches, at}
-use Rattle.merge_model.specs.Session.{Session}
-use Rattle.merge_model.specs.Steps.{SendDownload, SendRanges, SendUpload}
+use Rattle.merge_model.specs.Failing.Reach.{Reaches, at}
+use Rattle.merge_model.specs.World.Session.{Session}
+use Rattle.merge_model.specs.World.Steps.{SendDownload, SendRanges, SendUpload}
 use Rattle.merge_model.specs.World.{Saying, World, subscriber_at}
-use Rattle.merge_model.proofs.Reached.{stays}
+use Rattle.merge_model.proofs.Failing.Reached.{stays}
 use Rattle.merge_world.specs.Sessions.{AllRanges, AllUploads, Downloads, Exchanges, Goes, Leaves, Ranges, Uploads, download_in, grants, is_past, last_in, one_if, part_of, unsent_at}
 use Rattle.merge_world.specs.declared.exchange.Exchanged.TheVariants.{Answered, Taken, Unanswered}
 use Rattle.merge_world.proofs.Turns.{ask-answered, ask-granted, ask-last, ask-unanswered, download-answered, download-last, download-more, download-unanswered, turns-done, turns-end, turns-more, upload-answered, upload-taken, upload-unanswered}

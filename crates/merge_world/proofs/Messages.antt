@@ -12,19 +12,19 @@ use Rattle.merge_batch.specs.declared.request.RangeAsk.{RangeAsk}
 use Rattle.merge_batch.specs.declared.request.Request.{Request}
 use Rattle.merge_batch.specs.declared.request.Request.TheVariants as request
 use Rattle.merge_batch.specs.declared.request.Upload.{Upload}
-use Rattle.merge_model.specs.ByNumbers.{by_rows}
-use Rattle.merge_model.specs.Calls.{message_commits, message_or_none}
-use Rattle.merge_model.specs.Keys.{put_number}
-use Rattle.merge_model.specs.Reach.{Acts}
-use Rattle.merge_model.specs.Sending.{make_ask, make_join, make_ranges, make_upload}
-use Rattle.merge_model.specs.Steps.{Action, Send, SendDownload, SendJoin, SendRanges, SendUpload, Sending, post, posted, send_from, step, unless_refused}
+use Rattle.merge_model.specs.Judge.ByNumbers.{by_rows}
+use Rattle.merge_model.specs.World.Calls.{message_commits, message_or_none}
+use Rattle.merge_model.specs.Tables.Keys.{put_number}
+use Rattle.merge_model.specs.Failing.Reach.{Acts}
+use Rattle.merge_model.specs.Subscriber.Sending.{make_ask, make_join, make_ranges, make_upload}
+use Rattle.merge_model.specs.World.Steps.{Action, Send, SendDownload, SendJoin, SendRanges, SendUpload, Sending, post, posted, send_from, step, unless_refused}
 use Rattle.merge_model.specs.Tables.{SubscriberTables}
 use Rattle.merge_model.specs.World.{Saying, World, by_tables, subscriber_at, with_subscriber}
 use Rattle.merge_model.specs.declared.letter.Letter.{Letter}
 use Rattle.merge_model.specs.declared.letter.Message.TheVariants.{Asks}
 use Rattle.merge_model.specs.declared.outcome.Outcome.{Outcome}
 use Rattle.merge_model.specs.declared.outcome.Outcome.TheVariants.{NoPost, Posted, Refuses}
-use Rattle.merge_model.proofs.Calling.{sends-message}
+use Rattle.merge_model.proofs.Failing.Calling.{sends-message}
 use Rattle.merge_world.specs.Messages.{always, as_request, requested}
 use Rattle.merge_world.specs.Views.{Does, IsOrdered, PublisherView, SitesView, SubscriberCall, SubscriberView, entry_of, sites_view, world_of}
 use Rattle.merge_world.proofs.Doing.{acts-all, faults-at, put-at, put-back, stays-at}

@@ -17,7 +17,7 @@ use Rattle.merge_units.specs.Changes.{ColumnsAscend}
 use Rattle.merge_schema.specs.declared.publication.Article.{Article}
 use Rattle.merge_schema.specs.declared.publication.Publication.{Publication}
 use Rattle.merge_batch.specs.Articles.{has_article}
-use Rattle.merge_model.specs.Naming.{article_place, column_place, place_from, setting_of}
+use Rattle.merge_model.specs.World.Naming.{article_place, column_place, place_from, setting_of}
 
 -- The first place.
 place-from : {A : Type 0} (place : ℕ) (test : A → Bool) (xs : List A) → place_from place test xs ≡ position_from test place xs

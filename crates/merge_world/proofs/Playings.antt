@@ -3,12 +3,12 @@ use Rattle.std.proofs.Common.{◌≡◌, ◌≤◌, ◌+◌, ◌++◌, ◌∷◌
 use Rattle.std.proofs.lemmas.List.{append-nil}
 use Rattle.merge_schema.specs.declared.publication.Publication.{Publication}
 use Rattle.merge_model.specs.Failing.{Faulty, Slips, faulty}
-use Rattle.merge_model.specs.Reach.{is_store_fault, run}
+use Rattle.merge_model.specs.Failing.Reach.{is_store_fault, run}
 use Rattle.merge_model.specs.World.{Saying, World, empty_world}
 use Rattle.merge_model.specs.declared.answer.Answer.{Answer}
 use Rattle.merge_model.specs.declared.event.Event.{Event}
-use Rattle.merge_model.proofs.Reached.{stays}
-use Rattle.merge_model.proofs.ReachedEvents.{run-on}
+use Rattle.merge_model.proofs.Failing.Reached.{stays}
+use Rattle.merge_model.proofs.Failing.ReachedEvents.{run-on}
 use Rattle.merge_world.proofs.Doing.{same-count}
 use Rattle.merge_world.proofs.Sessions.{still-ordered}
 use Rattle.merge_world.specs.Happenings.{Comes, Happened}

@@ -11,10 +11,10 @@ use Rattle.merge_units.specs.declared.version.Body.TheVariants.{Dead, Live}
 use Rattle.merge_units.specs.declared.version.Cell.{Cell}
 use Rattle.merge_units.specs.declared.version.Version.{Version}
 use Rattle.merge_schema.specs.Partition.{LiveRow}
-use Rattle.merge_model.specs.Entries.{live_row}
-use Rattle.merge_model.specs.Reports.{is_of_article, shown_rows}
+use Rattle.merge_model.specs.Publisher.Entries.{live_row}
+use Rattle.merge_model.specs.World.Reports.{is_of_article, shown_rows}
 use Rattle.merge_model.specs.declared.answer.ShownRow.{ShownRow}
-use Rattle.merge_model.specs.Proper.{AreProper, IsProperBody}
+use Rattle.merge_model.specs.Script.Proper.{AreProper, IsProperBody}
 use Rattle.merge_world.specs.Printable.{ArePrintable}
 use Rattle.merge_world.specs.Reports.{live_in}
 

@@ -8,9 +8,9 @@ use Rattle.merge_types.specs.declared.identifiers.Moment.{Moment}
 use Rattle.merge_types.specs.declared.identifiers.SiteId.{SiteId}
 use Rattle.merge_batch.specs.declared.refusal.Refusal.{Refusal}
 use Rattle.merge_batch.specs.declared.refusal.Refusal.TheVariants.{NoMemory, UnknownSite}
-use Rattle.merge_model.specs.Events.{happens, is_site, looking}
+use Rattle.merge_model.specs.World.Events.{happens, is_site, looking}
 use Rattle.merge_model.specs.Failing.{Faulty, Slips, faulty}
-use Rattle.merge_model.specs.Reach.{stepping}
+use Rattle.merge_model.specs.Failing.Reach.{stepping}
 use Rattle.merge_model.specs.Tables.{PublisherTables, SubscriberTables}
 use Rattle.merge_model.specs.World.{Saying, World}
 use Rattle.merge_model.specs.declared.answer.Answer.{Answer}

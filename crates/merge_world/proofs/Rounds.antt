@@ -5,7 +5,7 @@ use Rattle.merge_types.specs.declared.identifiers.SiteId.{SiteId}
 use Rattle.merge_batch.specs.declared.refusal.Refusal.{Refusal}
 use Rattle.merge_batch.specs.declared.refusal.Refusal.TheVariants.{NoMemory}
 use Rattle.merge_batch.specs.declared.reply.Downloaded.{Downloaded}
-use Rattle.merge_model.specs.Steps.{SendDownload, SendJoin, SendRanges, SendUpload, Sending}
+use Rattle.merge_model.specs.World.Steps.{SendDownload, SendJoin, SendRanges, SendUpload, Sending}
 use Rattle.merge_world.specs.Sessions.{AllDownloads, AllRanges, AllUploads, Downloads, Exchanges, Goes, Joins, Met, Ran, Ranges, Stage, Stands, Synced, Uploads, download_in, grants, is_past, joined_at, last_in, left_in, one_if, unsent_at}
 use Rattle.merge_world.specs.Views.{HandedView, Keeps, SitesView, tables_at, world_of}
 use Rattle.merge_world.specs.declared.exchange.Exchanged.{Exchanged}

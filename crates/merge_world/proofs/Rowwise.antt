@@ -10,8 +10,8 @@ use Rattle.merge_units.specs.declared.site_row.SubscriberRow.{SubscriberRow}
 use Rattle.merge_units.specs.declared.version.Version.{Version}
 use Rattle.merge_schema.specs.Partition.{LiveRow}
 use Rattle.merge_schema.specs.declared.publication.Publication.{Publication}
-use Rattle.merge_model.specs.Entries.{live_row}
-use Rattle.merge_model.specs.Reports.{counts_of, is_of_article, shown_rows}
+use Rattle.merge_model.specs.Publisher.Entries.{live_row}
+use Rattle.merge_model.specs.World.Reports.{counts_of, is_of_article, shown_rows}
 use Rattle.merge_model.specs.Tables.{PublisherTables, SubscriberTables}
 use Rattle.merge_model.specs.declared.answer.Answer.TheVariants as answer
 use Rattle.merge_model.specs.declared.answer.ShownRow.{ShownRow}

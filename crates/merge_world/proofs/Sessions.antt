@@ -4,15 +4,15 @@ use Rattle.merge_types.specs.declared.identifiers.SiteId.{SiteId}
 use Rattle.merge_schema.specs.declared.publication.Publication.{Publication}
 use Rattle.merge_batch.specs.declared.refusal.Refusal.{Refusal}
 use Rattle.merge_model.specs.Failing.{Slips, faulty}
-use Rattle.merge_model.specs.Reach.{Acts, Asks, at, stepping}
-use Rattle.merge_model.specs.Session.{answered_as, arrived, exchange}
-use Rattle.merge_model.specs.Steps.{Deliver, Send, Sending}
+use Rattle.merge_model.specs.Failing.Reach.{Acts, Asks, at, stepping}
+use Rattle.merge_model.specs.World.Session.{answered_as, arrived, exchange}
+use Rattle.merge_model.specs.World.Steps.{Deliver, Send, Sending}
 use Rattle.merge_model.specs.World.{Saying, World}
 use Rattle.merge_model.specs.declared.outcome.Outcome.{Outcome}
 use Rattle.merge_model.specs.declared.outcome.Outcome.TheVariants.{Closes, Discards, Forgot, Made, NoLetter, NoPost, Passed, Posted, Refuses, Took}
 use Rattle.merge_model.specs.declared.outcome.Taken.{Taken as Reply}
-use Rattle.merge_model.proofs.Reached.{same-end}
-use Rattle.merge_model.proofs.ReachedSessions.{acts-by, answers, arrives, asked, asked-other}
+use Rattle.merge_model.proofs.Failing.Reached.{same-end}
+use Rattle.merge_model.proofs.Failing.ReachedSessions.{acts-by, answers, arrives, asked, asked-other}
 use Rattle.merge_world.specs.Sessions.{Exchanges, Met, Part, Reports, brings_found, download_in, last_in}
 use Rattle.merge_world.specs.Views.{Does, HandedView, IsOrdered, Keeps, Moves, SitesView, Stays, world_of}
 use Rattle.merge_world.specs.declared.exchange.Exchanged.TheVariants.{Answered, Taken, Unanswered}

@@ -8,14 +8,14 @@ use Rattle.merge_schema.specs.Places.{is_subscription}
 use Rattle.merge_batch.specs.declared.refusal.Refusal.{Refusal}
 use Rattle.merge_batch.specs.declared.refusal.Refusal.TheVariants as refusal
 use Rattle.merge_batch.specs.declared.refusal.Refusal.TheVariants.{UnknownName, UnknownSite}
-use Rattle.merge_model.specs.Changes.{is_insert}
-use Rattle.merge_model.specs.Events.{acting, answered_by, change_answer, changing, happens, is_site, looked, looking, outcome_answer, refused_change, reported, reporting, session_answer, taken_answer, where_site, where_subscriber}
+use Rattle.merge_model.specs.Tables.Changes.{is_insert}
+use Rattle.merge_model.specs.World.Events.{acting, answered_by, change_answer, changing, happens, is_site, looked, looking, outcome_answer, refused_change, reported, reporting, session_answer, taken_answer, where_site, where_subscriber}
 use Rattle.merge_model.specs.Failing.{Faulty, faulty}
-use Rattle.merge_model.specs.Reach.{stepping}
-use Rattle.merge_model.specs.Entries.{live_rows}
-use Rattle.merge_model.specs.Reports.{counts_of, held_report, partition_report, publisher_generations, sub_live_rows, subscriber_generations}
-use Rattle.merge_model.specs.Session.{Session, session}
-use Rattle.merge_model.specs.Steps.{Look}
+use Rattle.merge_model.specs.Failing.Reach.{stepping}
+use Rattle.merge_model.specs.Publisher.Entries.{live_rows}
+use Rattle.merge_model.specs.World.Reports.{counts_of, held_report, partition_report, publisher_generations, sub_live_rows, subscriber_generations}
+use Rattle.merge_model.specs.World.Session.{Session, session}
+use Rattle.merge_model.specs.World.Steps.{Look}
 use Rattle.merge_model.specs.Tables.{PublisherTables, SubscriberTables}
 use Rattle.merge_model.specs.World.{Saying, World, subscriber_at}
 use Rattle.merge_model.specs.declared.answer.Answer.{Answer}
@@ -25,7 +25,7 @@ use Rattle.merge_model.specs.declared.event.Event.TheVariants as event
 use Rattle.merge_model.specs.declared.outcome.Outcome.{Outcome}
 use Rattle.merge_model.specs.declared.outcome.Outcome.TheVariants.{Closes, Discards, Forgot, Made, NoLetter, NoPost, Passed, Posted, Refuses, Took}
 use Rattle.merge_model.specs.declared.outcome.Taken.TheVariants.{Acted, Missed}
-use Rattle.merge_model.specs.Proper.{IsProperAnswer}
+use Rattle.merge_model.specs.Script.Proper.{IsProperAnswer}
 use Rattle.merge_world.specs.Happenings.{Comes, Happened, Proceeds}
 use Rattle.merge_world.specs.Views.{HandedView, SitesView}
 

@@ -6,11 +6,11 @@ use Rattle.merge_schema.specs.Places.{is_subscription}
 use Rattle.merge_schema.specs.declared.publication.Publication.{Publication}
 use Rattle.merge_batch.specs.declared.refusal.Refusal.{Refusal}
 use Rattle.merge_batch.specs.declared.refusal.Refusal.TheVariants as refusal
-use Rattle.merge_model.specs.Events.{happens, is_site, looking, reported, showing}
+use Rattle.merge_model.specs.World.Events.{happens, is_site, looking, reported, showing}
 use Rattle.merge_model.specs.Failing.{Faulty, Slips, faulty}
-use Rattle.merge_model.specs.Naming.{article_by}
-use Rattle.merge_model.specs.Reach.{stepping}
-use Rattle.merge_model.specs.Reports.{partition_report, partition_rows}
+use Rattle.merge_model.specs.World.Naming.{article_by}
+use Rattle.merge_model.specs.Failing.Reach.{stepping}
+use Rattle.merge_model.specs.World.Reports.{partition_report, partition_rows}
 use Rattle.merge_model.specs.Tables.{PublisherTables, SubscriberTables}
 use Rattle.merge_model.specs.World.{Saying, World}
 use Rattle.merge_model.specs.declared.answer.Answer.{Answer}

@@ -7,16 +7,16 @@ use Rattle.merge_batch.specs.declared.refusal.Refusal.TheVariants.{NoMemory}
 use Rattle.merge_batch.specs.declared.reply.Downloaded.{Downloaded}
 use Rattle.merge_batch.specs.declared.reply.Reply.TheVariants as reply
 use Rattle.merge_model.specs.Failing.{Faulty, Slips}
-use Rattle.merge_model.specs.Reach.{Reaches, at, stepping}
-use Rattle.merge_model.specs.Session.{Session, after_download, all_downloads, all_ranges, all_uploads, as_it_is, asking_ranges, downloaded_in, downloading, exchange, has_grant, joining, last_message, unless_stopped, uploading, with_answer, with_download, with_upload}
-use Rattle.merge_model.specs.Steps.{Send, SendDownload, SendJoin, SendRanges, SendUpload, Sending}
+use Rattle.merge_model.specs.Failing.Reach.{Reaches, at, stepping}
+use Rattle.merge_model.specs.World.Session.{Session, after_download, all_downloads, all_ranges, all_uploads, as_it_is, asking_ranges, downloaded_in, downloading, exchange, has_grant, joining, last_message, unless_stopped, uploading, with_answer, with_download, with_upload}
+use Rattle.merge_model.specs.World.Steps.{Send, SendDownload, SendJoin, SendRanges, SendUpload, Sending}
 use Rattle.merge_model.specs.World.{Saying, World, subscriber_at}
 use Rattle.merge_model.specs.declared.letter.Message.{Message}
 use Rattle.merge_model.specs.declared.letter.Message.TheVariants.{Asks, Replies}
 use Rattle.merge_model.specs.declared.outcome.Outcome.TheVariants.{Refuses}
-use Rattle.merge_model.proofs.Calling.{wants}
-use Rattle.merge_model.proofs.Reached.{same-end, same-start, stays, then}
-use Rattle.merge_model.proofs.ReachedSessions.{asked-other, goes-on, is-stopped}
+use Rattle.merge_model.proofs.Failing.Calling.{wants}
+use Rattle.merge_model.proofs.Failing.Reached.{same-end, same-start, stays, then}
+use Rattle.merge_model.proofs.Failing.ReachedSessions.{asked-other, goes-on, is-stopped}
 use Rattle.merge_world.specs.Sessions.{AllDownloads, AllRanges, AllUploads, Counts, Downloads, Exchanges, Goes, Joins, Part, Ranges, Stage, Syncs, Uploads, brings_found, download_in, grants, is_past, joined_at, last_in, left_in, one_if}
 use Rattle.merge_world.specs.declared.exchange.Exchanged.{Exchanged}
 use Rattle.merge_world.specs.declared.exchange.Exchanged.TheVariants.{Answered, Taken, Unanswered}

@@ -4,9 +4,9 @@ use Rattle.merge_types.specs.declared.changes.Change.{Change}
 use Rattle.merge_types.specs.declared.identifiers.SiteId.{SiteId}
 use Rattle.merge_schema.specs.declared.publication.Publication.{Publication}
 use Rattle.merge_batch.specs.declared.refusal.Refusal.{Refusal}
-use Rattle.merge_model.specs.Events.{change_answer}
-use Rattle.merge_model.specs.Reach.{Happens}
-use Rattle.merge_model.specs.Steps.{Make}
+use Rattle.merge_model.specs.World.Events.{change_answer}
+use Rattle.merge_model.specs.Failing.Reach.{Happens}
+use Rattle.merge_model.specs.World.Steps.{Make}
 use Rattle.merge_model.specs.World.{Saying, World}
 use Rattle.merge_model.specs.declared.answer.Answer.{Answer}
 use Rattle.merge_model.specs.declared.event.Event.{Event}

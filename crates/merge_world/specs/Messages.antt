@@ -4,9 +4,9 @@ use Rattle.merge_types.specs.declared.identifiers.Moment.{Moment}
 use Rattle.merge_batch.specs.declared.refusal.Refusal.{Refusal}
 use Rattle.merge_batch.specs.declared.request.Request.{Request}
 use Rattle.merge_batch.specs.declared.request.Request.TheVariants as request
-use Rattle.merge_model.specs.ByNumbers.{by_rows}
-use Rattle.merge_model.specs.Sending.{make_ask, make_join, make_ranges, make_upload}
-use Rattle.merge_model.specs.Steps.{SendDownload, SendJoin, SendRanges, SendUpload, Sending}
+use Rattle.merge_model.specs.Judge.ByNumbers.{by_rows}
+use Rattle.merge_model.specs.Subscriber.Sending.{make_ask, make_join, make_ranges, make_upload}
+use Rattle.merge_model.specs.World.Steps.{SendDownload, SendJoin, SendRanges, SendUpload, Sending}
 use Rattle.merge_model.specs.Tables.{SubscriberTables}
 use Rattle.merge_world.specs.declared.sending.Sending.{Sending as Told}
 use Rattle.merge_world.specs.declared.sending.Sending.TheVariants as told

@@ -2,8 +2,8 @@
 use Rattle.std.specs.Prelude.{List, count_by, ℕ, ◌+◌, ◌≡◌, ◌≤◌}
 use Rattle.merge_schema.specs.declared.publication.Publication.{Publication}
 use Rattle.merge_model.specs.Failing.{Slips, faulty}
-use Rattle.merge_model.specs.Reach.{Reaches, is_store_fault, run}
-use Rattle.merge_model.specs.Runs.{machine_says, world_behind}
+use Rattle.merge_model.specs.Failing.Reach.{Reaches, is_store_fault, run}
+use Rattle.merge_model.specs.Failing.Runs.{machine_says, world_behind}
 use Rattle.merge_model.specs.World.{Saying, World, empty_world}
 use Rattle.merge_model.specs.declared.answer.Answer.{Answer}
 use Rattle.merge_model.specs.declared.event.Event.{Event}

@@ -8,10 +8,10 @@ use Rattle.merge_schema.specs.Partition.{LiveRow}
 use Rattle.merge_schema.specs.declared.publication.Publication.{Publication}
 use Rattle.merge_schema.specs.declared.publication.Subscription.{Subscription}
 use Rattle.merge_batch.specs.declared.refusal.Refusal.TheVariants.{UnknownSite}
-use Rattle.merge_model.specs.Entries.{live_row, live_rows}
-use Rattle.merge_model.specs.Keys.{at_number}
-use Rattle.merge_model.specs.Naming.{article_by}
-use Rattle.merge_model.specs.Reports.{counts_of, held_report, publisher_generations, shown_rows, sub_live_rows, subscriber_generations}
+use Rattle.merge_model.specs.Publisher.Entries.{live_row, live_rows}
+use Rattle.merge_model.specs.Tables.Keys.{at_number}
+use Rattle.merge_model.specs.World.Naming.{article_by}
+use Rattle.merge_model.specs.World.Reports.{counts_of, held_report, publisher_generations, shown_rows, sub_live_rows, subscriber_generations}
 use Rattle.merge_model.specs.Tables.{PublisherTables, SubscriberTables}
 use Rattle.merge_model.specs.declared.answer.Answer.{Answer}
 use Rattle.merge_model.specs.declared.answer.Answer.TheVariants as answer

@@ -2,7 +2,7 @@
 use Rattle.std.specs.Prelude.{List, Result, true, ℕ, ◌≡◌}
 use Rattle.merge_types.specs.declared.identifiers.SiteId.{SiteId}
 use Rattle.merge_batch.specs.declared.refusal.Refusal.{Refusal}
-use Rattle.merge_model.specs.Events.{is_site}
+use Rattle.merge_model.specs.World.Events.{is_site}
 use Rattle.merge_model.specs.declared.event.Event.{Event}
 use Rattle.merge_model.specs.declared.event.Event.TheVariants as event
 use Rattle.merge_world.specs.Restarts.{IsLost, Restarted}

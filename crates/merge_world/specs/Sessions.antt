@@ -7,9 +7,9 @@ use Rattle.merge_batch.specs.declared.refusal.Refusal.{Refusal}
 use Rattle.merge_batch.specs.declared.reply.Downloaded.{Downloaded}
 use Rattle.merge_batch.specs.declared.reply.Reply.TheVariants as reply
 use Rattle.merge_model.specs.Failing.{Faulty, Slips, faulty}
-use Rattle.merge_model.specs.Reach.{Asks, Reaches, at, stepping}
-use Rattle.merge_model.specs.Session.{Session, all_downloads, all_ranges, all_uploads, asking_ranges, downloading, exchange, joining, session, uploading}
-use Rattle.merge_model.specs.Steps.{Sending}
+use Rattle.merge_model.specs.Failing.Reach.{Asks, Reaches, at, stepping}
+use Rattle.merge_model.specs.World.Session.{Session, all_downloads, all_ranges, all_uploads, asking_ranges, downloading, exchange, joining, session, uploading}
+use Rattle.merge_model.specs.World.Steps.{Sending}
 use Rattle.merge_model.specs.Tables.{SubscriberTables}
 use Rattle.merge_model.specs.World.{Saying, World}
 use Rattle.merge_model.specs.declared.letter.Letter.{Letter}

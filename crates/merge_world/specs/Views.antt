@@ -5,10 +5,10 @@ use Rattle.merge_types.specs.declared.identifiers.SiteId.{SiteId}
 use Rattle.merge_resolve.specs.Asked.{says_at}
 use Rattle.merge_schema.specs.declared.publication.Publication.{Publication}
 use Rattle.merge_batch.specs.declared.refusal.Refusal.{Refusal}
-use Rattle.merge_model.specs.Calls.{Called}
-use Rattle.merge_model.specs.Keys.{at_number}
-use Rattle.merge_model.specs.Reach.{Acts}
-use Rattle.merge_model.specs.Steps.{Action}
+use Rattle.merge_model.specs.World.Calls.{Called}
+use Rattle.merge_model.specs.Tables.Keys.{at_number}
+use Rattle.merge_model.specs.Failing.Reach.{Acts}
+use Rattle.merge_model.specs.World.Steps.{Action}
 use Rattle.merge_model.specs.Tables.{PublisherTables, SubscriberTables}
 use Rattle.merge_model.specs.World.{Saying, World}
 use Rattle.merge_model.specs.declared.letter.Letter.{Letter}

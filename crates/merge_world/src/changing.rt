@@ -1,7 +1,7 @@
 //! Events that change a row.
 ghost use Rattle.std.specs.Prelude.{◌≡◌};
 ghost use Rattle.merge_batch.specs.LocalChanges.{article_of, is_insert};
-ghost use Rattle.merge_model.specs.Events.{change_answer, refused_change};
+ghost use Rattle.merge_model.specs.World.Events.{change_answer, refused_change};
 ghost use Rattle.merge_model.specs.declared.event.Event.TheVariants as event;
 ghost use Rattle.merge_model.specs.declared.outcome.Outcome.TheVariants as outcome;
 ghost use Rattle.merge_world.specs.Happenings.{Changed, Happened};

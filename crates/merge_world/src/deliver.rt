@@ -1,6 +1,6 @@
 //! Messages that come to where they go.
 ghost use Rattle.std.specs.Prelude.{◌≡◌, ◌<◌, vec_len, vec_capacity};
-ghost use Rattle.merge_model.specs.Steps.{Deliver};
+ghost use Rattle.merge_model.specs.World.Steps.{Deliver};
 ghost use Rattle.merge_world.specs.Views.{IsOrdered, Moves, handed_view};
 
 use crate::places::place_in;

@@ -1,7 +1,7 @@
 //! Events, but for local changes and reports.
 ghost use Rattle.std.specs.Prelude.{◌≡◌, ◌+◌, ◌<◌, ◌^◌, IfErr, OnOk, false, true};
 ghost use Rattle.merge_batch.specs.declared.refusal.Refusal.TheVariants as refusal;
-ghost use Rattle.merge_model.specs.Events.{is_site, outcome_answer};
+ghost use Rattle.merge_model.specs.World.Events.{is_site, outcome_answer};
 ghost use Rattle.merge_model.specs.declared.event.Event.TheVariants as event;
 ghost use Rattle.merge_schema.specs.Places.{is_subscription};
 ghost use Rattle.merge_world.specs.Happenings.{Happened, send_event};

@@ -1,6 +1,6 @@
 //! Local changes, closings, purges, and subscribers that begin anew.
 ghost use Rattle.std.specs.Prelude.{◌≡◌};
-ghost use Rattle.merge_model.specs.Steps.{CloseAt, Forget, Make, MakeAnew};
+ghost use Rattle.merge_model.specs.World.Steps.{CloseAt, Forget, Make, MakeAnew};
 ghost use Rattle.merge_world.specs.Naming.{IsPlaced};
 ghost use Rattle.merge_world.specs.Views.{Does, IsOrdered};
 

@@ -5,7 +5,7 @@ ghost use Rattle.std.specs.Prelude.{◌≡◌, ◌⊎◌, [], IfErr, IfOk, IfSom
 ghost use Rattle.merge_batch.specs.Articles.{has_article};
 ghost use Rattle.merge_batch.specs.LocalChanges.{columns_at};
 ghost use Rattle.merge_batch.specs.declared.refusal.Refusal.TheVariants.{NoMemory as no_memory, UnknownName as unknown_name};
-ghost use Rattle.merge_model.specs.Naming.{article_by, article_place, column_place, delete_by, insert_by, placed, set_at, setting_of, settings_by, update_by};
+ghost use Rattle.merge_model.specs.World.Naming.{article_by, article_place, column_place, delete_by, insert_by, placed, set_at, setting_of, settings_by, update_by};
 ghost use Rattle.merge_types.specs.declared.Column.{Column as OneColumn};
 ghost use Rattle.merge_units.specs.Changes.{ColumnsAscend};
 ghost use Rattle.merge_world.specs.Naming.{IsPlaced, IsUnnamed};

@@ -1,7 +1,7 @@
 //! The messages of a world, by their numbers.
 ghost use Rattle.std.specs.Prelude.{◌≡◌, ◌+◌, ◌++◌, ◌∷◌, ◌<◌, ◌≤◌, [], vec_len, vec_capacity};
 ghost use Rattle.std.specs.Option.{option_copied};
-ghost use Rattle.merge_model.specs.Parts.{pooled};
+ghost use Rattle.merge_model.specs.World.Parts.{pooled};
 
 use merge_model::Letter;
 

@@ -1,9 +1,9 @@
 //! Reports: what a site is asked, and what it tells.
 ghost use Rattle.std.specs.Prelude.{◌≡◌, IfOk, map, true};
-ghost use Rattle.merge_model.specs.Events.{is_site};
-ghost use Rattle.merge_model.specs.Reports.{sites_report};
+ghost use Rattle.merge_model.specs.World.Events.{is_site};
+ghost use Rattle.merge_model.specs.World.Reports.{sites_report};
 ghost use Rattle.merge_model.specs.declared.event.Event.TheVariants as event;
-ghost use Rattle.merge_model.specs.Proper.{IsProperAnswer};
+ghost use Rattle.merge_model.specs.Script.Proper.{IsProperAnswer};
 ghost use Rattle.merge_world.specs.Happenings.{Happened};
 ghost use Rattle.merge_world.specs.Reports.{IsReport, held_of, publisher_told, subscriber_told, told_at};
 ghost use Rattle.merge_world.specs.Views.{IsOrdered};

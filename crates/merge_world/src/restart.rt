@@ -1,7 +1,7 @@
 //! Sites that stop and start again.
 ghost use Rattle.std.specs.Prelude.{◌≡◌, IfErr, IfOk, true};
 ghost use Rattle.merge_batch.specs.declared.refusal.Refusal.TheVariants.{NoMemory as no_memory};
-ghost use Rattle.merge_model.specs.Events.{is_site};
+ghost use Rattle.merge_model.specs.World.Events.{is_site};
 ghost use Rattle.merge_model.specs.declared.answer.Answer.TheVariants as answers;
 ghost use Rattle.merge_model.specs.declared.event.Event.TheVariants as event;
 ghost use Rattle.merge_world.specs.Happenings.{Proceeds};

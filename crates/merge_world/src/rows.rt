@@ -1,12 +1,12 @@
 //! What reports tell of the rows of a table.
 ghost use Rattle.std.specs.List.{flat_map};
 ghost use Rattle.std.specs.Prelude.{◌≡◌, ◌≤◌, ◌++◌, ◌∷◌, [], IfOk, OnOk, count_by};
-ghost use Rattle.merge_model.specs.Entries.{live_row};
-ghost use Rattle.merge_model.specs.Reports.{counts_of, is_of_article, shown_rows};
+ghost use Rattle.merge_model.specs.Publisher.Entries.{live_row};
+ghost use Rattle.merge_model.specs.World.Reports.{counts_of, is_of_article, shown_rows};
 ghost use Rattle.merge_types.specs.declared.values.Value.{Value as OneValue};
 ghost use Rattle.merge_units.specs.declared.version.Cell.{Cell as OneCell};
 ghost use Rattle.merge_model.specs.declared.answer.Answer.TheVariants.{Rows};
-ghost use Rattle.merge_model.specs.Proper.{IsProperAnswer};
+ghost use Rattle.merge_model.specs.Script.Proper.{IsProperAnswer};
 ghost use Rattle.merge_world.specs.Printable.{ArePrintable};
 ghost use Rattle.merge_world.specs.Reports.{alive, live_in};
 

@@ -1,8 +1,8 @@
 //! Messages that subscribers make.
 ghost use Rattle.std.specs.Prelude.{◌≡◌, ◌<◌, option_map, vec_len, vec_capacity};
 ghost use Rattle.merge_batch.specs.declared.request.Request.TheVariants as request;
-ghost use Rattle.merge_model.specs.Calls.{message_commits, message_or_none};
-ghost use Rattle.merge_model.specs.Steps.{Send};
+ghost use Rattle.merge_model.specs.World.Calls.{message_commits, message_or_none};
+ghost use Rattle.merge_model.specs.World.Steps.{Send};
 ghost use Rattle.merge_world.specs.Messages.{requested, sending_of};
 ghost use Rattle.merge_world.specs.Views.{Does, IsOrdered, SubscriberCall};
 

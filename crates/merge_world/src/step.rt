@@ -1,6 +1,6 @@
 //! One event of a script.
 ghost use Rattle.std.specs.Prelude.{◌≡◌, ◌≤◌, ◌+◌, ◌^◌, IfOk};
-ghost use Rattle.merge_model.specs.Proper.{IsProperAnswer};
+ghost use Rattle.merge_model.specs.Script.Proper.{IsProperAnswer};
 ghost use Rattle.merge_world.specs.Happenings.{Proceeds, seconds_of};
 ghost use Rattle.merge_world.specs.Views.{IsOrdered, handed_view};
 

@@ -1,5 +1,5 @@
-use Rattle.merge_model.specs.Runs.{model_behind_actions}
-use Rattle.merge_model.proofs.Downloads.{replies-stay}
+use Rattle.merge_model.specs.Failing.Runs.{model_behind_actions}
+use Rattle.merge_model.proofs.Entries.Downloads.{replies-stay}
 use Rattle.merge_laws.proofs.BoundsEnough.{downloads-enough, uploads-enough}
 use Rattle.merge_laws.proofs.RoundLaw.{round-settles}
 use Rattle.merge_laws.proofs.SessionLaw.{sessions-settle-by-actions}

@@ -1,5 +1,5 @@
-use Rattle.merge_model.specs.Events.{machine}
-use Rattle.merge_model.specs.Model.{model}
+use Rattle.merge_model.specs.World.Events.{machine}
+use Rattle.merge_model.specs.History.Model.{model}
 use Rattle.merge_actions.proofs.Plainly.{failures-show, none-fails}
 use Rattle.merge_actions.proofs.slips.actions_that_fail_show.Goals as goal
 

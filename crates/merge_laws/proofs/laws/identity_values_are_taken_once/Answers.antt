@@ -1,4 +1,4 @@
-use Rattle.merge_model.specs.Promises.{IdentitiesApart}
+use Rattle.merge_model.specs.Laws.Promises.{IdentitiesApart}
 use Rattle.merge_laws.specs.Identities.{TakenWereGranted}
 use Rattle.merge_laws.proofs.LawsOfActions.{identities-apart, taken-were-granted}
 use Rattle.merge_laws.proofs.OfActions.{of-ruled-runs}

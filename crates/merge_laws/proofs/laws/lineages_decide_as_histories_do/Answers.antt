@@ -1,5 +1,5 @@
-use Rattle.merge_model.specs.Bridge.{PublisherDecidesAlike}
-use Rattle.merge_model.specs.Promises.{AllStand}
+use Rattle.merge_model.specs.Laws.Bridge.{PublisherDecidesAlike}
+use Rattle.merge_model.specs.Laws.Promises.{AllStand}
 use Rattle.merge_laws.specs.Deciding.{CasesDecideAlike, EachStepAlike}
 use Rattle.merge_laws.proofs.LineagesAlways.{all-alike, all-steps, cases-decided, publishers-alike}
 use Rattle.merge_laws.proofs.OfActions.{of-valid-runs}

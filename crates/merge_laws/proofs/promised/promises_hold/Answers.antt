@@ -3,8 +3,8 @@ use Rattle.std.specs.List.{AllByRecursion}
 use Rattle.std.proofs.Common.{subst, sym}
 use Rattle.merge_ident.specs.Books.{IsRule}
 use Rattle.merge_model.specs.Laws.{AreSorted, AreSubSorted}
-use Rattle.merge_model.specs.Publications.{rules_of}
-use Rattle.merge_model.specs.Runs.{model_behind}
+use Rattle.merge_model.specs.Tables.Publications.{rules_of}
+use Rattle.merge_model.specs.Failing.Runs.{model_behind}
 use Rattle.merge_model.specs.Tables.{SubscriberTables}
 use Rattle.merge_model.specs.World.{World}
 use Rattle.merge_laws.proofs.promised.promises_hold.Goals as goal

@@ -1,5 +1,5 @@
 use Rattle.std.specs.Prelude.{refl}
-use Rattle.merge_model.specs.Play.{opened_play}
+use Rattle.merge_model.specs.Script.Play.{opened_play}
 use Rattle.merge_make.proofs.worked.script_of_seven_customers.Goals as goal
 
 pub returns : goal.returns

@@ -1,9 +1,9 @@
 use Rattle.std.specs.Prelude.{◌≡◌, true}
 use Rattle.merge_model.specs.World.{World}
-use Rattle.merge_model.specs.Events.{machine}
+use Rattle.merge_model.specs.World.Events.{machine}
 use Rattle.merge_model.specs.Failing.{faulty}
-use Rattle.merge_model.proofs.Events.{events-keep}
-use Rattle.merge_model.proofs.KeptFailing.{runs-keep}
+use Rattle.merge_model.proofs.Runs.Events.{events-keep}
+use Rattle.merge_model.proofs.Failing.KeptFailing.{runs-keep}
 use Rattle.merge_model.proofs.laws.events_keep_what_steps_keep.Goals as goal
 
 pub returns : goal.returns

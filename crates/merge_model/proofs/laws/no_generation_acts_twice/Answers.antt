@@ -1,4 +1,4 @@
-use Rattle.merge_model.proofs.DoneOnce.{none_acts_twice, acting_are_new}
+use Rattle.merge_model.proofs.Publishers.DoneOnce.{none_acts_twice, acting_are_new}
 use Rattle.merge_model.proofs.laws.no_generation_acts_twice.Goals as goal
 
 pub returns : goal.returns

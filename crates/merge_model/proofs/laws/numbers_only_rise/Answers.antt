@@ -1,4 +1,4 @@
-use Rattle.merge_model.proofs.Rising.{step-rises}
+use Rattle.merge_model.proofs.Publishers.Rising.{step-rises}
 use Rattle.merge_model.proofs.Subscribers.{subscriber_numbers_rise}
 use Rattle.merge_model.proofs.laws.numbers_only_rise.Goals as goal
 

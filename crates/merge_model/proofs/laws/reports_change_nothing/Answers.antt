@@ -1,6 +1,6 @@
-use Rattle.merge_model.specs.Events.{machine}
-use Rattle.merge_model.specs.Model.{model}
-use Rattle.merge_model.proofs.Reports.{report-looks}
+use Rattle.merge_model.specs.World.Events.{machine}
+use Rattle.merge_model.specs.History.Model.{model}
+use Rattle.merge_model.proofs.Runs.Reports.{report-looks}
 use Rattle.merge_model.proofs.laws.reports_change_nothing.Goals as goal
 
 pub returns : goal.returns

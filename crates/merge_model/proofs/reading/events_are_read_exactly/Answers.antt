@@ -1,4 +1,4 @@
-use Rattle.merge_model.proofs.ReadEvents.{AreWordsOf-event_in, AreWordsOf-line_of, event_in-AreWordsOf, line_of-AreWordsOf}
+use Rattle.merge_model.proofs.Script.ReadEvents.{AreWordsOf-event_in, AreWordsOf-line_of, event_in-AreWordsOf, line_of-AreWordsOf}
 use Rattle.merge_model.proofs.reading.events_are_read_exactly.Goals as goal
 
 pub returns-clause-words : goal.returns-clause-words

@@ -1,5 +1,5 @@
-use Rattle.merge_model.proofs.ReadRows.{row_of_text-IsRowLiteral, IsRowLiteral-row_of_text}
-use Rattle.merge_model.proofs.ReadValues.{value_of_text-IsLiteral, IsLiteral-value_of_text}
+use Rattle.merge_model.proofs.Script.ReadRows.{row_of_text-IsRowLiteral, IsRowLiteral-row_of_text}
+use Rattle.merge_model.proofs.Script.ReadValues.{value_of_text-IsLiteral, IsLiteral-value_of_text}
 use Rattle.merge_model.proofs.reading.literals_are_read_exactly.Goals as goal
 
 pub returns-clause-values : goal.returns-clause-values

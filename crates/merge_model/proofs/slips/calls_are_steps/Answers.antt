@@ -1,4 +1,4 @@
-use Rattle.merge_model.proofs.Calling.{calls}
+use Rattle.merge_model.proofs.Failing.Calling.{calls}
 use Rattle.merge_model.proofs.slips.calls_are_steps.Goals as goal
 
 pub returns : goal.returns

@@ -1,6 +1,6 @@
-use Rattle.merge_model.specs.Events.{machine}
-use Rattle.merge_model.specs.Model.{model}
-use Rattle.merge_model.proofs.NoSlips.{failures-show}
+use Rattle.merge_model.specs.World.Events.{machine}
+use Rattle.merge_model.specs.History.Model.{model}
+use Rattle.merge_model.proofs.Failing.NoSlips.{failures-show}
 use Rattle.merge_model.proofs.slips.steps_that_fail_show.Goals as goal
 
 pub returns : goal.returns

@@ -1,6 +1,6 @@
-use Rattle.merge_model.specs.Events.{machine}
-use Rattle.merge_model.specs.Model.{model}
-use Rattle.merge_model.proofs.NoSlips.{none-fails}
+use Rattle.merge_model.specs.World.Events.{machine}
+use Rattle.merge_model.specs.History.Model.{model}
+use Rattle.merge_model.proofs.Failing.NoSlips.{none-fails}
 use Rattle.merge_model.proofs.slips.steps_without_slips_are_plain.Goals as goal
 
 pub returns : goal.returns

@@ -1,8 +1,8 @@
 -- The subscriptions so far, and what is to come.
 use Rattle.std.proofs.Common.{◌≡◌, drop}
 use Rattle.std.specs.List.{fold}
-use Rattle.merge_model.specs.Keys.{put_number}
-use Rattle.merge_model.specs.Publications.{by_site}
+use Rattle.merge_model.specs.Tables.Keys.{put_number}
+use Rattle.merge_model.specs.Tables.Publications.{by_site}
 use Rattle.merge_program.proofs.stores.by_site.Given as goal
 
 abbrev pub invariant-loop-subscription : goal.invariant-loop-subscription

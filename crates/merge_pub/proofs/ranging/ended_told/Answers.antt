@@ -1,5 +1,5 @@
 use Rattle.merge_ident.specs.declared.grants.GrantPlan.{GrantPlan}
-use Rattle.merge_model.specs.PublisherRanges.{ended_by}
+use Rattle.merge_model.specs.Publisher.PublisherRanges.{ended_by}
 use Rattle.merge_pub.proofs.BatchCounts.{given-step}
 use Rattle.merge_pub.proofs.ranging.ended_told.Goals as goal
 

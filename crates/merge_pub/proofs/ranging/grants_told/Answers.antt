@@ -1,5 +1,5 @@
 use Rattle.merge_ident.specs.declared.grants.GrantPlan.{GrantPlan}
-use Rattle.merge_model.specs.PublisherRanges.{granted_by}
+use Rattle.merge_model.specs.Publisher.PublisherRanges.{granted_by}
 use Rattle.merge_pub.proofs.BatchCounts.{given-step}
 use Rattle.merge_pub.proofs.ranging.grants_told.Goals as goal
 

@@ -1,6 +1,6 @@
 -- what was read so far stands before what the words behind say
 use Rattle.std.proofs.Common.{◌≡◌, ◌+◌, ◌<◌, ◌^◌, length, map}
-use Rattle.merge_model.specs.Reading.{settings_in}
+use Rattle.merge_model.specs.Script.Reading.{settings_in}
 use Rattle.merge_reading.proofs.Settings.{behind}
 use Rattle.merge_reading.proofs.events.settings_in.Given as goal
 

@@ -1,6 +1,6 @@
 use Rattle.std.proofs.Common.{arith, sym, eq-eqb, get_or}
 use Rattle.std.proofs.lemmas.List.Sums.{position_or_len_is}
-use Rattle.merge_model.specs.Reading.{is_equals_sign}
+use Rattle.merge_model.specs.Script.Reading.{is_equals_sign}
 use Rattle.merge_reading.proofs.word.equals_sign.Goals as goal
 
 pub returns-then-byte-eq61-clause-place : goal.returns-then-byte-eq61-clause-place

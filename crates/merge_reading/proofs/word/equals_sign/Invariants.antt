@@ -1,6 +1,6 @@
 -- no byte so far is the sign
 use Rattle.std.proofs.Common.{◌≡◌, ℕ, ◌<◌, get_or, false}
-use Rattle.merge_model.specs.Reading.{is_equals_sign}
+use Rattle.merge_model.specs.Script.Reading.{is_equals_sign}
 use Rattle.merge_reading.proofs.word.equals_sign.Given as goal
 
 abbrev pub invariant-loop-at : goal.invariant-loop-at

@@ -1,4 +1,4 @@
-use Rattle.merge_model.proofs.ReadRows.{row_read-is}
+use Rattle.merge_model.proofs.Script.ReadRows.{row_read-is}
 use Rattle.merge_reading.proofs.word.row.Goals as goal
 
 pub returns : goal.returns

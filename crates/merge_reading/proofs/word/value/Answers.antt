@@ -3,8 +3,8 @@ use Rattle.std.specs.Prelude.{IfNone, IfOk, IfSome}
 use Rattle.merge_types.specs.Literal.{IsLiteral}
 use Rattle.merge_types.specs.declared.fault.NoMemory.{NoMemory}
 use Rattle.merge_types.specs.declared.values.Value.{Value}
-use Rattle.merge_model.proofs.ReadValues.{value_read-is}
-use Rattle.merge_model.specs.Literals.{value_of_text}
+use Rattle.merge_model.proofs.Script.ReadValues.{value_read-is}
+use Rattle.merge_model.specs.Script.Literals.{value_of_text}
 use Rattle.merge_reading.proofs.word.value.Goals as goal
 
 read_is : (text : List ℕ) (r : Result (Option Value) NoMemory) → IfOk r (λ read. IfSome read (IsLiteral text)) → IfOk r (λ read. IfNone read ((value : Value) → IsLiteral text value → ⊥)) → IfOk r (λ value. value ≡ value_of_text text)

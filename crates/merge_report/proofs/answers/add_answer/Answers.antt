@@ -1,6 +1,6 @@
 use Rattle.std.proofs.Common.{ap, string_bytes, sym, ◌++◌, ◌∙◌}
-use Rattle.merge_model.specs.Play.{names_of}
-use Rattle.merge_model.specs.Text.{text_of}
+use Rattle.merge_model.specs.Script.Play.{names_of}
+use Rattle.merge_model.specs.Script.Text.{text_of}
 use Rattle.merge_model.specs.declared.answer.Answer.{Answer}
 use Rattle.merge_report.proofs.answers.add_answer.Goals as goal
 

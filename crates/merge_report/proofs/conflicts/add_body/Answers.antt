@@ -2,7 +2,7 @@ use Rattle.std.proofs.Common.{List, ap, codes, string_bytes, sym, ◌∙◌}
 use Rattle.merge_units.specs.declared.version.Cell.{Cell}
 use Rattle.merge_units.specs.declared.version.Body.{Body}
 use Rattle.merge_units.specs.declared.version.Body.TheVariants.{Live}
-use Rattle.merge_model.specs.Text.{body_words}
+use Rattle.merge_model.specs.Script.Text.{body_words}
 use Rattle.merge_report.specs.Words.{cells_text, spaced}
 use Rattle.merge_report.proofs.Words.{two_added, words_of_live}
 use Rattle.merge_report.proofs.conflicts.add_body.Goals as goal

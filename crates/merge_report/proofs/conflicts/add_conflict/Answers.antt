@@ -1,6 +1,6 @@
 use Rattle.std.proofs.Common.{[], ◌∷◌, ◌++◌, refl, string_bytes}
-use Rattle.merge_model.specs.Play.{names_of}
-use Rattle.merge_model.specs.Text.{body_words, joined}
+use Rattle.merge_model.specs.Script.Play.{names_of}
+use Rattle.merge_model.specs.Script.Text.{body_words, joined}
 use Rattle.merge_report.specs.Words.{lost_words, reason_words, spaced}
 use Rattle.merge_report.proofs.Words.{line_of_conflict, three_added, two_added}
 use Rattle.merge_report.proofs.conflicts.add_conflict.Goals as goal

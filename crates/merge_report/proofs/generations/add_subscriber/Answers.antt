@@ -1,5 +1,5 @@
 use Rattle.std.proofs.Common.{◌≡◌, ◌++◌, ◌∷◌, [], List, ℕ, codes, decimal, append_assoc, refl, string_bytes}
-use Rattle.merge_model.specs.Text.{subscriber_text}
+use Rattle.merge_model.specs.Script.Text.{subscriber_text}
 use Rattle.merge_report.proofs.Words.{two_added}
 use Rattle.merge_report.proofs.generations.add_subscriber.Goals as goal
 

@@ -1,8 +1,8 @@
 -- The lines of the grants so far.
 use Rattle.std.proofs.Common.{◌≡◌, ◌++◌, take, string_bytes}
 use Rattle.std.specs.List.{flat_map}
-use Rattle.merge_model.specs.Play.{names_of}
-use Rattle.merge_model.specs.Text.{grant_line}
+use Rattle.merge_model.specs.Script.Play.{names_of}
+use Rattle.merge_model.specs.Script.Text.{grant_line}
 use Rattle.merge_report.proofs.ranges.add_grants.Given as goal
 
 abbrev pub invariant-loop-grant : goal.invariant-loop-grant

@@ -1,8 +1,8 @@
 -- The lines of the articles so far.
 use Rattle.std.proofs.Common.{◌≡◌, ◌++◌, take, string_bytes}
 use Rattle.std.specs.List.{flat_map}
-use Rattle.merge_model.specs.Play.{names_of}
-use Rattle.merge_model.specs.Text.{holder_line}
+use Rattle.merge_model.specs.Script.Play.{names_of}
+use Rattle.merge_model.specs.Script.Text.{holder_line}
 use Rattle.merge_report.proofs.ranges.add_holders.Given as goal
 
 abbrev pub invariant-loop-holder : goal.invariant-loop-holder

@@ -1,7 +1,7 @@
 -- The lines of the articles so far, and those that are left.
 use Rattle.std.proofs.Common.{◌≡◌, ◌++◌, drop, string_bytes}
-use Rattle.merge_model.specs.Play.{names_of}
-use Rattle.merge_model.specs.Text.{counts_from}
+use Rattle.merge_model.specs.Script.Play.{names_of}
+use Rattle.merge_model.specs.Script.Text.{counts_from}
 use Rattle.merge_report.proofs.rows.add_counts.Given as goal
 
 abbrev pub invariant-loop-place : goal.invariant-loop-place

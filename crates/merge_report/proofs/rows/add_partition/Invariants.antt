@@ -1,8 +1,8 @@
 -- The lines of the rows so far.
 use Rattle.std.proofs.Common.{◌≡◌, ◌++◌, take, string_bytes}
 use Rattle.std.specs.List.{flat_map}
-use Rattle.merge_model.specs.Play.{names_of}
-use Rattle.merge_model.specs.Text.{member_line}
+use Rattle.merge_model.specs.Script.Play.{names_of}
+use Rattle.merge_model.specs.Script.Text.{member_line}
 use Rattle.merge_report.proofs.rows.add_partition.Given as goal
 
 abbrev pub invariant-loop-row : goal.invariant-loop-row

@@ -1,7 +1,7 @@
 -- The lines of the rows so far.
 use Rattle.std.proofs.Common.{◌≡◌, ◌++◌, take, string_bytes}
 use Rattle.std.specs.List.{flat_map}
-use Rattle.merge_model.specs.Text.{row_line}
+use Rattle.merge_model.specs.Script.Text.{row_line}
 use Rattle.merge_report.proofs.rows.add_rows.Given as goal
 
 abbrev pub invariant-loop-row : goal.invariant-loop-row

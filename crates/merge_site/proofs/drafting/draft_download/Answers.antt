@@ -3,9 +3,9 @@ use Rattle.std.specs.Prelude.{None}
 use Rattle.merge_batch.specs.declared.reply.Downloaded.{Downloaded}
 use Rattle.merge_batch.specs.declared.reply.Reply.TheVariants as reply
 use Rattle.merge_batch.specs.declared.request.Request.TheVariants as request
-use Rattle.merge_model.specs.Calls.{request_commits}
-use Rattle.merge_model.specs.ByNumbers.{by_numbers}
-use Rattle.merge_model.specs.PublisherDownload.{download}
+use Rattle.merge_model.specs.World.Calls.{request_commits}
+use Rattle.merge_model.specs.Judge.ByNumbers.{by_numbers}
+use Rattle.merge_model.specs.Publisher.PublisherDownload.{download}
 use Rattle.merge_pub.specs.Held.{publication_of, tables_of}
 use Rattle.merge_site.proofs.Called.{ok-all}
 use Rattle.merge_site.proofs.Drafts.{fits-as, worked-as}

@@ -3,7 +3,7 @@ use Rattle.std.specs.Prelude.{Ok}
 use Rattle.merge_batch.specs.declared.reply.Reply.TheVariants as reply
 use Rattle.merge_batch.specs.declared.reply.Uploaded.{Uploaded}
 use Rattle.merge_batch.specs.declared.request.Request.TheVariants as request
-use Rattle.merge_model.specs.Calls.{request_commits}
+use Rattle.merge_model.specs.World.Calls.{request_commits}
 use Rattle.merge_pub.specs.After.{after}
 use Rattle.merge_pub.specs.Held.{publication_of, tables_of}
 use Rattle.merge_pub.specs.Uploaded.{asked_on, decided_on, upload_by}

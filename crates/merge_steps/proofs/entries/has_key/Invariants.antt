@@ -1,5 +1,5 @@
 use Rattle.std.proofs.Common.{◌≡◌, take, false}
-use Rattle.merge_model.specs.Keys.{has_key}
+use Rattle.merge_model.specs.Tables.Keys.{has_key}
 use Rattle.merge_steps.proofs.entries.has_key.Given as goal
 
 abbrev pub invariant-loop-one : goal.invariant-loop-one

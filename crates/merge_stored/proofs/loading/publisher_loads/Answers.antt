@@ -1,5 +1,5 @@
 use Rattle.merge_model.specs.Publisher.{new_holders}
-use Rattle.merge_model.specs.Runs.{model_behind}
+use Rattle.merge_model.specs.Failing.Runs.{model_behind}
 use Rattle.merge_stored.specs.Stored.{publisher_stored}
 use Rattle.merge_stored.proofs.PublisherLoads.{publisher-loads}
 use Rattle.merge_stored.proofs.loading.publisher_loads.Goals as goal

@@ -1,5 +1,5 @@
 use Rattle.std.specs.Prelude.{◌≡◌, ◌++◌, map}
-use Rattle.merge_model.specs.Sending.{want_of}
+use Rattle.merge_model.specs.Subscriber.Sending.{want_of}
 use Rattle.merge_sub.proofs.sending.wants.Given as goal
 
 abbrev pub invariant-loop-article : goal.invariant-loop-article

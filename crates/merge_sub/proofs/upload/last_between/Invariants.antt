@@ -1,6 +1,6 @@
 use Rattle.std.specs.List.{last_or}
 use Rattle.std.specs.Prelude.{◌≡◌, ◌&&◌, ℕ, drop, filter, nat_le, nat_lt}
-use Rattle.merge_model.specs.ByNumbers.{last_between}
+use Rattle.merge_model.specs.Judge.ByNumbers.{last_between}
 use Rattle.merge_sub.proofs.upload.last_between.Given as goal
 
 abbrev pub invariant-loop-generation : goal.invariant-loop-generation

@@ -1,8 +1,8 @@
 -- The run is computed once, and each clause is a part of what it gives.
 use Rattle.std.proofs.Common.{ap}
 use Rattle.std.specs.Prelude.{refl, Bool, List, [], pos, true, ℕ, ℤ, ◌∷◌, ◌≡◌}
-use Rattle.merge_model.specs.Model.{Model}
-use Rattle.merge_model.specs.Play.{opened_play}
+use Rattle.merge_model.specs.History.Model.{Model}
+use Rattle.merge_model.specs.Script.Play.{opened_play}
 use Rattle.merge_worked.specs.EverythingHappens.{everything_happened, publication, purge_comes}
 use Rattle.merge_worked.specs.Happened.{all_are_accounted, all_letters_stand, all_rows_stand, all_sessions_settle, all_stay_inside, all_tables_stand, changes_given_up, changes_lost, changes_made, changes_purged, changes_unsent, generations_done, held_at_settled, old_are_past, old_generations, owed_to_settled, ranges_granted, rows_held, rows_put, rows_removed, settled_sites, values_taken, versions_lost}
 use Rattle.merge_worked.proofs.Happened.{accounted, all-stand, settled-hold}

@@ -1,5 +1,5 @@
 use Rattle.std.specs.Prelude.{refl}
-use Rattle.merge_model.specs.Play.{opened_play}
+use Rattle.merge_model.specs.Script.Play.{opened_play}
 use Rattle.merge_worked.proofs.rows.repeated_upload.Goals as goal
 
 pub returns-clause-machine : goal.returns-clause-machine

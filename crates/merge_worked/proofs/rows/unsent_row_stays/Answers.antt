@@ -1,5 +1,5 @@
 use Rattle.std.specs.Prelude.{refl}
-use Rattle.merge_model.specs.Play.{opened_play}
+use Rattle.merge_model.specs.Script.Play.{opened_play}
 use Rattle.merge_worked.proofs.rows.unsent_row_stays.Goals as goal
 
 pub returns-clause-machine : goal.returns-clause-machine

@@ -1,5 +1,5 @@
 use Rattle.std.specs.Prelude.{◌≡◌, [], drop}
-use Rattle.merge_model.specs.Naming.{placed}
+use Rattle.merge_model.specs.World.Naming.{placed}
 use Rattle.merge_world.proofs.naming.placed.Given as goal
 
 abbrev pub invariant-loop-named : goal.invariant-loop-named

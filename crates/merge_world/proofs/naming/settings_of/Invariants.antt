@@ -1,5 +1,5 @@
 use Rattle.std.specs.Prelude.{◌≡◌, ◌++◌, map}
-use Rattle.merge_model.specs.Naming.{setting_of}
+use Rattle.merge_model.specs.World.Naming.{setting_of}
 use Rattle.merge_world.proofs.naming.settings_of.Given as goal
 
 abbrev pub invariant-loop-column : goal.invariant-loop-column

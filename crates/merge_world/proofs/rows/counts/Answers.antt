@@ -1,5 +1,5 @@
 use Rattle.std.proofs.Common.{ℕ, count_by}
-use Rattle.merge_model.specs.Reports.{is_of_article}
+use Rattle.merge_model.specs.World.Reports.{is_of_article}
 use Rattle.merge_world.specs.Reports.{live_in}
 use Rattle.merge_world.proofs.Rowwise.{counts-more}
 use Rattle.merge_world.proofs.rows.counts.Goals as goal

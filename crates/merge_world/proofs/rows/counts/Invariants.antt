@@ -1,6 +1,6 @@
 use Rattle.std.specs.List.{range_with_len}
 use Rattle.std.specs.Prelude.{◌≡◌, count_by, map, ℕ}
-use Rattle.merge_model.specs.Reports.{is_of_article}
+use Rattle.merge_model.specs.World.Reports.{is_of_article}
 use Rattle.merge_world.specs.Reports.{live_in}
 use Rattle.merge_world.proofs.rows.counts.Given as goal
 

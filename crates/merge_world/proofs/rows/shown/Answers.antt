@@ -1,7 +1,7 @@
 use Rattle.std.proofs.Common.{List, sym, subst}
 use Rattle.std.specs.Prelude.{All}
 use Rattle.merge_model.specs.declared.answer.ShownRow.{ShownRow}
-use Rattle.merge_model.specs.Proper.{AreProper}
+use Rattle.merge_model.specs.Script.Proper.{AreProper}
 use Rattle.merge_world.proofs.Printing.{shown-printable}
 use Rattle.merge_world.proofs.Rowwise.{shown-done}
 use Rattle.merge_world.proofs.rows.shown.Goals as goal

@@ -1,4 +1,4 @@
-use Rattle.merge_model.specs.PublisherDownload.{batch_end}
+use Rattle.merge_model.specs.Publisher.PublisherDownload.{batch_end}
 use Rattle.merge_pub.specs.Held.{publication_of, tables_of}
 use Rattle.merge_pub.specs.Touches.{touched_up_to}
 use Rattle.merge_pub.proofs.BatchCounts.{Reaching}

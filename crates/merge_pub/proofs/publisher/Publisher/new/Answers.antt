@@ -5,7 +5,7 @@ use Rattle.merge_gens.specs.Entries.{entry_cmp, entry_of}
 use Rattle.merge_ident.specs.Grants.{granted_to}
 use Rattle.merge_ident.specs.Holders.{Holder}
 use Rattle.merge_ident.specs.declared.grants.Grant.{Grant}
-use Rattle.merge_model.specs.Keys.{at_number}
+use Rattle.merge_model.specs.Tables.Keys.{at_number}
 use Rattle.merge_steps.specs.Indexed.{AreIndexed, AreMoved}
 use Rattle.merge_steps.proofs.Identities.{begin-heard, begin-held}
 use Rattle.merge_pub.proofs.publisher.Publisher.new.Goals as goal

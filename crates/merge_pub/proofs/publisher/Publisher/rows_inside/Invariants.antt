@@ -1,7 +1,7 @@
 use Rattle.std.specs.Prelude.{◌≡◌, ◌++◌, filter}
 use Rattle.std.specs.Map.{keys_of}
-use Rattle.merge_model.specs.Keys.{has_key}
-use Rattle.merge_model.specs.PublisherDownload.{inside_keys}
+use Rattle.merge_model.specs.Tables.Keys.{has_key}
+use Rattle.merge_model.specs.Publisher.PublisherDownload.{inside_keys}
 use Rattle.merge_pub.specs.Held.{publication_of, tables_of}
 use Rattle.merge_pub.proofs.publisher.Publisher.rows_inside.Given as goal
 

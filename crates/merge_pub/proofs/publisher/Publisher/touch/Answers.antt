@@ -1,6 +1,6 @@
 use Rattle.std.specs.Prelude.{◌≡◌, true, false}
 use Rattle.std.proofs.Common.{arith, ap, ◌∙◌}
-use Rattle.merge_model.specs.ByNumbers.{touch_inside, touch_outside}
+use Rattle.merge_model.specs.Judge.ByNumbers.{touch_inside, touch_outside}
 use Rattle.merge_pub.proofs.Looking.{touch-in, touch-out}
 use Rattle.merge_pub.proofs.publisher.Publisher.touch.Goals as goal
 

@@ -1,6 +1,6 @@
 use Rattle.std.proofs.Common.{◌≡◌, ℕ, map, take}
 use Rattle.merge_draft.specs.Drafting.{decisions_on}
-use Rattle.merge_model.specs.Calls.{handled, questions_on, request_commits}
+use Rattle.merge_model.specs.World.Calls.{handled, questions_on, request_commits}
 use Rattle.merge_pub.specs.Held.{Held, publication_of, tables_of}
 use Rattle.merge_resolve.specs.Asked.{says_at, tallies_after}
 use Rattle.merge_site.specs.Drafting.{IsWorked}

@@ -1,5 +1,5 @@
 use Rattle.std.proofs.Common.{sym, ◌∙◌}
-use Rattle.merge_model.specs.Calls.{closing_commits}
+use Rattle.merge_model.specs.World.Calls.{closing_commits}
 use Rattle.merge_model.specs.Publisher.{close_generation}
 use Rattle.merge_site.proofs.Called.{ok-all}
 use Rattle.merge_site.proofs.PublisherCalls.{closing-still, pub-called}

@@ -3,7 +3,7 @@ use Rattle.std.specs.Prelude.{None}
 use Rattle.merge_batch.specs.declared.reply.Joined.{Joined}
 use Rattle.merge_batch.specs.declared.reply.Reply.TheVariants as reply
 use Rattle.merge_batch.specs.declared.request.Request.TheVariants as request
-use Rattle.merge_model.specs.PublisherJoin.{join}
+use Rattle.merge_model.specs.Publisher.PublisherJoin.{join}
 use Rattle.merge_pub.specs.Held.{publication_of, tables_of}
 use Rattle.merge_site.proofs.Called.{ok-all}
 use Rattle.merge_site.proofs.PublisherRequests.{request-called, request-still}

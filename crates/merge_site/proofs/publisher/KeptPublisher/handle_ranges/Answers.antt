@@ -3,8 +3,8 @@ use Rattle.std.specs.Prelude.{None}
 use Rattle.merge_batch.specs.declared.reply.Ranged.{Ranged}
 use Rattle.merge_batch.specs.declared.reply.Reply.TheVariants as reply
 use Rattle.merge_batch.specs.declared.request.Request.TheVariants as request
-use Rattle.merge_model.specs.ByNumbers.{by_numbers}
-use Rattle.merge_model.specs.PublisherRanges.{ranges}
+use Rattle.merge_model.specs.Judge.ByNumbers.{by_numbers}
+use Rattle.merge_model.specs.Publisher.PublisherRanges.{ranges}
 use Rattle.merge_pub.specs.Held.{publication_of, tables_of}
 use Rattle.merge_site.proofs.PublisherRequests.{ranges-commit, request-called, request-still}
 use Rattle.merge_site.proofs.publisher.KeptPublisher.handle_ranges.Goals as goal

@@ -1,6 +1,6 @@
 use Rattle.std.proofs.Common.{true}
-use Rattle.merge_model.specs.ByNumbers.{by_numbers}
-use Rattle.merge_model.specs.PublisherLocal.{local}
+use Rattle.merge_model.specs.Judge.ByNumbers.{by_numbers}
+use Rattle.merge_model.specs.Publisher.PublisherLocal.{local}
 use Rattle.merge_site.proofs.PublisherCalls.{pub-called}
 use Rattle.merge_site.proofs.SubscriberCalls.{always}
 use Rattle.merge_site.proofs.publisher.KeptPublisher.local_counted.Goals as goal

@@ -1,5 +1,5 @@
 use Rattle.std.proofs.Common.{true}
-use Rattle.merge_model.specs.Sending.{make_ask}
+use Rattle.merge_model.specs.Subscriber.Sending.{make_ask}
 use Rattle.merge_site.proofs.SubscriberCalls.{always, sub-called}
 use Rattle.merge_site.proofs.subscriber.KeptSubscriber.make_ask.Goals as goal
 

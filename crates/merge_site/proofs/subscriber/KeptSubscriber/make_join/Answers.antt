@@ -1,4 +1,4 @@
-use Rattle.merge_model.specs.Sending.{make_join}
+use Rattle.merge_model.specs.Subscriber.Sending.{make_join}
 use Rattle.merge_site.proofs.SubscriberCalls.{message-called}
 use Rattle.merge_site.proofs.subscriber.KeptSubscriber.make_join.Goals as goal
 

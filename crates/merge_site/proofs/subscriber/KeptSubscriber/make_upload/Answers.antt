@@ -1,5 +1,5 @@
-use Rattle.merge_model.specs.ByNumbers.{by_rows}
-use Rattle.merge_model.specs.Sending.{make_upload}
+use Rattle.merge_model.specs.Judge.ByNumbers.{by_rows}
+use Rattle.merge_model.specs.Subscriber.Sending.{make_upload}
 use Rattle.merge_site.proofs.SubscriberCalls.{message-called}
 use Rattle.merge_site.proofs.subscriber.KeptSubscriber.make_upload.Goals as goal
 

@@ -1,6 +1,6 @@
 use Rattle.std.proofs.Common.{true}
-use Rattle.merge_model.specs.ByNumbers.{by_rows}
-use Rattle.merge_model.specs.Reinit.{reinitialise}
+use Rattle.merge_model.specs.Judge.ByNumbers.{by_rows}
+use Rattle.merge_model.specs.Subscriber.Reinit.{reinitialise}
 use Rattle.merge_site.proofs.SubscriberCalls.{always, sub-called}
 use Rattle.merge_site.proofs.subscriber.KeptSubscriber.reinitialise.Goals as goal
 

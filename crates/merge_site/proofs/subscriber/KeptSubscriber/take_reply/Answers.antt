@@ -1,8 +1,8 @@
 use Rattle.std.proofs.Common.{sym, ◌∙◌}
 use Rattle.std.specs.Prelude.{Ok}
-use Rattle.merge_model.specs.ByNumbers.{by_rows}
-use Rattle.merge_model.specs.Calls.{reply_commits}
-use Rattle.merge_model.specs.Taking.{take_reply}
+use Rattle.merge_model.specs.Judge.ByNumbers.{by_rows}
+use Rattle.merge_model.specs.World.Calls.{reply_commits}
+use Rattle.merge_model.specs.Subscriber.Taking.{take_reply}
 use Rattle.merge_sub.specs.Held.{tables_of}
 use Rattle.merge_site.proofs.SubscriberCalls.{reply-made, sub-called}
 use Rattle.merge_site.proofs.subscriber.KeptSubscriber.take_reply.Goals as goal

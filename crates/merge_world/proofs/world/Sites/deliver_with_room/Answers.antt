@@ -1,5 +1,5 @@
 use Rattle.std.proofs.Common.{Err, Ok, ap, ◌∙◌}
-use Rattle.merge_model.specs.Parts.{pooled}
+use Rattle.merge_model.specs.World.Parts.{pooled}
 use Rattle.merge_world.proofs.Deliveries.{handles, handling-fails, has-no-letter, moves-so, takes-here, takes-nowhere}
 use Rattle.merge_world.proofs.world.Sites.deliver_with_room.Goals as goal
 

@@ -1,5 +1,5 @@
 use Rattle.std.proofs.Common.{refl}
-use Rattle.merge_model.specs.Steps.{Send}
+use Rattle.merge_model.specs.World.Steps.{Send}
 use Rattle.merge_world.specs.Messages.{sending_of}
 use Rattle.merge_world.proofs.Locals.{wants-room}
 use Rattle.merge_world.proofs.world.Sites.send.Goals as goal
