@@ -5,19 +5,19 @@ use Rattle.merge_model.specs.Tables.Publications.{rules_of}
 use Rattle.merge_model.specs.Failing.Runs.{model_behind_actions}
 use Rattle.merge_model.proofs.Entries.Downloads.{replies-stay}
 use Rattle.merge_laws.specs.Laws.{OfEveryValidActions}
-use Rattle.merge_laws.specs.Promised.{Promised}
-use Rattle.merge_laws.proofs.AccountsAlways.{no-change-is-lost}
-use Rattle.merge_laws.proofs.ActsOnceTaken.{done-stays, letters-stay, taken-have-acted, taken-only-answer}
-use Rattle.merge_laws.proofs.BoundsEnough.{downloads-enough, uploads-enough}
-use Rattle.merge_laws.proofs.EffectsOnce.{news-is-unmet, numbers-take-effect}
-use Rattle.merge_laws.proofs.LawsOfActions as laws
-use Rattle.merge_laws.proofs.LeavingsOwed.{joins-take-nothing, purges-take-nothing}
-use Rattle.merge_laws.proofs.LineagesAlways.{all-alike, all-steps, cases-decided, publishers-alike}
-use Rattle.merge_laws.proofs.RestsOnKept.{accepted-known-by-actions, chains-accounted, held-granted-always, known-accepted-by-actions, moments-step, received-step, replies-true, sites-equal}
-use Rattle.merge_laws.proofs.RoundLaw.{round-settles}
-use Rattle.merge_laws.proofs.SessionLaw.{sessions-settle-by-actions}
-use Rattle.merge_laws.proofs.SettledLaw.{settled-sites-hold}
-use Rattle.merge_laws.proofs.ValidRules.{valid-rules}
+use Rattle.merge_laws.specs.Laws.Promised.{Promised}
+use Rattle.merge_laws.proofs.Accounts.AccountsAlways.{no-change-is-lost}
+use Rattle.merge_laws.proofs.ActsOnce.ActsOnceTaken.{done-stays, letters-stay, taken-have-acted, taken-only-answer}
+use Rattle.merge_laws.proofs.Sessions.BoundsEnough.{downloads-enough, uploads-enough}
+use Rattle.merge_laws.proofs.ActsOnce.EffectsOnce.{news-is-unmet, numbers-take-effect}
+use Rattle.merge_laws.proofs.Runs.LawsOfActions as laws
+use Rattle.merge_laws.proofs.LastLines.LeavingsOwed.{joins-take-nothing, purges-take-nothing}
+use Rattle.merge_laws.proofs.Lineages.LineagesAlways.{all-alike, all-steps, cases-decided, publishers-alike}
+use Rattle.merge_laws.proofs.Runs.RestsOnKept.{accepted-known-by-actions, chains-accounted, held-granted-always, known-accepted-by-actions, moments-step, received-step, replies-true, sites-equal}
+use Rattle.merge_laws.proofs.Sessions.RoundLaw.{round-settles}
+use Rattle.merge_laws.proofs.Sessions.SessionLaw.{sessions-settle-by-actions}
+use Rattle.merge_laws.proofs.Settled.SettledLaw.{settled-sites-hold}
+use Rattle.merge_laws.proofs.Runs.ValidRules.{valid-rules}
 
 pub promises-hold : OfEveryValidActions Promised
 promises-hold resolvers publication valid says tallies slips actions =

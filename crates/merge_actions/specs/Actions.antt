@@ -12,7 +12,7 @@ use Rattle.merge_model.specs.World.Session.{Stepping}
 use Rattle.merge_model.specs.Laws.SlipLaws.{is_slip, refused_for}
 use Rattle.merge_model.specs.World.Steps.{Action}
 use Rattle.merge_model.specs.World.{Saying}
-use Rattle.merge_laws.specs.Promised.{HasPromises}
+use Rattle.merge_laws.specs.Laws.Promised.{HasPromises}
 
 -- The machine does what the model does, where the same steps fail in both, and it has the model's tables.
 

@@ -1,7 +1,7 @@
 //! How actions are decided, and what the laws on them rest on.
-ghost use Rattle.merge_laws.specs.Deciding.{CasesDecideAlike, EachStepAlike};
+ghost use Rattle.merge_laws.specs.Laws.Deciding.{CasesDecideAlike, EachStepAlike};
 ghost use Rattle.merge_laws.specs.Laws.{OfEveryActions, OfEveryValidActions};
-ghost use Rattle.merge_laws.specs.RestsOn.{AcceptedIsKnown, ChainsAreAccounted, HeldWereGranted, KnownIsAccepted, MomentsAreInStep, ReceivedIsInStep, RepliesAreTrue, SitesAreEqual};
+ghost use Rattle.merge_laws.specs.Laws.RestsOn.{AcceptedIsKnown, ChainsAreAccounted, HeldWereGranted, KnownIsAccepted, MomentsAreInStep, ReceivedIsInStep, RepliesAreTrue, SitesAreEqual};
 ghost use Rattle.merge_model.specs.Laws.Bridge.{PublisherDecidesAlike};
 ghost use Rattle.merge_model.specs.Laws.Promises.{AllStand};
 

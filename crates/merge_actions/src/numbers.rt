@@ -1,10 +1,10 @@
 //! What numbers, mappings and lineages say, and what is forgotten.
 ghost use Rattle.merge_actions.specs.Actions.{PurgesTakeThePast};
-ghost use Rattle.merge_laws.specs.Knowledge.{KnownWereMade, MadeAreNumbered};
-ghost use Rattle.merge_laws.specs.LastLines.{ChangedIsLastChange, LeftByLine, MappingIsLastLine, TouchedInsideByLine, TouchedOutsideByLine};
+ghost use Rattle.merge_laws.specs.Facts.Knowledge.{KnownWereMade, MadeAreNumbered};
+ghost use Rattle.merge_laws.specs.Laws.LastLines.{ChangedIsLastChange, LeftByLine, MappingIsLastLine, TouchedInsideByLine, TouchedOutsideByLine};
 ghost use Rattle.merge_laws.specs.Laws.{ActedIsDone, ClosingsKeepTheLast, GapIsDone, JoinedTakesActed, KnowsOnlyMade, OfEveryActions, OfEveryValidActions, ReceivedIsDone, ReceivedNumberIsDone, SubscribersDecideAlike, TakesOnlyClosed, UnmetIsDone, UploadsTellTheLast};
-ghost use Rattle.merge_laws.specs.Leavings.{JoinsTakeNothingOwed, PurgesTakeNothingOwed};
-ghost use Rattle.merge_laws.specs.Watermarks.{WatermarksAreHeld};
+ghost use Rattle.merge_laws.specs.Laws.Leavings.{JoinsTakeNothingOwed, PurgesTakeNothingOwed};
+ghost use Rattle.merge_laws.specs.Facts.Watermarks.{WatermarksAreHeld};
 
 /// Whatever actions came: the numbers that the publisher keeps of a site say which of its generations
 /// and changes have acted, its mappings are what the last lines say, a subscriber decides as its

@@ -1,10 +1,10 @@
 //! The promises, of every list of actions.
 ghost use Rattle.merge_actions.specs.Actions.{DownloadsStayInside, MachineHasPromisesBehindActions, NoneIsLost, SettledHold};
-ghost use Rattle.merge_laws.specs.Bounds.{DownloadsAreEnough, UploadsAreEnough};
-ghost use Rattle.merge_laws.specs.Identities.{OfEveryRuledActions, TakenWereGranted};
+ghost use Rattle.merge_laws.specs.Laws.Bounds.{DownloadsAreEnough, UploadsAreEnough};
+ghost use Rattle.merge_laws.specs.Facts.Identities.{OfEveryRuledActions, TakenWereGranted};
 ghost use Rattle.merge_laws.specs.Laws.{OfEveryActions, OfEveryValidActions};
-ghost use Rattle.merge_laws.specs.Promised.{Promised};
-ghost use Rattle.merge_laws.specs.Rounds.{RoundSettles};
+ghost use Rattle.merge_laws.specs.Laws.Promised.{Promised};
+ghost use Rattle.merge_laws.specs.Laws.Rounds.{RoundSettles};
 ghost use Rattle.merge_model.specs.Laws.Promises.{IdentitiesApart, RangesApart, SessionSettles};
 
 /// Where a publication can be said by a file, all promises hold of the model behind every list of

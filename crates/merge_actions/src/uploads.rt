@@ -1,6 +1,6 @@
 //! Uploads among actions.
-ghost use Rattle.merge_laws.specs.ActsOnce.{DoneStaysByActions, LettersStayByActions, TakenHaveActed, TakenOnlyAnswerByActions};
-ghost use Rattle.merge_laws.specs.Effects.{NewsIsUnmet, NumbersTakeEffect};
+ghost use Rattle.merge_laws.specs.Laws.ActsOnce.{DoneStaysByActions, LettersStayByActions, TakenHaveActed, TakenOnlyAnswerByActions};
+ghost use Rattle.merge_laws.specs.Laws.Effects.{NewsIsUnmet, NumbersTakeEffect};
 ghost use Rattle.merge_laws.specs.Laws.{OfEveryActions};
 ghost use Rattle.merge_model.specs.Laws.Promises.{NoneActsTwice};
 

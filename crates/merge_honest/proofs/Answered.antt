@@ -39,7 +39,7 @@ use Rattle.merge_model.specs.declared.letter.Letter.{Letter}
 use Rattle.merge_model.specs.declared.letter.Message.{Message}
 use Rattle.merge_model.specs.declared.letter.Message.TheVariants.{Asks, Replies}
 use Rattle.merge_model.proofs.Lists.Finding.{all-weaker, at_put_other, at_put_same, some_same}
-use Rattle.merge_laws.proofs.Subscribing.{number-decided, same_number}
+use Rattle.merge_laws.proofs.Received.Subscribing.{number-decided, same_number}
 use Rattle.merge_honest.specs.Answered.{Answered, IsHeard, IsNextOf, IsOutstanding, LetterAnswers, MessageAnswers, TakesAll, number_in}
 
 -- A subscriber goes on: an older message that is still outstanding was so before, and it heard of no more ranges since.

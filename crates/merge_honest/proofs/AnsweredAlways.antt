@@ -44,10 +44,10 @@ use Rattle.merge_model.specs.declared.letter.Letter.{Letter}
 use Rattle.merge_model.specs.declared.letter.Message.{Message}
 use Rattle.merge_model.specs.declared.letter.Message.TheVariants.{Asks, Replies}
 use Rattle.merge_model.proofs.Lists.Finding.{all-more, all-weaker, at_put_same, pool-at}
-use Rattle.merge_laws.specs.Behind.{TellsActed}
-use Rattle.merge_laws.specs.Received.{Received}
-use Rattle.merge_laws.proofs.AlikeFields.{received-alike}
-use Rattle.merge_laws.proofs.Ground.{Ground, grounded-always}
+use Rattle.merge_laws.specs.Facts.Behind.{TellsActed}
+use Rattle.merge_laws.specs.Facts.Received.{Received}
+use Rattle.merge_laws.proofs.Alike.AlikeFields.{received-alike}
+use Rattle.merge_laws.proofs.Runs.Ground.{Ground, grounded-always}
 use Rattle.merge_laws.proofs.Walking.{StepsKeep, comes, here, told_by}
 use Rattle.merge_honest.specs.Answered.{Answered, HasRanges, IsHeard, IsNextOf, IsOutstanding, LetterAnswers, MessageAnswers, number_in}
 use Rattle.merge_honest.specs.HeldRanges.{AsksWell, MessageIsGranted}

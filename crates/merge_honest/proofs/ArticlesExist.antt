@@ -43,8 +43,8 @@ use Rattle.merge_model.specs.declared.letter.Message.{Message}
 use Rattle.merge_model.specs.declared.letter.Message.TheVariants.{Asks, Replies}
 use Rattle.merge_model.specs.declared.outcome.Outcome.{Outcome}
 use Rattle.merge_model.specs.declared.outcome.Outcome.TheVariants.{Posted}
-use Rattle.merge_laws.proofs.LineagesAlways.{Kept, kept-always, kept-step, kept-tallied}
-use Rattle.merge_laws.proofs.NotesLeave.{anew-leave, fold-leave, taker-leave}
+use Rattle.merge_laws.proofs.Lineages.LineagesAlways.{Kept, kept-always, kept-step, kept-tallied}
+use Rattle.merge_laws.proofs.Walking.NotesLeave.{anew-leave, fold-leave, taker-leave}
 use Rattle.merge_honest.proofs.SaidRuns.{IsSaid, runs-said}
 use Rattle.merge_honest.proofs.TookValues.{OfMakers, acts-keep-makers, lines-on}
 

@@ -18,7 +18,7 @@ use Rattle.merge_model.specs.declared.letter.Letter.{Letter}
 use Rattle.merge_model.specs.declared.letter.Message.TheVariants.{Asks}
 use Rattle.merge_model.proofs.Lists.Finding.{all-weaker, pool-at}
 use Rattle.merge_model.proofs.Lists.{all-unit}
-use Rattle.merge_laws.specs.Effects.{history_judge}
+use Rattle.merge_laws.specs.Laws.Effects.{history_judge}
 use Rattle.merge_laws.specs.Laws.{OfEveryValidRun}
 use Rattle.merge_honest.specs.Delivered.{NoneIsRefusedFor, breaks}
 use Rattle.merge_honest.specs.HeldRanges.{AsksWell, MessageIsGranted, WantHas}

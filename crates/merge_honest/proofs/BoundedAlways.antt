@@ -12,8 +12,8 @@ use Rattle.merge_model.specs.World.Steps.{Action}
 use Rattle.merge_model.specs.Tables.{SubscriberTables}
 use Rattle.merge_model.specs.World.{Saying, World, empty_world}
 use Rattle.merge_model.specs.declared.event.Event.{Event}
-use Rattle.merge_laws.proofs.Ground.{Ground, grounded-always}
-use Rattle.merge_laws.proofs.Models.{begins-with}
+use Rattle.merge_laws.proofs.Runs.Ground.{Ground, grounded-always}
+use Rattle.merge_laws.proofs.Received.Models.{begins-with}
 use Rattle.merge_honest.specs.Bounded.{AreBounded, IsBounded}
 use Rattle.merge_honest.proofs.Bounded.{calls-bounded}
 use Rattle.merge_honest.proofs.PublisherBounded.{step-within}

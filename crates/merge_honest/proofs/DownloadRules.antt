@@ -32,7 +32,7 @@ use Rattle.merge_model.specs.World.{subscriber_at}
 use Rattle.merge_model.specs.declared.letter.Letter.{Letter}
 use Rattle.merge_model.specs.declared.letter.Message.TheVariants.{Replies}
 use Rattle.merge_model.proofs.Lists.Finding.{pool-at}
-use Rattle.merge_laws.specs.Behind.{TellsActed}
+use Rattle.merge_laws.specs.Facts.Behind.{TellsActed}
 use Rattle.merge_honest.specs.Answered.{IsOutstanding}
 use Rattle.merge_honest.specs.Replied.{IsReply, put_fits, removal_fits}
 use Rattle.merge_honest.specs.SentWell.{IsWell, ReplyIsMadeWell, ReplyIsWell}

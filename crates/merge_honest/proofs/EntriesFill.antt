@@ -32,10 +32,10 @@ use Rattle.merge_model.specs.Publisher.PublisherUpload.{changing_by, taken_in, w
 use Rattle.merge_model.specs.Tables.{PublisherTables}
 use Rattle.merge_model.specs.World.{Saying, World, empty_world}
 use Rattle.merge_units.specs.declared.site_row.PublisherRow.{PublisherRow}
-use Rattle.merge_laws.proofs.Ground.{Ground}
-use Rattle.merge_laws.proofs.LastLineAdded.{added, lines-with}
-use Rattle.merge_laws.proofs.LastLineNotes.{acts-lines, anew-lines, purged-lines, taken-lines}
-use Rattle.merge_laws.proofs.TouchLists.{generations-many}
+use Rattle.merge_laws.proofs.Runs.Ground.{Ground}
+use Rattle.merge_laws.proofs.LastLines.LastLineAdded.{added, lines-with}
+use Rattle.merge_laws.proofs.LastLines.LastLineNotes.{acts-lines, anew-lines, purged-lines, taken-lines}
+use Rattle.merge_laws.proofs.Touched.TouchLists.{generations-many}
 use Rattle.merge_laws.proofs.Walking.{StepsKeep, acts_in, here, join_noted}
 use Rattle.merge_honest.specs.Entered.{EntriesFill, Fills, entries_in, stands_in}
 use Rattle.merge_honest.proofs.Fillings.{fills-closed, fills-more, same-counts, times-cons, times_in}

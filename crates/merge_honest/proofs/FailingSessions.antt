@@ -21,7 +21,7 @@ use Rattle.merge_model.specs.declared.answer.Answer.TheVariants.{Done, Refused, 
 use Rattle.merge_model.specs.declared.event.Event.TheVariants as event
 use Rattle.merge_model.proofs.Failing.NoSlips.{failures-show}
 use Rattle.merge_laws.specs.Laws.{OfEveryValidRun}
-use Rattle.merge_laws.proofs.SessionLaw.{sessions-settle}
+use Rattle.merge_laws.proofs.Sessions.SessionLaw.{sessions-settle}
 use Rattle.merge_honest.specs.Finished.{EndsBy, EndsOrFails, FailingSessionFinishes, FailingSessionSettles, SessionFinishes}
 use Rattle.merge_honest.proofs.SentWell.{Whole, sent-well-always}
 

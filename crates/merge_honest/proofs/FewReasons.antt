@@ -7,7 +7,7 @@ use Rattle.merge_batch.specs.declared.refusal.Refusal.{Refusal}
 use Rattle.merge_batch.specs.declared.refusal.Refusal.TheVariants.{BadBatch}
 use Rattle.merge_batch.specs.declared.request.UploadItem.{UploadItem}
 use Rattle.merge_laws.specs.Laws.{OfEveryValidRun}
-use Rattle.merge_laws.proofs.AccountElements.{any-out, all-in}
+use Rattle.merge_laws.proofs.Accounts.AccountElements.{any-out, all-in}
 use Rattle.merge_model.proofs.Lists.{all-unit}
 use Rattle.merge_model.proofs.Lists.Tests.{numbers-same}
 use Rattle.merge_honest.specs.Delivered.{FirstReasonIsTold, NoneIsRefusedFor, breaks, is_unexpected}

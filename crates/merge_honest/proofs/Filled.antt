@@ -30,14 +30,14 @@ use Rattle.merge_model.specs.Tables.{SubscriberTables}
 use Rattle.merge_model.specs.Subscriber.Taking.{taken}
 use Rattle.merge_model.specs.World.{Saying, World, empty_world, subscriber_at, with_subscriber}
 use Rattle.merge_model.proofs.Lists.Finding.{found-named}
-use Rattle.merge_laws.specs.Numbered.{InOrder}
-use Rattle.merge_laws.proofs.Ground.{Ground}
-use Rattle.merge_laws.proofs.Models.{begins-with}
-use Rattle.merge_laws.proofs.Noted.{anew-keep, own-keep, purge-keep, reply-keep}
-use Rattle.merge_laws.proofs.Numbers.{Alike, alike-itself, alike-notes, made-other, made-same}
-use Rattle.merge_laws.proofs.Telling.{row-there}
-use Rattle.merge_laws.proofs.Tellings.{joined-alike, lined, uploaded-alike}
-use Rattle.merge_laws.proofs.UnsentKept.{all-found, reply-site, version-site}
+use Rattle.merge_laws.specs.Facts.Numbered.{InOrder}
+use Rattle.merge_laws.proofs.Runs.Ground.{Ground}
+use Rattle.merge_laws.proofs.Received.Models.{begins-with}
+use Rattle.merge_laws.proofs.Walking.Noted.{anew-keep, own-keep, purge-keep, reply-keep}
+use Rattle.merge_laws.proofs.Numbered.Numbers.{Alike, alike-itself, alike-notes, made-other, made-same}
+use Rattle.merge_laws.proofs.Numbered.Telling.{row-there}
+use Rattle.merge_laws.proofs.Numbered.Tellings.{joined-alike, lined, uploaded-alike}
+use Rattle.merge_laws.proofs.Unsent.UnsentKept.{all-found, reply-site, version-site}
 use Rattle.merge_laws.proofs.Walking.{StepsKeep, here, join_noted, own_noted}
 use Rattle.merge_honest.specs.Filled.{AreFilled, IsFilled, count_in}
 use Rattle.merge_honest.proofs.PutFound.{put-beside, put-each}

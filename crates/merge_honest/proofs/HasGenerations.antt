@@ -25,7 +25,7 @@ use Rattle.merge_model.specs.Subscriber.{sub_at_moment, sub_closed, sub_last_clo
 use Rattle.merge_model.specs.Tables.{SubscriberTables}
 use Rattle.merge_model.specs.World.{Saying, World, subscriber_at}
 use Rattle.merge_model.specs.declared.event.Event.{Event}
-use Rattle.merge_laws.proofs.Ground.{Ground, grounded-always}
+use Rattle.merge_laws.proofs.Runs.Ground.{Ground, grounded-always}
 use Rattle.merge_laws.proofs.Walking.{step-keeps}
 use Rattle.merge_honest.specs.Filled.{AreFilled, HasGeneration, IsFilled, count_in}
 use Rattle.merge_honest.proofs.Batches.{batch-goes}

@@ -73,12 +73,12 @@ use Rattle.merge_model.specs.declared.letter.Message.TheVariants.{Asks, Replies}
 use Rattle.merge_model.proofs.Entries.EntryLists.{all-put}
 use Rattle.merge_model.proofs.Lists.Finding.{all-more, all-weaker, at_put_other, pool-at, some_same}
 use Rattle.merge_model.proofs.Lists.{all-map}
-use Rattle.merge_laws.specs.Identities.{told_range}
-use Rattle.merge_laws.specs.Received.{Received}
-use Rattle.merge_laws.proofs.Ground.{Ground}
-use Rattle.merge_laws.proofs.Models.{begins-with}
-use Rattle.merge_laws.proofs.UnsentKept.{reply-site, version-site}
-use Rattle.merge_laws.proofs.ValidRules.{valid-rules}
+use Rattle.merge_laws.specs.Facts.Identities.{told_range}
+use Rattle.merge_laws.specs.Facts.Received.{Received}
+use Rattle.merge_laws.proofs.Runs.Ground.{Ground}
+use Rattle.merge_laws.proofs.Received.Models.{begins-with}
+use Rattle.merge_laws.proofs.Unsent.UnsentKept.{reply-site, version-site}
+use Rattle.merge_laws.proofs.Runs.ValidRules.{valid-rules}
 use Rattle.merge_laws.proofs.Walking.{StepsKeep, comes, here, told_by}
 use Rattle.merge_honest.specs.HeldRanges.{AsksWell, HasGranted, HeldRanges, HolderHas, IsHeldWell, IsNumbered, MessageIsGranted, WantHas}
 use Rattle.merge_honest.proofs.PutFound.{put-each}

@@ -28,8 +28,8 @@ use Rattle.merge_model.specs.World.{Saying, World}
 use Rattle.merge_model.specs.declared.letter.Letter.{Letter}
 use Rattle.merge_model.specs.declared.outcome.Outcome.{Outcome}
 use Rattle.merge_model.specs.declared.outcome.Outcome.TheVariants.{NoLetter, Posted, Refuses}
-use Rattle.merge_laws.specs.ActsOnce.{delivered}
-use Rattle.merge_laws.specs.Effects.{history_judge}
+use Rattle.merge_laws.specs.Laws.ActsOnce.{delivered}
+use Rattle.merge_laws.specs.Laws.Effects.{history_judge}
 use Rattle.merge_laws.specs.Laws.{OfEveryValidRun}
 use Rattle.merge_honest.specs.Delivered.{IsRequest, NoneIsRefusedFor, is_unexpected, refusal_of}
 use Rattle.merge_honest.specs.Taken.{HonestAreTaken, IsAnswered, expiry, reasons, staleness}

@@ -35,13 +35,13 @@ use Rattle.merge_model.specs.Failing.Runs.{model_behind}
 use Rattle.merge_model.specs.Tables.{PublisherTables}
 use Rattle.merge_model.specs.declared.letter.Message.TheVariants.{Asks}
 use Rattle.merge_model.proofs.Lists.KeyLookUps.{keys-same}
-use Rattle.merge_laws.specs.Identities.{OfEveryRuledModel, TakenWereGranted, gives_to, takes_at}
+use Rattle.merge_laws.specs.Facts.Identities.{OfEveryRuledModel, TakenWereGranted, gives_to, takes_at}
 use Rattle.merge_laws.specs.Laws.{OfEveryValidRun}
-use Rattle.merge_laws.proofs.AccountElements.{IsIn, all-in}
-use Rattle.merge_laws.proofs.ToldLetters.{letter-fits}
-use Rattle.merge_laws.proofs.ToldRows.{HeldFits}
-use Rattle.merge_laws.proofs.ToldSites.{Every, publisher-begins}
-use Rattle.merge_laws.proofs.ValidRules.{valid-rules}
+use Rattle.merge_laws.proofs.Accounts.AccountElements.{IsIn, all-in}
+use Rattle.merge_laws.proofs.Told.ToldLetters.{letter-fits}
+use Rattle.merge_laws.proofs.Told.ToldRows.{HeldFits}
+use Rattle.merge_laws.proofs.Told.ToldSites.{Every, publisher-begins}
+use Rattle.merge_laws.proofs.Runs.ValidRules.{valid-rules}
 use Rattle.merge_owed.specs.Identity.{HasIdentity, HasValue, MadeWith, TakenStands, ValueWasTaken, WasTaken}
 use Rattle.merge_owed.proofs.IdentityFits.{taken-out}
 use Rattle.merge_honest.specs.Delivered.{IsRequest, NoneIsRefusedFor, breaks}

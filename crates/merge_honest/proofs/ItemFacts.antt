@@ -25,14 +25,14 @@ use Rattle.merge_model.specs.declared.letter.Message.TheVariants.{Asks}
 use Rattle.merge_model.proofs.Lists.Finding.{all-weaker, letter-zip}
 use Rattle.merge_model.proofs.Lists.{all-both}
 use Rattle.merge_model.proofs.Lists.Tests.{number-itself, numbers-same}
-use Rattle.merge_laws.specs.Accepted.{SendsAccepted}
-use Rattle.merge_laws.specs.Knowledge.{Knows, is_made, same_dot}
-use Rattle.merge_laws.specs.LineagesStand.{OthersAccepted, counts_in}
-use Rattle.merge_laws.specs.Standing.{IsKnownLater, Told}
-use Rattle.merge_laws.proofs.AccountElements.{IsIn, all-in, any-out, filter-in}
-use Rattle.merge_laws.proofs.DotTests.{dots-same}
-use Rattle.merge_laws.proofs.KnownRows.{letter-knows, past-knows}
-use Rattle.merge_laws.proofs.ToldLetters.{letter-fits}
+use Rattle.merge_laws.specs.Invariants.Accepted.{SendsAccepted}
+use Rattle.merge_laws.specs.Facts.Knowledge.{Knows, is_made, same_dot}
+use Rattle.merge_laws.specs.Facts.LineagesStand.{OthersAccepted, counts_in}
+use Rattle.merge_laws.specs.Facts.Standing.{IsKnownLater, Told}
+use Rattle.merge_laws.proofs.Accounts.AccountElements.{IsIn, all-in, any-out, filter-in}
+use Rattle.merge_laws.proofs.Pasts.DotTests.{dots-same}
+use Rattle.merge_laws.proofs.Known.KnownRows.{letter-knows, past-knows}
+use Rattle.merge_laws.proofs.Told.ToldLetters.{letter-fits}
 use Rattle.merge_honest.specs.Delivered.{IsRequest}
 use Rattle.merge_honest.proofs.Rules.{Known}
 

@@ -27,12 +27,12 @@ use Rattle.merge_model.specs.History.Model.{Model}
 use Rattle.merge_model.proofs.Lists.Finding.{all-weaker, pool-at}
 use Rattle.merge_model.proofs.Lists.{all-both}
 use Rattle.merge_model.proofs.Lists.Tests.{numbers-same}
-use Rattle.merge_laws.specs.Effects.{history_judge}
-use Rattle.merge_laws.specs.Knowledge.{changes_of}
+use Rattle.merge_laws.specs.Laws.Effects.{history_judge}
+use Rattle.merge_laws.specs.Facts.Knowledge.{changes_of}
 use Rattle.merge_laws.specs.Laws.{OfEveryValidRun}
-use Rattle.merge_laws.specs.Lineages.{IsOfMade, OfMessage}
-use Rattle.merge_laws.specs.Seen.{Seen, field_at, greatest_in}
-use Rattle.merge_laws.specs.Standing.{Told}
+use Rattle.merge_laws.specs.Facts.Lineages.{IsOfMade, OfMessage}
+use Rattle.merge_laws.specs.Invariants.Seen.{Seen, field_at, greatest_in}
+use Rattle.merge_laws.specs.Facts.Standing.{Told}
 use Rattle.merge_model.specs.declared.letter.Letter.{Letter}
 use Rattle.merge_model.specs.declared.letter.Message.TheVariants.{Asks}
 use Rattle.merge_honest.specs.Delivered.{IsRequest, NoneIsRefusedFor, breaks}

@@ -28,9 +28,9 @@ use Rattle.merge_model.specs.declared.event.Event.{Event}
 use Rattle.merge_model.specs.declared.letter.Letter.{Letter}
 use Rattle.merge_model.specs.declared.letter.Message.TheVariants.{Asks}
 use Rattle.merge_model.proofs.Lists.Finding.{pool-at}
-use Rattle.merge_laws.specs.Effects.{history_judge}
+use Rattle.merge_laws.specs.Laws.Effects.{history_judge}
 use Rattle.merge_laws.specs.Laws.{OfEveryValidRun}
-use Rattle.merge_laws.proofs.Models.{gap-is}
+use Rattle.merge_laws.proofs.Received.Models.{gap-is}
 use Rattle.merge_honest.specs.Delivered.{IsRequest, NoneIsRefusedFor, is_gap, is_not_joined, is_unknown_site, is_wrong_watermark, refusal_of}
 use Rattle.merge_honest.specs.SentWell.{AskIsWell, IsRemembered, IsSentBy, IsWell, UploadIsWell}
 use Rattle.merge_honest.proofs.Refusing.{Allows, Never, OfRequest, OfSite, if-never, is_join, none-never, none-refused, request-never, some-never}

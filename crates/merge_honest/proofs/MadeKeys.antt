@@ -66,20 +66,20 @@ use Rattle.merge_model.proofs.Failing.KeptFailing.{runs-keep}
 use Rattle.merge_model.proofs.Lists.KeyLists.{some-head}
 use Rattle.merge_model.proofs.Lists.KeyLookUps.{key-itself, key-test}
 use Rattle.merge_model.proofs.Lists.{OfSome, all-both, all-filter, all-filter_map, all-unit}
-use Rattle.merge_laws.specs.Knowledge.{Knows, is_made, same_dot}
-use Rattle.merge_laws.specs.KnownMakers.{KnowsMaker}
-use Rattle.merge_laws.specs.LastLines.{move_told}
-use Rattle.merge_laws.specs.LineagesStand.{OfMessage}
-use Rattle.merge_laws.proofs.AccountElements.{IsIn, any-out}
-use Rattle.merge_laws.proofs.DotTests.{dot-itself}
-use Rattle.merge_laws.proofs.Ground.{Ground}
-use Rattle.merge_laws.proofs.KnownRows.{held-knows, letter-knows, past-knows}
-use Rattle.merge_laws.proofs.LineagesAlways.{Kept, ground, kept-always, kept-step, kept-tallied}
-use Rattle.merge_laws.proofs.MakerChanges.{own-held}
-use Rattle.merge_laws.proofs.Noted.{acts-own}
-use Rattle.merge_laws.proofs.NotesLeave.{fold-leave, reply-leave}
-use Rattle.merge_laws.proofs.ToldLetters.{letter-fits}
-use Rattle.merge_laws.proofs.ToldWalk.{every-keeps}
+use Rattle.merge_laws.specs.Facts.Knowledge.{Knows, is_made, same_dot}
+use Rattle.merge_laws.specs.Invariants.KnownMakers.{KnowsMaker}
+use Rattle.merge_laws.specs.Laws.LastLines.{move_told}
+use Rattle.merge_laws.specs.Facts.LineagesStand.{OfMessage}
+use Rattle.merge_laws.proofs.Accounts.AccountElements.{IsIn, any-out}
+use Rattle.merge_laws.proofs.Pasts.DotTests.{dot-itself}
+use Rattle.merge_laws.proofs.Runs.Ground.{Ground}
+use Rattle.merge_laws.proofs.Known.KnownRows.{held-knows, letter-knows, past-knows}
+use Rattle.merge_laws.proofs.Lineages.LineagesAlways.{Kept, ground, kept-always, kept-step, kept-tallied}
+use Rattle.merge_laws.proofs.Makers.MakerChanges.{own-held}
+use Rattle.merge_laws.proofs.Walking.Noted.{acts-own}
+use Rattle.merge_laws.proofs.Walking.NotesLeave.{fold-leave, reply-leave}
+use Rattle.merge_laws.proofs.Told.ToldLetters.{letter-fits}
+use Rattle.merge_laws.proofs.Told.ToldWalk.{every-keeps}
 use Rattle.merge_laws.proofs.Walking.{Sends, StepsKeep, acts_in, comes, here, join_noted, own_noted, step-keeps, told_by, uploaded_world}
 use Rattle.merge_owed.proofs.MadeStays.{AreAmong, acts-stay, join-stays, lines-stay}
 use Rattle.merge_honest.proofs.EntryKeys.{MappingsHave, RowsHave, changed-have, place-has, row-has}

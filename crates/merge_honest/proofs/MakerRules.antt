@@ -32,18 +32,18 @@ use Rattle.merge_model.proofs.Lists.Finding.{letter-zip}
 use Rattle.merge_model.proofs.Lists.KeyLookUps.{keys-same}
 use Rattle.merge_model.proofs.Lists.{all-both, all-three}
 use Rattle.merge_model.proofs.Lists.Tests.{numbers-same}
-use Rattle.merge_laws.specs.Effects.{history_judge}
-use Rattle.merge_laws.specs.Knowledge.{changes_of, is_made, same_dot}
-use Rattle.merge_laws.specs.KnownMakers.{KnowsMaker}
+use Rattle.merge_laws.specs.Laws.Effects.{history_judge}
+use Rattle.merge_laws.specs.Facts.Knowledge.{changes_of, is_made, same_dot}
+use Rattle.merge_laws.specs.Invariants.KnownMakers.{KnowsMaker}
 use Rattle.merge_laws.specs.Laws.{OfEveryValidRun}
-use Rattle.merge_laws.specs.Lineages.{IsOfMade}
-use Rattle.merge_laws.specs.LineagesStand.{OfMessage}
-use Rattle.merge_laws.specs.Numbered.{is_up_to, last_of}
-use Rattle.merge_laws.proofs.AccountElements.{IsIn, all-in, any-out, filter-in}
-use Rattle.merge_laws.proofs.AlikeFields.{number-alike}
-use Rattle.merge_laws.proofs.DotTests.{dots-same}
-use Rattle.merge_laws.proofs.Through.{each-within}
-use Rattle.merge_laws.proofs.ToldLetters.{letter-fits}
+use Rattle.merge_laws.specs.Facts.Lineages.{IsOfMade}
+use Rattle.merge_laws.specs.Facts.LineagesStand.{OfMessage}
+use Rattle.merge_laws.specs.Facts.Numbered.{is_up_to, last_of}
+use Rattle.merge_laws.proofs.Accounts.AccountElements.{IsIn, all-in, any-out, filter-in}
+use Rattle.merge_laws.proofs.Alike.AlikeFields.{number-alike}
+use Rattle.merge_laws.proofs.Pasts.DotTests.{dots-same}
+use Rattle.merge_laws.proofs.Numbered.Through.{each-within}
+use Rattle.merge_laws.proofs.Told.ToldLetters.{letter-fits}
 use Rattle.merge_honest.specs.Delivered.{IsRequest, NoneIsRefusedFor, breaks}
 use Rattle.merge_honest.proofs.Breaking.{follows-all}
 use Rattle.merge_honest.proofs.ItemFacts.{ItemKnown, items-known, known_to}

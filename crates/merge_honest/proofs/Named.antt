@@ -26,12 +26,12 @@ use Rattle.merge_model.specs.History.Pasts.{decided_dots, past_after, past_by}
 use Rattle.merge_model.specs.Failing.Runs.{model_behind}
 use Rattle.merge_model.specs.World.{Saying, World}
 use Rattle.merge_model.specs.declared.event.Event.{Event}
-use Rattle.merge_laws.specs.LineagesStand.{EveryVersion}
-use Rattle.merge_laws.proofs.DotTests.{dot-first}
-use Rattle.merge_laws.proofs.Ground.{Ground, grounded-always}
-use Rattle.merge_laws.proofs.ToldRows.{HeldFits}
-use Rattle.merge_laws.proofs.ToldUploads.{GoesOn}
-use Rattle.merge_laws.proofs.ToldWalk.{every-begins, every-keeps}
+use Rattle.merge_laws.specs.Facts.LineagesStand.{EveryVersion}
+use Rattle.merge_laws.proofs.Pasts.DotTests.{dot-first}
+use Rattle.merge_laws.proofs.Runs.Ground.{Ground, grounded-always}
+use Rattle.merge_laws.proofs.Told.ToldRows.{HeldFits}
+use Rattle.merge_laws.proofs.Told.ToldUploads.{GoesOn}
+use Rattle.merge_laws.proofs.Told.ToldWalk.{every-begins, every-keeps}
 use Rattle.merge_laws.proofs.Walking.{step-keeps}
 
 -- an identifier can carry the change

@@ -33,14 +33,14 @@ use Rattle.merge_model.specs.declared.letter.Letter.{Letter}
 use Rattle.merge_model.specs.declared.letter.Message.TheVariants.{Asks}
 use Rattle.merge_model.proofs.Lists.Finding.{all-weaker, found-named, pool-at}
 use Rattle.merge_model.proofs.Lists.{all-three, all-unit}
-use Rattle.merge_laws.specs.Effects.{history_judge}
-use Rattle.merge_laws.specs.Knowledge.{changes_of}
+use Rattle.merge_laws.specs.Laws.Effects.{history_judge}
+use Rattle.merge_laws.specs.Facts.Knowledge.{changes_of}
 use Rattle.merge_laws.specs.Laws.{OfEveryValidRun}
-use Rattle.merge_laws.specs.Lineages.{IsOfMade}
-use Rattle.merge_laws.specs.Numbered.{InOrder, JoinTells, LetterTells, UploadTells, last_of, last_through}
-use Rattle.merge_laws.specs.Received.{JoinFits, LetterFits, UploadFits, joined_at}
-use Rattle.merge_laws.proofs.AlikeFields.{number-alike, received-alike}
-use Rattle.merge_laws.proofs.Through.{last-rises, order-within}
+use Rattle.merge_laws.specs.Facts.Lineages.{IsOfMade}
+use Rattle.merge_laws.specs.Facts.Numbered.{InOrder, JoinTells, LetterTells, UploadTells, last_of, last_through}
+use Rattle.merge_laws.specs.Facts.Received.{JoinFits, LetterFits, UploadFits, joined_at}
+use Rattle.merge_laws.proofs.Alike.AlikeFields.{number-alike, received-alike}
+use Rattle.merge_laws.proofs.Numbered.Through.{last-rises, order-within}
 use Rattle.merge_honest.specs.Bounded.{IsBounded}
 use Rattle.merge_honest.specs.Delivered.{IsRequest, NoneIsRefusedFor, breaks}
 use Rattle.merge_honest.specs.OwnPairs.{MessageHasOwn}

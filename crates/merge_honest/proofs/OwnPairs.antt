@@ -52,10 +52,10 @@ use Rattle.merge_model.specs.declared.letter.Message.TheVariants.{Asks, Replies}
 use Rattle.merge_model.proofs.Entries.EntryLists.{all-put}
 use Rattle.merge_model.proofs.Lists.Finding.{all-more, found-named}
 use Rattle.merge_model.proofs.Lists.{OfSome, all-filter_map, all-map}
-use Rattle.merge_laws.proofs.Changed.{gens_of, rows-changed}
-use Rattle.merge_laws.proofs.Ground.{Ground, grounded-always}
-use Rattle.merge_laws.proofs.Models.{begins-with}
-use Rattle.merge_laws.proofs.UnsentKept.{all-found, decides-alike, reply-site, version-site}
+use Rattle.merge_laws.proofs.Unsent.Changed.{gens_of, rows-changed}
+use Rattle.merge_laws.proofs.Runs.Ground.{Ground, grounded-always}
+use Rattle.merge_laws.proofs.Received.Models.{begins-with}
+use Rattle.merge_laws.proofs.Unsent.UnsentKept.{all-found, decides-alike, reply-site, version-site}
 use Rattle.merge_laws.proofs.Walking.{StepsKeep, step-keeps}
 use Rattle.merge_honest.specs.OwnPairs.{HasOwn, MessageHasOwn, OwnPairs, RowHasOwn}
 use Rattle.merge_honest.proofs.PutFound.{put-each}

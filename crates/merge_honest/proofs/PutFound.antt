@@ -4,7 +4,7 @@ use Rattle.std.proofs.Common.{ap, subst, sym, ◌∙◌}
 use Rattle.merge_model.specs.Tables.Keys.{at_number, put_number}
 use Rattle.merge_model.specs.Tables.{SubscriberTables}
 use Rattle.merge_model.proofs.Lists.Finding.{at_put_other, at_put_same, some_same}
-use Rattle.merge_laws.proofs.Subscribing.{number-decided, same_number}
+use Rattle.merge_laws.proofs.Received.Subscribing.{number-decided, same_number}
 
 abbrev pub OfEach : (ℕ → SubscriberTables → Type 0) → List (ℕ × SubscriberTables) → Type 0
 OfEach P subscribers = (n : ℕ) (s : SubscriberTables) → at_number subscribers n ≡ Some s → P n s

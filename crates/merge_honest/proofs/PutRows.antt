@@ -37,16 +37,16 @@ use Rattle.merge_model.specs.declared.letter.Letter.{Letter}
 use Rattle.merge_model.specs.declared.letter.Message.TheVariants.{Replies}
 use Rattle.merge_model.proofs.Lists.Finding.{all-weaker, found-named, letter-zip, pool-at}
 use Rattle.merge_model.proofs.Lists.{all-three}
-use Rattle.merge_laws.specs.Knowledge.{Knows, changes_of, is_made}
-use Rattle.merge_laws.specs.KnownMakers.{KnowsMaker}
+use Rattle.merge_laws.specs.Facts.Knowledge.{Knows, changes_of, is_made}
+use Rattle.merge_laws.specs.Invariants.KnownMakers.{KnowsMaker}
 use Rattle.merge_laws.specs.Laws.{OfEveryValidRun}
-use Rattle.merge_laws.specs.Lineages.{IsOfMade}
-use Rattle.merge_laws.specs.Lineages.{OfMessage as OfLineage, OfOrder as OrderLineage}
-use Rattle.merge_laws.specs.LineagesStand.{OfMessage, OfOrder}
-use Rattle.merge_laws.specs.Standing.{Told}
-use Rattle.merge_laws.proofs.KnownRows.{letter-knows, past-knows}
-use Rattle.merge_laws.proofs.ToldLetters.{letter-fits}
-use Rattle.merge_laws.proofs.ToldSites.{Every}
+use Rattle.merge_laws.specs.Facts.Lineages.{IsOfMade}
+use Rattle.merge_laws.specs.Facts.Lineages.{OfMessage as OfLineage, OfOrder as OrderLineage}
+use Rattle.merge_laws.specs.Facts.LineagesStand.{OfMessage, OfOrder}
+use Rattle.merge_laws.specs.Facts.Standing.{Told}
+use Rattle.merge_laws.proofs.Known.KnownRows.{letter-knows, past-knows}
+use Rattle.merge_laws.proofs.Told.ToldLetters.{letter-fits}
+use Rattle.merge_laws.proofs.Told.ToldSites.{Every}
 use Rattle.merge_owed.proofs.VersionKept.{holds-always}
 use Rattle.merge_honest.specs.Replied.{IsReply, PutsFit, put_fits}
 use Rattle.merge_honest.proofs.ArticlesExist.{AllExist, exist-always}

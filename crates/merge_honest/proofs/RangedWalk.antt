@@ -17,8 +17,8 @@ use Rattle.merge_model.specs.World.{Saying, World, with_publisher, with_subscrib
 use Rattle.merge_model.specs.declared.letter.Letter.{Letter}
 use Rattle.merge_model.specs.declared.letter.Message.{Message}
 use Rattle.merge_model.specs.declared.letter.Message.TheVariants.{Asks, Replies}
-use Rattle.merge_laws.specs.Received.{Received}
-use Rattle.merge_laws.proofs.Shapes.{Shapes, is_ranged, step-shaped}
+use Rattle.merge_laws.specs.Facts.Received.{Received}
+use Rattle.merge_laws.proofs.Walking.Shapes.{Shapes, is_ranged, step-shaped}
 use Rattle.merge_laws.proofs.Walking.{Sends, StepsKeep, comes, here, step-keeps}
 
 -- whether ranges are told in the letter after these

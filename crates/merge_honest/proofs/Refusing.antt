@@ -35,8 +35,8 @@ use Rattle.merge_model.specs.declared.letter.Letter.{Letter}
 use Rattle.merge_model.specs.declared.outcome.Outcome.{Outcome}
 use Rattle.merge_model.specs.declared.outcome.Outcome.TheVariants.{NoLetter, Posted, Refuses}
 use Rattle.merge_model.proofs.Lists.Finding.{some_same}
-use Rattle.merge_laws.specs.ActsOnce.{delivered}
-use Rattle.merge_laws.specs.Effects.{history_judge}
+use Rattle.merge_laws.specs.Laws.ActsOnce.{delivered}
+use Rattle.merge_laws.specs.Laws.Effects.{history_judge}
 use Rattle.merge_honest.specs.Delivered.{IsRequest, NoneIsRefusedFor, refusal_of}
 
 -- a refusal, where there is one, does not pass the test

@@ -24,10 +24,10 @@ use Rattle.merge_model.specs.Subscriber.Taking.{key_of_download}
 use Rattle.merge_model.specs.declared.letter.Letter.{Letter}
 use Rattle.merge_model.specs.declared.letter.Message.TheVariants.{Replies}
 use Rattle.merge_model.proofs.Lists.Finding.{all-weaker, pool-at}
-use Rattle.merge_laws.specs.Knowledge.{changes_of, is_made}
+use Rattle.merge_laws.specs.Facts.Knowledge.{changes_of, is_made}
 use Rattle.merge_laws.specs.Laws.{OfEveryValidRun}
-use Rattle.merge_laws.proofs.MakerChanges.{made-below}
-use Rattle.merge_laws.proofs.ToldSites.{Every}
+use Rattle.merge_laws.proofs.Makers.MakerChanges.{made-below}
+use Rattle.merge_laws.proofs.Told.ToldSites.{Every}
 use Rattle.merge_owed.proofs.VersionKept.{holds-always}
 use Rattle.merge_honest.specs.Replied.{IsReply, RemovalsFit, removal_fits}
 use Rattle.merge_honest.proofs.ArticlesExist.{AllExist, exist-always}

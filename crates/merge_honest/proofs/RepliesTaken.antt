@@ -25,7 +25,7 @@ use Rattle.merge_model.specs.declared.outcome.Outcome.{Outcome}
 use Rattle.merge_model.specs.declared.outcome.Outcome.TheVariants.{NoLetter, Refuses, Took}
 use Rattle.merge_model.specs.declared.outcome.Taken.{Taken}
 use Rattle.merge_model.specs.declared.outcome.Taken.TheVariants.{Acted, Missed}
-use Rattle.merge_laws.specs.ActsOnce.{delivered}
+use Rattle.merge_laws.specs.Laws.ActsOnce.{delivered}
 use Rattle.merge_laws.specs.Laws.{OfEveryValidRun}
 use Rattle.merge_honest.specs.Answered.{MessageAnswers}
 use Rattle.merge_honest.specs.Replied.{IsReply, NoReplyIsRefused, RepliesFit}

@@ -25,7 +25,7 @@ use Rattle.merge_model.specs.declared.letter.Letter.{Letter}
 use Rattle.merge_model.specs.declared.letter.Message.TheVariants.{Replies}
 use Rattle.merge_model.proofs.Lists.Finding.{pool-at}
 use Rattle.merge_model.proofs.Lists.{all-both}
-use Rattle.merge_laws.specs.Behind.{TellsActed}
+use Rattle.merge_laws.specs.Facts.Behind.{TellsActed}
 use Rattle.merge_laws.specs.Laws.{OfEveryValidRun}
 use Rattle.merge_model.specs.Judge.ByNumbers.{received_by_number}
 use Rattle.merge_honest.specs.Answered.{HasRanges, HasValue, IsNextOf, IsOutstanding, LetterAnswers, MessageAnswers, TakesAll}

@@ -19,8 +19,8 @@ use Rattle.merge_model.specs.Publisher.PublisherJoin.{join_acts, join_taken, joi
 use Rattle.merge_model.specs.Publisher.PublisherUpload.{state_seeing, taken_in, with_taken}
 use Rattle.merge_model.specs.Tables.{PublisherTables}
 use Rattle.merge_model.proofs.Lists.Finding.{at_put, at_put_same}
-use Rattle.merge_laws.proofs.Publishing.{asked-same, joined-received, same-sites, seeing-some, sites_taken, upload-received}
-use Rattle.merge_laws.proofs.Subscribing.{filling-rises, number-decided, same_number}
+use Rattle.merge_laws.proofs.Received.Publishing.{asked-same, joined-received, same-sites, seeing-some, sites_taken, upload-received}
+use Rattle.merge_laws.proofs.Received.Subscribing.{filling-rises, number-decided, same_number}
 use Rattle.merge_honest.specs.SentWell.{IsRemembered}
 
 pub record Rises (p q : PublisherTables) : Type 0 where

@@ -38,12 +38,12 @@ use Rattle.merge_model.specs.Failing.Runs.{model_behind}
 use Rattle.merge_model.specs.declared.letter.Message.TheVariants.{Asks}
 use Rattle.merge_model.proofs.Lists.KeyLookUps.{keys-same}
 use Rattle.merge_model.proofs.Lists.{all-both}
-use Rattle.merge_laws.specs.Knowledge.{is_made, same_dot}
+use Rattle.merge_laws.specs.Facts.Knowledge.{is_made, same_dot}
 use Rattle.merge_laws.specs.Laws.{OfEveryValidRun}
-use Rattle.merge_laws.proofs.AccountElements.{all-in, any-out}
-use Rattle.merge_laws.proofs.DotTests.{dots-same}
-use Rattle.merge_laws.proofs.ToldLetters.{letter-fits}
-use Rattle.merge_laws.proofs.ToldSites.{Every}
+use Rattle.merge_laws.proofs.Accounts.AccountElements.{all-in, any-out}
+use Rattle.merge_laws.proofs.Pasts.DotTests.{dots-same}
+use Rattle.merge_laws.proofs.Told.ToldLetters.{letter-fits}
+use Rattle.merge_laws.proofs.Told.ToldSites.{Every}
 use Rattle.merge_owed.proofs.CellValues.{HasColumns, HaveOne}
 use Rattle.merge_owed.proofs.VersionKept.{holds-always}
 use Rattle.merge_honest.specs.Delivered.{IsRequest, NoneIsRefusedFor, breaks}

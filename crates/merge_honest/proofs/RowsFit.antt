@@ -62,10 +62,10 @@ use Rattle.merge_model.specs.Tables.Publications.{resolver_at, resolver_column}
 use Rattle.merge_model.specs.Tables.{PublisherTables}
 use Rattle.merge_model.proofs.Lists.Finding.{some_same}
 use Rattle.merge_model.proofs.Runs.Refusals.{first-none}
-use Rattle.merge_laws.proofs.AccountElements.{all-in, each-in}
-use Rattle.merge_laws.proofs.Arrivals.{not-refused}
-use Rattle.merge_laws.proofs.Telling.{no-refusal}
-use Rattle.merge_laws.proofs.ToldRows.{HeldFits}
+use Rattle.merge_laws.proofs.Accounts.AccountElements.{all-in, each-in}
+use Rattle.merge_laws.proofs.Received.Arrivals.{not-refused}
+use Rattle.merge_laws.proofs.Numbered.Telling.{no-refusal}
+use Rattle.merge_laws.proofs.Told.ToldRows.{HeldFits}
 use Rattle.merge_owed.specs.Identity.{HasIdentity, IsMaker}
 use Rattle.merge_owed.proofs.BodyValues.{BodyFits, CellsFit, IsCounted, case-fits, inserted-fits, updated-fits}
 use Rattle.merge_owed.proofs.CellValues.{HasColumns, HaveOne, asked_by}

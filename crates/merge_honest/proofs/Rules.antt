@@ -27,10 +27,10 @@ use Rattle.merge_model.specs.Failing.Runs.{model_behind}
 use Rattle.merge_model.specs.Tables.{PublisherTables}
 use Rattle.merge_model.specs.World.{Saying}
 use Rattle.merge_model.specs.declared.event.Event.{Event}
-use Rattle.merge_laws.specs.Effects.{history_judge}
+use Rattle.merge_laws.specs.Laws.Effects.{history_judge}
 use Rattle.merge_laws.specs.Laws.{OfEveryValidRun}
-use Rattle.merge_laws.proofs.LineagesAlways.{Kept, kept-always}
-use Rattle.merge_laws.specs.LineagesStand.{EveryVersion}
+use Rattle.merge_laws.proofs.Lineages.LineagesAlways.{Kept, kept-always}
+use Rattle.merge_laws.specs.Facts.LineagesStand.{EveryVersion}
 use Rattle.merge_owed.specs.Identity.{TakenStands, ValueWasTaken}
 use Rattle.merge_owed.proofs.IdentityKept.{taken-stands, values-taken}
 use Rattle.merge_honest.specs.Answered.{Answered}

@@ -32,8 +32,8 @@ use Rattle.merge_model.specs.Subscriber.Taking.{key_of_download}
 use Rattle.merge_model.specs.World.{World}
 use Rattle.merge_model.proofs.Runs.Refusals.{first-none}
 use Rattle.merge_model.proofs.Publishers.Sorted.{key_total}
-use Rattle.merge_laws.proofs.Sendings.{batch-begin, batch-bound}
-use Rattle.merge_laws.proofs.Subscribing.{filling-rises}
+use Rattle.merge_laws.proofs.Received.Sendings.{batch-begin, batch-bound}
+use Rattle.merge_laws.proofs.Received.Subscribing.{filling-rises}
 use Rattle.merge_laws.proofs.Walking.{here}
 use Rattle.merge_honest.specs.SentWell.{ReplyIsMadeWell, ReplyIsWell}
 use Rattle.merge_honest.specs.Entered.{EntriesFill}

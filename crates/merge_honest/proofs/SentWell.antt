@@ -45,17 +45,17 @@ use Rattle.merge_model.specs.declared.letter.Message.TheVariants.{Asks, Replies}
 use Rattle.merge_model.proofs.Lists.Finding.{all-more, all-weaker, at_put_other, pool-at, some_same}
 use Rattle.merge_model.proofs.Failing.KeptFailing.{runs-keep}
 use Rattle.merge_model.proofs.Runs.Refusals.{first-none}
-use Rattle.merge_laws.specs.Received.{Received}
-use Rattle.merge_laws.specs.Settled.{Settled, SiteHolds, made_in, site_view}
-use Rattle.merge_laws.proofs.Deliveries.{news-above}
-use Rattle.merge_laws.proofs.Ground.{Ground, ground-step, ground-tallied}
-use Rattle.merge_laws.proofs.MessageFacts.{acts-later, join-up, letter-fits}
-use Rattle.merge_laws.proofs.Models.{at-map}
-use Rattle.merge_laws.proofs.SettledLaw.{settled-always, settled-step}
-use Rattle.merge_laws.proofs.SettledWorlds.{if-found}
-use Rattle.merge_laws.proofs.Steps.{joined-flag}
-use Rattle.merge_laws.proofs.Subscribing.{filling-rises, number-decided, same_number}
-use Rattle.merge_laws.proofs.UnsentKept.{reply-site, version-site}
+use Rattle.merge_laws.specs.Facts.Received.{Received}
+use Rattle.merge_laws.specs.Facts.Settled.{Settled, SiteHolds, made_in, site_view}
+use Rattle.merge_laws.proofs.Received.Deliveries.{news-above}
+use Rattle.merge_laws.proofs.Runs.Ground.{Ground, ground-step, ground-tallied}
+use Rattle.merge_laws.proofs.Received.MessageFacts.{acts-later, join-up, letter-fits}
+use Rattle.merge_laws.proofs.Received.Models.{at-map}
+use Rattle.merge_laws.proofs.Settled.SettledLaw.{settled-always, settled-step}
+use Rattle.merge_laws.proofs.Settled.SettledWorlds.{if-found}
+use Rattle.merge_laws.proofs.Received.Steps.{joined-flag}
+use Rattle.merge_laws.proofs.Received.Subscribing.{filling-rises, number-decided, same_number}
+use Rattle.merge_laws.proofs.Unsent.UnsentKept.{reply-site, version-site}
 use Rattle.merge_laws.proofs.Walking.{StepsKeep, step-keeps, acts_in, comes, here, told_by}
 use Rattle.merge_honest.specs.Entered.{EntriesFill}
 use Rattle.merge_honest.specs.SentWell.{AskIsWell, IsKnown, IsSentBy, IsWell, SentWell}

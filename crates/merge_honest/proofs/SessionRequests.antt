@@ -51,9 +51,9 @@ use Rattle.merge_model.specs.declared.letter.Message.TheVariants.{Asks, Replies}
 use Rattle.merge_model.specs.declared.outcome.Outcome.{Outcome}
 use Rattle.merge_model.specs.declared.outcome.Outcome.TheVariants.{NoLetter, Posted, Refuses}
 use Rattle.merge_model.proofs.Runs.Refused.{step_by-leaves}
-use Rattle.merge_laws.specs.Effects.{history_judge}
-use Rattle.merge_laws.proofs.SessionSteps.{After, post-step, posted_model, unless-step}
-use Rattle.merge_laws.proofs.SettledExpired.{expired_in}
+use Rattle.merge_laws.specs.Laws.Effects.{history_judge}
+use Rattle.merge_laws.proofs.Sessions.SessionSteps.{After, post-step, posted_model, unless-step}
+use Rattle.merge_laws.proofs.Settled.SettledExpired.{expired_in}
 use Rattle.merge_laws.proofs.Walking.{here, letter-last, told_by, uploaded_world}
 use Rattle.merge_honest.specs.Delivered.{IsRequest}
 use Rattle.merge_honest.specs.Finished.{EndsFor}

@@ -50,14 +50,14 @@ use Rattle.merge_model.specs.declared.outcome.Outcome.TheVariants.{NoLetter, Ref
 use Rattle.merge_model.proofs.Lists.Finding.{at_put_other, at_put_same}
 use Rattle.merge_model.proofs.Publishers.PublisherSteps.{step-holds}
 use Rattle.merge_model.proofs.Publishers.{close-ok, download-ok, join-ok, local-ok, ranges-ok, upload-ok}
-use Rattle.merge_laws.proofs.Ground.{Ground}
-use Rattle.merge_laws.proofs.PurgeSteps.{if-entry, taken_entry}
-use Rattle.merge_laws.proofs.SessionSteps.{After, Answered, Sent, back-step, comes-step, post-step, posted_model, reply-step, send-step, unless-step}
-use Rattle.merge_laws.proofs.SettledExpired.{expired_in}
-use Rattle.merge_laws.proofs.SettledWorlds.{if-found}
-use Rattle.merge_laws.proofs.Subscribing.{number-decided, same_number}
+use Rattle.merge_laws.proofs.Runs.Ground.{Ground}
+use Rattle.merge_laws.proofs.Purges.PurgeSteps.{if-entry, taken_entry}
+use Rattle.merge_laws.proofs.Sessions.SessionSteps.{After, Answered, Sent, back-step, comes-step, post-step, posted_model, reply-step, send-step, unless-step}
+use Rattle.merge_laws.proofs.Settled.SettledExpired.{expired_in}
+use Rattle.merge_laws.proofs.Settled.SettledWorlds.{if-found}
+use Rattle.merge_laws.proofs.Received.Subscribing.{number-decided, same_number}
 use Rattle.merge_laws.proofs.Walking.{here}
-use Rattle.merge_laws.specs.Purges.{StateInStep, base_in}
+use Rattle.merge_laws.specs.Facts.Purges.{StateInStep, base_in}
 use Rattle.merge_honest.proofs.SessionRequests.{InTime}
 
 -- The publisher was in step with a site no earlier than this.

@@ -18,12 +18,12 @@ use Rattle.merge_model.specs.Tables.Keys.{at_number}
 use Rattle.merge_model.specs.declared.outcome.Outcome.{Outcome}
 use Rattle.merge_model.specs.declared.outcome.Outcome.TheVariants.{NoPost, Posted, Refuses, Took}
 use Rattle.merge_laws.specs.Laws.{OfEveryValidRun}
-use Rattle.merge_laws.proofs.Ground.{Ground}
-use Rattle.merge_laws.proofs.SessionExchanges.{DownloadLeaves, JoinLeaves, RangesLeave, UploadLeaves, UploadRests, download-leaves, join-leaves, ranges-leave, upload-leaves}
-use Rattle.merge_laws.proofs.SessionLaw.{At, ends-here, own, same-site}
-use Rattle.merge_laws.proofs.SessionSteps.{Answered, Ends}
-use Rattle.merge_laws.proofs.SettledWorlds.{if-found}
-use Rattle.merge_laws.specs.Watermarks.{StateHolds, state_in}
+use Rattle.merge_laws.proofs.Runs.Ground.{Ground}
+use Rattle.merge_laws.proofs.Sessions.SessionExchanges.{DownloadLeaves, JoinLeaves, RangesLeave, UploadLeaves, UploadRests, download-leaves, join-leaves, ranges-leave, upload-leaves}
+use Rattle.merge_laws.proofs.Sessions.SessionLaw.{At, ends-here, own, same-site}
+use Rattle.merge_laws.proofs.Sessions.SessionSteps.{Answered, Ends}
+use Rattle.merge_laws.proofs.Settled.SettledWorlds.{if-found}
+use Rattle.merge_laws.specs.Facts.Watermarks.{StateHolds, state_in}
 use Rattle.merge_honest.specs.Finished.{EndsBy, EndsFor, SessionFinishes}
 use Rattle.merge_honest.specs.Replied.{NoReplyIsRefused}
 use Rattle.merge_honest.specs.Taken.{HonestAreTaken}

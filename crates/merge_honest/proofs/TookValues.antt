@@ -69,17 +69,17 @@ use Rattle.merge_model.specs.declared.letter.Message.TheVariants.{Asks, Replies}
 use Rattle.merge_model.proofs.Lists.Finding.{at_put, letter-zip}
 use Rattle.merge_model.proofs.Failing.KeptFailing.{runs-keep}
 use Rattle.merge_model.proofs.Lists.{all-both, all-filter}
-use Rattle.merge_laws.specs.KnownMakers.{KnowsMaker}
-use Rattle.merge_laws.specs.Knowledge.{AreNumbered, Knows, changes_of}
-use Rattle.merge_laws.specs.LineagesStand.{OfMessage}
-use Rattle.merge_laws.proofs.KnownRows.{held-knows, letter-knows, past-knows}
-use Rattle.merge_laws.proofs.LineagesAlways.{Kept, ground, kept-always, kept-step, kept-tallied}
-use Rattle.merge_laws.proofs.MakerChanges.{made-below, own-held, sub-held}
-use Rattle.merge_laws.proofs.MakerUploads.{FateAbove, FateMakes, acts-made, from-above}
-use Rattle.merge_laws.proofs.Models.{begins-with}
-use Rattle.merge_laws.proofs.NotesLeave.{fold-leave, reply-leave}
-use Rattle.merge_laws.proofs.PastNotes.{acts-items}
-use Rattle.merge_laws.proofs.UnsentKept.{reply-site, version-site}
+use Rattle.merge_laws.specs.Invariants.KnownMakers.{KnowsMaker}
+use Rattle.merge_laws.specs.Facts.Knowledge.{AreNumbered, Knows, changes_of}
+use Rattle.merge_laws.specs.Facts.LineagesStand.{OfMessage}
+use Rattle.merge_laws.proofs.Known.KnownRows.{held-knows, letter-knows, past-knows}
+use Rattle.merge_laws.proofs.Lineages.LineagesAlways.{Kept, ground, kept-always, kept-step, kept-tallied}
+use Rattle.merge_laws.proofs.Makers.MakerChanges.{made-below, own-held, sub-held}
+use Rattle.merge_laws.proofs.Makers.MakerUploads.{FateAbove, FateMakes, acts-made, from-above}
+use Rattle.merge_laws.proofs.Received.Models.{begins-with}
+use Rattle.merge_laws.proofs.Walking.NotesLeave.{fold-leave, reply-leave}
+use Rattle.merge_laws.proofs.Pasts.PastNotes.{acts-items}
+use Rattle.merge_laws.proofs.Unsent.UnsentKept.{reply-site, version-site}
 use Rattle.merge_laws.proofs.Walking.{Sends, StepsKeep, acts_in, comes, here, join_noted, own_noted, step-keeps, told_by, uploaded_world}
 use Rattle.merge_owed.specs.Identity.{HasIdentity, IsMaker}
 use Rattle.merge_honest.proofs.PutFound.{put-each}

@@ -28,7 +28,7 @@ use Rattle.merge_model.specs.Tables.Keys.{row_at}
 use Rattle.merge_model.specs.Publisher.PublisherUpload.{is_new, too_many_new}
 use Rattle.merge_model.specs.Tables.Refusals.{refused_if}
 use Rattle.merge_model.specs.Tables.{PublisherTables}
-use Rattle.merge_laws.proofs.ToldItems.{fault-none}
+use Rattle.merge_laws.proofs.Told.ToldItems.{fault-none}
 use Rattle.merge_honest.proofs.RowCounts.{given-short, is_fresh}
 
 -- An upload's acts make at most one change each.

@@ -13,7 +13,7 @@ use Rattle.merge_model.specs.History.Model.{Model}
 use Rattle.merge_model.specs.Failing.Runs.{model_behind}
 use Rattle.merge_model.proofs.Lists.KeyLookUps.{keys-same}
 use Rattle.merge_laws.specs.Laws.{OfEveryValidRun}
-use Rattle.merge_laws.proofs.AccountElements.{all-in}
+use Rattle.merge_laws.proofs.Accounts.AccountElements.{all-in}
 use Rattle.merge_owed.specs.Identity.{HasIdentity, IsMaker, ValueWasTaken}
 use Rattle.merge_owed.proofs.IdentityFits.{taken-out}
 use Rattle.merge_owed.proofs.IdentityKept.{values-taken}

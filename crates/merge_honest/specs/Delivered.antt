@@ -17,8 +17,8 @@ use Rattle.merge_model.specs.Tables.{PublisherTables}
 use Rattle.merge_model.specs.World.{Saying, letter_at}
 use Rattle.merge_model.specs.declared.letter.Message.TheVariants.{Asks}
 use Rattle.merge_model.specs.declared.outcome.Outcome.TheVariants.{Refuses}
-use Rattle.merge_laws.specs.ActsOnce.{delivered}
-use Rattle.merge_laws.specs.Effects.{history_judge}
+use Rattle.merge_laws.specs.Laws.ActsOnce.{delivered}
+use Rattle.merge_laws.specs.Laws.Effects.{history_judge}
 
 -- a letter of the pool is a request
 abbrev pub IsRequest : Model → ℕ → SiteId → Request → Type 0

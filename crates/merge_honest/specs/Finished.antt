@@ -19,7 +19,7 @@ use Rattle.merge_model.specs.Laws.SlipLaws.{is_slip}
 use Rattle.merge_model.specs.Subscriber.{sub_counters}
 use Rattle.merge_model.specs.Tables.{SubscriberTables}
 use Rattle.merge_model.specs.World.{Saying, subscriber_at}
-use Rattle.merge_laws.specs.Effects.{history_judge}
+use Rattle.merge_laws.specs.Laws.Effects.{history_judge}
 use Rattle.merge_honest.specs.Delivered.{IsRequest}
 
 -- a counter of the site has come to its end

@@ -23,7 +23,7 @@ use Rattle.merge_model.specs.Subscriber.Taking.{seq_of}
 use Rattle.merge_model.specs.World.{Saying, letter_at, subscriber_at}
 use Rattle.merge_model.specs.declared.letter.Message.TheVariants.{Replies}
 use Rattle.merge_model.specs.declared.outcome.Outcome.TheVariants.{Refuses}
-use Rattle.merge_laws.specs.ActsOnce.{delivered}
+use Rattle.merge_laws.specs.Laws.ActsOnce.{delivered}
 
 -- a letter of the pool is a reply
 abbrev pub IsReply : Model → ℕ → SiteId → Reply → Type 0

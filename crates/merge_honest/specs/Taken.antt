@@ -19,8 +19,8 @@ use Rattle.merge_model.specs.Tables.{PublisherTables}
 use Rattle.merge_model.specs.World.{Saying}
 use Rattle.merge_model.specs.declared.outcome.Outcome.{Outcome}
 use Rattle.merge_model.specs.declared.outcome.Outcome.TheVariants.{Posted, Refuses}
-use Rattle.merge_laws.specs.ActsOnce.{delivered}
-use Rattle.merge_laws.specs.Effects.{history_judge}
+use Rattle.merge_laws.specs.Laws.ActsOnce.{delivered}
+use Rattle.merge_laws.specs.Laws.Effects.{history_judge}
 use Rattle.merge_honest.specs.Delivered.{IsRequest}
 
 -- the site has been silent for the retention time. A join may come then

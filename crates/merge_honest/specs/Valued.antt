@@ -10,7 +10,7 @@ use Rattle.merge_batch.specs.Uploads.{identity_value}
 use Rattle.merge_model.specs.History.{MadeChange, Past}
 use Rattle.merge_model.specs.History.Model.{Model}
 use Rattle.merge_model.specs.World.{Saying}
-use Rattle.merge_laws.specs.LineagesStand.{EveryVersion}
+use Rattle.merge_laws.specs.Facts.LineagesStand.{EveryVersion}
 use Rattle.merge_owed.specs.Identity.{HasIdentity, IsMaker}
 
 abbrev pub InsertsTook : Publication → Saying → Model → Type 0

@@ -1,4 +1,12 @@
 -- What a step does to lineages: each that is kept afterwards was kept before, or was joined of such, or knows a new change besides.
+-- The room holds what lineages know, what they stand for, and that they decide as histories do.
+pub mod LineageLists
+pub mod LineagesKept
+pub mod Standing
+pub mod LineagesTold
+pub mod LineagesStand
+pub mod AllStand
+pub mod LineagesAlways
 use Rattle.std.specs.Prelude.{◌≤◌, ◌+◌, ℕ, List, [], ◌∷◌, Bool, true, false, Option, Some, None, if◌then◌else◌, filter_map, length, map, zip}
 use Rattle.std.specs.BTreeMap.{is_at}
 use Rattle.std.specs.List.{AllByRecursion, fold}
@@ -44,8 +52,8 @@ use Rattle.merge_units.specs.declared.site_row.PublisherRow.{PublisherRow}
 use Rattle.merge_units.specs.declared.site_row.SubscriberRow.{SubscriberRow}
 use Rattle.merge_model.specs.Tables.{PublisherTables, SubscriberTables}
 use Rattle.merge_model.specs.Subscriber.Taking.{key_of_download, row_above, with_item, with_order}
-use Rattle.merge_laws.specs.Lineages.{OfLost, OfOrder}
-use Rattle.merge_laws.proofs.LineageLists.{values-dropped, values-found, values-put}
+use Rattle.merge_laws.specs.Facts.Lineages.{OfLost, OfOrder}
+use Rattle.merge_laws.proofs.Lineages.LineageLists.{values-dropped, values-found, values-put}
 use Rattle.merge_model.proofs.Lists.{OfSome, some-map, all-unit, all-map, all-filter_map, all-append}
 
 -- Of a fact of lineages, in general.

@@ -1,5 +1,9 @@
 -- A step of the model, taken apart: what each way that it can go keeps, the step keeps. Each way comes with what is known
 -- where it is gone: that nothing refused it, and what the received numbers say.
+-- The room holds what steps note, and their shapes.
+pub mod NotesLeave
+pub mod Noted
+pub mod Shapes
 use Rattle.std.specs.Prelude.{◌≡◌, ◌==◌, ◌+◌, ◌++◌, ℕ, zero, suc, List, [], ◌∷◌, Bool, true, false, Option, Some, None, Result, Ok, Err, refl, if◌then◌else◌, map, max, slice_get, length}
 use Rattle.std.proofs.Common.{arith, subst, sym, ap, ◌∙◌}
 use Rattle.std.proofs.lemmas.Bool.Decides.{nat_tests}
@@ -61,9 +65,9 @@ use Rattle.merge_model.specs.declared.letter.Message.TheVariants.{Asks, Replies}
 use Rattle.merge_model.specs.declared.letter.Letter.{Letter}
 use Rattle.merge_model.specs.declared.letter.Message.{Message}
 use Rattle.merge_resolve.specs.Asked.{tallies_after}
-use Rattle.merge_laws.specs.Received.{JoinFits, MessageFits, Received, UploadFits, joined_at}
+use Rattle.merge_laws.specs.Facts.Received.{JoinFits, MessageFits, Received, UploadFits, joined_at}
 use Rattle.merge_model.proofs.Lists.Finding.{all-at}
-use Rattle.merge_laws.proofs.Steps.{own-at}
+use Rattle.merge_laws.proofs.Received.Steps.{own-at}
 
 abbrev pub here : World → PublisherTables
 here w = at_moment w.moment w.publisher

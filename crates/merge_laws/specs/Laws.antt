@@ -1,4 +1,14 @@
 -- What holds after every list of events, and after every list of actions.
+-- The room holds what contracts state of runs: all of it must be read to trust them.
+pub mod ActsOnce
+pub mod Bounds
+pub mod Deciding
+pub mod Effects
+pub mod LastLines
+pub mod Leavings
+pub mod RestsOn
+pub mod Rounds
+pub mod Promised
 use Rattle.std.specs.Prelude.{true, ◌≡◌, ◌≤◌, ◌<◌, ℕ, List, Some}
 use Rattle.merge_schema.specs.Valid.{IsValid}
 use Rattle.merge_schema.specs.declared.publication.Publication.{Publication}
@@ -19,8 +29,8 @@ use Rattle.merge_model.specs.Subscriber.{sub_last_closed}
 use Rattle.merge_model.specs.World.{Saying, letter_at}
 use Rattle.merge_model.specs.declared.letter.Message.TheVariants.{Asks}
 use Rattle.merge_model.specs.History.Model.{Model}
-use Rattle.merge_laws.specs.Lineages.{LineagesAreMade}
-use Rattle.merge_laws.specs.Numbered.{last_through}
+use Rattle.merge_laws.specs.Facts.Lineages.{LineagesAreMade}
+use Rattle.merge_laws.specs.Facts.Numbered.{last_through}
 
 -- what a model is after some events, whatever they were
 abbrev pub OfEveryModel : (Model → Type 0) → Type 0

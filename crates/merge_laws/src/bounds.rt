@@ -1,5 +1,5 @@
 //! Laws on the bounds of sessions.
-ghost use Rattle.merge_laws.specs.Bounds.{DownloadsAreEnough, UploadsAreEnough};
+ghost use Rattle.merge_laws.specs.Laws.Bounds.{DownloadsAreEnough, UploadsAreEnough};
 ghost use Rattle.merge_laws.specs.Laws.{OfEveryValidRun};
 
 /// The bounds on a session's uploads and downloads are never what ends it, where a publication can

@@ -1,5 +1,5 @@
 //! The law that no generation takes effect twice.
-ghost use Rattle.merge_laws.specs.Effects.{ActingTakeEffect, NewsIsUnmet, NoneTakesEffectTwice, NumbersTakeEffect, RunsAreSteps};
+ghost use Rattle.merge_laws.specs.Laws.Effects.{ActingTakeEffect, NewsIsUnmet, NoneTakesEffectTwice, NumbersTakeEffect, RunsAreSteps};
 ghost use Rattle.merge_laws.specs.Laws.{OfEveryModel};
 
 /// No generation of a site takes effect at two deliveries of its uploads, of one upload or of two,

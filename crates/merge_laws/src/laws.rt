@@ -1,15 +1,15 @@
 //! The laws.
 ghost use Rattle.merge_laws.specs.Laws.{OfEveryModel, ReceivedIsDone, ActedIsDone, GapIsDone, TakesOnlyClosed, ReceivedNumberIsDone, UnmetIsDone, ClosingsKeepTheLast, UploadsTellTheLast, SubscribersDecideAlike, KnowsOnlyMade, JoinedTakesActed, OfEach, OfEveryRun, OfEveryDecidedRun, OfEveryValidRun};
-ghost use Rattle.merge_laws.specs.ActsOnce.{ActedItemsDoNothing, ActedRowsStay, ActedUploadsOnlyAnswer, DoneStays, LettersStay, TakenHaveActed, TakenOnlyAnswer};
-ghost use Rattle.merge_laws.specs.LastLines.{MappingIsLastLine, ChangedIsLastChange, LeftByLine, TouchedInsideByLine, TouchedOutsideByLine};
+ghost use Rattle.merge_laws.specs.Laws.ActsOnce.{ActedItemsDoNothing, ActedRowsStay, ActedUploadsOnlyAnswer, DoneStays, LettersStay, TakenHaveActed, TakenOnlyAnswer};
+ghost use Rattle.merge_laws.specs.Laws.LastLines.{MappingIsLastLine, ChangedIsLastChange, LeftByLine, TouchedInsideByLine, TouchedOutsideByLine};
 ghost use Rattle.merge_model.specs.Laws.Bridge.{PublisherDecidesAlike};
 ghost use Rattle.merge_model.specs.Laws.Promises.{AllAccounted, AllStand, IdentitiesApart, OldIsPast, RepliesStayInside, SessionSettles, SettledHoldsPartition};
-ghost use Rattle.merge_laws.specs.Deciding.{CasesDecideAlike, EachStepAlike, AnswersAlike, FailingAnswersAlike, FailingTablesAlike, TablesAlike};
-ghost use Rattle.merge_laws.specs.Identities.{OfEveryRuledModel, TakenWereGranted};
-ghost use Rattle.merge_laws.specs.Watermarks.{WatermarksAreHeld};
-ghost use Rattle.merge_laws.specs.Knowledge.{MadeAreNumbered, KnownWereMade};
-ghost use Rattle.merge_laws.specs.LineagesStand.{StandsByInvariant};
-ghost use Rattle.merge_laws.specs.Standing.{TellingStands, ToldAfterChange, ToldAfterMerge, StandingAgrees, CaseIsByTops, NewsIsByTops};
+ghost use Rattle.merge_laws.specs.Laws.Deciding.{CasesDecideAlike, EachStepAlike, AnswersAlike, FailingAnswersAlike, FailingTablesAlike, TablesAlike};
+ghost use Rattle.merge_laws.specs.Facts.Identities.{OfEveryRuledModel, TakenWereGranted};
+ghost use Rattle.merge_laws.specs.Facts.Watermarks.{WatermarksAreHeld};
+ghost use Rattle.merge_laws.specs.Facts.Knowledge.{MadeAreNumbered, KnownWereMade};
+ghost use Rattle.merge_laws.specs.Facts.LineagesStand.{StandsByInvariant};
+ghost use Rattle.merge_laws.specs.Facts.Standing.{TellingStands, ToldAfterChange, ToldAfterMerge, StandingAgrees, CaseIsByTops, NewsIsByTops};
 
 /// The one number that the publisher keeps of a site says which of its generations have acted,
 /// whatever happened: local changes, messages that come late, twice or never, joins, and sites made

@@ -1,6 +1,6 @@
 //! Laws on rows that left a partition.
 ghost use Rattle.merge_laws.specs.Laws.{OfEveryValidRun};
-ghost use Rattle.merge_laws.specs.Leavings.{JoinsTakeNothingOwed, LeavingsAreSeen, PurgesTakeNothingOwed};
+ghost use Rattle.merge_laws.specs.Laws.Leavings.{JoinsTakeNothingOwed, LeavingsAreSeen, PurgesTakeNothingOwed};
 
 /// A step of the publisher tells that a row left a site's partition only where the step found it
 /// inside before and outside afterwards, or where an item of the site's own upload acted on it and it

@@ -1,6 +1,6 @@
 //! All promises in one record.
 ghost use Rattle.merge_laws.specs.Laws.{OfEveryValidRun};
-ghost use Rattle.merge_laws.specs.Promised.{MachineHasPromises, Promised, ValidRulesHaveValues};
+ghost use Rattle.merge_laws.specs.Laws.Promised.{MachineHasPromises, Promised, ValidRulesHaveValues};
 
 use crate::bounds::bounds_never_end_a_session;
 use crate::effects::no_generation_takes_effect_twice;

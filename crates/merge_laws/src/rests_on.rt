@@ -1,6 +1,6 @@
 //! What the laws rest on.
 ghost use Rattle.merge_laws.specs.Laws.{OfEveryModel, OfEveryValidRun};
-ghost use Rattle.merge_laws.specs.RestsOn.{AcceptedIsKnown, ChainsAreAccounted, HeldWereGranted, KnownIsAccepted, MomentsAreInStep, ReceivedIsInStep, RepliesAreTrue, SitesAreEqual};
+ghost use Rattle.merge_laws.specs.Laws.RestsOn.{AcceptedIsKnown, ChainsAreAccounted, HeldWereGranted, KnownIsAccepted, MomentsAreInStep, ReceivedIsInStep, RepliesAreTrue, SitesAreEqual};
 
 /// Parts of the invariant on which other laws rest, each a fact of every run. That what is known is
 /// closed backwards is said by `known_changes_were_made`.

@@ -1,6 +1,6 @@
 //! The law that a round of uploads and downloads settles all sites.
 ghost use Rattle.merge_laws.specs.Laws.{OfEveryValidRun};
-ghost use Rattle.merge_laws.specs.Rounds.{RoundSettles};
+ghost use Rattle.merge_laws.specs.Laws.Rounds.{RoundSettles};
 
 /// Where a publication can be said by a file: when every subscriber has completed an upload, and
 /// then every one a download, in whatever order and with no change between, every subscriber is

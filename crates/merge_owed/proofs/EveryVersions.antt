@@ -27,12 +27,12 @@ use Rattle.merge_model.specs.declared.letter.Message.TheVariants.{Asks, Replies}
 use Rattle.merge_model.specs.declared.letter.Message.{Message}
 use Rattle.merge_model.proofs.Lists.Finding.{all-weaker}
 use Rattle.merge_model.proofs.Lists.{all-both, all-filter, zip-second}
-use Rattle.merge_laws.specs.Knowledge.{AllKnow, AreNumbered, Knowledge, Knows, RowKnows, is_made}
-use Rattle.merge_laws.specs.LineagesStand.{AllTold, EveryVersion, OfMessage, OfOrder, lost_at}
-use Rattle.merge_laws.specs.Standing.{Told}
-use Rattle.merge_laws.proofs.KnownRows.{held-knows, past-knows}
-use Rattle.merge_laws.proofs.MakerChanges.{made-below}
-use Rattle.merge_laws.proofs.ToldSites.{Every}
+use Rattle.merge_laws.specs.Facts.Knowledge.{AllKnow, AreNumbered, Knowledge, Knows, RowKnows, is_made}
+use Rattle.merge_laws.specs.Facts.LineagesStand.{AllTold, EveryVersion, OfMessage, OfOrder, lost_at}
+use Rattle.merge_laws.specs.Facts.Standing.{Told}
+use Rattle.merge_laws.proofs.Known.KnownRows.{held-knows, past-knows}
+use Rattle.merge_laws.proofs.Makers.MakerChanges.{made-below}
+use Rattle.merge_laws.proofs.Told.ToldSites.{Every}
 
 zip-both : {X Y : Type 0} (R S T : X → Y → Type 0) → ((x : X) (y : Y) → R x y → S x y → T x y) → (xs : List X) (ys : List Y) → AllZip R xs ys → AllZip S xs ys → AllZip T xs ys
 zip-both R S T both [] [] one other = tt

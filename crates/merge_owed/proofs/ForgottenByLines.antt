@@ -26,10 +26,10 @@ use Rattle.merge_model.specs.Publisher.PublisherPurge.{is_old}
 use Rattle.merge_model.specs.Failing.Runs.{model_behind_actions}
 use Rattle.merge_model.proofs.Lists.KeyLookUps.{keys-same}
 use Rattle.merge_model.proofs.Lists.{all-filter, all-kept, all-of, any-leads}
-use Rattle.merge_laws.specs.LastLines.{move_in, move_told}
+use Rattle.merge_laws.specs.Laws.LastLines.{move_in, move_told}
 use Rattle.merge_laws.specs.Laws.{OfEveryActions, OfEveryValidActions}
-use Rattle.merge_laws.proofs.LastLineGone.{all-gone, left-gone, moved_in, old_places}
-use Rattle.merge_laws.proofs.LastLineSteps.{last_lines-by-actions}
+use Rattle.merge_laws.proofs.LastLines.LastLineGone.{all-gone, left-gone, moved_in, old_places}
+use Rattle.merge_laws.proofs.LastLines.LastLineSteps.{last_lines-by-actions}
 use Rattle.merge_owed.specs.Forgotten.{JoinsForgetByLines, PurgesForgetByLines, TombstonesAreOldByLines, going_over, has_place}
 
 -- Where no move is told, none is told to have left.

@@ -13,7 +13,7 @@ use Rattle.merge_batch.specs.Makers.{maker_of}
 use Rattle.merge_batch.proofs.Makers.{maker_of-made}
 use Rattle.merge_model.specs.History.{MadeChange, Past}
 use Rattle.merge_model.specs.History.Pasts.{past_after}
-use Rattle.merge_laws.proofs.ToldRows.{HeldFits}
+use Rattle.merge_laws.proofs.Told.ToldRows.{HeldFits}
 use Rattle.merge_owed.proofs.VersionKept.{GoesOn, IsCarried}
 
 abbrev pub HasMaker : List MadeChange → Key → Version → Past → Type 0

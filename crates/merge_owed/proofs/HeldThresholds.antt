@@ -41,12 +41,12 @@ use Rattle.merge_batch.specs.declared.reply.Reply.{Reply}
 use Rattle.merge_batch.specs.declared.request.Outstanding.TheVariants as ask
 use Rattle.merge_model.proofs.Lists.Finding.{at_put_other, at_put_same, some_same}
 use Rattle.merge_model.specs.World.Steps.{Action}
-use Rattle.merge_laws.proofs.Ground.{Ground, grounded-by-actions}
-use Rattle.merge_laws.proofs.Models.{begins-with}
-use Rattle.merge_laws.proofs.Subscribing.{number-decided, same_number}
-use Rattle.merge_laws.proofs.ToldSites.{put-here}
+use Rattle.merge_laws.proofs.Runs.Ground.{Ground, grounded-by-actions}
+use Rattle.merge_laws.proofs.Received.Models.{begins-with}
+use Rattle.merge_laws.proofs.Received.Subscribing.{number-decided, same_number}
+use Rattle.merge_laws.proofs.Told.ToldSites.{put-here}
 use Rattle.merge_laws.proofs.Walking.{StepsKeep, step-keeps}
-use Rattle.merge_laws.proofs.OfActions.{of-events}
+use Rattle.merge_laws.proofs.Runs.OfActions.{of-events}
 
 -- of each article
 abbrev pub AreThresholds : List (ℕ × Holder) → Type 0

@@ -45,10 +45,10 @@ use Rattle.merge_model.proofs.Lists.KeyLookUps.{key-itself}
 use Rattle.merge_model.proofs.Runs.Refusals.{first-none}
 use Rattle.merge_model.specs.History.Noting
 use Rattle.merge_batch.proofs.Makers.{maker_of-made}
-use Rattle.merge_laws.proofs.AccountElements.{IsIn}
-use Rattle.merge_laws.proofs.Arrivals.{not-refused}
-use Rattle.merge_laws.proofs.Telling.{no-refusal}
-use Rattle.merge_laws.proofs.ToldRows.{HeldFits}
+use Rattle.merge_laws.proofs.Accounts.AccountElements.{IsIn}
+use Rattle.merge_laws.proofs.Received.Arrivals.{not-refused}
+use Rattle.merge_laws.proofs.Numbered.Telling.{no-refusal}
+use Rattle.merge_laws.proofs.Told.ToldRows.{HeldFits}
 use Rattle.merge_owed.specs.Identity.{MadeWith, WasTaken}
 use Rattle.merge_owed.proofs.BodyValues.{BodyFits, case-fits, inserted-fits, updated-fits}
 use Rattle.merge_owed.proofs.Decided.{FateCounts}

@@ -23,18 +23,18 @@ use Rattle.merge_model.specs.History.Model.{Model}
 use Rattle.merge_model.specs.Failing.Runs.{model_after_actions, model_behind_actions}
 use Rattle.merge_model.proofs.Lists.Finding.{some_same}
 use Rattle.merge_model.proofs.Lists.KeyLookUps.{keys-same}
-use Rattle.merge_laws.specs.Knowledge.{changes_of, same_dot}
+use Rattle.merge_laws.specs.Facts.Knowledge.{changes_of, same_dot}
 use Rattle.merge_laws.specs.Laws.{OfEveryValidActions, OfEveryValidRun}
-use Rattle.merge_laws.proofs.AccountElements.{IsIn, all-in, each-in}
-use Rattle.merge_laws.proofs.ChangeDots.{AreDistinct, made-distinct}
-use Rattle.merge_laws.proofs.DotTests.{dot-itself}
-use Rattle.merge_laws.proofs.LineagesAlways.{Kept, ground}
-use Rattle.merge_laws.proofs.ToldSites.{Every}
+use Rattle.merge_laws.proofs.Accounts.AccountElements.{IsIn, all-in, each-in}
+use Rattle.merge_laws.proofs.Known.ChangeDots.{AreDistinct, made-distinct}
+use Rattle.merge_laws.proofs.Pasts.DotTests.{dot-itself}
+use Rattle.merge_laws.proofs.Lineages.LineagesAlways.{Kept, ground}
+use Rattle.merge_laws.proofs.Told.ToldSites.{Every}
 use Rattle.merge_owed.specs.Identity.{HasIdentity, HasValue, IsMaker, TakenStands, TakenStandsForGood, TakenStandsForGoodByActions, ValueWasTaken, ValuesWereTaken, WasTaken}
 use Rattle.merge_owed.proofs.IdentityFits.{BodyTook, TookIts, taken-out, took-goes_on}
 use Rattle.merge_owed.proofs.MadeStays.{AreAmong, every-weaker}
 use Rattle.merge_owed.proofs.VersionKept.{GoesOn, holds-after, holds-by-actions}
-use Rattle.merge_laws.proofs.OfActions.{of-later-events, of-valid-runs}
+use Rattle.merge_laws.proofs.Runs.OfActions.{of-later-events, of-valid-runs}
 
 -- The value at the identity column is the identity value.
 

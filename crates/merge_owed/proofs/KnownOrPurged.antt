@@ -17,14 +17,14 @@ use Rattle.merge_model.specs.World.Steps.{Action}
 use Rattle.merge_model.specs.World.{Saying}
 use Rattle.merge_model.specs.declared.event.Event.{Event}
 use Rattle.merge_model.proofs.Runs.Actions.{failing-actions-keep}
-use Rattle.merge_laws.specs.Knowledge.{is_made}
-use Rattle.merge_laws.proofs.KnownRows.{held-knows}
-use Rattle.merge_laws.proofs.LineagesAlways.{Kept, ground, kept-always, kept-step, kept-tallied}
-use Rattle.merge_laws.proofs.OfActions.{of-events}
-use Rattle.merge_laws.proofs.RestsOnKept.{accepted-known, accepted-known-by-actions, known-accepted, known-accepted-by-actions}
-use Rattle.merge_laws.specs.RestsOn.{AcceptedIsKnown, KnownIsAccepted}
-use Rattle.merge_laws.proofs.ToldSites.{world-stays}
-use Rattle.merge_laws.proofs.ToldWalk.{every-begins}
+use Rattle.merge_laws.specs.Facts.Knowledge.{is_made}
+use Rattle.merge_laws.proofs.Known.KnownRows.{held-knows}
+use Rattle.merge_laws.proofs.Lineages.LineagesAlways.{Kept, ground, kept-always, kept-step, kept-tallied}
+use Rattle.merge_laws.proofs.Runs.OfActions.{of-events}
+use Rattle.merge_laws.proofs.Runs.RestsOnKept.{accepted-known, accepted-known-by-actions, known-accepted, known-accepted-by-actions}
+use Rattle.merge_laws.specs.Laws.RestsOn.{AcceptedIsKnown, KnownIsAccepted}
+use Rattle.merge_laws.proofs.Told.ToldSites.{world-stays}
+use Rattle.merge_laws.proofs.Told.ToldWalk.{every-begins}
 use Rattle.merge_laws.proofs.Walking.{step-keeps}
 use Rattle.merge_owed.specs.Purged.{KnownIsWithin, LackedWerePurged, OfEveryPurgingActions, OfEveryPurgingRun, PurgedWereTaken, WasPurged, WasPurgedByActions}
 use Rattle.merge_owed.proofs.HaveMakers.{HasMaker, makers-go_on}

@@ -22,11 +22,11 @@ use Rattle.merge_model.specs.World.{World}
 use Rattle.merge_model.specs.declared.letter.Letter.{Letter}
 use Rattle.merge_model.proofs.Lists.Finding.{all-weaker}
 use Rattle.merge_model.proofs.Lists.{zip-weaker}
-use Rattle.merge_laws.specs.LineagesStand.{OfMessage, lost_at}
-use Rattle.merge_laws.proofs.AccountElements.{IsIn}
-use Rattle.merge_laws.proofs.AccountLetters.{message-weaker}
-use Rattle.merge_laws.proofs.Noted.{DecidesAsOwn, NotesKeep, acts-keep, lines-keep}
-use Rattle.merge_laws.proofs.ToldSites.{Every}
+use Rattle.merge_laws.specs.Facts.LineagesStand.{OfMessage, lost_at}
+use Rattle.merge_laws.proofs.Accounts.AccountElements.{IsIn}
+use Rattle.merge_laws.proofs.Accounts.AccountLetters.{message-weaker}
+use Rattle.merge_laws.proofs.Walking.Noted.{DecidesAsOwn, NotesKeep, acts-keep, lines-keep}
+use Rattle.merge_laws.proofs.Told.ToldSites.{Every}
 use Rattle.merge_laws.proofs.Walking.{join_noted}
 
 abbrev pub AreAmong : List MadeChange → List MadeChange → Type 0

@@ -44,7 +44,7 @@ use Rattle.merge_model.specs.declared.outcome.Outcome.TheVariants.{Passed, Poste
 use Rattle.merge_model.proofs.Failing.KeptFailing.{fails-keep, runs-keep}
 use Rattle.merge_model.proofs.Runs.Events.{event-keeps}
 use Rattle.merge_model.proofs.Publishers.Sorted.{step-sorted}
-use Rattle.merge_laws.proofs.NotesLeave.{acts-leave, anew-leave, fold-leave, if-leave, taker-leave}
+use Rattle.merge_laws.proofs.Walking.NotesLeave.{acts-leave, anew-leave, fold-leave, if-leave, taker-leave}
 use Rattle.merge_owed.specs.Forgotten.{going_over}
 use Rattle.merge_owed.specs.Purged.{WasPurged, behind}
 use Rattle.merge_owed.proofs.PurgedRows.{Dropped, is-among, keys_old, purged-has, was-dropped}

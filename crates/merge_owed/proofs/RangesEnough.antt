@@ -32,11 +32,11 @@ use Rattle.merge_model.specs.declared.letter.Message.{Message}
 use Rattle.merge_model.specs.declared.outcome.Outcome.{Outcome}
 use Rattle.merge_model.specs.declared.outcome.Outcome.TheVariants.{NoPost, Posted, Refuses, Took}
 use Rattle.merge_model.proofs.Lists.Finding.{some_same}
-use Rattle.merge_laws.specs.Bounds.{under_way}
+use Rattle.merge_laws.specs.Laws.Bounds.{under_way}
 use Rattle.merge_laws.specs.Laws.{OfEveryValidActions}
-use Rattle.merge_laws.proofs.SessionLaw.{At, Known, at_next, deliver-known, ends-here, own, same-site, step-known}
-use Rattle.merge_laws.proofs.SessionSteps.{Answered, Ends}
-use Rattle.merge_laws.proofs.SettledLaw.{settled-by-actions}
+use Rattle.merge_laws.proofs.Sessions.SessionLaw.{At, Known, at_next, deliver-known, ends-here, own, same-site, step-known}
+use Rattle.merge_laws.proofs.Sessions.SessionSteps.{Answered, Ends}
+use Rattle.merge_laws.proofs.Settled.SettledLaw.{settled-by-actions}
 use Rattle.merge_owed.specs.Ranges.{RangesAreEnough}
 use Rattle.merge_owed.proofs.HeldThresholds.{AreThresholds, thresholds-by-actions}
 use Rattle.merge_owed.proofs.RangeAnswers.{FitsIfAny, OwnAfter, and-both, answered, brought, none-brought, none-without, others-held, own-after, own-found, planned, received}

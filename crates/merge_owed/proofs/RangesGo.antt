@@ -34,7 +34,7 @@ use Rattle.merge_model.specs.declared.outcome.Outcome.{Outcome}
 use Rattle.merge_types.specs.declared.identifiers.Moment.{Moment}
 use Rattle.merge_model.proofs.Lists.Finding.{at_put_same}
 use Rattle.merge_model.proofs.Runs.Refusals.{first-none}
-use Rattle.merge_laws.proofs.SessionSteps.{After, Answered, Sent, back-step, comes-step, post-step, posted_model, reply-step, send-step, unless-step}
+use Rattle.merge_laws.proofs.Sessions.SessionSteps.{After, Answered, Sent, back-step, comes-step, post-step, posted_model, reply-step, send-step, unless-step}
 use Rattle.merge_laws.proofs.Walking.{here}
 use Rattle.merge_owed.proofs.RangeAnswers.{and-both, articles_in, brought, planned}
 

@@ -9,8 +9,8 @@ use Rattle.merge_model.specs.Failing.Runs.{model_behind_actions}
 use Rattle.merge_model.specs.Subscriber.{sub_last_closed}
 use Rattle.merge_model.proofs.Lists.Finding.{found-named}
 use Rattle.merge_laws.specs.Laws.{OfEveryValidActions}
-use Rattle.merge_laws.proofs.LineagesAlways.{ground, kept-by-actions, publisher-alike}
-use Rattle.merge_laws.proofs.UnsentKept.{decides-alike, unsent-by-actions}
+use Rattle.merge_laws.proofs.Lineages.LineagesAlways.{ground, kept-by-actions, publisher-alike}
+use Rattle.merge_laws.proofs.Unsent.UnsentKept.{decides-alike, unsent-by-actions}
 use Rattle.merge_owed.specs.Forgotten.{PublisherTellsDone, SubscribersTellMade}
 
 -- a number of a state that is kept

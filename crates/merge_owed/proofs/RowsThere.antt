@@ -36,27 +36,27 @@ use Rattle.merge_model.proofs.Lists.Finding.{all-weaker, letter-zip}
 use Rattle.merge_model.proofs.Lists.KeyLookUps.{keys-same}
 use Rattle.merge_model.proofs.Lists.{all-both, any-among, any-mono}
 use Rattle.merge_model.proofs.Lists.Tests.{numbers-same}
-use Rattle.merge_laws.specs.Accepted.{SendsAccepted}
-use Rattle.merge_laws.specs.Accepting.{accepts}
-use Rattle.merge_laws.specs.Knowledge.{AllKnow, changes_of, is_made, same_dot}
-use Rattle.merge_laws.specs.KnownMakers.{KnowsMaker}
-use Rattle.merge_laws.specs.LineagesStand.{OfMessage, OthersAccepted, UploadCounts}
-use Rattle.merge_laws.proofs.AcceptedParts.{past-among}
-use Rattle.merge_laws.proofs.AccountElements.{all-in, any-out}
-use Rattle.merge_laws.proofs.ChangeDots.{are-alone}
-use Rattle.merge_laws.proofs.DotTests.{dots-same}
-use Rattle.merge_laws.proofs.GivenUp.{knows_of, upload-accepts, upload-can-act}
-use Rattle.merge_laws.proofs.KnownRows.{letter-knows, past-knows}
-use Rattle.merge_laws.proofs.LineagesAlways.{Kept}
-use Rattle.merge_laws.proofs.MakerUploads.{FateMakes, acts-made}
-use Rattle.merge_laws.proofs.NotesLeave.{acts-leave, fold-leave}
-use Rattle.merge_laws.proofs.Numbers.{unmet-by-number}
-use Rattle.merge_laws.proofs.OwnActs.{is_brought, items-brought}
-use Rattle.merge_laws.proofs.OwnItems.{items-row, of_row, row-item}
-use Rattle.merge_laws.proofs.PastNotes.{puts_row, versions-any}
-use Rattle.merge_laws.proofs.ToldRows.{put_version}
-use Rattle.merge_laws.proofs.ToldSites.{Every}
-use Rattle.merge_laws.proofs.ToldTables.{changed-versions}
+use Rattle.merge_laws.specs.Invariants.Accepted.{SendsAccepted}
+use Rattle.merge_laws.specs.Invariants.Accepting.{accepts}
+use Rattle.merge_laws.specs.Facts.Knowledge.{AllKnow, changes_of, is_made, same_dot}
+use Rattle.merge_laws.specs.Invariants.KnownMakers.{KnowsMaker}
+use Rattle.merge_laws.specs.Facts.LineagesStand.{OfMessage, OthersAccepted, UploadCounts}
+use Rattle.merge_laws.proofs.Accepted.AcceptedParts.{past-among}
+use Rattle.merge_laws.proofs.Accounts.AccountElements.{all-in, any-out}
+use Rattle.merge_laws.proofs.Known.ChangeDots.{are-alone}
+use Rattle.merge_laws.proofs.Pasts.DotTests.{dots-same}
+use Rattle.merge_laws.proofs.Accepted.GivenUp.{knows_of, upload-accepts, upload-can-act}
+use Rattle.merge_laws.proofs.Known.KnownRows.{letter-knows, past-knows}
+use Rattle.merge_laws.proofs.Lineages.LineagesAlways.{Kept}
+use Rattle.merge_laws.proofs.Makers.MakerUploads.{FateMakes, acts-made}
+use Rattle.merge_laws.proofs.Walking.NotesLeave.{acts-leave, fold-leave}
+use Rattle.merge_laws.proofs.Numbered.Numbers.{unmet-by-number}
+use Rattle.merge_laws.proofs.Own.OwnActs.{is_brought, items-brought}
+use Rattle.merge_laws.proofs.Own.OwnItems.{items-row, of_row, row-item}
+use Rattle.merge_laws.proofs.Pasts.PastNotes.{puts_row, versions-any}
+use Rattle.merge_laws.proofs.Told.ToldRows.{put_version}
+use Rattle.merge_laws.proofs.Told.ToldSites.{Every}
+use Rattle.merge_laws.proofs.Told.ToldTables.{changed-versions}
 use Rattle.merge_laws.proofs.Walking.{acts_in, comes, here}
 use Rattle.merge_owed.proofs.HaveMakers.{HasMaker}
 

@@ -26,12 +26,12 @@ use Rattle.merge_model.specs.Subscriber.{sub_last_closed, sub_next_dot}
 use Rattle.merge_model.specs.Tables.{PublisherTables, SubscriberTables}
 use Rattle.merge_model.specs.World.{Saying, World, subscriber_at, with_publisher}
 use Rattle.merge_model.proofs.Lists.KeyLookUps.{key-itself}
-use Rattle.merge_laws.proofs.LineagesAlways.{Kept}
-use Rattle.merge_laws.proofs.MakerChanges.{own-held}
-use Rattle.merge_laws.proofs.NotesLeave.{fold-leave}
-use Rattle.merge_laws.proofs.OwnAccepted.{sub-new}
-use Rattle.merge_laws.proofs.OwnPasts.{lines-on, lost-on, reply-on}
-use Rattle.merge_laws.proofs.ToldSites.{Every}
+use Rattle.merge_laws.proofs.Lineages.LineagesAlways.{Kept}
+use Rattle.merge_laws.proofs.Makers.MakerChanges.{own-held}
+use Rattle.merge_laws.proofs.Walking.NotesLeave.{fold-leave}
+use Rattle.merge_laws.proofs.Own.OwnAccepted.{sub-new}
+use Rattle.merge_laws.proofs.Own.OwnPasts.{lines-on, lost-on, reply-on}
+use Rattle.merge_laws.proofs.Told.ToldSites.{Every}
 use Rattle.merge_laws.proofs.Walking.{StepsKeep, here, join_noted, own_noted}
 use Rattle.merge_owed.proofs.HaveMakers.{HasMaker}
 use Rattle.merge_owed.proofs.PurgedRows.{keys_old, left-or-old, purged-has}

@@ -34,13 +34,13 @@ use Rattle.merge_batch.specs.LocalChanges.{change_refusal, columns_at, identity_
 use Rattle.merge_model.specs.History.{Chains, MadeChange, OfCells, OfDead, Past, has}
 use Rattle.merge_model.specs.History.Pasts.{cell_chains, cell_count, chain_after, chains_by, merged_chain, merged_chains, past_after, past_by, set_cells}
 use Rattle.merge_model.proofs.Runs.Refusals.{first-none}
-use Rattle.merge_laws.specs.Knowledge.{same_dot}
+use Rattle.merge_laws.specs.Facts.Knowledge.{same_dot}
 use Rattle.merge_laws.specs.Laws.{OfEveryValidActions}
-use Rattle.merge_laws.proofs.AccountCells.{AreFour}
-use Rattle.merge_laws.proofs.AccountChanges.{count_by_tracking}
-use Rattle.merge_laws.proofs.DotTests.{dot-first}
-use Rattle.merge_laws.proofs.Telling.{no-refusal}
-use Rattle.merge_laws.proofs.ToldRows.{HeldFits}
+use Rattle.merge_laws.proofs.Accounts.AccountCells.{AreFour}
+use Rattle.merge_laws.proofs.Accounts.AccountChanges.{count_by_tracking}
+use Rattle.merge_laws.proofs.Pasts.DotTests.{dot-first}
+use Rattle.merge_laws.proofs.Numbered.Telling.{no-refusal}
+use Rattle.merge_laws.proofs.Told.ToldRows.{HeldFits}
 use Rattle.merge_owed.specs.Chains.{TopIsIn, TopsAreInChains, TopsStand}
 use Rattle.merge_owed.proofs.VersionKept.{GoesOn, holds-by-actions}
 

@@ -51,18 +51,18 @@ use Rattle.merge_model.proofs.Lists.Finding.{all-weaker}
 use Rattle.merge_model.proofs.Lists.KeyLookUps.{key-itself, keys-same}
 use Rattle.merge_model.proofs.Lists.{all-both}
 use Rattle.merge_model.proofs.Runs.Actions.{failing-actions-keep}
-use Rattle.merge_laws.specs.Knowledge.{changes_of, is_made, same_dot}
+use Rattle.merge_laws.specs.Facts.Knowledge.{changes_of, is_made, same_dot}
 use Rattle.merge_laws.specs.Laws.{OfEveryValidActions}
-use Rattle.merge_laws.proofs.AccountElements.{IsIn, any-out}
-use Rattle.merge_laws.proofs.DotTests.{dot-itself, dots-same}
-use Rattle.merge_laws.proofs.KnownCounts.{own-count}
-use Rattle.merge_laws.proofs.LineagesAlways.{Kept, ground, kept-always, kept-step, kept-tallied}
-use Rattle.merge_laws.proofs.MakerUploads.{FateAbove, from-above}
-use Rattle.merge_laws.proofs.Noted.{acts-own, anew-keep, own-keep, purge-keep, reply-keep}
-use Rattle.merge_laws.proofs.ToldItems.{ActsApart, acts-apart}
-use Rattle.merge_laws.proofs.ToldRows.{HeldFits}
-use Rattle.merge_laws.proofs.ToldSites.{Every, letter-goes, publisher-stays, world-stays}
-use Rattle.merge_laws.proofs.ToldWalk.{every-begins}
+use Rattle.merge_laws.proofs.Accounts.AccountElements.{IsIn, any-out}
+use Rattle.merge_laws.proofs.Pasts.DotTests.{dot-itself, dots-same}
+use Rattle.merge_laws.proofs.Known.KnownCounts.{own-count}
+use Rattle.merge_laws.proofs.Lineages.LineagesAlways.{Kept, ground, kept-always, kept-step, kept-tallied}
+use Rattle.merge_laws.proofs.Makers.MakerUploads.{FateAbove, from-above}
+use Rattle.merge_laws.proofs.Walking.Noted.{acts-own, anew-keep, own-keep, purge-keep, reply-keep}
+use Rattle.merge_laws.proofs.Told.ToldItems.{ActsApart, acts-apart}
+use Rattle.merge_laws.proofs.Told.ToldRows.{HeldFits}
+use Rattle.merge_laws.proofs.Told.ToldSites.{Every, letter-goes, publisher-stays, world-stays}
+use Rattle.merge_laws.proofs.Told.ToldWalk.{every-begins}
 use Rattle.merge_laws.proofs.Walking.{StepsKeep, acts_in, comes, here, join_noted, own_noted, step-keeps, told_by, uploaded_world}
 use Rattle.merge_owed.specs.Values.{BodiesAgree, CellsAgree, ValuesStandForGood, ValuesStandForGoodByActions}
 use Rattle.merge_owed.proofs.EveryVersions.{TopsMade, every-both, is_later, made-before, tops-made}
@@ -70,7 +70,7 @@ use Rattle.merge_owed.proofs.MadeStays.{AreAmong, acts-stay, every-weaker, join-
 use Rattle.merge_owed.proofs.ValuesFit.{BodyIs, CellsAre, Register, body-before, case-is, inserted-is, updated-is, values_at, with_later}
 use Rattle.merge_owed.proofs.VersionActs.{ActMakes, FateMakes}
 use Rattle.merge_owed.proofs.VersionSteps.{anew, answers-ask, forgets, joins, own-change, replies, sends-upload, stays, sub-change, uploads}
-use Rattle.merge_laws.proofs.OfActions.{of-later-events}
+use Rattle.merge_laws.proofs.Runs.OfActions.{of-later-events}
 
 abbrev Has : Register → Key → Version → Past → Type 0
 Has f key version past = BodyIs f key version.body

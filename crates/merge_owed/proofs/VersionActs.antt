@@ -25,11 +25,11 @@ use Rattle.merge_model.specs.Tables.Keys.{same_key}
 use Rattle.merge_model.specs.History.Noting
 use Rattle.merge_model.specs.History.Pasts.{past_by}
 use Rattle.merge_model.proofs.Lists.{all-both}
-use Rattle.merge_laws.proofs.Noted.{DecidesAsOwn}
-use Rattle.merge_laws.proofs.ToldHistories.{Goes, goes-lost, goes-others, goes-put, past-elsewhere}
-use Rattle.merge_laws.proofs.ToldItems.{ActsApart}
-use Rattle.merge_laws.proofs.ToldRows.{put_if, put_version}
-use Rattle.merge_laws.proofs.ToldUploads.{ActFits, FateFits}
+use Rattle.merge_laws.proofs.Walking.Noted.{DecidesAsOwn}
+use Rattle.merge_laws.proofs.Told.ToldHistories.{Goes, goes-lost, goes-others, goes-put, past-elsewhere}
+use Rattle.merge_laws.proofs.Told.ToldItems.{ActsApart}
+use Rattle.merge_laws.proofs.Told.ToldRows.{put_if, put_version}
+use Rattle.merge_laws.proofs.Told.ToldUploads.{ActFits, FateFits}
 
 -- what an act makes of two versions that have the fact has it
 abbrev pub FateMakes : (Key → Version → Past → Type 0) → Key → Version → Past → Fate → Type 0

@@ -47,20 +47,20 @@ use Rattle.merge_model.proofs.Lists.Finding.{all-weaker}
 use Rattle.merge_model.proofs.Runs.Refusals.{first-none}
 use Rattle.merge_model.proofs.Runs.Actions.{failing-actions-keep}
 use Rattle.merge_model.specs.World.Steps.{Action}
-use Rattle.merge_laws.specs.LetterNumbers.{LettersAreNamed}
-use Rattle.merge_laws.proofs.Ground.{Ground}
-use Rattle.merge_laws.proofs.LineagesAlways.{Kept, ground, kept-always, kept-step, kept-tallied}
-use Rattle.merge_laws.proofs.MakerChanges.{own-small, sub-small}
-use Rattle.merge_laws.proofs.Noted.{acts-own, anew-keep, purge-keep, reply-keep}
-use Rattle.merge_laws.proofs.ToldRows.{HeldFits}
-use Rattle.merge_laws.proofs.ToldSites.{Every, letter-goes, publisher-stays, world-stays}
-use Rattle.merge_laws.proofs.ToldWalk.{every-begins}
+use Rattle.merge_laws.specs.Facts.LetterNumbers.{LettersAreNamed}
+use Rattle.merge_laws.proofs.Runs.Ground.{Ground}
+use Rattle.merge_laws.proofs.Lineages.LineagesAlways.{Kept, ground, kept-always, kept-step, kept-tallied}
+use Rattle.merge_laws.proofs.Makers.MakerChanges.{own-small, sub-small}
+use Rattle.merge_laws.proofs.Walking.Noted.{acts-own, anew-keep, purge-keep, reply-keep}
+use Rattle.merge_laws.proofs.Told.ToldRows.{HeldFits}
+use Rattle.merge_laws.proofs.Told.ToldSites.{Every, letter-goes, publisher-stays, world-stays}
+use Rattle.merge_laws.proofs.Told.ToldWalk.{every-begins}
 use Rattle.merge_laws.proofs.Walking.{StepsKeep, acts_in, comes, here, join_noted, own_noted, step-keeps, told_by, uploaded_world}
 use Rattle.merge_owed.proofs.Decided.{ActCounts, FateCounts, upload-counts}
 use Rattle.merge_owed.proofs.MadeStays.{AreAmong, acts-stay, every-weaker, join-stays, lines-stay, notes-stay}
 use Rattle.merge_owed.proofs.VersionActs.{ActMakes, FateMakes}
 use Rattle.merge_owed.proofs.VersionSteps.{anew, answers-ask, forgets, joins, own-change, replies, sends-upload, stays, sub-change, uploads}
-use Rattle.merge_laws.proofs.OfActions.{of-events}
+use Rattle.merge_laws.proofs.Runs.OfActions.{of-events}
 
 -- an identifier of a row can carry the change
 pub record IsCarried (dot : Dot) : Type 0 where

@@ -61,25 +61,25 @@ use Rattle.merge_model.specs.Subscriber.Taking.{key_of_download, row_above, take
 use Rattle.merge_model.specs.World.{Saying, World, subscriber_at, with_publisher, with_subscriber}
 use Rattle.merge_model.specs.declared.letter.Message.TheVariants.{Asks, Replies}
 use Rattle.merge_model.proofs.Publishers.Sorted.{key_total, step-sorted}
-use Rattle.merge_laws.specs.LineagesStand.{OfOrder}
+use Rattle.merge_laws.specs.Facts.LineagesStand.{OfOrder}
 use Rattle.merge_model.proofs.Lists.Finding.{found-named}
-use Rattle.merge_laws.proofs.Ground.{Ground}
+use Rattle.merge_laws.proofs.Runs.Ground.{Ground}
 use Rattle.merge_model.proofs.Lists.{OfSome, all-filter, all-filter_map, all-map, all-unit}
-use Rattle.merge_laws.proofs.Noted.{acts-own}
-use Rattle.merge_laws.proofs.ToldHistories.{Goes, goes-dropped, goes-lines, goes-others, goes-put_if, goes-same}
-use Rattle.merge_laws.proofs.ToldItems.{acts-apart}
-use Rattle.merge_laws.proofs.ToldLetters.{letter-fits, sent-fit}
-use Rattle.merge_laws.proofs.LetterPasts.{orders-sent, removed-order}
-use Rattle.merge_laws.proofs.AccountAnswers.{among-lives}
+use Rattle.merge_laws.proofs.Walking.Noted.{acts-own}
+use Rattle.merge_laws.proofs.Told.ToldHistories.{Goes, goes-dropped, goes-lines, goes-others, goes-put_if, goes-same}
+use Rattle.merge_laws.proofs.Told.ToldItems.{acts-apart}
+use Rattle.merge_laws.proofs.Told.ToldLetters.{letter-fits, sent-fit}
+use Rattle.merge_laws.proofs.Letters.LetterPasts.{orders-sent, removed-order}
+use Rattle.merge_laws.proofs.Accounts.AccountAnswers.{among-lives}
 use Rattle.merge_model.proofs.Entries.Downloads.{any-map, inside-live}
-use Rattle.merge_laws.proofs.ToldReplies.{anew-goes, items-go, versions-above}
-use Rattle.merge_laws.proofs.ToldRows.{HeldFits, drop_version, found-put, found_in, keyed, put_if, put_version}
-use Rattle.merge_laws.proofs.ToldSites.{Every, letter-goes, own_version, publisher-begins, publisher-goes, publisher-stays, subscriber-begins, subscriber-goes, subscriber-stays}
-use Rattle.merge_laws.proofs.ToldTables.{changed-ascends, changed-versions, forgotten-versions, one-put, row_version}
-use Rattle.merge_laws.proofs.ToldUploads.{acts-fit}
+use Rattle.merge_laws.proofs.Told.ToldReplies.{anew-goes, items-go, versions-above}
+use Rattle.merge_laws.proofs.Told.ToldRows.{HeldFits, drop_version, found-put, found_in, keyed, put_if, put_version}
+use Rattle.merge_laws.proofs.Told.ToldSites.{Every, letter-goes, own_version, publisher-begins, publisher-goes, publisher-stays, subscriber-begins, subscriber-goes, subscriber-stays}
+use Rattle.merge_laws.proofs.Told.ToldTables.{changed-ascends, changed-versions, forgotten-versions, one-put, row_version}
+use Rattle.merge_laws.proofs.Told.ToldUploads.{acts-fit}
 use Rattle.merge_owed.proofs.VersionActs.{ActMakes, acts-go}
-use Rattle.merge_laws.proofs.Unsending.{received-sorted}
-use Rattle.merge_laws.proofs.UnsentKept.{all-found, version-site}
+use Rattle.merge_laws.proofs.Unsent.Unsending.{received-sorted}
+use Rattle.merge_laws.proofs.Unsent.UnsentKept.{all-found, version-site}
 use Rattle.merge_laws.proofs.Walking.{Sends, acts_in, comes, here, join_noted, own_noted}
 
 -- A row in a partition is among the live ones, and a live version is the one that a reply puts.

@@ -12,7 +12,7 @@ use Rattle.merge_model.specs.History.{Chains, OfCells, OfDead, Past, has}
 use Rattle.merge_model.specs.History.Model.{Model}
 use Rattle.merge_model.specs.History.Pasts.{cell_count}
 use Rattle.merge_model.specs.World.{Saying}
-use Rattle.merge_laws.specs.LineagesStand.{EveryVersion}
+use Rattle.merge_laws.specs.Facts.LineagesStand.{EveryVersion}
 
 -- the change that last set a cell is one that the cell descends from
 abbrev pub TopIsIn : Cell → List Dot → Type 0

@@ -16,7 +16,7 @@ use Rattle.merge_model.specs.World.Steps.{Action, Forget}
 use Rattle.merge_model.specs.World.{Saying}
 use Rattle.merge_model.specs.declared.event.Event.{Event}
 use Rattle.merge_model.specs.declared.event.Event.TheVariants as event
-use Rattle.merge_laws.specs.Knowledge.{is_made}
+use Rattle.merge_laws.specs.Facts.Knowledge.{is_made}
 use Rattle.merge_owed.specs.Forgotten.{going_over}
 
 -- behind some events, with the slips that are left

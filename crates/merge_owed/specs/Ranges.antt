@@ -6,7 +6,7 @@ use Rattle.merge_model.specs.History.Model.{Model, model}
 use Rattle.merge_model.specs.World.Session.{Session, Stepping, all_ranges, asking_ranges, range_asks}
 use Rattle.merge_model.specs.Tables.{SubscriberTables}
 use Rattle.merge_model.specs.World.{Saying, subscriber_at}
-use Rattle.merge_laws.specs.Bounds.{under_way}
+use Rattle.merge_laws.specs.Laws.Bounds.{under_way}
 
 -- with so many more range requests than the session makes at most
 abbrev pub more_ranges : Stepping Model → SiteId → ℕ → Session Model → Session Model

@@ -14,7 +14,7 @@ use Rattle.merge_model.specs.Failing.Runs.{model_after, model_after_actions}
 use Rattle.merge_model.specs.World.Steps.{Action}
 use Rattle.merge_model.specs.World.{Saying}
 use Rattle.merge_model.specs.declared.event.Event.{Event}
-use Rattle.merge_laws.specs.LineagesStand.{EveryVersion}
+use Rattle.merge_laws.specs.Facts.LineagesStand.{EveryVersion}
 
 -- place by place, cells with one top have the same values
 abbrev pub CellsAgree : List Cell → List Cell → Type 0

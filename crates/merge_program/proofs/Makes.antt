@@ -1,7 +1,7 @@
 -- How a run over a generated script ends.
 use Rattle.std.proofs.Common.{List, arith, subst, ◌≡◌, ℕ}
 use Rattle.merge_world.specs.Views.{HandedView, SitesView}
-use Rattle.merge_laws.specs.Promised.{MachineHasPromises}
+use Rattle.merge_laws.specs.Laws.Promised.{MachineHasPromises}
 use Rattle.merge_make.specs.Publication.{made}
 use Rattle.merge_make.specs.Runs.{Summed}
 use Rattle.merge_make.specs.Script.{script}

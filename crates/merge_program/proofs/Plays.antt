@@ -13,7 +13,7 @@ use Rattle.merge_world.specs.Playing.{AllHappened}
 use Rattle.merge_world.specs.Restarts.{IsLost}
 use Rattle.merge_world.specs.Views.{HandedView, SitesView}
 use Rattle.merge_world.proofs.Playings.{played-runs}
-use Rattle.merge_laws.specs.Promised.{MachineHasPromises}
+use Rattle.merge_laws.specs.Laws.Promised.{MachineHasPromises}
 use Rattle.merge_play.specs.Played.{Played, PlayedInPart}
 use Rattle.merge_play.specs.declared.stop.Stop.{Stop}
 use Rattle.merge_play.specs.declared.stop.Stop.TheVariants as stop

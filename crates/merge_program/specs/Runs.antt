@@ -7,7 +7,7 @@ use Rattle.merge_model.specs.Failing.Runs.{machine_says, world_behind}
 use Rattle.merge_model.specs.declared.answer.Answer.{Answer}
 use Rattle.merge_model.specs.declared.event.Event.{Event}
 use Rattle.merge_world.specs.Views.{HandedView}
-use Rattle.merge_laws.specs.Promised.{HasPromises}
+use Rattle.merge_laws.specs.Laws.Promised.{HasPromises}
 use Rattle.merge_program.specs.Stores.{RoseBy}
 
 -- what the output told of its bytes before and behind a run, and how often the stores of sites had failed by then

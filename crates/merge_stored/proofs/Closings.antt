@@ -22,8 +22,8 @@ use Rattle.merge_model.proofs.Lists.Finding.{found-named}
 use Rattle.merge_model.proofs.Lists.{all-three}
 use Rattle.merge_typed.specs.Typed.{MomentFits}
 use Rattle.merge_laws.specs.Laws.{OfEveryValidRun}
-use Rattle.merge_laws.specs.Numbered.{last_of}
-use Rattle.merge_laws.proofs.Through.{last-rises, order-within}
+use Rattle.merge_laws.specs.Facts.Numbered.{last_of}
+use Rattle.merge_laws.proofs.Numbered.Through.{last-rises, order-within}
 use Rattle.merge_honest.proofs.Rules.{Known, known-always}
 use Rattle.merge_stored.specs.Closings.{ClosingsLoad, PublisherClosingLoads, SubscriberClosingLoads, SubscriberClosingsLoad}
 use Rattle.merge_stored.specs.Stored.{subscriber_stored}

@@ -17,8 +17,8 @@ use Rattle.merge_model.specs.World.{Saying, World}
 use Rattle.merge_model.specs.declared.event.Event.{Event}
 use Rattle.merge_model.proofs.Lists.Finding.{all-weaker}
 use Rattle.merge_laws.specs.Laws.{OfEveryValidRun}
-use Rattle.merge_laws.proofs.Ground.{grounded-always}
-use Rattle.merge_laws.proofs.Models.{begins-with}
+use Rattle.merge_laws.proofs.Runs.Ground.{grounded-always}
+use Rattle.merge_laws.proofs.Received.Models.{begins-with}
 use Rattle.merge_honest.proofs.CallWalk.{Holds, call-step}
 use Rattle.merge_honest.proofs.Rules.{Known, known-always}
 use Rattle.merge_stored.specs.Conflicts.{AllConflictsAreKept, ConflictsAreKept, ConflictsLoad, LostAt}

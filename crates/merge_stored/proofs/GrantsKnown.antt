@@ -51,7 +51,7 @@ use Rattle.merge_model.specs.Tables.{PublisherTables}
 use Rattle.merge_model.specs.World.{Saying, World}
 use Rattle.merge_model.specs.declared.event.Event.{Event}
 use Rattle.merge_model.proofs.Runs.Refusals.{first-none}
-use Rattle.merge_laws.proofs.Ground.{grounded-always}
+use Rattle.merge_laws.proofs.Runs.Ground.{grounded-always}
 use Rattle.merge_stored.proofs.HeldKeys.{identities-at}
 use Rattle.merge_stored.proofs.PublisherCalls.{PublisherCallsKeep, publisher-step}
 use Rattle.merge_stored.proofs.PublisherConflicts.{site-known}

@@ -83,8 +83,8 @@ use Rattle.merge_model.specs.Tables.{PublisherTables}
 use Rattle.merge_model.specs.Subscriber.Taking.{with_grant}
 use Rattle.merge_model.specs.World.{Saying, World}
 use Rattle.merge_model.specs.declared.event.Event.{Event}
-use Rattle.merge_laws.proofs.Ground.{grounded-always}
-use Rattle.merge_laws.proofs.Models.{begins-with}
+use Rattle.merge_laws.proofs.Runs.Ground.{grounded-always}
+use Rattle.merge_laws.proofs.Received.Models.{begins-with}
 use Rattle.merge_honest.proofs.CallWalk.{Holds, call-step}
 use Rattle.merge_honest.proofs.HeldRanges.{new-well}
 use Rattle.merge_stored.proofs.HeldKeys.{HasKeys, keys-same, put-same}

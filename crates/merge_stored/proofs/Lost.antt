@@ -37,15 +37,15 @@ use Rattle.merge_model.specs.Tables.{PublisherTables}
 use Rattle.merge_model.proofs.Lists.KeyLookUps.{keys-same}
 use Rattle.merge_model.proofs.Lists.{all-filter}
 use Rattle.merge_typed.specs.Typed.{BodyIsTyped, LostIsTyped}
-use Rattle.merge_laws.specs.Knowledge.{Knows, RowKnows, changes_of, same_dot}
-use Rattle.merge_laws.specs.KnownMakers.{KnowsMaker}
+use Rattle.merge_laws.specs.Facts.Knowledge.{Knows, RowKnows, changes_of, same_dot}
+use Rattle.merge_laws.specs.Invariants.KnownMakers.{KnowsMaker}
 use Rattle.merge_laws.specs.Laws.{OfEveryValidRun}
-use Rattle.merge_laws.specs.Lineages.{IsOfMade}
-use Rattle.merge_laws.specs.LineagesStand.{lost_at}
-use Rattle.merge_laws.specs.Standing.{Told}
-use Rattle.merge_laws.proofs.AccountElements.{all-in, any-out}
-use Rattle.merge_laws.proofs.DotTests.{dots-same}
-use Rattle.merge_laws.proofs.ToldSites.{Every}
+use Rattle.merge_laws.specs.Facts.Lineages.{IsOfMade}
+use Rattle.merge_laws.specs.Facts.LineagesStand.{lost_at}
+use Rattle.merge_laws.specs.Facts.Standing.{Told}
+use Rattle.merge_laws.proofs.Accounts.AccountElements.{all-in, any-out}
+use Rattle.merge_laws.proofs.Pasts.DotTests.{dots-same}
+use Rattle.merge_laws.proofs.Told.ToldSites.{Every}
 use Rattle.merge_owed.proofs.BodyValues.{BodyFits}
 use Rattle.merge_owed.proofs.CellValues.{HasColumns}
 use Rattle.merge_owed.proofs.VersionKept.{holds-always}

@@ -41,7 +41,7 @@ use Rattle.merge_model.specs.Tables.Refusals.{counter_end, unless}
 use Rattle.merge_model.specs.Tables.{PublisherTables}
 use Rattle.merge_model.specs.World.{World}
 use Rattle.merge_model.proofs.Runs.Refusals.{first-none}
-use Rattle.merge_laws.proofs.Ground.{grounded-always}
+use Rattle.merge_laws.proofs.Runs.Ground.{grounded-always}
 use Rattle.merge_stored.proofs.PublisherCalls.{PublisherCallsKeep, publisher-step}
 use Rattle.std.specs.Option.{option_map, option_or}
 use Rattle.std.specs.Prelude.{All, count_by, not, ◌||◌, ◌≤◌}
@@ -64,8 +64,8 @@ use Rattle.merge_model.specs.Tables.Keys.{put_number}
 use Rattle.merge_model.specs.Publisher.{holder_for, new_holders}
 use Rattle.merge_model.proofs.Lists.Finding.{at_put_other, at_put_same, some_same}
 use Rattle.merge_laws.specs.Laws.{OfEveryValidRun}
-use Rattle.merge_laws.proofs.Arrivals.{not-refused}
-use Rattle.merge_laws.proofs.ValidRules.{valid-rules}
+use Rattle.merge_laws.proofs.Received.Arrivals.{not-refused}
+use Rattle.merge_laws.proofs.Runs.ValidRules.{valid-rules}
 use Rattle.merge_honest.proofs.RangeAnswers.{plans-book}
 use Rattle.merge_stored.specs.Own.{HoldsLast, OwnAreHeld, OwnIsHeld}
 

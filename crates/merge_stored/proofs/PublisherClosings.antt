@@ -31,7 +31,7 @@ use Rattle.merge_model.specs.Tables.{PublisherTables}
 use Rattle.merge_model.specs.World.{Saying, World}
 use Rattle.merge_model.specs.declared.event.Event.{Event}
 use Rattle.merge_model.proofs.Lists.{all-filter}
-use Rattle.merge_laws.proofs.Ground.{grounded-always}
+use Rattle.merge_laws.proofs.Runs.Ground.{grounded-always}
 use Rattle.merge_stored.proofs.ClosingLists.{IsFromOne, moved-from}
 use Rattle.merge_stored.proofs.PublisherCalls.{PublisherCallsKeep, publisher-step}
 

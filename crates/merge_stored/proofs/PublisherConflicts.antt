@@ -41,9 +41,9 @@ use Rattle.merge_model.specs.World.{Saying, World}
 use Rattle.merge_model.specs.declared.event.Event.{Event}
 use Rattle.merge_model.proofs.Runs.Refusals.{first-none}
 use Rattle.merge_model.proofs.Lists.{all-append}
-use Rattle.merge_laws.proofs.Arrivals.{not-refused}
-use Rattle.merge_laws.proofs.Ground.{grounded-always}
-use Rattle.merge_laws.proofs.ToldItems.{fault-none}
+use Rattle.merge_laws.proofs.Received.Arrivals.{not-refused}
+use Rattle.merge_laws.proofs.Runs.Ground.{grounded-always}
+use Rattle.merge_laws.proofs.Told.ToldItems.{fault-none}
 use Rattle.merge_honest.proofs.UploadCounts.{upload-items}
 use Rattle.merge_stored.specs.Conflicts.{LostAt}
 use Rattle.merge_stored.proofs.ConflictLists.{acts-few, acts-lost, acts-numbered, later-lost, numbered-append}

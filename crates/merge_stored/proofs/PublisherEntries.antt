@@ -50,7 +50,7 @@ use Rattle.merge_model.specs.Failing.Runs.{model_behind}
 use Rattle.merge_model.specs.Tables.{PublisherTables}
 use Rattle.merge_model.specs.World.{Saying, World}
 use Rattle.merge_model.specs.declared.event.Event.{Event}
-use Rattle.merge_laws.proofs.Ground.{grounded-always}
+use Rattle.merge_laws.proofs.Runs.Ground.{grounded-always}
 use Rattle.merge_stored.specs.Entries.{room_of, times}
 use Rattle.merge_stored.proofs.Generations.{times-append, times-cons}
 use Rattle.merge_stored.proofs.PublisherCalls.{PublisherCallsKeep, publisher-step}

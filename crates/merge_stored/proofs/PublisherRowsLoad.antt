@@ -40,9 +40,9 @@ use Rattle.merge_model.proofs.Lists.Finding.{all-weaker}
 use Rattle.merge_model.proofs.Lists.KeyLists.{some-head}
 use Rattle.merge_model.proofs.Lists.{all-both, each-found}
 use Rattle.merge_model.proofs.Publishers.Sorted.{row_site_total}
-use Rattle.merge_laws.specs.LastLines.{subscribes}
+use Rattle.merge_laws.specs.Laws.LastLines.{subscribes}
 use Rattle.merge_laws.specs.Laws.{OfEveryValidRun}
-use Rattle.merge_laws.proofs.ToldSites.{Every}
+use Rattle.merge_laws.proofs.Told.ToldSites.{Every}
 use Rattle.merge_owed.proofs.VersionKept.{holds-always}
 use Rattle.merge_honest.proofs.ArticlesExist.{AllExist, exist-always}
 use Rattle.merge_honest.proofs.MadeKeys.{KeyIsMade, keys-always}

@@ -28,7 +28,7 @@ use Rattle.merge_model.specs.declared.event.Event.{Event}
 use Rattle.merge_model.proofs.Lists.Finding.{all-weaker}
 use Rattle.merge_model.proofs.Lists.{all-both, all-filter, all-three}
 use Rattle.merge_typed.specs.Typed.{GrantIsTyped, HolderIsTyped, PublisherIsTyped}
-use Rattle.merge_laws.proofs.ValidRules.{valid-rules}
+use Rattle.merge_laws.proofs.Runs.ValidRules.{valid-rules}
 use Rattle.merge_honest.proofs.HeldRanges.{new-well}
 use Rattle.merge_stored.specs.Own.{OwnIsHeld}
 use Rattle.merge_stored.specs.PublisherLoading.{RangeRuleHolds}

@@ -26,7 +26,7 @@ use Rattle.merge_model.proofs.Lists.Finding.{all-weaker}
 use Rattle.merge_model.proofs.Lists.{all-both, all-kept}
 use Rattle.merge_typed.specs.Typed.{GrantIsTyped}
 use Rattle.merge_laws.specs.Laws.{OfEveryValidRun}
-use Rattle.merge_laws.proofs.ValidRules.{valid-rules}
+use Rattle.merge_laws.proofs.Runs.ValidRules.{valid-rules}
 use Rattle.merge_honest.proofs.HeldRanges.{new-well}
 use Rattle.merge_honest.proofs.Rules.{Known, known-always}
 use Rattle.merge_stored.specs.Ranges.{AllHeldLoad, GrantsLoad, HeldLoads, RangesLoad}

@@ -19,9 +19,9 @@ use Rattle.merge_model.specs.Subscriber.{sub_last_closed}
 use Rattle.merge_model.specs.Tables.{PublisherTables, SubscriberTables}
 use Rattle.merge_typed.specs.Typed.{MomentFits}
 use Rattle.merge_laws.specs.Laws.{OfEveryValidRun}
-use Rattle.merge_laws.specs.Settled.{SiteHolds, made_in, site_view}
-use Rattle.merge_laws.specs.Watermarks.{StateHolds, state_in}
-use Rattle.merge_laws.proofs.SettledWorlds.{if-found}
+use Rattle.merge_laws.specs.Facts.Settled.{SiteHolds, made_in, site_view}
+use Rattle.merge_laws.specs.Facts.Watermarks.{StateHolds, state_in}
+use Rattle.merge_laws.proofs.Settled.SettledWorlds.{if-found}
 use Rattle.merge_honest.specs.Bounded.{PublisherIsBounded}
 use Rattle.merge_honest.proofs.Rules.{Known, known-always}
 use Rattle.merge_stored.specs.Conflicts.{AllConflictsAreKept}

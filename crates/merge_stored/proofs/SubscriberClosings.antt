@@ -29,10 +29,10 @@ use Rattle.merge_model.specs.Tables.{SubscriberTables}
 use Rattle.merge_model.specs.Subscriber.Taking.{seq_of, taken}
 use Rattle.merge_model.specs.World.{Saying, World}
 use Rattle.merge_model.specs.declared.event.Event.{Event}
-use Rattle.merge_laws.proofs.Ground.{Ground, grounded-always}
-use Rattle.merge_laws.proofs.Models.{begins-with}
-use Rattle.merge_laws.proofs.Replying.{downloaded-bound, downloaded-least, uploaded-bound, uploaded-least}
-use Rattle.merge_laws.proofs.UnsentKept.{reply-site, version-site}
+use Rattle.merge_laws.proofs.Runs.Ground.{Ground, grounded-always}
+use Rattle.merge_laws.proofs.Received.Models.{begins-with}
+use Rattle.merge_laws.proofs.Received.Replying.{downloaded-bound, downloaded-least, uploaded-bound, uploaded-least}
+use Rattle.merge_laws.proofs.Unsent.UnsentKept.{reply-site, version-site}
 use Rattle.merge_laws.proofs.Walking.{StepsKeep, step-keeps}
 use Rattle.merge_honest.proofs.PutFound.{put-each}
 use Rattle.merge_stored.proofs.ClosingLists.{run-forgotten, run-moved}

@@ -49,10 +49,10 @@ use Rattle.merge_model.specs.declared.event.Event.{Event}
 use Rattle.merge_model.proofs.Entries.EntryLists.{all-put}
 use Rattle.merge_model.proofs.Lists.Finding.{all-weaker}
 use Rattle.merge_model.proofs.Publishers.Sorted.{key_total}
-use Rattle.merge_laws.specs.Unsent.{RowsTell, gens_in}
-use Rattle.merge_laws.proofs.Ground.{Ground, grounded-always}
-use Rattle.merge_laws.proofs.Models.{begins-with}
-use Rattle.merge_laws.proofs.UnsentKept.{all-found, reply-site, version-site}
+use Rattle.merge_laws.specs.Invariants.Unsent.{RowsTell, gens_in}
+use Rattle.merge_laws.proofs.Runs.Ground.{Ground, grounded-always}
+use Rattle.merge_laws.proofs.Received.Models.{begins-with}
+use Rattle.merge_laws.proofs.Unsent.UnsentKept.{all-found, reply-site, version-site}
 use Rattle.merge_laws.proofs.Walking.{StepsKeep, step-keeps}
 use Rattle.merge_model.proofs.Lists.Finding.{found-named}
 use Rattle.merge_honest.proofs.PutFound.{put-each}

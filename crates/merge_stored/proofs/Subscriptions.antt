@@ -54,8 +54,8 @@ use Rattle.merge_model.proofs.Lists.Finding.{all-weaker}
 use Rattle.merge_model.proofs.Lists.{all-both, all-filter, all-map}
 use Rattle.merge_model.proofs.Runs.Refusals.{first-none}
 use Rattle.merge_laws.specs.Laws.{OfEveryValidRun}
-use Rattle.merge_laws.proofs.Arrivals.{not-refused}
-use Rattle.merge_laws.proofs.Ground.{grounded-always}
+use Rattle.merge_laws.proofs.Received.Arrivals.{not-refused}
+use Rattle.merge_laws.proofs.Runs.Ground.{grounded-always}
 use Rattle.merge_honest.proofs.BoundedAlways.{bounded-always}
 use Rattle.merge_stored.specs.Subscriptions.{SiteLoads, SitesLoad}
 use Rattle.merge_stored.proofs.Outstanding.{closed-up}

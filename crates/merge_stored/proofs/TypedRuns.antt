@@ -1,7 +1,7 @@
 -- The tables of typed runs are typed, and so keep all rules of a start.
 use Rattle.merge_model.specs.History.Model.{Model}
 use Rattle.merge_model.specs.Failing.Runs.{model_behind}
-use Rattle.merge_laws.proofs.ValidRules.{valid-rules}
+use Rattle.merge_laws.proofs.Runs.ValidRules.{valid-rules}
 use Rattle.merge_typed.specs.Laws.{TablesAreTyped}
 use Rattle.merge_typed.proofs.Always.{tables-are-typed}
 use Rattle.merge_stored.specs.TypedRuns.{OfEveryValidTypedRun, RulesHold}

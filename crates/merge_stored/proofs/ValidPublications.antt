@@ -4,7 +4,7 @@ use Rattle.std.proofs.lemmas.List.Elements.{recursion_from_All}
 use Rattle.merge_schema.specs.Valid.{IsValid}
 use Rattle.merge_schema.specs.declared.publication.Publication.{Publication}
 use Rattle.merge_model.specs.Tables.Publications.{rules_of}
-use Rattle.merge_laws.proofs.ValidRules.{all-rules}
+use Rattle.merge_laws.proofs.Runs.ValidRules.{all-rules}
 use Rattle.merge_typed.specs.Outside.{PublicationIsTyped, RuleIsTyped}
 use Rattle.merge_typed.proofs.ValidRanges.{ranges-typed}
 

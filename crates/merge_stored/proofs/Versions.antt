@@ -38,13 +38,13 @@ use Rattle.merge_model.proofs.Lists.KeyLists.{some-head}
 use Rattle.merge_model.proofs.Lists.KeyLookUps.{key-itself, key-test}
 use Rattle.merge_model.proofs.Lists.{all-both, all-three}
 use Rattle.merge_typed.specs.Typed.{BodyIsTyped}
-use Rattle.merge_laws.specs.Knowledge.{Knows, changes_of}
-use Rattle.merge_laws.specs.KnownMakers.{HeldKnow, KnowsMaker}
+use Rattle.merge_laws.specs.Facts.Knowledge.{Knows, changes_of}
+use Rattle.merge_laws.specs.Invariants.KnownMakers.{HeldKnow, KnowsMaker}
 use Rattle.merge_laws.specs.Laws.{OfEveryValidRun}
-use Rattle.merge_laws.specs.Lineages.{IsOfMade}
-use Rattle.merge_laws.specs.Standing.{Told}
-use Rattle.merge_laws.proofs.KnownRows.{held-knows}
-use Rattle.merge_laws.proofs.ToldSites.{Every}
+use Rattle.merge_laws.specs.Facts.Lineages.{IsOfMade}
+use Rattle.merge_laws.specs.Facts.Standing.{Told}
+use Rattle.merge_laws.proofs.Known.KnownRows.{held-knows}
+use Rattle.merge_laws.proofs.Told.ToldSites.{Every}
 use Rattle.merge_owed.proofs.BodyValues.{BodyFits}
 use Rattle.merge_owed.proofs.VersionKept.{holds-always}
 use Rattle.merge_honest.proofs.ArticlesExist.{AllExist, exist-always}

@@ -1,4 +1,4 @@
-use Rattle.merge_laws.proofs.RestsOnKept.{accepted-known-by-actions, chains-accounted, held-granted-always, known-accepted-by-actions, moments-step, received-step, replies-true, sites-equal}
+use Rattle.merge_laws.proofs.Runs.RestsOnKept.{accepted-known-by-actions, chains-accounted, held-granted-always, known-accepted-by-actions, moments-step, received-step, replies-true, sites-equal}
 use Rattle.merge_actions.proofs.decisions.actions_keep_what_laws_rest_on.Goals as goal
 
 pub returns : goal.returns

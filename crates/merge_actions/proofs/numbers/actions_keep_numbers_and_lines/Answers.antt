@@ -1,4 +1,4 @@
-use Rattle.merge_laws.proofs.LawsOfActions as laws
+use Rattle.merge_laws.proofs.Runs.LawsOfActions as laws
 use Rattle.merge_actions.proofs.numbers.actions_keep_numbers_and_lines.Goals as goal
 
 pub returns : goal.returns

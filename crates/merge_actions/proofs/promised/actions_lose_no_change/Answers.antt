@@ -1,4 +1,4 @@
-use Rattle.merge_laws.proofs.AccountsAlways.{no-change-is-lost}
+use Rattle.merge_laws.proofs.Accounts.AccountsAlways.{no-change-is-lost}
 use Rattle.merge_actions.proofs.promised.actions_lose_no_change.Goals as goal
 
 pub returns : goal.returns

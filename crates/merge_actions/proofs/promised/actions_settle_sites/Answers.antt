@@ -1,9 +1,9 @@
 use Rattle.merge_model.specs.Failing.Runs.{model_behind_actions}
 use Rattle.merge_model.proofs.Entries.Downloads.{replies-stay}
-use Rattle.merge_laws.proofs.BoundsEnough.{downloads-enough, uploads-enough}
-use Rattle.merge_laws.proofs.RoundLaw.{round-settles}
-use Rattle.merge_laws.proofs.SessionLaw.{sessions-settle-by-actions}
-use Rattle.merge_laws.proofs.SettledLaw.{settled-sites-hold}
+use Rattle.merge_laws.proofs.Sessions.BoundsEnough.{downloads-enough, uploads-enough}
+use Rattle.merge_laws.proofs.Sessions.RoundLaw.{round-settles}
+use Rattle.merge_laws.proofs.Sessions.SessionLaw.{sessions-settle-by-actions}
+use Rattle.merge_laws.proofs.Settled.SettledLaw.{settled-sites-hold}
 use Rattle.merge_actions.proofs.promised.actions_settle_sites.Goals as goal
 
 pub returns : goal.returns

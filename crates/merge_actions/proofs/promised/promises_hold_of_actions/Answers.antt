@@ -1,6 +1,6 @@
 use Rattle.std.proofs.Common.{sym}
 use Rattle.merge_model.specs.Failing.Runs.{model_behind_actions}
-use Rattle.merge_laws.proofs.LineagesAlways.{actions-same}
+use Rattle.merge_laws.proofs.Lineages.LineagesAlways.{actions-same}
 use Rattle.merge_actions.proofs.PromisesOfActions.{promises-hold}
 use Rattle.merge_actions.proofs.promised.promises_hold_of_actions.Goals as goal
 

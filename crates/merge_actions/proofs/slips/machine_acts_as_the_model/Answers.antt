@@ -1,4 +1,4 @@
-use Rattle.merge_laws.proofs.LineagesAlways.{actions-same}
+use Rattle.merge_laws.proofs.Lineages.LineagesAlways.{actions-same}
 use Rattle.merge_actions.proofs.slips.machine_acts_as_the_model.Goals as goal
 
 pub returns : goal.returns

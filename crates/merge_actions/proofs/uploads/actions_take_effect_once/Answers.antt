@@ -1,6 +1,6 @@
-use Rattle.merge_laws.proofs.ActsOnceTaken.{done-stays-by-actions, letters-stay-by-actions, taken-have-acted, taken-only-answer-by-actions}
-use Rattle.merge_laws.proofs.EffectsOnce.{news-is-unmet, numbers-take-effect}
-use Rattle.merge_laws.proofs.LawsOfActions.{acts-once}
+use Rattle.merge_laws.proofs.ActsOnce.ActsOnceTaken.{done-stays-by-actions, letters-stay-by-actions, taken-have-acted, taken-only-answer-by-actions}
+use Rattle.merge_laws.proofs.ActsOnce.EffectsOnce.{news-is-unmet, numbers-take-effect}
+use Rattle.merge_laws.proofs.Runs.LawsOfActions.{acts-once}
 use Rattle.merge_actions.proofs.uploads.actions_take_effect_once.Goals as goal
 
 pub returns : goal.returns

@@ -1,6 +1,6 @@
-use Rattle.merge_laws.specs.Bounds.{DownloadsAreEnough, UploadsAreEnough}
-use Rattle.merge_laws.proofs.BoundsEnough.{downloads-enough, uploads-enough}
-use Rattle.merge_laws.proofs.OfActions.{of-valid-runs}
+use Rattle.merge_laws.specs.Laws.Bounds.{DownloadsAreEnough, UploadsAreEnough}
+use Rattle.merge_laws.proofs.Sessions.BoundsEnough.{downloads-enough, uploads-enough}
+use Rattle.merge_laws.proofs.Runs.OfActions.{of-valid-runs}
 use Rattle.merge_laws.proofs.bounds.bounds_never_end_a_session.Goals as goal
 
 pub returns : goal.returns

@@ -1,6 +1,6 @@
-use Rattle.merge_laws.specs.Effects.{NewsIsUnmet, NumbersTakeEffect}
-use Rattle.merge_laws.proofs.EffectsOnce.{acting-take-effect, news-is-unmet, none-twice, numbers-take-effect, runs-are-steps}
-use Rattle.merge_laws.proofs.OfActions.{of-runs}
+use Rattle.merge_laws.specs.Laws.Effects.{NewsIsUnmet, NumbersTakeEffect}
+use Rattle.merge_laws.proofs.ActsOnce.EffectsOnce.{acting-take-effect, news-is-unmet, none-twice, numbers-take-effect, runs-are-steps}
+use Rattle.merge_laws.proofs.Runs.OfActions.{of-runs}
 use Rattle.merge_laws.proofs.effects.no_generation_takes_effect_twice.Goals as goal
 
 pub returns : goal.returns

@@ -1,4 +1,4 @@
-use Rattle.merge_laws.proofs.SessionLaw.{sessions-settle}
+use Rattle.merge_laws.proofs.Sessions.SessionLaw.{sessions-settle}
 use Rattle.merge_laws.proofs.laws.finished_sessions_settle_their_sites.Goals as goal
 
 pub returns : goal.returns

@@ -1,6 +1,6 @@
-use Rattle.merge_laws.specs.Knowledge.{KnownWereMade, MadeAreNumbered}
-use Rattle.merge_laws.proofs.LawsOfActions.{known-were-made, made-are-numbered}
-use Rattle.merge_laws.proofs.OfActions.{of-runs}
+use Rattle.merge_laws.specs.Facts.Knowledge.{KnownWereMade, MadeAreNumbered}
+use Rattle.merge_laws.proofs.Runs.LawsOfActions.{known-were-made, made-are-numbered}
+use Rattle.merge_laws.proofs.Runs.OfActions.{of-runs}
 use Rattle.merge_laws.proofs.laws.known_changes_were_made.Goals as goal
 
 pub returns : goal.returns

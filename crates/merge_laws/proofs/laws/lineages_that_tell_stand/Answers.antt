@@ -1,6 +1,6 @@
-use Rattle.merge_laws.proofs.LineagesStand.{lineages-stand}
-use Rattle.merge_laws.proofs.Standing.{case-alike, news-alike, standing-agrees, telling-stands}
-use Rattle.merge_laws.proofs.ToldVersions.{told-after, told-merged}
+use Rattle.merge_laws.proofs.Lineages.LineagesStand.{lineages-stand}
+use Rattle.merge_laws.proofs.Lineages.Standing.{case-alike, news-alike, standing-agrees, telling-stands}
+use Rattle.merge_laws.proofs.Told.ToldVersions.{told-after, told-merged}
 use Rattle.merge_laws.proofs.laws.lineages_that_tell_stand.Goals as goal
 
 pub returns : goal.returns

@@ -1,4 +1,4 @@
-use Rattle.merge_laws.proofs.LineagesAlways.{answers-same, plain-answers-same, plain-worlds-same, worlds-same}
+use Rattle.merge_laws.proofs.Lineages.LineagesAlways.{answers-same, plain-answers-same, plain-worlds-same, worlds-same}
 use Rattle.merge_laws.proofs.laws.machine_answers_as_the_model.Goals as goal
 
 pub returns : goal.returns

@@ -1,6 +1,6 @@
-use Rattle.merge_laws.specs.LastLines.{ChangedIsLastChange, LeftByLine, MappingIsLastLine, TouchedInsideByLine, TouchedOutsideByLine}
-use Rattle.merge_laws.proofs.LawsOfActions.{changes-told, inside-by-line, left-by-line, mappings-told, outside-by-line}
-use Rattle.merge_laws.proofs.OfActions.{of-runs}
+use Rattle.merge_laws.specs.Laws.LastLines.{ChangedIsLastChange, LeftByLine, MappingIsLastLine, TouchedInsideByLine, TouchedOutsideByLine}
+use Rattle.merge_laws.proofs.Runs.LawsOfActions.{changes-told, inside-by-line, left-by-line, mappings-told, outside-by-line}
+use Rattle.merge_laws.proofs.Runs.OfActions.{of-runs}
 use Rattle.merge_laws.proofs.laws.mappings_are_the_last_lines.Goals as goal
 
 pub returns : goal.returns

@@ -1,6 +1,6 @@
 use Rattle.merge_model.specs.Laws.Promises.{AllAccounted}
-use Rattle.merge_laws.proofs.AccountsAlways.{no-change-is-lost}
-use Rattle.merge_laws.proofs.OfActions.{of-valid-runs}
+use Rattle.merge_laws.proofs.Accounts.AccountsAlways.{no-change-is-lost}
+use Rattle.merge_laws.proofs.Runs.OfActions.{of-valid-runs}
 use Rattle.merge_laws.proofs.laws.no_change_is_lost.Goals as goal
 
 pub returns : goal.returns

@@ -1,6 +1,6 @@
 use Rattle.merge_model.specs.Laws.Promises.{OldIsPast}
-use Rattle.merge_laws.proofs.LawsOfActions.{old-past}
-use Rattle.merge_laws.proofs.OfActions.{of-runs}
+use Rattle.merge_laws.proofs.Runs.LawsOfActions.{old-past}
+use Rattle.merge_laws.proofs.Runs.OfActions.{of-runs}
 use Rattle.merge_laws.proofs.laws.purges_take_nothing_that_live_sites_need.Goals as goal
 
 pub returns : goal.returns

@@ -1,6 +1,6 @@
 use Rattle.merge_laws.specs.Laws.{ClosingsKeepTheLast, ReceivedNumberIsDone, UnmetIsDone, UploadsTellTheLast}
-use Rattle.merge_laws.proofs.LawsOfActions.{closings-keep-the-last, number-is-done, unmet-is-done, uploads-tell-the-last}
-use Rattle.merge_laws.proofs.OfActions.{of-runs}
+use Rattle.merge_laws.proofs.Runs.LawsOfActions.{closings-keep-the-last, number-is-done, unmet-is-done, uploads-tell-the-last}
+use Rattle.merge_laws.proofs.Runs.OfActions.{of-runs}
 use Rattle.merge_laws.proofs.laws.received_change_numbers_are_the_last_that_acted.Goals as goal
 
 pub returns : goal.returns

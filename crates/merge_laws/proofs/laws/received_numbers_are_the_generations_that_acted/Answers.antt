@@ -1,6 +1,6 @@
 use Rattle.merge_laws.specs.Laws.{ActedIsDone, GapIsDone, ReceivedIsDone, TakesOnlyClosed}
-use Rattle.merge_laws.proofs.LawsOfActions.{acted-is-done, gap-is-done, received-is-done, takes-only-closed}
-use Rattle.merge_laws.proofs.OfActions.{of-runs}
+use Rattle.merge_laws.proofs.Runs.LawsOfActions.{acted-is-done, gap-is-done, received-is-done, takes-only-closed}
+use Rattle.merge_laws.proofs.Runs.OfActions.{of-runs}
 use Rattle.merge_laws.proofs.laws.received_numbers_are_the_generations_that_acted.Goals as goal
 
 pub returns : goal.returns

@@ -1,6 +1,6 @@
 use Rattle.merge_laws.specs.Laws.{SubscribersDecideAlike}
-use Rattle.merge_laws.proofs.LawsOfActions.{subscribers-alike}
-use Rattle.merge_laws.proofs.OfActions.{of-runs}
+use Rattle.merge_laws.proofs.Runs.LawsOfActions.{subscribers-alike}
+use Rattle.merge_laws.proofs.Runs.OfActions.{of-runs}
 use Rattle.merge_laws.proofs.laws.subscribers_decide_as_their_changes_do.Goals as goal
 
 pub returns : goal.returns

@@ -1,8 +1,8 @@
-use Rattle.merge_laws.specs.ActsOnce.{DoneStays, LettersStay, TakenHaveActed, TakenOnlyAnswer}
-use Rattle.merge_laws.proofs.ActsOnceItems.{acted-items-do-nothing}
-use Rattle.merge_laws.proofs.ActsOnceSteps.{acted-rows-stay, acted-uploads-only-answer}
-use Rattle.merge_laws.proofs.ActsOnceTaken.{done-stays, letters-stay, taken-have-acted, taken-only-answer}
-use Rattle.merge_laws.proofs.OfActions.{of-runs}
+use Rattle.merge_laws.specs.Laws.ActsOnce.{DoneStays, LettersStay, TakenHaveActed, TakenOnlyAnswer}
+use Rattle.merge_laws.proofs.ActsOnce.ActsOnceItems.{acted-items-do-nothing}
+use Rattle.merge_laws.proofs.ActsOnce.ActsOnceSteps.{acted-rows-stay, acted-uploads-only-answer}
+use Rattle.merge_laws.proofs.ActsOnce.ActsOnceTaken.{done-stays, letters-stay, taken-have-acted, taken-only-answer}
+use Rattle.merge_laws.proofs.Runs.OfActions.{of-runs}
 use Rattle.merge_laws.proofs.laws.uploads_take_effect_once.Goals as goal
 
 pub returns : goal.returns

@@ -1,6 +1,6 @@
-use Rattle.merge_laws.specs.RestsOn.{ChainsAreAccounted, HeldWereGranted, MomentsAreInStep, ReceivedIsInStep, RepliesAreTrue, SitesAreEqual}
-use Rattle.merge_laws.proofs.OfActions.{of-runs, of-valid-runs}
-use Rattle.merge_laws.proofs.RestsOnKept.{accepted-known, chains-accounted, held-granted-always, known-accepted, moments-step, received-step, replies-true, sites-equal}
+use Rattle.merge_laws.specs.Laws.RestsOn.{ChainsAreAccounted, HeldWereGranted, MomentsAreInStep, ReceivedIsInStep, RepliesAreTrue, SitesAreEqual}
+use Rattle.merge_laws.proofs.Runs.OfActions.{of-runs, of-valid-runs}
+use Rattle.merge_laws.proofs.Runs.RestsOnKept.{accepted-known, chains-accounted, held-granted-always, known-accepted, moments-step, received-step, replies-true, sites-equal}
 use Rattle.merge_laws.proofs.rests_on.runs_keep_what_laws_rest_on.Goals as goal
 
 pub returns : goal.returns

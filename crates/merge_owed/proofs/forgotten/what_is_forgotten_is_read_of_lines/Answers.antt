@@ -1,4 +1,4 @@
-use Rattle.merge_laws.proofs.OfActions.{of-runs, of-valid-runs}
+use Rattle.merge_laws.proofs.Runs.OfActions.{of-runs, of-valid-runs}
 use Rattle.merge_owed.specs.Forgotten.{JoinsForgetByLines, PurgesForgetByLines, TombstonesAreOldByLines}
 use Rattle.merge_owed.proofs.ForgottenByLines.{joins-forget, purges-forget, tombstones-old}
 use Rattle.merge_owed.proofs.forgotten.what_is_forgotten_is_read_of_lines.Goals as goal

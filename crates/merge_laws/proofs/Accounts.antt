@@ -1,0 +1,31 @@
+-- No change is lost: every change is accounted for.
+pub mod AccountElements
+pub mod AccountChains
+pub mod AccountCells
+pub mod AccountMerges
+pub mod AccountChanges
+pub mod AccountEach
+pub mod AccountHistory
+pub mod AccountHolds
+pub mod AccountDecided
+pub mod AccountLetters
+pub mod AccountRows
+pub mod AccountMeetings
+pub mod AccountActs
+pub mod AccountItems
+pub mod AccountSites
+pub mod AccountNotes
+pub mod AccountBase
+pub mod AccountUploads
+pub mod AccountSending
+pub mod AccountAnswers
+pub mod AccountTaking
+pub mod AccountReplies
+pub mod AccountPurging
+pub mod AccountFits
+pub mod AccountAnew
+pub mod AccountLocal
+pub mod AccountOwn
+pub mod AccountSteps
+pub mod AccountsAlways
+mod AccountExamples

@@ -1,0 +1,20 @@
+-- What versions know of their sites' own changes.
+pub mod OwnKnowing
+pub mod OwnPasts
+pub mod OwnActs
+pub mod OwnRows
+pub mod OwnLocal
+pub mod OwnAccepted
+pub mod OwnItems
+pub mod OwnAcceptedUploads
+pub mod OwnAcceptedSteps
+pub mod OwnParts
+pub mod OwnQuiet
+pub mod OwnBase
+pub mod OwnChanges
+pub mod OwnReplies
+pub mod OwnDone
+pub mod OwnSending
+pub mod OwnUploads
+pub mod OwnJoins
+pub mod OwnSteps
