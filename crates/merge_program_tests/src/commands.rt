@@ -7,6 +7,10 @@ use std::test::Fail;
 const MADE_60: &str =
     "made 60 events 292 refused 0\ncustomer 60\norders 108\ncustomer 21\norders 37\ncustomer 19\norders 34\ncustomer 20\norders 37\nconflicts 15\n";
 
+// As cases/large/make-20000.out has it.
+const MADE_20000: &str =
+    "made 20000 events 91874 refused 0\ncustomer 20000\norders 36000\ncustomer 6666\norders 11998\ncustomer 6666\norders 11999\ncustomer 6668\norders 12003\nconflicts 5000\n";
+
 // The one customer is of region 1, and so at site 2.
 const MADE_1: &str =
     "made 1 events 21 refused 0\ncustomer 1\norders 2\ncustomer 0\norders 0\ncustomer 1\norders 2\ncustomer 0\norders 0\nconflicts 0\n";
@@ -22,6 +26,7 @@ type Command = (
 const COMMANDS: &[Command] = &[
     ("make 1", &[], &[], (0, MADE_1, "")),
     ("make 60", &[], &[], (0, MADE_60, "")),
+    ("make 20000", &[], &[], (0, MADE_20000, "")),
     ("make 60", &[0], &[], (5, "", "write fault\n")),
     ("make 60", &[], &[0], (6, "", "store fault\n")),
     ("make 60", &[], &[3], (6, "", "store fault\n")),
