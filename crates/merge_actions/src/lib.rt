@@ -11,7 +11,10 @@ mod uploads;
 
 pub use decisions::{actions_decide_as_histories_do, actions_keep_what_laws_rest_on};
 pub use numbers::{actions_keep_numbers_and_lines, actions_take_nothing_owed};
-pub use owed::{actions_forget_by_lines, actions_keep_values, actions_purge_what_is_lacking};
+pub use owed::{
+    actions_forget_by_lines, actions_keep_values, actions_purge_what_is_lacking,
+    actions_take_mappings,
+};
 pub use promised::{
     actions_lose_no_change, actions_settle_sites, actions_take_identity_values_once,
     promises_hold_of_actions,

@@ -1,8 +1,9 @@
 //! Values, bodies, reports and range requests.
 ghost use Rattle.merge_laws.specs.Laws.{OfEveryActions, OfEveryValidActions};
 ghost use Rattle.merge_owed.specs.Chains.{TopsAreInChains};
-ghost use Rattle.merge_owed.specs.Forgotten.{JoinsForgetByLines, PublisherTellsDone, PurgesForgetByLines, SubscribersTellMade, TombstonesAreOldByLines};
+ghost use Rattle.merge_owed.specs.Forgotten.{JoinsForgetByLines, PublisherTellsDone, PurgesCountByLines, PurgesForgetByLines, SubscribersTellMade, TombstonesAreOldByLines};
 ghost use Rattle.merge_owed.specs.Identity.{TakenStandsForGoodByActions, ValuesWereTaken};
+ghost use Rattle.merge_owed.specs.Mappings.{KeptOrWentByActions, OfEveryGoingActions, ToldAreKeptOrGone};
 ghost use Rattle.merge_owed.specs.Purged.{KnownIsWithin, LackedWerePurged, OfEveryPurgingActions, PurgedWereTaken};
 ghost use Rattle.merge_owed.specs.Ranges.{RangesAreEnough};
 ghost use Rattle.merge_owed.specs.Values.{ValuesStandForGoodByActions};
@@ -18,12 +19,14 @@ pub fn actions_keep_values()
     ensures values { OfEveryValidActions ValuesStandForGoodByActions }
 {}
 
-/// Whatever actions came: what a join and a purge forget is what the last lines say, the numbers in
-/// reports are what the history says, and the bound on a session's range requests is never what ends it.
+/// Whatever actions came: what a join and a purge forget is what the last lines say, and so are the
+/// counts that come of a purge which does not fail. The numbers in reports are what the history says,
+/// and the bound on a session's range requests is never what ends it.
 pub fn actions_forget_by_lines()
     ensures joins { OfEveryActions (λ publication says m. JoinsForgetByLines m) }
     ensures purges { OfEveryValidActions PurgesForgetByLines }
     ensures tombstones { OfEveryValidActions TombstonesAreOldByLines }
+    ensures counts { OfEveryValidActions PurgesCountByLines }
     ensures publisher { OfEveryValidActions PublisherTellsDone }
     ensures subscribers { OfEveryValidActions SubscribersTellMade }
     ensures ranges { OfEveryValidActions RangesAreEnough }
@@ -38,4 +41,14 @@ pub fn actions_purge_what_is_lacking()
     ensures lacked { OfEveryPurgingActions LackedWerePurged }
     ensures within { OfEveryPurgingActions KnownIsWithin }
     ensures taken { OfEveryPurgingActions PurgedWereTaken }
+{}
+
+/// A mapping that is kept after some actions, and no longer after others, went by one of these as it
+/// was kept: a purge took it, and it said that the row left in an old generation; or a join took it,
+/// which was of its site and acted, and it said that the row left; or its row came back into the
+/// partition; or its row moved on, of which another mapping tells. And so it is of each move that a
+/// line of the history tells.
+pub fn actions_take_mappings()
+    ensures kept { OfEveryValidActions KeptOrWentByActions }
+    ensures told { OfEveryGoingActions ToldAreKeptOrGone }
 {}

@@ -25,3 +25,10 @@ pub mod HaveMakers
 pub mod RowsThere
 pub mod RowsThereSteps
 pub mod KnownOrPurged
+pub mod MappingGoes
+pub mod MappingSteps
+pub mod MappingRuns
+pub mod PurgeCounts
+pub mod PurgesCount
+pub mod MappingTold
+pub mod MappingLines

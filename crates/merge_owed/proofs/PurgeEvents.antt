@@ -131,15 +131,15 @@ act_without stepping w Look = stepping.act w Look
 abbrev pub without_purges : {W : Type 0} → Stepping W → Stepping W
 without_purges stepping = record stepping { act = act_without stepping }
 
-abbrev IsOther : Event → Type 0
+abbrev pub IsOther : Event → Type 0
 IsOther event.Purge = ⊥
 IsOther e = Unit {0}
 
 module _ (publication : Publication) (says : Saying) where
-  abbrev stepping : Stepping (Faulty Model)
+  abbrev pub stepping : Stepping (Faulty Model)
   stepping = failing publication (model publication says)
 
-  abbrev steps_without : Stepping (Faulty Model)
+  abbrev pub steps_without : Stepping (Faulty Model)
   steps_without = failing publication (without_purges (model publication says))
 
   step-leaves : (m : Model) (action : Action) → (let judges : Judges = by_history m.history in (noted publication says judges m.world action m.history).purged ≡ m.history.purged) → (model_step publication says m action).0.history.purged ≡ m.history.purged
@@ -159,10 +159,10 @@ module _ (publication : Publication) (says : Saying) where
   act-leaves m Forget = refl
   act-leaves m Look = step-leaves m Look refl
 
-  abbrev behind_event : Stepping (Faulty Model) → Faulty Model → Event → Faulty Model
+  abbrev pub behind_event : Stepping (Faulty Model) → Faulty Model → Event → Faulty Model
   behind_event steps f e = (happens publication steps f e).0
 
-  other-same : (f : Faulty Model) (e : Event) → IsOther e → behind_event steps_without f e ≡ behind_event stepping f e
+  pub other-same : (f : Faulty Model) (e : Event) → IsOther e → behind_event steps_without f e ≡ behind_event stepping f e
   other-same f (event.Wait seconds) other = refl
   other-same f (event.Insert site article values) other = refl
   other-same f (event.Update site article row values) other = refl

@@ -2,19 +2,22 @@
 -- generations that have acted and the changes that were made say.
 use Rattle.std.specs.List.{list_any}
 use Rattle.std.specs.Option.{option_map_or}
-use Rattle.std.specs.Prelude.{Bool, List, Some, [], false, flat_map, length, map, not, ◌&&◌, ◌==◌, ◌≡◌, ◌≤◌, ℕ}
+use Rattle.std.specs.Prelude.{Bool, List, Some, [], count_by, false, flat_map, length, map, not, ◌&&◌, ◌==◌, ◌≡◌, ◌≤◌, ℕ}
 use Rattle.merge_types.specs.declared.identifiers.SiteId.{SiteId}
 use Rattle.merge_types.specs.declared.row_key.RowKey.{RowKey as Key}
 use Rattle.merge_units.specs.Version.{is_live}
 use Rattle.merge_units.specs.declared.site_row.PublisherRow.{PublisherRow}
+use Rattle.merge_gens.specs.declared.closings.Closing.{Closing}
 use Rattle.merge_gens.specs.declared.moves.Mapping.{Mapping}
 use Rattle.merge_gens.specs.declared.moves.RowSite.{RowSite}
 use Rattle.merge_gens.specs.declared.sites.SiteState.{SiteState}
 use Rattle.merge_schema.specs.declared.publication.Publication.{Publication}
 use Rattle.merge_model.specs.Judge.ByHistory.{by_made, by_past, last_change, received_by_done, received_number_by_done, seen_by_accepted}
+use Rattle.merge_model.specs.World.Events.{happens}
+use Rattle.merge_model.specs.Failing.{Slips, failing, fails, faulty}
 use Rattle.merge_model.specs.History.{History}
 use Rattle.merge_model.specs.Tables.Keys.{at_number, at_row_site, row_at, same_key}
-use Rattle.merge_model.specs.History.Model.{Model}
+use Rattle.merge_model.specs.History.Model.{Model, model}
 use Rattle.merge_model.specs.History.Noting.{gone_for, left_rows, old_left, site_of_subscription}
 use Rattle.merge_model.specs.Tables.Publications.{by_site}
 use Rattle.merge_model.specs.Publisher.{at_moment}
@@ -22,8 +25,16 @@ use Rattle.merge_model.specs.Publisher.PublisherJoin.{is_left_of}
 use Rattle.merge_model.specs.Publisher.PublisherPurge.{is_old, is_old_left, is_old_tombstone}
 use Rattle.merge_model.specs.World.Reports.{unsent_count}
 use Rattle.merge_model.specs.Subscriber.Sending.{unsent_rows}
+use Rattle.merge_model.specs.Laws.SlipLaws.{is_slip, refused_for, shown}
+use Rattle.merge_model.specs.World.Steps.{Forget}
 use Rattle.merge_model.specs.Tables.{PublisherTables, SubscriberTables}
 use Rattle.merge_model.specs.World.{Saying}
+use Rattle.merge_model.specs.declared.answer.Answer.{Answer}
+use Rattle.merge_model.specs.declared.answer.Answer.TheVariants.{Purged}
+use Rattle.merge_model.specs.declared.event.Event.TheVariants as event
+use Rattle.merge_model.specs.declared.outcome.Forgotten.{Forgotten}
+use Rattle.merge_model.specs.declared.outcome.Outcome.{Outcome}
+use Rattle.merge_model.specs.declared.outcome.Outcome.TheVariants.{Forgot}
 
 -- whether the mapping that is kept of a row and a site passes a test
 abbrev pub is_kept_with : (RowSite × Mapping → Bool) → PublisherTables → RowSite → Bool
@@ -53,6 +64,27 @@ is_old_by_lines publication m row = not (is_live row.1.version.body) && option_m
 
 abbrev pub TombstonesAreOldByLines : Publication → Saying → Model → Type 0
 TombstonesAreOldByLines publication says m = (key : Key) (row : PublisherRow) → row_at m.world.publisher.rows key ≡ Some row → is_old_tombstone publication (going_over m) (key, row) ≡ is_old_by_lines publication m (key, row)
+
+-- So the counts that a purge answers are the numbers of what is forgotten: of the rows that are old by their lines, of the rows and
+-- sites, each once, whose last line tells so, and of the closed generations that are kept and old.
+abbrev pub forgotten_by_lines : Publication → Model → Forgotten
+forgotten_by_lines publication m = record {
+  tombstones = count_by (is_old_by_lines publication m) m.world.publisher.rows;
+  mappings = length (lines_past publication m);
+  generations = count_by (λ (closing : Closing). is_old publication (going_over m) closing.generation) m.world.publisher.gens.closings;
+}
+
+-- Unless the step fails, these are what comes of it, and what the event is answered.
+abbrev pub PurgesCountByLines : Publication → Saying → Model → Type 0
+PurgesCountByLines publication says m = (slips : Slips)
+    → (let outcome : Outcome = (fails publication (model publication says) (faulty m slips) Forget).1 in refused_for is_slip outcome ≡ false → outcome ≡ Forgot (forgotten_by_lines publication m))
+
+abbrev pub answer_of_counts : Forgotten → Answer
+answer_of_counts counts = Purged counts.tombstones counts.mappings counts.generations
+
+abbrev pub PurgesAnswerByLines : Publication → Saying → Model → Type 0
+PurgesAnswerByLines publication says m = (slips : Slips)
+    → (let answer : Answer = (happens publication (failing publication (model publication says)) (faulty m slips) event.Purge).1 in shown is_slip answer ≡ false → answer ≡ answer_of_counts (forgotten_by_lines publication m))
 
 -- What the publisher tells of a site: how far its generations have acted, the last of its changes that did, and the last that was met.
 pub record TellsOfSite (h : History) (site : ℕ) (state : SiteState) : Type 0 where

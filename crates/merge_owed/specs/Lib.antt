@@ -4,3 +4,4 @@ pub mod Values
 pub mod Forgotten
 pub mod Ranges
 pub mod Purged
+pub mod Mappings
