@@ -43,7 +43,8 @@ impl<K: Keeper> DraftingSite<K> {
 }
 
 impl<K: Keeper> DraftingPublisher for DraftingSite<K> {
-    ghost use Rattle.std.specs.Prelude.{map};
+    ghost use Rattle.std.specs.Prelude.{◌≡◌, ◌≤◌, ◌+◌, Err, OnErr, OnOk, map, true, ℕ};
+    ghost use Rattle.merge_ports.specs.declared.keeper.KeepFault.TheVariants.{Failed};
     ghost use Rattle.merge_pub.specs.After.{after};
     ghost use Rattle.merge_pub.specs.Held.{publication_of, tables_of};
     ghost use Rattle.merge_resolve.specs.Asked.{says_at};
@@ -63,7 +64,18 @@ impl<K: Keeper> DraftingPublisher for DraftingSite<K> {
         self.site.draft(&mut self.resolvers, now, request)
     }
 
-    fn settle(&mut self, work: RequestDraft) -> Result<(), KeepFault> {
+    // The clauses of the trait, written out: where a condition of a method stands in its trait alone,
+    // no crate above may pass this publisher on from a function that takes resolvers.
+    fn settle(&mut self, work: RequestDraft) -> Result<(), KeepFault>
+        requires { IsFit self.old.site.held work }
+        ensures ok { OnOk result (tables_of self.new.site.held ≡ after work.draft.changes (tables_of self.old.site.held)) }
+        ensures err { OnErr result (tables_of self.new.site.held ≡ tables_of self.old.site.held) }
+        ensures later { self.old.site.faults ≤ self.new.site.faults }
+        ensures fault { result ≡ Err Failed → (self.old.site.faults + 1 ≤ self.new.site.faults) × (work.commits ≡ true) }
+        ensures tallies { map (λ r. (Resolver-box r).tally_of r.value) self.new.resolvers.items ≡ map (λ r. (Resolver-box r).tally_of r.value) self.old.resolvers.items }
+        ensures steady { (k n : ℕ) (asked : _) → says_at (λ r. (Resolver-box r).says r.value) self.new.resolvers.items k n asked ≡ says_at (λ r. (Resolver-box r).says r.value) self.old.resolvers.items k n asked }
+        ensures publication { publication_of self.new.site.held ≡ publication_of self.old.site.held }
+    {
         self.site.settle(work)
     }
 
