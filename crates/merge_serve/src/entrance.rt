@@ -65,7 +65,9 @@ impl<D: Door, C: Clock, Q: Quota> Entrance<D, C, Q> {
             (traffic (D.Input.left taken.connection.first_input.value) (D.Output.written taken.connection.first_output.value) (D.Input.count taken.connection.first_input.value) (D.Output.count taken.connection.first_output.value))
             (traffic (D.Input.left taken.connection.input) (D.Output.written taken.connection.output) (D.Input.count taken.connection.input) (D.Output.count taken.connection.output))) }
         ensures some { OnSome result (self.new.accepted ≡ self.old.accepted + 1) }
+        ensures number { IfSome result (λ taken. taken.number ≡ self.new.accepted) }
         ensures none { IfNone result (self.new.accepted < requests → 0 < self.new.faults) }
+        ensures same { IfNone result (self.new.accepted ≡ self.old.accepted) }
     {
         if self.accepted >= requests || self.door.faults() > 0 {
             return None;

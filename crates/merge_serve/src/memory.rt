@@ -1,7 +1,8 @@
 //! A door in memory, for tests.
-ghost use Rattle.std.specs.Prelude.{◌≡◌};
+ghost use Rattle.std.specs.Prelude.{◌≡◌, ◌+◌, ◌||◌, [], drop, is_err, length, nat_le, option_map, slice_get, Some, IfOk, IfSome, OnErr, OnOk};
+ghost use Rattle.merge_ports.specs.Faults.{HasCause, is_listed, one_more};
 ghost use Rattle.merge_serve.specs.Attending.{traffic};
-ghost use Rattle.merge_serve.specs.Closing.{IsServed};
+ghost use Rattle.merge_serve.specs.Closing.{IsFresh, IsServed};
 
 use crate::connection::Connection;
 use crate::door::Door;
@@ -24,7 +25,9 @@ pub struct Caller {
 
 impl Caller {
     /// One that brings nothing.
-    pub fn silent(alloc: Global) -> Self {
+    pub fn silent(alloc: Global) -> Self
+        ensures { result ≡ record { bytes = []; failing_reads = []; failing_writes = [] } }
+    {
         Caller {
             bytes: Octets::empty(alloc),
             failing_reads: Listing::empty(alloc),
@@ -50,8 +53,7 @@ pub struct MemoryDoor {
 impl MemoryDoor {
     /// A door that handed out no connection yet.
     pub fn new(alloc: Global, callers: Vec<Caller>, failing: Listing<u64>) -> Self
-        ensures given { result.given ≡ 0 }
-        ensures faults { result.faults ≡ 0 }
+        ensures { result ≡ record { callers = callers; given = 0; failing = failing; calls = 0; faults = 0; alloc = alloc } }
     {
         MemoryDoor {
             callers,
@@ -65,8 +67,6 @@ impl MemoryDoor {
 }
 
 impl Door for MemoryDoor {
-    ghost use Rattle.std.specs.Prelude.{Some};
-
     type Input = MemorySource;
 
     type Output = MemorySink;
@@ -75,7 +75,22 @@ impl Door for MemoryDoor {
 
     ghost count = { λ d. d.faults };
 
-    fn accept(&mut self) -> Result<Connection<MemorySource, MemorySink>, Failed> {
+    fn accept(&mut self) -> Result<Connection<MemorySource, MemorySink>, Failed>
+        ensures fresh { IfOk result (λ c. IsFresh
+            (traffic (⟦<MemorySource as Source>⟧.left c.first_input.value) (⟦<MemorySink as Sink>⟧.written c.first_output.value) c.first_input.value.faults c.first_output.value.faults)
+            (traffic (⟦<MemorySource as Source>⟧.left c.input) (⟦<MemorySink as Sink>⟧.written c.output) c.input.faults c.output.faults)) }
+        ensures handed { OnOk result (Some self.new.given ≡ option_map (λ n. n + 1) (Some self.old.given)) }
+        ensures same { OnErr result (Some self.new.given ≡ Some self.old.given) }
+        ensures cause { HasCause self.old.faults self.new.faults result }
+        ensures failed { is_err result ≡ is_listed self.old.failing self.old.calls || nat_le (length self.old.callers.items) self.old.given }
+        ensures input { IfOk result (λ c. IfSome (slice_get self.old.callers.items self.old.given) (λ caller.
+            c.input ≡ record { bytes = caller.bytes; taken = 0; failing = caller.failing_reads; calls = 0; faults = 0 })) }
+        ensures output { IfOk result (λ c. IfSome (slice_get self.old.callers.items self.old.given) (λ caller.
+            c.output ≡ record { bytes = []; failing = caller.failing_writes; calls = 0; faults = 0 })) }
+        ensures ok { OnOk result (self.new ≡ record self.old { callers = self.new.callers; given = self.old.given + 1; calls = one_more self.old.calls }) }
+        ensures waiting { drop self.new.given self.new.callers.items ≡ drop self.new.given self.old.callers.items }
+        ensures err { OnErr result (self.new ≡ record self.old { calls = one_more self.old.calls; faults = one_more self.old.faults }) }
+    {
         let call = self.calls;
         self.calls = self.calls.saturating_add(1);
         if self.failing.as_slice().contains(&call) || self.given >= self.callers.len() {
