@@ -1,0 +1,4 @@
+mod Crosses
+mod Days
+mod Endings
+mod Starts

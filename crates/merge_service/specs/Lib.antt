@@ -1,0 +1,5 @@
+pub mod Days
+pub mod Ends
+pub mod Stops
+pub mod Stores
+pub mod Written
