@@ -75,5 +75,5 @@ promises-hold resolvers publication valid says tallies slips actions =
       in_step = received-step publication says tallies slips actions;
       held = held-granted-always resolvers publication valid says tallies slips actions;
       sorted = laws.lists-sorted publication says tallies slips actions;
-      sub_sorted = laws.sub-lists-sorted publication says tallies slips actions;
+      subscriber_sorted = laws.sub-lists-sorted publication says tallies slips actions;
     }

@@ -34,7 +34,7 @@ use Rattle.merge_model.specs.Script.Proper.{IsProperBody}
 use Rattle.merge_model.specs.Tables.Refusals.{counter_end, refused_if, unless}
 use Rattle.merge_model.specs.Subscriber.Sending.{join_made, join_of, make_ask, make_join, make_ranges, make_upload, ranges_made, sending_refusal, unsent_rows, upload_end, upload_item, upload_made, upload_sent, want_of, with_message}
 use Rattle.merge_model.specs.World.Steps.{SendDownload, SendJoin, SendRanges, SendUpload, Sending}
-use Rattle.merge_model.specs.Subscriber.{is_joining, sub_at_moment, sub_closed, sub_counters, sub_last_closed}
+use Rattle.merge_model.specs.Subscriber.{is_joining, subscriber_at_moment, subscriber_closed, subscriber_counters, subscriber_last_closed}
 use Rattle.merge_model.specs.Tables.{SubscriberTables}
 use Rattle.merge_model.proofs.Runs.Refusals.{first-none}
 use Rattle.merge_world.specs.Messages.{always, as_request, requested}
@@ -89,9 +89,9 @@ writable-items s [] printable = All-nil IsProperItem
 writable-items s (entry ∷ entries) printable = one-more IsProperItem (upload_item s entry) (filter_map (upload_item s) entries) (writable-item s entry printable) (writable-items s entries printable)
 
 upload-writable : (judge : SubscriberJudge) (now : Moment) (s : SubscriberTables) → ArePrintable (λ (row : SubscriberRow). row.version) s.rows
-    → All IsProperItem (upload_sent judge (sub_closed (sub_at_moment now s))).1.items
+    → All IsProperItem (upload_sent judge (subscriber_closed (subscriber_at_moment now s))).1.items
 upload-writable judge now s printable =
-    let c : SubscriberTables = sub_closed (sub_at_moment now s) in
+    let c : SubscriberTables = subscriber_closed (subscriber_at_moment now s) in
     writable-items c (judge.changed_between c.received (upload_end judge c)) printable
 
 anything : {T A : Type 0} (by : Result (Option (T × A)) Refusal) → Of (λ (t : T) (m : A). Unit {0}) by
@@ -104,7 +104,7 @@ requested-writable SendJoin now s printable = as-request (λ (t : SubscriberTabl
 requested-writable SendUpload now s printable =
     as-request (λ (t : SubscriberTables) (m : Request). IsSendableRequest m) request.Upload (make_upload (by_rows s) now s)
     (unless-of (λ (t : SubscriberTables) (m : Upload). All IsProperItem m.items) (sending_refusal s) (upload_made (by_rows s) now s) (λ e.
-    if-any (λ (t : SubscriberTables) (m : Upload). All IsProperItem m.items) (upload_sent (by_rows s) (sub_closed (sub_at_moment now s))) (unsent_rows (by_rows s) s) (upload-writable (by_rows s) now s printable)))
+    if-any (λ (t : SubscriberTables) (m : Upload). All IsProperItem m.items) (upload_sent (by_rows s) (subscriber_closed (subscriber_at_moment now s))) (unsent_rows (by_rows s) s) (upload-writable (by_rows s) now s printable)))
 requested-writable SendRanges now s printable = as-request (λ (t : SubscriberTables) (m : Request). IsSendableRequest m) request.Ranges (make_ranges s) (anything (make_ranges s))
 requested-writable SendDownload now s printable = as-request (λ (t : SubscriberTables) (m : Request). IsSendableRequest m) request.Download (always (make_ask s)) (anything (always (make_ask s)))
 
@@ -120,16 +120,16 @@ not-ended : (b : Bool) (why : Refusal) → refused_if b why ≡ None → b ≡ f
 not-ended false why e = refl
 not-ended true why e = absurd (grind (arith, e))
 
-below-limit : (s : SubscriberTables) → counter_end (sub_counters s) ≡ None → s.seq < counter_limit
+below-limit : (s : SubscriberTables) → counter_end (subscriber_counters s) ≡ None → s.seq < counter_limit
 below-limit s e =
-    let greatest : ℕ = max (max (max (max 0 s.changes) (sub_last_closed s)) s.seq) s.conflict_count in
+    let greatest : ℕ = max (max (max (max 0 s.changes) (subscriber_last_closed s)) s.seq) s.conflict_count in
     let below : greatest < counter_limit = leb-false counter_limit greatest (not-ended (nat_le counter_limit greatest) (CounterEnd greatest) e) in
-    let counted : s.seq ≤ max (max (max 0 s.changes) (sub_last_closed s)) s.seq = le-max_right (max (max 0 s.changes) (sub_last_closed s)) s.seq in
-    let all : max (max (max 0 s.changes) (sub_last_closed s)) s.seq ≤ greatest = le-max_left (max (max (max 0 s.changes) (sub_last_closed s)) s.seq) s.conflict_count in
+    let counted : s.seq ≤ max (max (max 0 s.changes) (subscriber_last_closed s)) s.seq = le-max_right (max (max 0 s.changes) (subscriber_last_closed s)) s.seq in
+    let all : max (max (max 0 s.changes) (subscriber_last_closed s)) s.seq ≤ greatest = le-max_left (max (max (max 0 s.changes) (subscriber_last_closed s)) s.seq) s.conflict_count in
     omega (arith, below, counted, all)
 
 counted : (s : SubscriberTables) → sending_refusal s ≡ None → s.seq < counter_limit
-counted s e = below-limit s (first-none (counter_end (sub_counters s)) [] (first-none (is_joining s) (counter_end (sub_counters s) ∷ []) e).1).0
+counted s e = below-limit s (first-none (counter_end (subscriber_counters s)) [] (first-none (is_joining s) (counter_end (subscriber_counters s) ∷ []) e).1).0
 
 join-numbered : (s : SubscriberTables) (b : Bool) → s.seq < counter_limit → (let made : Option (SubscriberTables × Join) = if b then None else Some (with_message outstanding.Join s, join_of s) in Of (λ (t : SubscriberTables) (m : Join). Numbered s t) (Ok made))
 join-numbered s true below = tt
@@ -145,11 +145,11 @@ ask-numbered s None t m holds = holds refl
 requested-numbered : (sending : Sending) (now : Moment) (s : SubscriberTables) → Of (λ (t : SubscriberTables) (m : Request). Numbered s t) (requested sending now s)
 requested-numbered SendJoin now s =
     as-request (λ (t : SubscriberTables) (m : Request). Numbered s t) request.Join (make_join s)
-    (unless-of (λ (t : SubscriberTables) (m : Join). Numbered s t) (counter_end (sub_counters s)) (join_made s) (λ e. join-numbered s s.is_joined (below-limit s e)))
+    (unless-of (λ (t : SubscriberTables) (m : Join). Numbered s t) (counter_end (subscriber_counters s)) (join_made s) (λ e. join-numbered s s.is_joined (below-limit s e)))
 requested-numbered SendUpload now s =
     as-request (λ (t : SubscriberTables) (m : Request). Numbered s t) request.Upload (make_upload (by_rows s) now s)
     (unless-of (λ (t : SubscriberTables) (m : Upload). Numbered s t) (sending_refusal s) (upload_made (by_rows s) now s) (λ e.
-    if-any (λ (t : SubscriberTables) (m : Upload). Numbered s t) (upload_sent (by_rows s) (sub_closed (sub_at_moment now s))) (unsent_rows (by_rows s) s) (counted s e, refl)))
+    if-any (λ (t : SubscriberTables) (m : Upload). Numbered s t) (upload_sent (by_rows s) (subscriber_closed (subscriber_at_moment now s))) (unsent_rows (by_rows s) s) (counted s e, refl)))
 requested-numbered SendRanges now s =
     as-request (λ (t : SubscriberTables) (m : Request). Numbered s t) request.Ranges (make_ranges s)
     (unless-of (λ (t : SubscriberTables) (m : RangeAsk). Numbered s t) (sending_refusal s) (ranges_made s) (λ e. if-any (λ (t : SubscriberTables) (m : RangeAsk). Numbered s t) (ranges_sent s) s.held (counted s e, refl)))

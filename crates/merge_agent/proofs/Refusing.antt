@@ -22,7 +22,7 @@ use Rattle.merge_model.specs.Judge.{SubscriberJudge}
 use Rattle.merge_model.specs.Tables.Refusals.{counter_end, first_refusal, refused_if, unless}
 use Rattle.merge_model.specs.Subscriber.Sending.{join_made, make_ask, make_join, make_ranges, make_upload, ranges_made, sending_refusal, upload_made, with_message}
 use Rattle.merge_model.specs.World.Steps.{SendDownload, SendJoin, SendRanges, SendUpload, Sending}
-use Rattle.merge_model.specs.Subscriber.{is_joining, sub_counters, sub_last_closed}
+use Rattle.merge_model.specs.Subscriber.{is_joining, subscriber_counters, subscriber_last_closed}
 use Rattle.merge_model.specs.Tables.{SubscriberTables}
 use Rattle.merge_model.specs.Subscriber.Taking.{met_by, seq_of, take_reply, taken}
 use Rattle.merge_model.specs.declared.outcome.Taken.{Taken}
@@ -60,11 +60,11 @@ first-own (Some why) y p q = p
 first-own None (Some why) p q = q
 first-own None None p q = tt
 
-end-own : (s : SubscriberTables) → IfSome (counter_end (sub_counters s)) IsOwn
-end-own s = let greatest : ℕ = max (max (max (max 0 s.changes) (sub_last_closed s)) s.seq) s.conflict_count in if-own (nat_le counter_limit greatest) (refusal.CounterEnd greatest) (inr (greatest, refl))
+end-own : (s : SubscriberTables) → IfSome (counter_end (subscriber_counters s)) IsOwn
+end-own s = let greatest : ℕ = max (max (max (max 0 s.changes) (subscriber_last_closed s)) s.seq) s.conflict_count in if-own (nat_le counter_limit greatest) (refusal.CounterEnd greatest) (inr (greatest, refl))
 
 sending-own : (s : SubscriberTables) → IfSome (sending_refusal s) IsOwn
-sending-own s = first-own (is_joining s) (counter_end (sub_counters s)) (if-own (not s.is_joined) refusal.Joining (inl refl)) (end-own s)
+sending-own s = first-own (is_joining s) (counter_end (subscriber_counters s)) (if-own (not s.is_joined) refusal.Joining (inl refl)) (end-own s)
 
 unless-own : {A : Type 0} (refusal : Option Refusal) (made : A) → IfSome refusal IsOwn → IfErr (unless refusal made) IsOwn
 unless-own (Some why) made own = own
@@ -82,7 +82,7 @@ ask-own : (s : SubscriberTables) → IfErr (make_ask s) IsOwn
 ask-own s = let m : Download = record { site = s.site; seq = s.seq + 1; from = s.watermark } in unless-own (sending_refusal s) (with_message (outstanding.Download s.watermark) s, m) (sending-own s)
 
 requested-own : (sending : Sending) (now : Moment) (s : SubscriberTables) → IfErr (requested sending now s) IsOwn
-requested-own SendJoin now s = as-own request.Join (make_join s) (unless-own (counter_end (sub_counters s)) (join_made s) (end-own s))
+requested-own SendJoin now s = as-own request.Join (make_join s) (unless-own (counter_end (subscriber_counters s)) (join_made s) (end-own s))
 requested-own SendUpload now s = as-own request.Upload (make_upload (by_rows s) now s) (unless-own (sending_refusal s) (upload_made (by_rows s) now s) (sending-own s))
 requested-own SendRanges now s = as-own request.Ranges (make_ranges s) (unless-own (sending_refusal s) (ranges_made s) (sending-own s))
 requested-own SendDownload now s = as-own request.Download (always (make_ask s)) (always-own (make_ask s) (ask-own s))

@@ -2,8 +2,8 @@
 ghost use Rattle.std.specs.Prelude.{◌≡◌, IfOk};
 
 use merge_gens::{
-    Closing, Filling, GenAnswer, GenBook, GenChange, GenIndex, IndexChange, IndexEntry, expired,
-    sort_rows,
+    Closing, Filling, GenerationAnswer, GenerationBook, GenerationChange, GenerationIndex,
+    IndexChange, IndexEntry, expired, sort_rows,
 };
 use merge_types::{Listing, Moment, RowId, RowKey};
 use std::alloc::Global;
@@ -32,7 +32,7 @@ enum Step {
 }
 
 // The last generation of those that the entries got, the last closed one, or how many are forgotten.
-fn told(book: &mut GenBook, step: Step) -> Result<u64, Fail> {
+fn told(book: &mut GenerationBook, step: Step) -> Result<u64, Fail> {
     if book.last_closed() >= 100 {
         return Err(Fail::from("too many generations"));
     }
@@ -54,13 +54,13 @@ fn told(book: &mut GenBook, step: Step) -> Result<u64, Fail> {
 // the open one, and what is kept.
 type Played = (Step, u64, u64, u64, &'static [Closed]);
 
-fn is_played(book: &mut GenBook, played: &Played) -> Result<bool, Fail> {
+fn is_played(book: &mut GenerationBook, played: &Played) -> Result<bool, Fail> {
     let (step, answer, last_closed, filled, kept) = *played;
     let told = told(book, step)?;
     Ok(told == answer && stands(book, last_closed, filled, kept))
 }
 
-fn stands(book: &GenBook, last_closed: u64, filled: u64, kept: &[Closed]) -> bool {
+fn stands(book: &GenerationBook, last_closed: u64, filled: u64, kept: &[Closed]) -> bool {
     book.last_closed() == last_closed
         && book.filled() == filled
         && book.kept() == kept.len() as u64
@@ -78,7 +78,7 @@ const FILLS: &[Played] = &[
 #[test]
 fn entries_fill_generations(rt: HostRuntime) -> Result<(), Fail> {
     for played in FILLS {
-        let mut book = GenBook::new(rt.alloc());
+        let mut book = GenerationBook::new(rt.alloc());
         let filled = played.3;
         assert!(rt; is_played(&mut book, played)?, "{filled}");
     }
@@ -107,7 +107,7 @@ const STEPS: &[(&str, Played)] = &[
 
 #[test]
 fn a_book_goes_on_step_by_step(rt: HostRuntime) -> Result<(), Fail> {
-    let mut book = GenBook::new(rt.alloc());
+    let mut book = GenerationBook::new(rt.alloc());
     for (shows, played) in STEPS {
         assert!(rt; is_played(&mut book, played)?, "{shows}");
     }
@@ -127,18 +127,18 @@ fn closings(alloc: Global, list: &[Closed]) -> Result<Listing<Closing>, Fail> {
 
 fn can_restore(alloc: Global, filling: Filling, list: &[Closed]) -> Result<bool, Fail> {
     let closings = closings(alloc, list)?;
-    Ok(GenBook::can_restore(filling, closings.as_slice()))
+    Ok(GenerationBook::can_restore(filling, closings.as_slice()))
 }
 
 // A book that was stored so.
-fn restored(alloc: Global, filling: Filling, list: &[Closed]) -> Result<GenBook, Fail>
+fn restored(alloc: Global, filling: Filling, list: &[Closed]) -> Result<GenerationBook, Fail>
     ensures { IfOk result (λ restored. restored.book.filling ≡ filling) }
 {
     let closings = closings(alloc, list)?;
-    if !GenBook::can_restore(filling, closings.as_slice()) {
+    if !GenerationBook::can_restore(filling, closings.as_slice()) {
         return Err(Fail::from("a book that is not sound"));
     }
-    Ok(GenBook::restore(filling, closings))
+    Ok(GenerationBook::restore(filling, closings))
 }
 
 // Whether a book can have these parts: its last closed generation, the entries of the open one, and
@@ -195,11 +195,12 @@ fn closings_are_found_by_moment_and_generation(rt: HostRuntime) -> Result<(), Fa
     Ok(())
 }
 
-fn are_told(answers: &[GenAnswer]) -> bool {
+fn are_told(answers: &[GenerationAnswer]) -> bool {
     match answers {
-        [GenAnswer::Entered(generations), GenAnswer::Closed(last)] => {
-            generations.as_slice() == [3, 4].as_slice() && *last == 4
-        }
+        [
+            GenerationAnswer::Entered(generations),
+            GenerationAnswer::Closed(last),
+        ] => { generations.as_slice() == [3, 4].as_slice() && *last == 4 }
         _ => false,
     }
 }
@@ -213,11 +214,11 @@ fn a_plan_is_settled(rt: HostRuntime) -> Result<(), Fail> {
     };
     let mut book = restored(rt.alloc(), filling, &[(2, 9)])?;
     let changes = [
-        GenChange::Enter {
+        GenerationChange::Enter {
             count: 2,
             moment: Moment(10),
         },
-        GenChange::Close { moment: Moment(11) },
+        GenerationChange::Close { moment: Moment(11) },
     ];
     let (answers, plan) = book.prepare(&changes)?;
     assert!(rt; are_told(answers.as_slice()));
@@ -260,8 +261,8 @@ fn are_rows(keys: &[RowKey], rows: &[Row]) -> bool {
     keys.len() == rows.len() && (0..keys.len()).all(|at| is_row(keys[at], rows[at]))
 }
 
-fn index(alloc: Global, entries: &[(u64, Row)]) -> Result<GenIndex, Fail> {
-    let mut index = GenIndex::new(alloc);
+fn index(alloc: Global, entries: &[(u64, Row)]) -> Result<GenerationIndex, Fail> {
+    let mut index = GenerationIndex::new(alloc);
     for (generation, row) in entries {
         index.put(*generation, key(*row))?;
     }
@@ -271,7 +272,7 @@ fn index(alloc: Global, entries: &[(u64, Row)]) -> Result<GenIndex, Fail> {
 // Whether these are the rows with a generation behind one, up to another.
 fn are_between(
     alloc: Global,
-    index: &GenIndex,
+    index: &GenerationIndex,
     interval: (u64, u64),
     rows: &[Row],
 ) -> Result<bool, Fail> {
@@ -304,7 +305,13 @@ fn rows_are_found_by_generation(rt: HostRuntime) -> Result<(), Fail> {
 }
 
 // Gives a row another generation.
-fn pass(alloc: Global, index: &mut GenIndex, row: Row, from: u64, to: u64) -> Result<(), Fail> {
+fn pass(
+    alloc: Global,
+    index: &mut GenerationIndex,
+    row: Row,
+    from: u64,
+    to: u64,
+) -> Result<(), Fail> {
     let mut changes = Listing::empty(alloc);
     changes.push(IndexChange::Take(IndexEntry {
         generation: from,

@@ -3,8 +3,8 @@ ghost use Rattle.merge_ident.specs.Answers.{rule_of};
 ghost use Rattle.merge_ident.specs.Holders.{HasValues};
 
 use merge_ident::{
-    Answer, Ask, Grant, GrantAnswer, Holding, IdentFault, IdentityUsedUp, Range, RangeBook, Ranges,
-    Rule, first_bad_grant,
+    Answer, Ask, Grant, GrantAnswer, Holding, IdentityFault, IdentityUsedUp, Range, RangeBook,
+    Ranges, Rule, first_bad_grant,
 };
 use merge_types::{Listing, SiteId};
 use std::alloc::{AllocError, Global};
@@ -61,14 +61,14 @@ fn grants_in_turn(rt: HostRuntime) -> Result<(), Fail> {
         (1, 1, false, Ok(GrantAnswer::NotDue)),
         (1, 1, true, granted(2, 3, 4)),
         (0, 0, true, granted(1, 5, 6)),
-        (1, 3, true, Err(IdentFault::TooMany { granted: 2 })),
+        (1, 3, true, Err(IdentityFault::TooMany { granted: 2 })),
         (1, 2, true, granted(3, 7, 8)),
         (1, 1, true, kept(2, 3, 4)),
         (
             1,
             3,
             true,
-            Err(IdentFault::NoRange {
+            Err(IdentityFault::NoRange {
                 next: 9,
                 greatest: 8,
             }),
@@ -114,7 +114,7 @@ fn ends_at_the_greatest_number(rt: HostRuntime) -> Result<(), Fail> {
     );
     assert_eq!(rt;
         book.grant(SiteId(1), 0, 1, true),
-        Err(IdentFault::NoRange {
+        Err(IdentityFault::NoRange {
             next: 1 << 63,
             greatest: i64::MAX,
         })

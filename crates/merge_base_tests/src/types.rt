@@ -1,6 +1,6 @@
 //! Literals at their edges, by the formats' own words.
 use merge_types::limits::{LAST_DAY, VALUE_LIMIT};
-use merge_types::{ColType, Octets, RowId, Value, Values, Words, is_name};
+use merge_types::{ColumnType, Octets, RowId, Value, Values, Words, is_name};
 use std::test::Fail;
 
 // How a text reads and prints again; `-` stands for a text that is no literal.
@@ -154,12 +154,12 @@ fn values_have_stored_lengths(rt: HostRuntime) -> Result<(), Fail> {
 #[test]
 fn values_fit_columns_of_their_type(rt: HostRuntime) -> Result<(), Fail> {
     for (text, ty) in [
-        ("7", ColType::Int),
-        ("true", ColType::Bit),
-        ("\"ab\"", ColType::Text),
-        ("9999-12-31", ColType::Day),
-        ("00000000-0000-8000-8000-000000000001", ColType::Guid),
-        ("x00ff00", ColType::Bytes),
+        ("7", ColumnType::Int),
+        ("true", ColumnType::Bit),
+        ("\"ab\"", ColumnType::Text),
+        ("9999-12-31", ColumnType::Day),
+        ("00000000-0000-8000-8000-000000000001", ColumnType::Guid),
+        ("x00ff00", ColumnType::Bytes),
     ] {
         let value = Value::read(rt.alloc(), text.as_bytes())
             .ok()
@@ -167,20 +167,24 @@ fn values_fit_columns_of_their_type(rt: HostRuntime) -> Result<(), Fail> {
             .ok_or("none")?;
         assert!(rt; value.fits(ty), "at {text}");
         assert!(rt; Value::Null.fits(ty), "Null at {text}");
-        assert_eq!(rt; value.fits(ColType::Day), ty == ColType::Day, "at {text}");
+        assert_eq!(rt;
+            value.fits(ColumnType::Day),
+            ty == ColumnType::Day,
+            "at {text}"
+        );
     }
     Ok(())
 }
 
 #[test]
 fn days_and_bytes_fit_up_to_their_limits(rt: HostRuntime) -> Result<(), Fail> {
-    assert!(rt; !Value::Day(LAST_DAY + 1).fits(ColType::Day));
-    assert!(rt; Value::Day(LAST_DAY + 1).has_type(ColType::Day));
+    assert!(rt; !Value::Day(LAST_DAY + 1).fits(ColumnType::Day));
+    assert!(rt; Value::Day(LAST_DAY + 1).has_type(ColumnType::Day));
     for (len, want) in [(VALUE_LIMIT, true), (VALUE_LIMIT + 1, false)] {
         let bytes = vec![in rt.alloc(); 7; len]?;
         let value = Value::Bytes(Octets::new(bytes));
         assert_eq!(rt; value.content_len(), len);
-        assert_eq!(rt; value.fits(ColType::Bytes), want, "at {len}");
+        assert_eq!(rt; value.fits(ColumnType::Bytes), want, "at {len}");
     }
     Ok(())
 }

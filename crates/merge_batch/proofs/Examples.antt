@@ -1,7 +1,7 @@
 -- Messages that break one rule each, and messages that break none.
 use Rattle.std.specs.Prelude.{◌≡◌, ℕ, pos, ◌-◌, ◌^◌, ◌==◌, ◌&&◌, if◌then◌else◌, refl, List, [], ◌∷◌, replicate, Some, None, codes, true}
 use Rattle.merge_types.specs.declared.Dot.{Dot}
-use Rattle.merge_types.specs.declared.ColType.TheVariants as column
+use Rattle.merge_types.specs.declared.ColumnType.TheVariants as column
 use Rattle.merge_types.specs.declared.Tracking.TheVariants as tracking
 use Rattle.merge_types.specs.declared.Value.{Value}
 use Rattle.merge_types.specs.declared.Value.TheVariants.{Null, Int, Text}
@@ -9,7 +9,7 @@ use Rattle.merge_types.specs.Rows.{row_number}
 use Rattle.merge_units.specs.declared.version.Body.TheVariants.{Live, Dead}
 use Rattle.merge_schema.specs.declared.publication.Publication.{Publication}
 use Rattle.merge_schema.specs.declared.publication.Article.{Article}
-use Rattle.merge_schema.specs.declared.publication.SubKind.TheVariants.{Client}
+use Rattle.merge_schema.specs.declared.publication.SubscriptionKind.TheVariants.{Client}
 use Rattle.merge_batch.specs.declared.standing.Standing.{Standing}
 use Rattle.merge_batch.specs.declared.request.Upload.{Upload}
 use Rattle.merge_batch.specs.declared.request.UploadItem.{UploadItem}

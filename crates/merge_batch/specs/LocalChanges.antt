@@ -12,7 +12,7 @@ use Rattle.merge_types.specs.declared.changes.Tracking.{Tracking}
 use Rattle.merge_types.specs.declared.identifiers.Dot.{Dot}
 use Rattle.merge_types.specs.declared.identifiers.RowId.{RowId}
 use Rattle.merge_types.specs.declared.row_key.RowKey.{RowKey}
-use Rattle.merge_types.specs.declared.values.ColType.{ColType}
+use Rattle.merge_types.specs.declared.values.ColumnType.{ColumnType}
 use Rattle.merge_types.specs.declared.values.Column.{Column}
 use Rattle.merge_types.specs.declared.values.Value.{Value}
 use Rattle.merge_types.specs.declared.values.Value.TheVariants.{Int, Null}
@@ -56,7 +56,7 @@ tracking_at publication place = unwrap_or (option_map (λ (article : Article). a
 abbrev pub columns_at : Publication → ℕ → List Column
 columns_at publication place = unwrap_or (option_map (λ (article : Article). article.columns) (article_at publication place)) []
 
-abbrev pub types_at : Publication → ℕ → List ColType
+abbrev pub types_at : Publication → ℕ → List ColumnType
 types_at publication place = map (λ (column : Column). column.ty) (columns_at publication place)
 
 abbrev pub identity_at : Publication → ℕ → Option Identity
@@ -98,7 +98,7 @@ new_value (Some column) identity settings place = if place == column then identi
 
 abbrev pub new_values : Publication → ℕ → Value → List Setting → List Value
 new_values publication article identity settings =
-    map (λ (place : ℕ × ColType). new_value (identity_column publication article) identity settings place.0) (enumerate_from 0 (types_at publication article))
+    map (λ (place : ℕ × ColumnType). new_value (identity_column publication article) identity settings place.0) (enumerate_from 0 (types_at publication article))
 
 -- the version after a change of the row that is held. An insert has the identity value besides
 abbrev pub version_after : Publication → Dot → Value → Change → Option Version → Option Version
@@ -123,14 +123,14 @@ sets_identity settings None = None
 sets_identity settings (Some column) = refused_if (list_any (λ (setting : Setting). setting.column == column) settings) (IdentityColumn column)
 
 -- whether a value is Null or of its column's type; a day that the calendar does not have is of none
-abbrev pub is_of_type : Value → ColType → Bool
+abbrev pub is_of_type : Value → ColumnType → Bool
 is_of_type value ty = has_type ty value && is_proper value
 
-abbrev pub fits_type : List ColType → Setting → Bool
+abbrev pub fits_type : List ColumnType → Setting → Bool
 fits_type types setting = option_map_or (is_of_type setting.value) (slice_get types setting.column) false
 
 -- the first value that is neither Null nor of its column's type
-abbrev pub wrong_type : List ColType → List Setting → Option Refusal
+abbrev pub wrong_type : List ColumnType → List Setting → Option Refusal
 wrong_type types settings = option_map (λ (setting : Setting). WrongType setting.column) (find (λ (setting : Setting). not (fits_type types setting)) settings)
 
 -- the first value that is too long

@@ -11,7 +11,7 @@ use Rattle.merge_types.specs.declared.changes.Setting.{Setting}
 use Rattle.merge_types.specs.declared.changes.Tracking.{Tracking}
 use Rattle.merge_types.specs.declared.changes.Tracking.TheVariants as tracking
 use Rattle.merge_types.specs.declared.identifiers.Dot.{Dot}
-use Rattle.merge_types.specs.declared.values.ColType.{ColType}
+use Rattle.merge_types.specs.declared.values.ColumnType.{ColumnType}
 use Rattle.merge_types.specs.declared.values.Column.{Column}
 use Rattle.merge_types.specs.declared.values.Value.{Value}
 use Rattle.merge_types.specs.declared.values.Value.TheVariants.{Null, Int, Bit, Text, Day, Guid, Bytes}
@@ -33,10 +33,10 @@ short-is (Day day) le = refl
 short-is (Guid number) le = refl
 short-is (Bytes bytes) le = grind (arith, nat_tests, le)
 
-abbrev is_wrong : List ColType → Setting → Bool
+abbrev is_wrong : List ColumnType → Setting → Bool
 is_wrong types setting = not (fits_type types setting)
 
-typed : (types : List ColType) (setting : Setting) → is_wrong types setting ≡ false → (column : ℕ) → (setting.column == column) ≡ true → (ty : ColType) → slice_get types column ≡ Some ty → is_of_type setting.value ty ≡ true
+typed : (types : List ColumnType) (setting : Setting) → is_wrong types setting ≡ false → (column : ℕ) → (setting.column == column) ≡ true → (ty : ColumnType) → slice_get types column ≡ Some ty → is_of_type setting.value ty ≡ true
 typed types setting right column here ty is =
     let same : setting.column ≡ column = grind (arith, nat_tests, here) in
     let at : slice_get types setting.column ≡ Some ty = rw same is in
@@ -45,11 +45,11 @@ typed types setting right column here ty is =
     out (is_of_type setting.value ty) by
 
 -- of its type, and short
-fits-so : (ty : ColType) (value : Value) → is_of_type value ty ≡ true → is_short value ≡ true → fits_column ty value ≡ true
+fits-so : (ty : ColumnType) (value : Value) → is_of_type value ty ≡ true → is_short value ≡ true → fits_column ty value ≡ true
 fits-so ty value typed short = let parts = and_parts (has_type ty value) (is_proper value) typed in and_from _ _ parts.0 (and_from _ _ short parts.1)
 
-found-fits : (types : List ColType) (settings : List Setting) → find (is_wrong types) settings ≡ None → find is_long settings ≡ None → (column : ℕ) (value : Value) → set_value settings column ≡ Some value
-    → (ty : ColType) → slice_get types column ≡ Some ty → fits_column ty value ≡ true
+found-fits : (types : List ColumnType) (settings : List Setting) → find (is_wrong types) settings ≡ None → find is_long settings ≡ None → (column : ℕ) (value : Value) → set_value settings column ≡ Some value
+    → (ty : ColumnType) → slice_get types column ≡ Some ty → fits_column ty value ≡ true
 found-fits types [] right short column value set ty is = absurd (cc set)
 found-fits types (setting ∷ settings) right short column value set ty is =
     let rights = not-found (is_wrong types) setting settings right in
@@ -61,34 +61,34 @@ found-fits types (setting ∷ settings) right short column value set ty is =
       | false ↦ λ no. found-fits types settings rights.1 shorts.1 column value (rw no at set) ty is
     ] in by (setting.column == column) refl
 
-pub set-fits : (types : List ColType) (settings : List Setting) → wrong_type types settings ≡ None → long_value settings ≡ None
-    → (column : ℕ) (value : Value) → set_value settings column ≡ Some value → (ty : ColType) → slice_get types column ≡ Some ty → fits_column ty value ≡ true
+pub set-fits : (types : List ColumnType) (settings : List Setting) → wrong_type types settings ≡ None → long_value settings ≡ None
+    → (column : ℕ) (value : Value) → set_value settings column ≡ Some value → (ty : ColumnType) → slice_get types column ≡ Some ty → fits_column ty value ≡ true
 set-fits types settings right short = found-fits types settings (mapped-none _ (find (is_wrong types) settings) right) (mapped-none _ (find is_long settings) short)
 
 -- what is set, or what is there
-either-fits : (types : List ColType) (settings : List Setting) → wrong_type types settings ≡ None → long_value settings ≡ None → (column : ℕ) (ty : ColType) → slice_get types column ≡ Some ty
+either-fits : (types : List ColumnType) (settings : List Setting) → wrong_type types settings ≡ None → long_value settings ≡ None → (column : ℕ) (ty : ColumnType) → slice_get types column ≡ Some ty
     → (value : Value) → fits_column ty value ≡ true → (set : Option Value) → set_value settings column ≡ set → fits_column ty (unwrap_or set value) ≡ true
 either-fits types settings right short column ty is value fits None set = fits
 either-fits types settings right short column ty is value fits (Some other) set = set-fits types settings right short column other set ty is
 
-null-fits : (ty : ColType) → fits_column ty Null ≡ true
+null-fits : (ty : ColumnType) → fits_column ty Null ≡ true
 unfolding has_type
 null-fits ty = refl
 
 -- The columns from a place on have their types there.
 
-abbrev AreAligned : List ColType → ℕ → List Column → Type 0
+abbrev AreAligned : List ColumnType → ℕ → List Column → Type 0
 AreAligned types n columns = (i : ℕ) (column : Column) → slice_get columns i ≡ Some column → slice_get types (n + i) ≡ Some column.ty
 
-aligned-tail : (types : List ColType) (n : ℕ) (column : Column) (columns : List Column) → AreAligned types n (column ∷ columns) → AreAligned types (n + 1) columns
+aligned-tail : (types : List ColumnType) (n : ℕ) (column : Column) (columns : List Column) → AreAligned types n (column ∷ columns) → AreAligned types (n + 1) columns
 aligned-tail types n column columns aligned i next is =
     let place : n + 1 + i ≡ n + suc i = omega arith in
     rw place (aligned (suc i) next is)
 
-aligned-head : (types : List ColType) (n : ℕ) (column : Column) (columns : List Column) → AreAligned types n (column ∷ columns) → slice_get types n ≡ Some column.ty
+aligned-head : (types : List ColumnType) (n : ℕ) (column : Column) (columns : List Column) → AreAligned types n (column ∷ columns) → slice_get types n ≡ Some column.ty
 aligned-head types n column columns aligned = rw add-zero at (aligned 0 column refl)
 
-updated-from : (types : List ColType) (settings : List Setting) → wrong_type types settings ≡ None → long_value settings ≡ None → (n : ℕ) (columns : List Column) → AreAligned types n columns
+updated-from : (types : List ColumnType) (settings : List Setting) → wrong_type types settings ≡ None → long_value settings ≡ None → (n : ℕ) (columns : List Column) → AreAligned types n columns
     → (values : List Value) → values_fit columns values ≡ true → values_fit columns (map (value_after settings) (enumerate_from n values)) ≡ true
 updated-from types settings right short n [] aligned [] fits = refl
 updated-from types settings right short n [] aligned (value ∷ values) fits = absurd (cc fits)
@@ -100,12 +100,12 @@ updated-from types settings right short n (column ∷ columns) aligned (value �
     (updated-from types settings right short (n + 1) columns (aligned-tail types n column columns aligned) values parts.1)
 
 -- the identity value of a new row fits its column
-abbrev pub IdentityFits : List ColType → Option ℕ → Value → Type 0
+abbrev pub IdentityFits : List ColumnType → Option ℕ → Value → Type 0
 IdentityFits types None identity = Unit {0}
-IdentityFits types (Some place) identity = (ty : ColType) → slice_get types place ≡ Some ty → fits_column ty identity ≡ true
+IdentityFits types (Some place) identity = (ty : ColumnType) → slice_get types place ≡ Some ty → fits_column ty identity ≡ true
 
-new-fits : (types : List ColType) (settings : List Setting) → wrong_type types settings ≡ None → long_value settings ≡ None → (place : Option ℕ) (identity : Value) → IdentityFits types place identity
-    → (column : ℕ) (ty : ColType) → slice_get types column ≡ Some ty → fits_column ty (new_value place identity settings column) ≡ true
+new-fits : (types : List ColumnType) (settings : List Setting) → wrong_type types settings ≡ None → long_value settings ≡ None → (place : Option ℕ) (identity : Value) → IdentityFits types place identity
+    → (column : ℕ) (ty : ColumnType) → slice_get types column ≡ Some ty → fits_column ty (new_value place identity settings column) ≡ true
 new-fits types settings right short None identity fits column ty is = either-fits types settings right short column ty is Null (null-fits ty) (set_value settings column) refl
 new-fits types settings right short (Some place) identity fits column ty is =
     let by : (b : Bool) → (column == place) ≡ b → fits_column ty (if b then identity else unwrap_or (set_value settings column) Null) ≡ true = λ b. elim b as (λ v. (column == place) ≡ v → fits_column ty (if v then identity else unwrap_or (set_value settings column) Null) ≡ true) [
@@ -113,9 +113,9 @@ new-fits types settings right short (Some place) identity fits column ty is =
       | false ↦ λ no. either-fits types settings right short column ty is Null (null-fits ty) (set_value settings column) refl
     ] in by (column == place) refl
 
-new-from : (types : List ColType) (settings : List Setting) → wrong_type types settings ≡ None → long_value settings ≡ None → (place : Option ℕ) (identity : Value) → IdentityFits types place identity
+new-from : (types : List ColumnType) (settings : List Setting) → wrong_type types settings ≡ None → long_value settings ≡ None → (place : Option ℕ) (identity : Value) → IdentityFits types place identity
     → (n : ℕ) (columns : List Column) → AreAligned types n columns
-    → values_fit columns (map (λ (p : ℕ × ColType). new_value place identity settings p.0) (enumerate_from n (map (λ (column : Column). column.ty) columns))) ≡ true
+    → values_fit columns (map (λ (p : ℕ × ColumnType). new_value place identity settings p.0) (enumerate_from n (map (λ (column : Column). column.ty) columns))) ≡ true
 new-from types settings right short place identity fits n [] aligned = refl
 new-from types settings right short place identity fits n (column ∷ columns) aligned =
     and_from _ _
@@ -132,7 +132,7 @@ updated-fit columns settings right short = updated-from (map (λ (column : Colum
 
 pub new-fit : (columns : List Column) (settings : List Setting) → wrong_type (map (λ (column : Column). column.ty) columns) settings ≡ None → long_value settings ≡ None
     → (place : Option ℕ) (identity : Value) → IdentityFits (map (λ (column : Column). column.ty) columns) place identity
-    → values_fit columns (map (λ (p : ℕ × ColType). new_value place identity settings p.0) (enumerate_from 0 (map (λ (column : Column). column.ty) columns))) ≡ true
+    → values_fit columns (map (λ (p : ℕ × ColumnType). new_value place identity settings p.0) (enumerate_from 0 (map (λ (column : Column). column.ty) columns))) ≡ true
 new-fit columns settings right short place identity fits = new-from (map (λ (column : Column). column.ty) columns) settings right short place identity fits 0 columns (aligned columns)
 
 -- The values of cells that have one each.
@@ -193,8 +193,8 @@ kept-set settings column none values None is set = absurd (cc set)
 kept-set settings column none values (Some value) is set =
     rw (placed (value_after settings) 0 values column value is, zero-add, unset settings column none) set
 
-pub new-set : (settings : List Setting) (column : ℕ) (identity : Value) → is_set (Some identity) ≡ true → (types : List ColType) (ty : ColType) → slice_get types column ≡ Some ty
-    → is_set (slice_get (map (λ (p : ℕ × ColType). new_value (Some column) identity settings p.0) (enumerate_from 0 types)) column) ≡ true
+pub new-set : (settings : List Setting) (column : ℕ) (identity : Value) → is_set (Some identity) ≡ true → (types : List ColumnType) (ty : ColumnType) → slice_get types column ≡ Some ty
+    → is_set (slice_get (map (λ (p : ℕ × ColumnType). new_value (Some column) identity settings p.0) (enumerate_from 0 types)) column) ≡ true
 new-set settings column identity set types ty is =
     let itself : (column == column) ≡ true = grind (arith, nat_tests) in
-    rw (placed (λ (p : ℕ × ColType). new_value (Some column) identity settings p.0) 0 types column ty is, zero-add, itself) set
+    rw (placed (λ (p : ℕ × ColumnType). new_value (Some column) identity settings p.0) 0 types column ty is, zero-add, itself) set

@@ -11,7 +11,7 @@ use Rattle.merge_types.specs.declared.changes.Setting.{Setting}
 use Rattle.merge_types.specs.declared.changes.Tracking.{Tracking}
 use Rattle.merge_types.specs.declared.changes.Tracking.TheVariants as tracking
 use Rattle.merge_types.specs.declared.identifiers.Dot.{Dot}
-use Rattle.merge_types.specs.declared.values.ColType.{ColType}
+use Rattle.merge_types.specs.declared.values.ColumnType.{ColumnType}
 use Rattle.merge_types.specs.declared.values.Column.{Column}
 use Rattle.merge_types.specs.declared.values.Value.{Value}
 use Rattle.merge_types.specs.declared.values.Value.TheVariants.{Null, Int, Bit, Text, Day, Guid, Bytes}
@@ -111,13 +111,13 @@ new-short (Some place) settings none column = let by : (b : Bool) → stored_len
   | false ↦ unset-short settings none column Null (omega arith) (set_value settings column) refl
 ] in by (column == place)
 
-new-bound : (identity : Option ℕ) (settings : List Setting) → long_value settings ≡ None → (n : ℕ) (types : List ColType)
-    → row_length (map (λ (place : ℕ × ColType). new_value identity (Int (pos 0)) settings place.0) (enumerate_from n types)) ≤ 8000 * length types
+new-bound : (identity : Option ℕ) (settings : List Setting) → long_value settings ≡ None → (n : ℕ) (types : List ColumnType)
+    → row_length (map (λ (place : ℕ × ColumnType). new_value identity (Int (pos 0)) settings place.0) (enumerate_from n types)) ≤ 8000 * length types
 new-bound identity settings none n [] = omega arith
 new-bound identity settings none n (ty ∷ types) =
     omega (
       arith,
-      row-cons (new_value identity (Int (pos 0)) settings n) (map (λ (place : ℕ × ColType). new_value identity (Int (pos 0)) settings place.0) (enumerate_from (n + 1) types)),
+      row-cons (new_value identity (Int (pos 0)) settings n) (map (λ (place : ℕ × ColumnType). new_value identity (Int (pos 0)) settings place.0) (enumerate_from (n + 1) types)),
       new-short identity settings none n,
       new-bound identity settings none (n + 1) types,
     )

@@ -13,7 +13,7 @@ use Rattle.merge_types.specs.declared.identifiers.Dot.{Dot}
 use Rattle.merge_types.specs.declared.values.Value.TheVariants.{Int}
 use Rattle.merge_types.specs.Length.{row_length}
 use Rattle.merge_types.specs.declared.changes.Setting.{Setting}
-use Rattle.merge_types.specs.declared.values.ColType.{ColType}
+use Rattle.merge_types.specs.declared.values.ColumnType.{ColumnType}
 use Rattle.merge_types.specs.declared.values.Column.{Column}
 use Rattle.merge_units.specs.Changes.{cells_after}
 use Rattle.merge_units.specs.Length.{value_count}
@@ -29,18 +29,18 @@ use Rattle.merge_batch.specs.LocalChanges.{columns_at, fits_type, length_after, 
 use Rattle.merge_change.specs.Allowed.{CanBeAsked, FitsColumns, IsUpdatable}
 use Rattle.merge_change.proofs.Lengths.{fitting, mapped-none, new-length, new-low, not-found, told-whole, update-low, valid-few}
 
-abbrev is_wrong : List ColType → Setting → Bool
+abbrev is_wrong : List ColumnType → Setting → Bool
 is_wrong types setting = not (fits_type types setting)
 
 -- a column that has a type is there
-typed-below : (types : List ColType) (setting : Setting) → is_wrong types setting ≡ false → setting.column < length types
+typed-below : (types : List ColumnType) (setting : Setting) → is_wrong types setting ≡ false → setting.column < length types
 typed-below types setting right =
-    let by : (found : Option ColType) → slice_get types setting.column ≡ found → is_wrong types setting ≡ false → setting.column < length types = λ found. elim found as (λ f. slice_get types setting.column ≡ f → is_wrong types setting ≡ false → setting.column < length types) [
+    let by : (found : Option ColumnType) → slice_get types setting.column ≡ found → is_wrong types setting ≡ false → setting.column < length types = λ found. elim found as (λ f. slice_get types setting.column ≡ f → is_wrong types setting ≡ false → setting.column < length types) [
       | None ↦ λ is h. absurd (cc (rw is at h))
       | Some ty ↦ λ is h. slice_get_within types setting.column ty is
     ] in by (slice_get types setting.column) refl right
 
-all-below : (types : List ColType) (settings : List Setting) → find (is_wrong types) settings ≡ None → (k : ℕ) (d : Setting) → k < length settings → (get_or settings k d).column < length types
+all-below : (types : List ColumnType) (settings : List Setting) → find (is_wrong types) settings ≡ None → (k : ℕ) (d : Setting) → k < length settings → (get_or settings k d).column < length types
 all-below types [] none k d lt = absurd (omega arith)
 all-below types (setting ∷ settings) none zero d lt = typed-below types setting (not-found (is_wrong types) setting settings none).0
 all-below types (setting ∷ settings) none (suc k) d lt = all-below types settings (not-found (is_wrong types) setting settings none).1 k d (omega arith)

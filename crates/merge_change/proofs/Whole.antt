@@ -15,8 +15,8 @@ use Rattle.merge_types.specs.declared.changes.Tracking.{Tracking}
 use Rattle.merge_types.specs.declared.changes.Tracking.TheVariants as tracking
 use Rattle.merge_types.specs.declared.identifiers.Dot.{Dot}
 use Rattle.merge_types.specs.declared.identifiers.RowId.{RowId}
-use Rattle.merge_types.specs.declared.values.ColType.{ColType}
-use Rattle.merge_types.specs.declared.values.ColType.TheVariants as types
+use Rattle.merge_types.specs.declared.values.ColumnType.{ColumnType}
+use Rattle.merge_types.specs.declared.values.ColumnType.TheVariants as types
 use Rattle.merge_types.specs.declared.values.Column.{Column}
 use Rattle.merge_types.specs.declared.values.Value.{Value}
 use Rattle.merge_types.specs.declared.values.Value.TheVariants.{Int, Null}
@@ -121,14 +121,14 @@ same-length (Some place) identity is settings column =
       | false ↦ refl
     ] in by (column == place)
 
-same-lengths : (place : Option ℕ) (identity : Value) → IsIdentity place identity → (settings : List Setting) (n : ℕ) (all : List ColType)
-    → row_length (map (λ (p : ℕ × ColType). new_value place identity settings p.0) (enumerate_from n all)) ≡ row_length (map (λ (p : ℕ × ColType). new_value place (Int (pos 0)) settings p.0) (enumerate_from n all))
+same-lengths : (place : Option ℕ) (identity : Value) → IsIdentity place identity → (settings : List Setting) (n : ℕ) (all : List ColumnType)
+    → row_length (map (λ (p : ℕ × ColumnType). new_value place identity settings p.0) (enumerate_from n all)) ≡ row_length (map (λ (p : ℕ × ColumnType). new_value place (Int (pos 0)) settings p.0) (enumerate_from n all))
 same-lengths place identity is settings n [] = refl
 same-lengths place identity is settings n (ty ∷ all) =
     omega (
       arith,
-      row-cons (new_value place identity settings n) (map (λ (p : ℕ × ColType). new_value place identity settings p.0) (enumerate_from (n + 1) all)),
-      row-cons (new_value place (Int (pos 0)) settings n) (map (λ (p : ℕ × ColType). new_value place (Int (pos 0)) settings p.0) (enumerate_from (n + 1) all)),
+      row-cons (new_value place identity settings n) (map (λ (p : ℕ × ColumnType). new_value place identity settings p.0) (enumerate_from (n + 1) all)),
+      row-cons (new_value place (Int (pos 0)) settings n) (map (λ (p : ℕ × ColumnType). new_value place (Int (pos 0)) settings p.0) (enumerate_from (n + 1) all)),
       same-length place identity is settings n,
       same-lengths place identity is settings (n + 1) all,
     )
@@ -144,7 +144,7 @@ int-fits columns (Some identity) valid value is = λ ty found.
     rw (← is-int, is.1) refl
 
 int-set : (columns : List Column) (identity : Option Identity) → HasValidIdentity columns identity → (value : Value) → IsIdentity (option_map (λ (one : Identity). one.column) identity) value → (settings : List Setting)
-    → identity_is_set identity (map (λ (p : ℕ × ColType). new_value (option_map (λ (one : Identity). one.column) identity) value settings p.0) (enumerate_from 0 (map (λ (column : Column). column.ty) columns))) ≡ true
+    → identity_is_set identity (map (λ (p : ℕ × ColumnType). new_value (option_map (λ (one : Identity). one.column) identity) value settings p.0) (enumerate_from 0 (map (λ (column : Column). column.ty) columns))) ≡ true
 int-set columns None valid value is settings = refl
 int-set columns (Some identity) valid value is settings =
     new-set settings identity.column value (rw is.1 refl) (map (λ (column : Column). column.ty) columns) types.Int (slice_get-map (λ (column : Column). column.ty) columns identity.column ∙ valid.0)
@@ -163,10 +163,10 @@ new-at publication resolvers valid place (Some a) is has settings right short id
     let valid-one = valid-identity resolvers publication valid place a is in
     let right-a : wrong_type (map (λ (column : Column). column.ty) a.columns) settings ≡ None = rw is at right in
     let whole-a : IsIdentity (option_map (λ (one : Identity). one.column) a.identity) identity = rw is at whole in
-    let zeros : List Value = map (λ (p : ℕ × ColType). new_value (option_map (λ (one : Identity). one.column) a.identity) (Int (pos 0)) settings p.0) (enumerate_from 0 (map (λ (column : Column). column.ty) a.columns)) in
+    let zeros : List Value = map (λ (p : ℕ × ColumnType). new_value (option_map (λ (one : Identity). one.column) a.identity) (Int (pos 0)) settings p.0) (enumerate_from 0 (map (λ (column : Column). column.ty) a.columns)) in
     let low-a : rows.stored_length (new_cells a.tracking dot zeros) ≤ 8000 = rw is at low in
     let low-b : row_length zeros ≤ 8000 = rw (new-length a.tracking dot zeros) at low-a in
-    let low-c : row_length (map (λ (p : ℕ × ColType). new_value (option_map (λ (one : Identity). one.column) a.identity) identity settings p.0) (enumerate_from 0 (map (λ (column : Column). column.ty) a.columns))) ≤ 8000 =
+    let low-c : row_length (map (λ (p : ℕ × ColumnType). new_value (option_map (λ (one : Identity). one.column) a.identity) identity settings p.0) (enumerate_from 0 (map (λ (column : Column). column.ty) a.columns))) ≤ 8000 =
     rw (same-lengths (option_map (λ (one : Identity). one.column) a.identity) identity whole-a settings 0 (map (λ (column : Column). column.ty) a.columns)) low-b in
     rw is (new-cells-fit a dot _
     (new-fit a.columns settings right-a short (option_map (λ (one : Identity). one.column) a.identity) identity (int-fits a.columns a.identity valid-one identity whole-a))

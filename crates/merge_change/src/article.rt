@@ -3,7 +3,7 @@ ghost use Rattle.std.specs.Prelude.{◌≡◌, length, slice_get, option_map};
 ghost use Rattle.merge_batch.specs.LocalChanges.{identity_column, tracking_at, types_at};
 
 use merge_schema::{Article, Publication};
-use merge_types::{ColType, Tracking};
+use merge_types::{ColumnType, Tracking};
 
 // How versions of the article's rows are compared.
 pub fn tracking(publication: &Publication, place: u8) -> Tracking
@@ -26,7 +26,7 @@ pub fn column_count(publication: &Publication, place: u8) -> usize
 }
 
 // The type of a column, where the article has it.
-pub fn column_type(publication: &Publication, place: u8, column: u8) -> Option<ColType>
+pub fn column_type(publication: &Publication, place: u8, column: u8) -> Option<ColumnType>
     ensures { result ≡ slice_get (types_at publication.now place) column }
 {
     match publication.article_at(place) {
@@ -36,7 +36,7 @@ pub fn column_type(publication: &Publication, place: u8, column: u8) -> Option<C
 }
 
 // The type of a column of the article.
-fn type_at(article: &Article, column: u8) -> Option<ColType>
+fn type_at(article: &Article, column: u8) -> Option<ColumnType>
     ensures { result ≡ option_map (λ column. column.ty) (slice_get article.now.columns column) }
 {
     match article.columns.as_slice().get(column as usize) {

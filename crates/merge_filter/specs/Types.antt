@@ -1,7 +1,7 @@
 -- The types of operands.
 use Rattle.std.specs.Prelude.{ℕ, Bool, true, false, List, slice_get, Option, Some, None, option_map, if◌then◌else◌}
-use Rattle.merge_types.specs.declared.values.ColType.{ColType}
-use Rattle.merge_types.specs.declared.values.ColType.TheVariants as types
+use Rattle.merge_types.specs.declared.values.ColumnType.{ColumnType}
+use Rattle.merge_types.specs.declared.values.ColumnType.TheVariants as types
 use Rattle.merge_types.specs.declared.values.Column.{Column}
 use Rattle.merge_types.specs.declared.values.Value.{Value}
 use Rattle.merge_types.specs.declared.values.Value.TheVariants as values
@@ -9,7 +9,7 @@ use Rattle.merge_filter.specs.declared.tree.Operand.{Operand}
 use Rattle.merge_filter.specs.declared.tree.Operand.TheVariants as operands
 use Rattle.merge_filter.specs.Syntax.{Syntax, Or, And, Not, Compare, IsNull, IsNotNull}
 
-abbrev pub value_type : Value → Option ColType
+abbrev pub value_type : Value → Option ColumnType
 value_type values.Null = None
 value_type (values.Int z) = Some types.Int
 value_type (values.Bit b) = Some types.Bit
@@ -18,16 +18,16 @@ value_type (values.Day z) = Some types.Day
 value_type (values.Guid n) = Some types.Guid
 value_type (values.Bytes bytes) = Some types.Bytes
 
-abbrev pub column_type : List Column → ℕ → Option ColType
+abbrev pub column_type : List Column → ℕ → Option ColumnType
 column_type columns place = option_map (λ column. column.ty) (slice_get columns place)
 
 -- the name of the host is a text
-abbrev pub operand_type : List Column → Operand → Option ColType
+abbrev pub operand_type : List Column → Operand → Option ColumnType
 operand_type columns (operands.Column place) = column_type columns place
 operand_type columns operands.Host = Some types.Text
 operand_type columns (operands.Literal v) = value_type v
 
-abbrev pub are_alike : Option ColType → Option ColType → Bool
+abbrev pub are_alike : Option ColumnType → Option ColumnType → Bool
 are_alike (Some types.Int) (Some types.Int) = true
 are_alike (Some types.Bit) (Some types.Bit) = true
 are_alike (Some types.Text) (Some types.Text) = true

@@ -4,24 +4,24 @@ ghost use Rattle.merge_filter.specs.Syntax.{syntax};
 ghost use Rattle.merge_filter.specs.Types.{value_type, column_type, operand_type, are_alike, unlike_sign};
 
 use crate::tree::{Node, Operand};
-use merge_types::{ColType, Column, Value};
+use merge_types::{Column, ColumnType, Value};
 
-fn value_type(value: &Value) -> Option<ColType>
+fn value_type(value: &Value) -> Option<ColumnType>
     ensures { result ≡ value_type value.now }
 {
     match value {
         Value::Null => None,
-        Value::Int(_) => Some(ColType::Int),
-        Value::Bit(_) => Some(ColType::Bit),
-        Value::Text(_) => Some(ColType::Text),
-        Value::Day(_) => Some(ColType::Day),
-        Value::Guid(_) => Some(ColType::Guid),
-        Value::Bytes(_) => Some(ColType::Bytes),
+        Value::Int(_) => Some(ColumnType::Int),
+        Value::Bit(_) => Some(ColumnType::Bit),
+        Value::Text(_) => Some(ColumnType::Text),
+        Value::Day(_) => Some(ColumnType::Day),
+        Value::Guid(_) => Some(ColumnType::Guid),
+        Value::Bytes(_) => Some(ColumnType::Bytes),
     }
 }
 
 /// The type of the column at a place.
-pub fn column_type(columns: &[Column], place: usize) -> Option<ColType>
+pub fn column_type(columns: &[Column], place: usize) -> Option<ColumnType>
     ensures { result ≡ column_type columns.now place }
 {
     match columns.get(place) {
@@ -30,27 +30,27 @@ pub fn column_type(columns: &[Column], place: usize) -> Option<ColType>
     }
 }
 
-fn operand_type(columns: &[Column], operand: &Operand) -> Option<ColType>
+fn operand_type(columns: &[Column], operand: &Operand) -> Option<ColumnType>
     ensures { result ≡ operand_type columns.now operand.now }
 {
     match operand {
         Operand::Column(place) => column_type(columns, *place),
-        Operand::Host => Some(ColType::Text),
+        Operand::Host => Some(ColumnType::Text),
         Operand::Literal(value) => value_type(value),
     }
 }
 
 /// Whether both types are known and one.
-pub fn are_alike(left: Option<ColType>, right: Option<ColType>) -> bool
+pub fn are_alike(left: Option<ColumnType>, right: Option<ColumnType>) -> bool
     ensures { result ≡ are_alike left right }
 {
     match (left, right) {
-        (Some(ColType::Int), Some(ColType::Int)) => true,
-        (Some(ColType::Bit), Some(ColType::Bit)) => true,
-        (Some(ColType::Text), Some(ColType::Text)) => true,
-        (Some(ColType::Day), Some(ColType::Day)) => true,
-        (Some(ColType::Guid), Some(ColType::Guid)) => true,
-        (Some(ColType::Bytes), Some(ColType::Bytes)) => true,
+        (Some(ColumnType::Int), Some(ColumnType::Int)) => true,
+        (Some(ColumnType::Bit), Some(ColumnType::Bit)) => true,
+        (Some(ColumnType::Text), Some(ColumnType::Text)) => true,
+        (Some(ColumnType::Day), Some(ColumnType::Day)) => true,
+        (Some(ColumnType::Guid), Some(ColumnType::Guid)) => true,
+        (Some(ColumnType::Bytes), Some(ColumnType::Bytes)) => true,
         _ => false,
     }
 }

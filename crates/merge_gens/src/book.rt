@@ -9,7 +9,7 @@ use crate::closings::{
     add_closings, append, count_before, each_closed, generations_rise, keep_above, keep_from,
     last_before, moment_at, moments_never_fall,
 };
-use crate::{Closing, Closings, Filling, GenAnswers, GenChange, GenPlan};
+use crate::{Closing, Closings, Filling, GenerationAnswers, GenerationChange, GenerationPlan};
 use merge_types::limits::ENTRY_LIMIT;
 use merge_types::{Listing, Moment, NoMemory};
 use std::alloc::Global;
@@ -18,12 +18,12 @@ use std::marker::Model;
 /// A site's generations: where the filling stands, and the closed ones that are kept. SQL Server
 /// keeps them in `MSmerge_genhistory`.
 #[derive(Debug, Drop)]
-pub struct GenBook {
+pub struct GenerationBook {
     filling: Filling,
     closings: Vec<Closing>,
 }
 
-impl Model for GenBook {
+impl Model for GenerationBook {
     ghost use Rattle.std.specs.Prelude.{◌-◌, vec_len};
     ghost use Rattle.std.specs.Vec.{vec_capacity};
     ghost use Rattle.merge_gens.specs.Book.{BookWithRoom, IsSound};
@@ -35,12 +35,12 @@ impl Model for GenBook {
     ghost invariant = { λ b. IsSound (record { filling = b.filling; closings = b.closings.items }) };
 }
 
-impl GenBook {
+impl GenerationBook {
     /// No entry yet. The first generation is open.
     pub fn new(alloc: Global) -> Self
         ensures { result.book ≡ record { filling = record { last_closed = 0; filled = 0 }; closings = [] } }
     {
-        GenBook {
+        GenerationBook {
             filling: Filling {
                 last_closed: 0,
                 filled: 0,
@@ -64,7 +64,7 @@ impl GenBook {
         requires { IsSound (record { filling = filling; closings = closings }) }
         ensures { result.book ≡ record { filling = filling; closings = closings } }
     {
-        GenBook {
+        GenerationBook {
             filling,
             closings: closings.into_vec(),
         }
@@ -106,7 +106,7 @@ impl GenBook {
         &mut self,
         count: u64,
         moment: Moment,
-    ) -> Result<(Vec<u64>, GenPlan), NoMemory>
+    ) -> Result<(Vec<u64>, GenerationPlan), NoMemory>
         requires { self.old.book.filling.last_closed + count < u64.MAX }
         ensures generations { IfOk result (λ prepared. prepared.0.items ≡ generations_of self.old.book.filling count) }
         ensures plan { IfOk result (λ prepared. settled self.old.book prepared.1 ≡ entered self.old.book count moment) }
@@ -124,7 +124,7 @@ impl GenBook {
 
     /// Takes the memory for closing the open generation, and gives the last closed one afterwards
     /// and the plan.
-    pub fn prepare_close(&mut self, moment: Moment) -> Result<(u64, GenPlan), NoMemory>
+    pub fn prepare_close(&mut self, moment: Moment) -> Result<(u64, GenerationPlan), NoMemory>
         requires { self.old.book.filling.last_closed < u64.MAX }
         ensures last { IfOk result (λ prepared. prepared.0 ≡ (closed self.old.book.filling).last_closed) }
         ensures plan { IfOk result (λ prepared. settled self.old.book prepared.1 ≡ closed_now self.old.book moment) }
@@ -141,7 +141,10 @@ impl GenBook {
     }
 
     /// Takes the memory for several changes, and gives what each answers and the plan.
-    pub fn prepare(&mut self, changes: &[GenChange]) -> Result<(GenAnswers, GenPlan), NoMemory>
+    pub fn prepare(
+        &mut self,
+        changes: &[GenerationChange],
+    ) -> Result<(GenerationAnswers, GenerationPlan), NoMemory>
         requires { AreAllowed self.old.book.filling changes.now }
         ensures answers { IfOk result (λ prepared. prepared.0 ≡ answers_of self.old.book.filling changes.now) }
         ensures plan { IfOk result (λ prepared. settled self.old.book prepared.1 ≡ book_after_all self.old.book changes.now) }
@@ -152,19 +155,19 @@ impl GenBook {
         // What takes no memory is not refused.
         ensures nothing { changes.now ≡ [] → IsOk result }
     {
-        let (answers, plan) = GenPlan::of_changes(self.alloc(), self.filling, changes)?;
+        let (answers, plan) = GenerationPlan::of_changes(self.alloc(), self.filling, changes)?;
         self.closings.reserve(plan.closings.len())?;
         Ok((answers, plan))
     }
 
     /// Makes the changes of a plan. The book stands where it stood when the plan was made: nothing
     /// was added and nothing closed since. No memory is taken.
-    pub fn settle(&mut self, plan: GenPlan)
+    pub fn settle(&mut self, plan: GenerationPlan)
         requires { IsPrepared self.old plan }
         ensures book { self.new.book ≡ settled self.old.book plan }
         ensures room { self.new.room + length plan.closings ≡ self.old.room }
     {
-        let GenPlan {
+        let GenerationPlan {
             filling,
             closings,
             ..
@@ -262,7 +265,7 @@ impl GenBook {
     }
 
     // Takes the memory for moving on to a filling.
-    fn prepare_to(&mut self, filling: Filling, moment: Moment) -> Result<GenPlan, NoMemory>
+    fn prepare_to(&mut self, filling: Filling, moment: Moment) -> Result<GenerationPlan, NoMemory>
         requires unfilled { filling.filled < entry_limit }
         requires onward { self.old.book.filling.last_closed ≤ filling.last_closed }
         ensures plan { IfOk result (λ plan. settled self.old.book plan ≡ moved_to self.old.book filling moment) }
@@ -279,7 +282,7 @@ impl GenBook {
             moment,
         )?;
         self.closings.reserve(closings.len())?;
-        Ok(GenPlan {
+        Ok(GenerationPlan {
             before: self.filling,
             filling,
             closings: Listing::new(closings),

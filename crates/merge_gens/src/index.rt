@@ -53,11 +53,11 @@ pub struct IndexPlan {
 /// A set of rows with generations, in which the rows of some generations are found without a look
 /// at the others.
 #[derive(Debug, Drop)]
-pub struct GenIndex {
+pub struct GenerationIndex {
     entries: Table<IndexEntry, ()>,
 }
 
-impl Model for GenIndex {
+impl Model for GenerationIndex {
     ghost use Rattle.std.specs.FinSet as set;
     ghost use Rattle.std.specs.List.Sorted.{IsStrictlySortedBy};
     ghost use Rattle.std.specs.Map.{keys_of};
@@ -73,13 +73,13 @@ impl Model for GenIndex {
     ghost invariant = { λ i. IsStrictlySortedBy entry_cmp (keys_of i.entries.rows) };
 }
 
-impl GenIndex {
+impl GenerationIndex {
     /// No entry.
     pub fn new(alloc: Global) -> Self
         ensures entries { result.entries ≡ set.empty }
         ensures compact { IsCompact result }
     {
-        GenIndex {
+        GenerationIndex {
             entries: Table::new(alloc),
         }
     }

@@ -11,11 +11,13 @@ mod plan;
 mod retention;
 mod sites;
 
-pub use book::GenBook;
+pub use book::GenerationBook;
 pub use closings::{Closing, Closings};
 pub use filling::Filling;
-pub use index::{GenIndex, IndexChange, IndexChanges, IndexEntry, IndexPlan, sort_rows};
+pub use index::{GenerationIndex, IndexChange, IndexChanges, IndexEntry, IndexPlan, sort_rows};
 pub use moves::{Mapping, MoveKind, RowSite};
-pub use plan::{GenAnswer, GenAnswers, GenChange, GenPlan, Generations};
+pub use plan::{
+    GenerationAnswer, GenerationAnswers, GenerationChange, GenerationPlan, Generations,
+};
 pub use retention::expired;
 pub use sites::{Marks, SiteState};

@@ -10,38 +10,38 @@ use std::alloc::Global;
 
 /// A change of a book.
 #[derive(Clone, Copy, Debug, PartialEq, Eq)]
-pub enum GenChange {
+pub enum GenerationChange {
     /// So many entries are added.
     Enter { count: u64, moment: Moment },
     /// The open generation closes where it has an entry.
     Close { moment: Moment },
 }
 
-impl Exact for GenChange {
+impl Exact for GenerationChange {
     ghost use Rattle.std.proofs.Common.{rules};
 
     ghost exact = { Prim.search rules };
 }
 
-impl GenChange {
+impl GenerationChange {
     // Where the filling stands afterwards, and what is answered.
-    fn make(self, alloc: Global, filling: Filling) -> Result<(Filling, GenAnswer), NoMemory>
+    fn make(self, alloc: Global, filling: Filling) -> Result<(Filling, GenerationAnswer), NoMemory>
         requires unfilled { filling.filled < entry_limit }
         requires allowed { IsAllowed filling self }
         ensures filling { IfOk result (λ made. made.0 ≡ filling_after filling self) }
         ensures answer { IfOk result (λ made. made.1 ≡ answer_of filling self) }
     {
         match self {
-            GenChange::Enter { count, .. } => {
+            GenerationChange::Enter { count, .. } => {
                 let generations = filling.generations(alloc, count)?;
                 Ok((
                     filling.filled_by(count),
-                    GenAnswer::Entered(Listing::new(generations)),
+                    GenerationAnswer::Entered(Listing::new(generations)),
                 ))
             }
-            GenChange::Close { .. } => {
+            GenerationChange::Close { .. } => {
                 let after = filling.closed();
-                Ok((after, GenAnswer::Closed(after.last_closed)))
+                Ok((after, GenerationAnswer::Closed(after.last_closed)))
             }
         }
     }
@@ -51,15 +51,15 @@ impl GenChange {
         ensures { result ≡ closing_moment self }
     {
         match self {
-            GenChange::Enter { moment, .. } => moment,
-            GenChange::Close { moment } => moment,
+            GenerationChange::Enter { moment, .. } => moment,
+            GenerationChange::Close { moment } => moment,
         }
     }
 }
 
 /// What a change of a book answers.
 #[derive(Debug, Drop)]
-pub enum GenAnswer {
+pub enum GenerationAnswer {
     /// The generation of each entry that was added.
     Entered(Generations),
     /// The last closed generation.
@@ -70,11 +70,11 @@ pub enum GenAnswer {
 pub type Generations = Listing<u64>;
 
 /// The answers of several changes.
-pub type GenAnswers = Listing<GenAnswer>;
+pub type GenerationAnswers = Listing<GenerationAnswer>;
 
 /// What changes of a book come to.
 #[derive(Debug, Drop)]
-pub struct GenPlan {
+pub struct GenerationPlan {
     /// Where the filling stood when the plan was made.
     pub before: Filling,
     /// Where the filling stands afterwards.
@@ -83,13 +83,13 @@ pub struct GenPlan {
     pub closings: Closings,
 }
 
-impl GenPlan {
+impl GenerationPlan {
     // The plan of these changes, and what each answers.
     pub(crate) fn of_changes(
         alloc: Global,
         filling: Filling,
-        changes: &[GenChange],
-    ) -> Result<(GenAnswers, GenPlan), NoMemory>
+        changes: &[GenerationChange],
+    ) -> Result<(GenerationAnswers, GenerationPlan), NoMemory>
         requires unfilled { filling.filled < entry_limit }
         requires allowed { AreAllowed filling changes.now }
         ensures answers { IfOk result (λ planned. planned.0 ≡ answers_of filling changes.now) }
@@ -111,7 +111,7 @@ impl GenPlan {
             answers.push(answer)?;
             reached = after;
         }
-        let plan = GenPlan {
+        let plan = GenerationPlan {
             before: filling,
             filling: reached,
             closings: Listing::new(closings),

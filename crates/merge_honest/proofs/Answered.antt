@@ -32,7 +32,7 @@ use Rattle.merge_model.specs.World.Faults.{heard_by}
 use Rattle.merge_model.specs.Judge.{SubscriberJudge}
 use Rattle.merge_model.specs.Tables.Keys.{at_number, put_number}
 use Rattle.merge_model.specs.Subscriber.Sending.{want_of, with_message}
-use Rattle.merge_model.specs.Subscriber.{sub_at_moment, sub_drawn, taken_value, with_version_if}
+use Rattle.merge_model.specs.Subscriber.{subscriber_at_moment, subscriber_drawn, taken_value, with_version_if}
 use Rattle.merge_model.specs.Tables.{SubscriberTables}
 use Rattle.merge_model.specs.Subscriber.Taking.{taken}
 use Rattle.merge_model.specs.declared.letter.Letter.{Letter}
@@ -127,7 +127,7 @@ found-heard : (s : SubscriberTables) (place : ℕ) (found : Option Holder) → a
 found-heard s place None at = λ article. refl
 found-heard s place (Some holder) at = value-heard s place holder (answer_to_take holder) at
 
-draw-heard : (s : SubscriberTables) (change : Change) → IfOk (sub_drawn s change) (λ d. (article : ℕ) → heard_in d.1 article ≡ heard_in s.held article)
+draw-heard : (s : SubscriberTables) (change : Change) → IfOk (subscriber_drawn s change) (λ d. (article : ℕ) → heard_in d.1 article ≡ heard_in s.held article)
 draw-heard s (Insert article values) = found-heard s article (at_number s.held article) refl
 draw-heard s (Update article row values) = λ place. refl
 draw-heard s (Delete article row) = λ place. refl
@@ -136,10 +136,10 @@ version-onward : (s : SubscriberTables) (key : Key) (found : Option Version) (u 
 version-onward s key None u site seq out heard received = same-onward s u site seq out heard received
 version-onward s key (Some version) u site seq out heard received = same-onward s (with_version_if key (Some version) u) site seq out heard received
 
-pub change-onward : (now : Moment) (s : SubscriberTables) (change : Change) (d : Value × List (ℕ × Holder)) (key : Key) (found : Option Version) → sub_drawn s change ≡ Ok d
-    → Onward s (with_version_if key found (record (sub_at_moment now s) { changes = s.changes + 1; held = d.1 }))
+pub change-onward : (now : Moment) (s : SubscriberTables) (change : Change) (d : Value × List (ℕ × Holder)) (key : Key) (found : Option Version) → subscriber_drawn s change ≡ Ok d
+    → Onward s (with_version_if key found (record (subscriber_at_moment now s) { changes = s.changes + 1; held = d.1 }))
 change-onward now s change d key found is =
-    version-onward s key found (record (sub_at_moment now s) { changes = s.changes + 1; held = d.1 }) refl refl refl
+    version-onward s key found (record (subscriber_at_moment now s) { changes = s.changes + 1; held = d.1 }) refl refl refl
     (subst (λ (draw : Result (Value × List (ℕ × Holder)) Refusal). IfOk draw (λ x. (article : ℕ) → heard_in x.1 article ≡ heard_in s.held article)) is (draw-heard s change)) refl
 
 pub taken-onward : (judge : SubscriberJudge) (now : Moment) (m : Reply) (s : SubscriberTables) → Onward s (taken judge now m s)

@@ -35,7 +35,7 @@ use Rattle.merge_model.specs.Publisher.PublisherRanges.{plans, ranged}
 use Rattle.merge_model.specs.Subscriber.Reinit.{reinitialised}
 use Rattle.merge_model.specs.Failing.Runs.{model_behind}
 use Rattle.merge_model.specs.Subscriber.Sending.{join_of, upload_end, upload_sent, want_of, with_message}
-use Rattle.merge_model.specs.Subscriber.{sub_at_moment, sub_closed, sub_drawn, sub_made_locally, sub_next_dot, sub_version_at}
+use Rattle.merge_model.specs.Subscriber.{subscriber_at_moment, subscriber_closed, subscriber_drawn, subscriber_made_locally, subscriber_next_dot, subscriber_version_at}
 use Rattle.merge_model.specs.Tables.{SubscriberTables}
 use Rattle.merge_model.specs.Subscriber.Taking.{taken}
 use Rattle.merge_model.specs.World.{Saying, World, subscriber_at}
@@ -97,11 +97,11 @@ module _ (publication : Publication) (says : Saying) where
   same-on : (w : World) (s t : SubscriberTables) → Answered w.subscribers w.pool → subscriber_at w s.site ≡ Some s → t.site.0 ≡ s.site.0 → t.seq ≡ s.seq → t.outstanding ≡ s.outstanding → t.held ≡ s.held → t.received ≡ s.received → Answered (put_number w.subscribers t.site.0 t) w.pool
   same-on w s t i at site seq out held received = subscriber-on w.subscribers w.pool s t at (same-onward s t site seq out (λ article. ap (λ (x : List (ℕ × Holder)). heard_in x article) held) received) i
 
-  change-on : (w : World) (s : SubscriberTables) (change : Change) (d : Value × List (ℕ × Holder)) → Answered w.subscribers w.pool → subscriber_at w s.site ≡ Some s → sub_drawn s change ≡ Ok d
-      → (let t : SubscriberTables = (sub_made_locally publication change d (sub_at_moment w.moment s)).0 in Answered (put_number w.subscribers t.site.0 t) w.pool)
+  change-on : (w : World) (s : SubscriberTables) (change : Change) (d : Value × List (ℕ × Holder)) → Answered w.subscribers w.pool → subscriber_at w s.site ≡ Some s → subscriber_drawn s change ≡ Ok d
+      → (let t : SubscriberTables = (subscriber_made_locally publication change d (subscriber_at_moment w.moment s)).0 in Answered (put_number w.subscribers t.site.0 t) w.pool)
   change-on w s change d i at is =
-      let key : Key = key_of (sub_next_dot s) change in
-      subscriber-on w.subscribers w.pool s (sub_made_locally publication change d (sub_at_moment w.moment s)).0 at (change-onward w.moment s change d key (version_after publication (sub_next_dot s) d.0 change (sub_version_at s key)) is) i
+      let key : Key = key_of (subscriber_next_dot s) change in
+      subscriber-on w.subscribers w.pool s (subscriber_made_locally publication change d (subscriber_at_moment w.moment s)).0 at (change-onward w.moment s change d key (version_after publication (subscriber_next_dot s) d.0 change (subscriber_version_at s key)) is) i
 
   -- who asks for a download has joined, and takes no more for received than the publisher tells
   asks-joined : (s : SubscriberTables) (seq : ℕ) (sent : Outstanding) (from : ℕ) (b : Bool) → s.is_joined ≡ b → (s.is_joined ≡ false → sent ≡ ask.Join) → sent ≡ ask.Download from → s.is_joined ≡ true
@@ -133,11 +133,11 @@ module _ (publication : Publication) (says : Saying) where
     own_closing = λ w h b p none. b.1.0;
     forgetting = λ w h b p none. b.1.0;
     same = λ w h s b p at none. same-on w s s b.1.0 at refl refl refl refl refl;
-    sub_change = λ w h s change d b p at named fine is none. change-on w s change d b.1.0 at is;
-    sub_closing = λ w h s b p at none. same-on w s (sub_closed (sub_at_moment w.moment s)) b.1.0 at refl refl refl refl refl;
-    anew = λ w h s b p at none. (let t : SubscriberTables = (reinitialised (by_made h s.site) (sub_at_moment w.moment s)).0 in subscriber-on w.subscribers w.pool s t at (none-onward s t refl (omega arith) refl) b.1.0);
+    subscriber_change = λ w h s change d b p at named fine is none. change-on w s change d b.1.0 at is;
+    subscriber_closing = λ w h s b p at none. same-on w s (subscriber_closed (subscriber_at_moment w.moment s)) b.1.0 at refl refl refl refl refl;
+    anew = λ w h s b p at none. (let t : SubscriberTables = (reinitialised (by_made h s.site) (subscriber_at_moment w.moment s)).0 in subscriber-on w.subscribers w.pool s t at (none-onward s t refl (omega arith) refl) b.1.0);
     sends_join = λ w h s b p at joining none. message-on w s s ask.Join (Asks (request.Join (join_of s))) b.1.0 at refl refl refl refl tt;
-    sends_upload = λ w h s b p at fine none. (let c : SubscriberTables = sub_closed (sub_at_moment w.moment s) in
+    sends_upload = λ w h s b p at fine none. (let c : SubscriberTables = subscriber_closed (subscriber_at_moment w.moment s) in
         message-on w s c (ask.Upload c.received (upload_end (by_made h s.site) c)) (Asks (request.Upload (upload_sent (by_made h s.site) c).1)) b.1.0 at refl refl refl refl tt);
     sends_ranges = λ w h s b p at fine none. message-on w s s ask.Ranges (Asks (request.Ranges (record { site = s.site; seq = s.seq + 1; wants = map want_of s.held }))) b.1.0 at refl refl refl
         (refl, wants-outstanding s (with_message ask.Ranges s) refl (b.0.1.held s.site.0 s at).ascend) tt;

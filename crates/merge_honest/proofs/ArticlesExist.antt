@@ -34,7 +34,7 @@ use Rattle.merge_model.specs.Publisher.PublisherLocal.{Drawn, drawn, next_dot}
 use Rattle.merge_model.specs.Publisher.PublisherUpload.{brings_news}
 use Rattle.merge_model.specs.Failing.Runs.{model_behind}
 use Rattle.merge_model.specs.World.Steps.{Action, CloseAt, Deliver, Forget, Look, Make, MakeAnew, Pass, Send, kept_decisions, step_by, upload_questions}
-use Rattle.merge_model.specs.Subscriber.{sub_drawn, sub_last_closed, sub_next_dot}
+use Rattle.merge_model.specs.Subscriber.{subscriber_drawn, subscriber_last_closed, subscriber_next_dot}
 use Rattle.merge_model.specs.Tables.{PublisherTables, SubscriberTables}
 use Rattle.merge_model.specs.World.{Judges, Saying, World, letter_at, subscriber_at}
 use Rattle.merge_model.specs.declared.event.Event.{Event}
@@ -84,13 +84,13 @@ module _ (publication : Publication) where
       same-fine k (Noting.with_lines lines k) (lines-on lines k) (change-exists publication (next_dot p) (last_closed p + 1) change d.value (past_after publication (next_dot p) change (past_at h 0 (key_of (next_dot p) change))) has, fine)
 
   sub-fine : (change : Change) (s : SubscriberTables) (h : History) (draw : Result (Value × List (ℕ × Holder)) Refusal) → has_article publication (article_of change) ≡ true → Fine h
-      → (let k : History = elim draw [ Err refusal ↦ h | Ok d ↦ Noting.with_change publication (sub_next_dot s) (sub_last_closed s + 1) change d.0 h ] in Fine k)
+      → (let k : History = elim draw [ Err refusal ↦ h | Ok d ↦ Noting.with_change publication (subscriber_next_dot s) (subscriber_last_closed s + 1) change d.0 h ] in Fine k)
   sub-fine change s h (Err refusal) has fine = fine
-  sub-fine change s h (Ok d) has fine = (change-exists publication (sub_next_dot s) (sub_last_closed s + 1) change d.0 (past_after publication (sub_next_dot s) change (past_at h s.site.0 (key_of (sub_next_dot s) change))) has, fine)
+  sub-fine change s h (Ok d) has fine = (change-exists publication (subscriber_next_dot s) (subscriber_last_closed s + 1) change d.0 (past_after publication (subscriber_next_dot s) change (past_at h s.site.0 (key_of (subscriber_next_dot s) change))) has, fine)
 
   there-fine : (change : Change) (found : Option SubscriberTables) (h : History) → has_article publication (article_of change) ≡ true → Fine h → (let k : History = elim found [ None ↦ h | Some s ↦ Noting.noted_at_subscriber publication change s h ] in Fine k)
   there-fine change None h has fine = fine
-  there-fine change (Some s) h has fine = sub-fine change s h (sub_drawn s change) has fine
+  there-fine change (Some s) h has fine = sub-fine change s h (subscriber_drawn s change) has fine
 
   module _ (says : Saying) (m : Model) (b : Kept publication m) (fine : Fine m.history) where
     abbrev w : World

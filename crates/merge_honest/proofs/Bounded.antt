@@ -29,7 +29,7 @@ use Rattle.merge_model.specs.Publisher.{counters, last_closed}
 use Rattle.merge_model.specs.Tables.Refusals.{counter_end, unless}
 use Rattle.merge_model.specs.Subscriber.Reinit.{reinitialised}
 use Rattle.merge_model.specs.Subscriber.Sending.{join_made, join_of, ranges_made, sending_refusal, unsent_rows, upload_made, upload_sent, want_of, with_message}
-use Rattle.merge_model.specs.Subscriber.{is_joining, sub_at_moment, sub_closed, sub_counters, sub_drawn, sub_last_closed, sub_local_refusal, sub_made_locally, sub_next_dot, sub_version_at, with_version_if}
+use Rattle.merge_model.specs.Subscriber.{is_joining, subscriber_at_moment, subscriber_closed, subscriber_counters, subscriber_drawn, subscriber_last_closed, subscriber_local_refusal, subscriber_made_locally, subscriber_next_dot, subscriber_version_at, with_version_if}
 use Rattle.merge_model.specs.Tables.{PublisherTables, SubscriberTables}
 use Rattle.merge_model.specs.Subscriber.Taking.{met_by, seq_of, take_reply, taken}
 use Rattle.merge_model.specs.declared.outcome.Taken.{Taken}
@@ -66,11 +66,11 @@ counters-low counters none = all-below 0 counters (grind (arith, nat_tests, none
 
 pub record AreLow (s : SubscriberTables) : Type 0 where
   pub changes : s.changes < counter_limit
-  pub closed : sub_last_closed s < counter_limit
+  pub closed : subscriber_last_closed s < counter_limit
   pub seq : s.seq < counter_limit
 
-pub sub-low : (s : SubscriberTables) → counter_end (sub_counters s) ≡ None → AreLow s
-sub-low s none = let low = counters-low (sub_counters s) none in record { changes = low.0; closed = low.1.0; seq = low.1.1.0 }
+pub sub-low : (s : SubscriberTables) → counter_end (subscriber_counters s) ≡ None → AreLow s
+sub-low s none = let low = counters-low (subscriber_counters s) none in record { changes = low.0; closed = low.1.0; seq = low.1.1.0 }
 
 pub publisher-low : (p : PublisherTables) → counter_end (counters p) ≡ None → (p.changes < counter_limit) × (last_closed p < counter_limit)
 publisher-low p none = let low = counters-low (counters p) none in (low.0, low.1.0)
@@ -89,7 +89,7 @@ entered-up last filled low = omega (arith, low)
 entered-unfilled : (filled : ℕ) → (filled + 1) % entry_limit < entry_limit
 entered-unfilled filled = omega arith
 
-closing-bounded : (now : Moment) (s : SubscriberTables) → AreLow s → IsBounded s → IsBounded (sub_closed (sub_at_moment now s))
+closing-bounded : (now : Moment) (s : SubscriberTables) → AreLow s → IsBounded s → IsBounded (subscriber_closed (subscriber_at_moment now s))
 closing-bounded now s low b = record {
   changes = b.changes;
   closed = (let up = closed-up s.gens.filling in let below = low.closed in omega (arith, up, below));
@@ -103,33 +103,33 @@ message-bounded sent c low b = record { changes = b.changes; closed = b.closed; 
 -- A local change.
 
 version-bounded : (key : Key) (found : Option Version) (now : Moment) (held : List (ℕ × Holder)) (s : SubscriberTables) → AreLow s → IsBounded s
-    → (let u : SubscriberTables = record (sub_at_moment now s) { changes = s.changes + 1; held = held } in IsBounded (with_version_if key found u))
+    → (let u : SubscriberTables = record (subscriber_at_moment now s) { changes = s.changes + 1; held = held } in IsBounded (with_version_if key found u))
 version-bounded key None now held s low b = record { changes = (let c = low.changes in omega (arith, c)); closed = b.closed; seq = b.seq; unfilled = b.unfilled }
 version-bounded key (Some version) now held s low b = record {
   changes = (let c = low.changes in omega (arith, c));
-  closed = (let up = entered-up (sub_last_closed s) s.gens.filling.filled b.unfilled in let below = low.closed in omega (arith, up, below));
+  closed = (let up = entered-up (subscriber_last_closed s) s.gens.filling.filled b.unfilled in let below = low.closed in omega (arith, up, below));
   seq = b.seq;
   unfilled = entered-unfilled s.gens.filling.filled;
 }
 
-made-bounded : (publication : Publication) (now : Moment) (change : Change) (s : SubscriberTables) (d : Value × List (ℕ × Holder)) → AreLow s → IsBounded s → IsBounded (sub_made_locally publication change d (sub_at_moment now s)).0
-made-bounded publication now change s d low b = let key : Key = key_of (sub_next_dot s) change in version-bounded key (version_after publication (sub_next_dot s) d.0 change (sub_version_at s key)) now d.1 s low b
+made-bounded : (publication : Publication) (now : Moment) (change : Change) (s : SubscriberTables) (d : Value × List (ℕ × Holder)) → AreLow s → IsBounded s → IsBounded (subscriber_made_locally publication change d (subscriber_at_moment now s)).0
+made-bounded publication now change s d low b = let key : Key = key_of (subscriber_next_dot s) change in version-bounded key (version_after publication (subscriber_next_dot s) d.0 change (subscriber_version_at s key)) now d.1 s low b
 
 drawn-bounded : (publication : Publication) (now : Moment) (change : Change) (s : SubscriberTables) (draw : Result (Value × List (ℕ × Holder)) Refusal) → AreLow s → IsBounded s
-    → (let done : Result (SubscriberTables × RowId) Refusal = elim draw [ Err refusal ↦ Err refusal | Ok d ↦ Ok (sub_made_locally publication change d (sub_at_moment now s)) ] in IfOk done (λ a. IsBounded a.0))
+    → (let done : Result (SubscriberTables × RowId) Refusal = elim draw [ Err refusal ↦ Err refusal | Ok d ↦ Ok (subscriber_made_locally publication change d (subscriber_at_moment now s)) ] in IfOk done (λ a. IsBounded a.0))
 drawn-bounded publication now change s (Err refusal) low b = tt
 drawn-bounded publication now change s (Ok d) low b = made-bounded publication now change s d low b
 
-local-bounded : (publication : Publication) (now : Moment) (change : Change) (s : SubscriberTables) (refusal : Option Refusal) → sub_local_refusal publication change s ≡ refusal → IsBounded s
+local-bounded : (publication : Publication) (now : Moment) (change : Change) (s : SubscriberTables) (refusal : Option Refusal) → subscriber_local_refusal publication change s ≡ refusal → IsBounded s
     → (let done : Result (SubscriberTables × RowId) Refusal = elim refusal [
       | Some why ↦ Err why
-      | None ↦ elim (sub_drawn s change) [ Err why ↦ Err why | Ok d ↦ Ok (sub_made_locally publication change d (sub_at_moment now s)) ]
+      | None ↦ elim (subscriber_drawn s change) [ Err why ↦ Err why | Ok d ↦ Ok (subscriber_made_locally publication change d (subscriber_at_moment now s)) ]
     ] in IfOk done (λ a. IsBounded a.0))
 local-bounded publication now change s (Some why) is b = tt
 local-bounded publication now change s None is b =
     let joins = first-none (is_joining s) _ is in
-    let counters = first-none (counter_end (sub_counters s)) _ joins.1 in
-    drawn-bounded publication now change s (sub_drawn s change) (sub-low s counters.0) b
+    let counters = first-none (counter_end (subscriber_counters s)) _ joins.1 in
+    drawn-bounded publication now change s (subscriber_drawn s change) (sub-low s counters.0) b
 
 -- Other calls.
 
@@ -140,7 +140,7 @@ unless-bounded s None t a each = each refl
 sending-low : (s : SubscriberTables) → sending_refusal s ≡ None → AreLow s
 sending-low s none =
     let joins = first-none (is_joining s) _ none in
-    let counters = first-none (counter_end (sub_counters s)) _ joins.1 in
+    let counters = first-none (counter_end (subscriber_counters s)) _ joins.1 in
     sub-low s counters.0
 
 unless-made : {A : Type 0} (refusal : Option Refusal) (made : Option (SubscriberTables × A)) → (refusal ≡ None → OfMade IsBounded made) → (let done : Result (Option (SubscriberTables × A)) Refusal = unless refusal made in IfOk done (λ x. OfMade IsBounded x))
@@ -152,16 +152,16 @@ join-by s true low b = tt
 join-by s false low b = message-bounded ask.Join s low.seq b
 
 upload-by : (judge : SubscriberJudge) (now : Moment) (s : SubscriberTables) (rows : List (Key × ℕ)) → AreLow s → IsBounded s
-    → (let made : Option (SubscriberTables × Upload) = elim rows [ [] ↦ None | row ∷ rest ↦ Some (upload_sent judge (sub_closed (sub_at_moment now s))) ] in OfMade IsBounded made)
+    → (let made : Option (SubscriberTables × Upload) = elim rows [ [] ↦ None | row ∷ rest ↦ Some (upload_sent judge (subscriber_closed (subscriber_at_moment now s))) ] in OfMade IsBounded made)
 upload-by judge now s [] low b = tt
-upload-by judge now s (row ∷ rest) low b = message-bounded _ (sub_closed (sub_at_moment now s)) low.seq (closing-bounded now s low b)
+upload-by judge now s (row ∷ rest) low b = message-bounded _ (subscriber_closed (subscriber_at_moment now s)) low.seq (closing-bounded now s low b)
 
 ranges-by : (s : SubscriberTables) (held : List (ℕ × Holder)) → AreLow s → IsBounded s
     → (let made : Option (SubscriberTables × RangeAsk) = elim held [ [] ↦ None | entry ∷ entries ↦ Some (with_message ask.Ranges s, record { site = s.site; seq = s.seq + 1; wants = map want_of s.held }) ] in OfMade IsBounded made)
 ranges-by s [] low b = tt
 ranges-by s (entry ∷ entries) low b = message-bounded ask.Ranges s low.seq b
 
-anew-bounded : (judge : SubscriberJudge) (now : Moment) (s : SubscriberTables) → AreLow s → IsBounded s → IsBounded (reinitialised judge (sub_at_moment now s)).0
+anew-bounded : (judge : SubscriberJudge) (now : Moment) (s : SubscriberTables) → AreLow s → IsBounded s → IsBounded (reinitialised judge (subscriber_at_moment now s)).0
 anew-bounded judge now s low b = record {
   changes = b.changes;
   closed = (let up = closed-up s.gens.filling in let below = low.closed in omega (arith, up, below));
@@ -194,12 +194,12 @@ reply-bounded publication judge now (reply.Refused number values) s b = b
 
 pub calls-bounded : (publication : Publication) → CallsKeep publication IsBounded
 calls-bounded publication = record {
-  of_local = λ now change s b. local-bounded publication now change s (sub_local_refusal publication change s) refl b;
-  of_close = λ now s b. unless-bounded s (counter_end (sub_counters s)) (sub_closed (sub_at_moment now s)) _ (λ none. closing-bounded now s (sub-low s none) b);
-  of_join = λ s b. unless-made (counter_end (sub_counters s)) (join_made s) (λ none. join-by s s.is_joined (sub-low s none) b);
+  of_local = λ now change s b. local-bounded publication now change s (subscriber_local_refusal publication change s) refl b;
+  of_close = λ now s b. unless-bounded s (counter_end (subscriber_counters s)) (subscriber_closed (subscriber_at_moment now s)) _ (λ none. closing-bounded now s (sub-low s none) b);
+  of_join = λ s b. unless-made (counter_end (subscriber_counters s)) (join_made s) (λ none. join-by s s.is_joined (sub-low s none) b);
   of_upload = λ judge now s b. unless-made (sending_refusal s) (upload_made judge now s) (λ none. upload-by judge now s (unsent_rows judge s) (sending-low s none) b);
   of_ranges = λ s b. unless-made (sending_refusal s) (ranges_made s) (λ none. ranges-by s s.held (sending-low s none) b);
   of_ask = λ s b. unless-bounded s (sending_refusal s) (with_message (ask.Download s.watermark) s) _ (λ none. message-bounded (ask.Download s.watermark) s (sending-low s none).seq b);
   of_reply = λ judge now m s b. reply-bounded publication judge now m s b;
-  of_anew = λ judge now s b. unless-bounded s (counter_end (sub_counters s)) (reinitialised judge (sub_at_moment now s)).0 _ (λ none. anew-bounded judge now s (sub-low s none) b);
+  of_anew = λ judge now s b. unless-bounded s (counter_end (subscriber_counters s)) (reinitialised judge (subscriber_at_moment now s)).0 _ (λ none. anew-bounded judge now s (sub-low s none) b);
 }

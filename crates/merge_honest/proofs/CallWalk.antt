@@ -30,7 +30,7 @@ use Rattle.merge_model.specs.Publisher.PublisherUpload.{upload}
 use Rattle.merge_model.specs.Subscriber.Reinit.{reinitialise}
 use Rattle.merge_model.specs.Subscriber.Sending.{make_ask, make_join, make_ranges, make_upload}
 use Rattle.merge_model.specs.World.Steps.{Action, CloseAt, Deliver, Forget, Look, Make, MakeAnew, Pass, Send, SendDownload, SendJoin, SendRanges, SendUpload, Sending, after_upload, answered, at_subscriber, close_at, close_publisher, close_subscriber, deliver_letter, deliver_reply, deliver_request, kept_decisions, make_anew, make_at, make_at_publisher, make_at_subscriber, post, posted, send_from, step_by, unless_refused, upload_questions}
-use Rattle.merge_model.specs.Subscriber.{close_sub_generation, sub_local}
+use Rattle.merge_model.specs.Subscriber.{close_subscriber_generation, subscriber_local}
 use Rattle.merge_model.specs.Tables.{PublisherTables, SubscriberTables}
 use Rattle.merge_model.specs.Subscriber.Taking.{take_reply}
 use Rattle.merge_model.specs.World.{Judges, Saying, World, letter_at, subscriber_at, with_publisher, with_subscriber}
@@ -50,8 +50,8 @@ OfMade S (Some made) = S made.0
 module _ (publication : Publication) (S : SubscriberTables → Type 0) where
   -- what each call keeps
   pub record CallsKeep : Type 0 where
-    pub of_local : (now : Moment) (change : Change) (s : SubscriberTables) → S s → IfOk (sub_local publication now change s) (λ done. S done.0)
-    pub of_close : (now : Moment) (s : SubscriberTables) → S s → IfOk (close_sub_generation now s) (λ done. S done.0)
+    pub of_local : (now : Moment) (change : Change) (s : SubscriberTables) → S s → IfOk (subscriber_local publication now change s) (λ done. S done.0)
+    pub of_close : (now : Moment) (s : SubscriberTables) → S s → IfOk (close_subscriber_generation now s) (λ done. S done.0)
     pub of_join : (s : SubscriberTables) → S s → IfOk (make_join s) (λ made. OfMade S made)
     pub of_upload : (judge : SubscriberJudge) (now : Moment) (s : SubscriberTables) → S s → IfOk (make_upload judge now s) (λ made. OfMade S made)
     pub of_ranges : (s : SubscriberTables) → S s → IfOk (make_ranges s) (λ made. OfMade S made)
@@ -101,13 +101,13 @@ module _ (publication : Publication) (S : SubscriberTables → Type 0) where
       make-holds site change = if-holds (site.0 == 0) (make_at_publisher publication judges change w) (at_subscriber site w (make_at_subscriber publication change w))
           (publisher-holds (local publication (judges.publisher 0) w.moment change w.publisher) (λ (done : PublisherTables × RowId). (with_publisher done.0 w, Made done.1)) (λ a. h))
           (there-holds site (make_at_subscriber publication change w)
-          (λ s k. call-holds (sub_local publication w.moment change s) (λ (done : SubscriberTables × RowId). (with_subscriber done.0 w, Made done.1)) (keeps.of_local w.moment change s k) (λ a new. with-holds a.0 w new h)))
+          (λ s k. call-holds (subscriber_local publication w.moment change s) (λ (done : SubscriberTables × RowId). (with_subscriber done.0 w, Made done.1)) (keeps.of_local w.moment change s k) (λ a new. with-holds a.0 w new h)))
 
       close-holds : (site : SiteId) → Holds (close_at site w).0
       close-holds site = if-holds (site.0 == 0) (close_publisher w) (at_subscriber site w (close_subscriber w))
           (publisher-holds (close_generation w.moment w.publisher) (λ (done : PublisherTables × ℕ). (with_publisher done.0 w, Closes done.1)) (λ a. h))
           (there-holds site (close_subscriber w)
-          (λ s k. call-holds (close_sub_generation w.moment s) (λ (done : SubscriberTables × ℕ). (with_subscriber done.0 w, Closes done.1)) (keeps.of_close w.moment s k) (λ a new. with-holds a.0 w new h)))
+          (λ s k. call-holds (close_subscriber_generation w.moment s) (λ (done : SubscriberTables × ℕ). (with_subscriber done.0 w, Closes done.1)) (keeps.of_close w.moment s k) (λ a new. with-holds a.0 w new h)))
 
       send-holds : (sending : Sending) (s : SubscriberTables) → S s → Holds (send_from judges sending w s).0
       send-holds SendJoin s k = sent-holds s.site (λ (m : Join). request.Join m) (make_join s) (keeps.of_join s k)

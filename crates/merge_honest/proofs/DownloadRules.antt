@@ -25,7 +25,7 @@ use Rattle.merge_batch.specs.declared.standing.Standing.{Standing}
 use Rattle.merge_model.specs.Judge.ByNumbers.{received_by_number}
 use Rattle.merge_model.specs.World.Faults.{reply_fault, standing_of}
 use Rattle.merge_model.specs.History.Model.{Model}
-use Rattle.merge_model.specs.Subscriber.{sub_last_closed}
+use Rattle.merge_model.specs.Subscriber.{subscriber_last_closed}
 use Rattle.merge_model.specs.Tables.{SubscriberTables}
 use Rattle.merge_model.specs.Subscriber.Taking.{key_of_download}
 use Rattle.merge_model.specs.World.{subscriber_at}
@@ -122,7 +122,7 @@ module _ (publication : Publication) (m : Model) (k : Known publication m) (numb
       let is : IsOutstanding s sent (Replies (reply.Downloaded d)) = outstanding-here publication m k number site (reply.Downloaded d) at s sent there out in
       let acted : TellsActed (received_by_number m.world.publisher site.0) site (Replies (reply.Downloaded d)) = pool-at (λ (l : Letter). TellsActed (received_by_number m.world.publisher l.site.0) l.site l.message) m.world number letter at k.whole.0.0.behind.letters in
       let taken = (k.whole.0.0.received.subscribers site.0 s there).taken in
-      let up : d.received ≤ sub_last_closed s = omega (arith, acted, taken) in
+      let up : d.received ≤ subscriber_last_closed s = omega (arith, acted, taken) in
       let last = well.last in
       let closed = k.bounded.publisher.closed in
       let told : d.last < number_limit = omega (arith, last, closed) in

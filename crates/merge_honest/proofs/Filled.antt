@@ -25,7 +25,7 @@ use Rattle.merge_model.specs.History.Noting
 use Rattle.merge_model.specs.History.Pasts.{past_after}
 use Rattle.merge_model.specs.Subscriber.Reinit.{reinitialised}
 use Rattle.merge_model.specs.Subscriber.Sending.{upload_sent, with_message}
-use Rattle.merge_model.specs.Subscriber.{sub_at_moment, sub_closed, sub_last_closed, sub_local_refusal, sub_made_locally, sub_next_dot, sub_version_at, with_version_if}
+use Rattle.merge_model.specs.Subscriber.{subscriber_at_moment, subscriber_closed, subscriber_last_closed, subscriber_local_refusal, subscriber_made_locally, subscriber_next_dot, subscriber_version_at, with_version_if}
 use Rattle.merge_model.specs.Tables.{SubscriberTables}
 use Rattle.merge_model.specs.Subscriber.Taking.{taken}
 use Rattle.merge_model.specs.World.{Saying, World, empty_world, subscriber_at, with_subscriber}
@@ -62,10 +62,10 @@ pub closed-by : (counted : ℕ → ℕ) (filling : Filling) (b : Bool) → (fill
 closed-by counted filling true e same none = same
 closed-by counted filling false e same none = none
 
-closing-filled : (made : List MadeChange) (now : Moment) (s : SubscriberTables) → InOrder s.changes (sub_last_closed s + 1) made → IsFilled made s → IsFilled made (sub_closed (sub_at_moment now s))
+closing-filled : (made : List MadeChange) (now : Moment) (s : SubscriberTables) → InOrder s.changes (subscriber_last_closed s + 1) made → IsFilled made s → IsFilled made (subscriber_closed (subscriber_at_moment now s))
 closing-filled made now s order f = record {
   few = f.few;
-  entered = closed-by (λ (generation : ℕ). count_in generation made) s.gens.filling (s.gens.filling.filled == 0) refl f.entered (none-behind (sub_last_closed s + 1 + 1) s.changes (sub_last_closed s + 1) made (omega arith) order);
+  entered = closed-by (λ (generation : ℕ). count_in generation made) s.gens.filling (s.gens.filling.filled == 0) refl f.entered (none-behind (subscriber_last_closed s + 1 + 1) s.changes (subscriber_last_closed s + 1) made (omega arith) order);
 }
 
 -- A change: one entry in the open generation.
@@ -90,20 +90,20 @@ few-more counted more last filled generation low here up each = elim (last + 1 =
   | false ↦ (λ e. grind (arith, nat_tests, e, each, up))
 ] refl
 
-module _ (made : List MadeChange) (c : MadeChange) (s : SubscriberTables) (at : c.generation ≡ sub_last_closed s + 1) (order : InOrder s.changes (sub_last_closed s + 1) made) (low : s.gens.filling.filled < entry_limit) (f : IsFilled made s) where
-  counted-here : (generation : ℕ) → count_in generation (c ∷ made) ≡ cond (sub_last_closed s + 1 == generation) 1 0 + count_in generation made
+module _ (made : List MadeChange) (c : MadeChange) (s : SubscriberTables) (at : c.generation ≡ subscriber_last_closed s + 1) (order : InOrder s.changes (subscriber_last_closed s + 1) made) (low : s.gens.filling.filled < entry_limit) (f : IsFilled made s) where
+  counted-here : (generation : ℕ) → count_in generation (c ∷ made) ≡ cond (subscriber_last_closed s + 1 == generation) 1 0 + count_in generation made
   counted-here generation = counts-more generation c made ∙ ap (λ (k : ℕ). cond (k == generation) 1 0 + count_in generation made) at
 
   version-filled : (now : Moment) (held : List (ℕ × Holder)) (key : Key) (found : Option Version) → is_some found ≡ true
-      → (let u : SubscriberTables = record (sub_at_moment now s) { changes = s.changes + 1; held = held } in IsFilled (c ∷ made) (with_version_if key found u))
+      → (let u : SubscriberTables = record (subscriber_at_moment now s) { changes = s.changes + 1; held = held } in IsFilled (c ∷ made) (with_version_if key found u))
   version-filled now held key None there = absurd (grind (arith, there))
   version-filled now held key (Some version) there =
       let counted : ℕ → ℕ = λ (generation : ℕ). count_in generation made in
       let more : ℕ → ℕ = λ (generation : ℕ). count_in generation (c ∷ made) in
       let filled : ℕ = s.gens.filling.filled in
       record {
-        few = λ generation. few-more counted more (sub_last_closed s) filled generation low f.entered (f.few generation) (counted-here generation);
-        entered = entered-by counted more (sub_last_closed s) filled (filled + 1 == entry_limit) refl low f.entered (none-behind (sub_last_closed s + 1 + 1) s.changes (sub_last_closed s + 1) made (omega arith) order) counted-here;
+        few = λ generation. few-more counted more (subscriber_last_closed s) filled generation low f.entered (f.few generation) (counted-here generation);
+        entered = entered-by counted more (subscriber_last_closed s) filled (filled + 1 == entry_limit) refl low f.entered (none-behind (subscriber_last_closed s + 1 + 1) s.changes (subscriber_last_closed s + 1) made (omega arith) order) counted-here;
       }
 
 -- A reply leaves the open generation.
@@ -134,34 +134,34 @@ module _ (publication : Publication) (says : Saying) where
   subscriber-on : (w : World) (h : History) (s t : SubscriberTables) → t.site.0 ≡ s.site.0 → IsFilled (made_at h s.site.0) t → AreFilled w h → AreFilled (with_subscriber t w) h
   subscriber-on w h s t same new f = put-each (λ (n : ℕ) (x : SubscriberTables). IsFilled (made_at h n) x) w.subscribers s t same new f
 
-  order-at : (w : World) (h : History) (s : SubscriberTables) → Ground publication w h → subscriber_at w s.site ≡ Some s → InOrder s.changes (sub_last_closed s + 1) (made_at h s.site.0)
+  order-at : (w : World) (h : History) (s : SubscriberTables) → Ground publication w h → subscriber_at w s.site ≡ Some s → InOrder s.changes (subscriber_last_closed s + 1) (made_at h s.site.0)
   order-at w h s g at = (g.numbered.subscribers s.site.0 s at).order (λ zero. found-named w.subscribers s.site.0 s g.none at zero)
 
   unfilled-at : (w : World) (h : History) (s : SubscriberTables) → Ground publication w h → subscriber_at w s.site ≡ Some s → s.gens.filling.filled < entry_limit
   unfilled-at w h s g at = (all-found AreSubSorted w.subscribers s.site.0 s g.rows at).generations_ascend.unfilled
 
-  change-filled : (w : World) (h : History) (s : SubscriberTables) (change : Change) (d : Value × List (ℕ × Holder)) → Ground publication w h → AreFilled w h → subscriber_at w s.site ≡ Some s → sub_local_refusal publication change s ≡ None
-      → AreFilled (with_subscriber (sub_made_locally publication change d (sub_at_moment w.moment s)).0 w) (Noting.with_change publication (sub_next_dot s) (sub_last_closed s + 1) change d.0 h)
+  change-filled : (w : World) (h : History) (s : SubscriberTables) (change : Change) (d : Value × List (ℕ × Holder)) → Ground publication w h → AreFilled w h → subscriber_at w s.site ≡ Some s → subscriber_local_refusal publication change s ≡ None
+      → AreFilled (with_subscriber (subscriber_made_locally publication change d (subscriber_at_moment w.moment s)).0 w) (Noting.with_change publication (subscriber_next_dot s) (subscriber_last_closed s + 1) change d.0 h)
   change-filled w h s change d g f at fine =
-      let key : Key = key_of (sub_next_dot s) change in
-      let c : MadeChange = Noting.made_change publication (sub_next_dot s) (sub_last_closed s + 1) change d.0 key (past_after publication (sub_next_dot s) change (past_at h s.site.0 key)) in
-      let k : History = Noting.with_change publication (sub_next_dot s) (sub_last_closed s + 1) change d.0 h in
-      let t : SubscriberTables = (sub_made_locally publication change d (sub_at_moment w.moment s)).0 in
-      let new : IsFilled (c ∷ made_at h s.site.0) t = version-filled (made_at h s.site.0) c s refl (order-at w h s g at) (unfilled-at w h s g at) (here-filled w h s f at) w.moment d.1 key (version_after publication (sub_next_dot s) d.0 change (sub_version_at s key)) (row-there publication change d.0 s fine) in
+      let key : Key = key_of (subscriber_next_dot s) change in
+      let c : MadeChange = Noting.made_change publication (subscriber_next_dot s) (subscriber_last_closed s + 1) change d.0 key (past_after publication (subscriber_next_dot s) change (past_at h s.site.0 key)) in
+      let k : History = Noting.with_change publication (subscriber_next_dot s) (subscriber_last_closed s + 1) change d.0 h in
+      let t : SubscriberTables = (subscriber_made_locally publication change d (subscriber_at_moment w.moment s)).0 in
+      let new : IsFilled (c ∷ made_at h s.site.0) t = version-filled (made_at h s.site.0) c s refl (order-at w h s g at) (unfilled-at w h s g at) (here-filled w h s f at) w.moment d.1 key (version_after publication (subscriber_next_dot s) d.0 change (subscriber_version_at s key)) (row-there publication change d.0 s fine) in
       put-beside (λ (n : ℕ) (x : SubscriberTables). IsFilled (made_at k n) x) w.subscribers s t (version-site _ _ _)
       (subst (λ (made : List MadeChange). IsFilled made t) (sym (made-same h c)) new)
       (λ n x differs there. subst (λ (made : List MadeChange). IsFilled made x) (sym (made-other h c n differs)) (f n x there))
 
   anew-filled : (w : World) (h : History) (s : SubscriberTables) → Ground publication w h → AreFilled w h → subscriber_at w s.site ≡ Some s
-      → (let judge : SubscriberJudge = by_made h s.site in AreFilled (with_subscriber (reinitialised judge (sub_at_moment w.moment s)).0 w) (Noting.noted_anew judge s h))
+      → (let judge : SubscriberJudge = by_made h s.site in AreFilled (with_subscriber (reinitialised judge (subscriber_at_moment w.moment s)).0 w) (Noting.noted_anew judge s h))
   anew-filled w h s g f at =
       let judge : SubscriberJudge = by_made h s.site in
       let k : History = Noting.noted_anew judge s h in
       let a : Alike h k = anew-keep (λ (x : History). Alike h x) (alike-notes h) judge s h (alike-itself h) in
-      let c : IsFilled (made_at h s.site.0) (sub_closed (sub_at_moment w.moment s)) = closing-filled (made_at h s.site.0) w.moment s (order-at w h s g at) (here-filled w h s f at) in
+      let c : IsFilled (made_at h s.site.0) (subscriber_closed (subscriber_at_moment w.moment s)) = closing-filled (made_at h s.site.0) w.moment s (order-at w h s g at) (here-filled w h s f at) in
       let same : made_at k s.site.0 ≡ made_at h s.site.0 = a.made s.site.0 (λ zero. found-named w.subscribers s.site.0 s g.none at zero) in
-      subscriber-on w k s (reinitialised judge (sub_at_moment w.moment s)).0 refl
-      (subst (λ (made : List MadeChange). IsFilled made (reinitialised judge (sub_at_moment w.moment s)).0) (sym same) (record { few = c.few; entered = c.entered }))
+      subscriber-on w k s (reinitialised judge (subscriber_at_moment w.moment s)).0 refl
+      (subst (λ (made : List MadeChange). IsFilled made (reinitialised judge (subscriber_at_moment w.moment s)).0) (sym same) (record { few = c.few; entered = c.entered }))
       (alike-filled w h k g a.made f)
 
   pub filled-keeps : StepsKeep publication says (Ground publication) AreFilled
@@ -171,11 +171,11 @@ module _ (publication : Publication) (says : Saying) where
     own_closing = λ w h g f. f;
     forgetting = λ w h g f. alike-filled w h (Noting.noted_purge publication (by_past h (pasts_with h 0)) (here w) h) g (purge-keep (λ (x : History). Alike h x) (alike-notes h) publication (by_past h (pasts_with h 0)) (here w) h (alike-itself h)).made f;
     same = λ w h s g f at. subscriber-on w h s s refl (here-filled w h s f at) f;
-    sub_change = λ w h s change d g f at named fine is. change-filled w h s change d g f at fine;
-    sub_closing = λ w h s g f at. subscriber-on w h s (sub_closed (sub_at_moment w.moment s)) refl (closing-filled (made_at h s.site.0) w.moment s (order-at w h s g at) (here-filled w h s f at)) f;
+    subscriber_change = λ w h s change d g f at named fine is. change-filled w h s change d g f at fine;
+    subscriber_closing = λ w h s g f at. subscriber-on w h s (subscriber_closed (subscriber_at_moment w.moment s)) refl (closing-filled (made_at h s.site.0) w.moment s (order-at w h s g at) (here-filled w h s f at)) f;
     anew = λ w h s g f at. anew-filled w h s g f at;
     sends_join = λ w h s g f at joining. subscriber-on w h s (with_message ask.Join s) refl (sent-filled (made_at h s.site.0) ask.Join s (here-filled w h s f at)) f;
-    sends_upload = λ w h s g f at fine. (let c : SubscriberTables = sub_closed (sub_at_moment w.moment s) in
+    sends_upload = λ w h s g f at fine. (let c : SubscriberTables = subscriber_closed (subscriber_at_moment w.moment s) in
         subscriber-on w h s (upload_sent (by_made h s.site) c).0 refl (sent-filled (made_at h s.site.0) _ c (closing-filled (made_at h s.site.0) w.moment s (order-at w h s g at) (here-filled w h s f at))) f);
     sends_ranges = λ w h s g f at fine. subscriber-on w h s (with_message ask.Ranges s) refl (sent-filled (made_at h s.site.0) ask.Ranges s (here-filled w h s f at)) f;
     sends_ask = λ w h s g f at fine. subscriber-on w h s (with_message (ask.Download s.watermark) s) refl (sent-filled (made_at h s.site.0) (ask.Download s.watermark) s (here-filled w h s f at)) f;

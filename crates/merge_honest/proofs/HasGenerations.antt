@@ -21,7 +21,7 @@ use Rattle.merge_model.specs.History.Model.{Model}
 use Rattle.merge_model.specs.Tables.Refusals.{unless}
 use Rattle.merge_model.specs.Failing.Runs.{model_behind}
 use Rattle.merge_model.specs.Subscriber.Sending.{make_upload, sending_refusal, unsent_rows, upload_sent}
-use Rattle.merge_model.specs.Subscriber.{sub_at_moment, sub_closed, sub_last_closed}
+use Rattle.merge_model.specs.Subscriber.{subscriber_at_moment, subscriber_closed, subscriber_last_closed}
 use Rattle.merge_model.specs.Tables.{SubscriberTables}
 use Rattle.merge_model.specs.World.{Saying, World, subscriber_at}
 use Rattle.merge_model.specs.declared.event.Event.{Event}
@@ -84,13 +84,13 @@ module _ (publication : Publication) (w : World) (h : History) (g : Ground publi
   own-filled = subst (λ (n : ℕ). IsFilled (made_at h n) s) (sym (g.received.subscribers site.0 s at).keyed) (f site.0 s at)
 
   -- something is unsent: it stands in a closed generation, or the open one has an entry
-  entered-some : 1 ≤ length (unsent_rows judge s) → s.received ≡ sub_last_closed s → 1 ≤ s.gens.filling.filled
+  entered-some : 1 ≤ length (unsent_rows judge s) → s.received ≡ subscriber_last_closed s → 1 ≤ s.gens.filling.filled
   entered-some some same =
-      let rows : length (unsent_rows judge s) ≤ count_in (sub_last_closed s + 1) (made_at h s.site.0) = subst (λ (from : ℕ). length (changed_between_by_made h s.site from (sub_last_closed s + 1)) ≤ count_in (sub_last_closed s + 1) (made_at h s.site.0)) (sym same) (next-few h s.site (sub_last_closed s)) in
+      let rows : length (unsent_rows judge s) ≤ count_in (subscriber_last_closed s + 1) (made_at h s.site.0) = subst (λ (from : ℕ). length (changed_between_by_made h s.site from (subscriber_last_closed s + 1)) ≤ count_in (subscriber_last_closed s + 1) (made_at h s.site.0)) (sym same) (next-few h s.site (subscriber_last_closed s)) in
       let entered = own-filled.entered in
       omega (arith, some, rows, entered)
 
-  upload-goes : 1 ≤ length (unsent_rows judge s) → HasGeneration (upload_sent judge (sub_closed (sub_at_moment w.moment s))).1
+  upload-goes : 1 ≤ length (unsent_rows judge s) → HasGeneration (upload_sent judge (subscriber_closed (subscriber_at_moment w.moment s))).1
   upload-goes some =
       let few = next-few h s.site s.received in
       let limit = own-filled.few (s.received + 1) in
@@ -99,7 +99,7 @@ module _ (publication : Publication) (w : World) (h : History) (g : Ground publi
 
   pub makes-generation : (made : SubscriberTables × Upload) → make_upload judge w.moment s ≡ Ok (Some made) → HasGeneration made.1
   makes-generation made is =
-      let both = made-is (sending_refusal s) (unsent_rows judge s) (upload_sent judge (sub_closed (sub_at_moment w.moment s))) made is in
+      let both = made-is (sending_refusal s) (unsent_rows judge s) (upload_sent judge (subscriber_closed (subscriber_at_moment w.moment s))) made is in
       subst (λ (x : SubscriberTables × Upload). HasGeneration x.1) both.1 (upload-goes both.0)
 
 -- Every list of events.

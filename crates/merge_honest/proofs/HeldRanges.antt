@@ -63,7 +63,7 @@ use Rattle.merge_model.specs.Publisher.PublisherRanges.{ask_by, plans, ranged}
 use Rattle.merge_model.specs.Subscriber.Reinit.{reinitialised}
 use Rattle.merge_model.specs.Subscriber.Sending.{join_of, upload_sent, want_of, with_message}
 use Rattle.merge_model.specs.World.Steps.{Action}
-use Rattle.merge_model.specs.Subscriber.{sub_at_moment, sub_closed, sub_drawn, sub_made_locally, sub_next_dot, sub_version_at, taken_value, with_version_if}
+use Rattle.merge_model.specs.Subscriber.{subscriber_at_moment, subscriber_closed, subscriber_drawn, subscriber_made_locally, subscriber_next_dot, subscriber_version_at, taken_value, with_version_if}
 use Rattle.merge_model.specs.Tables.{PublisherTables, SubscriberTables}
 use Rattle.merge_model.specs.Subscriber.Taking.{taken, with_grant}
 use Rattle.merge_model.specs.World.{Saying, World, empty_world, subscriber_at}
@@ -184,7 +184,7 @@ module _ (publication : Publication) (grants : List Grant) (site : ℕ) where
   found-well s article None at well = well
   found-well s article (Some holder) at well = value-well s article holder (answer_to_take holder) at well
 
-  draw-well : (s : SubscriberTables) (change : Change) → Well s.held → IfOk (sub_drawn s change) (λ d. Well d.1)
+  draw-well : (s : SubscriberTables) (change : Change) → Well s.held → IfOk (subscriber_drawn s change) (λ d. Well d.1)
   draw-well s (Insert article values) well = found-well s article (at_number s.held article) refl well
   draw-well s (Update article row values) well = well
   draw-well s (Delete article row) well = well
@@ -351,12 +351,12 @@ module _ (publication : Publication) where
     answer-on : (w : World) (h : History) (site : SiteId) (message : Message) → HeldIn w h → MessageIsGranted publication w.publisher.grants site.0 message → HeldRanges publication w.publisher.grants w.subscribers (w.pool ++ record { site = site; message = message } ∷ [])
     answer-on w h site message i new = letter-on w.publisher.grants w.subscribers w.pool site message new i
 
-    change-on : (w : World) (h : History) (s : SubscriberTables) (change : Change) (d : Value × List (ℕ × Holder)) → HeldIn w h → subscriber_at w s.site ≡ Some s → sub_drawn s change ≡ Ok d
-        → (let t : SubscriberTables = (sub_made_locally publication change d (sub_at_moment w.moment s)).0 in HeldRanges publication w.publisher.grants (put_number w.subscribers t.site.0 t) w.pool)
+    change-on : (w : World) (h : History) (s : SubscriberTables) (change : Change) (d : Value × List (ℕ × Holder)) → HeldIn w h → subscriber_at w s.site ≡ Some s → subscriber_drawn s change ≡ Ok d
+        → (let t : SubscriberTables = (subscriber_made_locally publication change d (subscriber_at_moment w.moment s)).0 in HeldRanges publication w.publisher.grants (put_number w.subscribers t.site.0 t) w.pool)
     change-on w h s change d i at is =
-        let key : Key = key_of (sub_next_dot s) change in
-        let found : Option Version = version_after publication (sub_next_dot s) d.0 change (sub_version_at s key) in
-        let u : SubscriberTables = record (sub_at_moment w.moment s) { changes = s.changes + 1; held = d.1 } in
+        let key : Key = key_of (subscriber_next_dot s) change in
+        let found : Option Version = version_after publication (subscriber_next_dot s) d.0 change (subscriber_version_at s key) in
+        let u : SubscriberTables = record (subscriber_at_moment w.moment s) { changes = s.changes + 1; held = d.1 } in
         let new : IsHeldWell publication w.publisher.grants s.site.0 d.1 = subst (λ (draw : Result (Value × List (ℕ × Holder)) Refusal). IfOk draw (λ x. IsHeldWell publication w.publisher.grants s.site.0 x.1)) is (draw-well publication w.publisher.grants s.site.0 s change (here-well w h s i at)) in
         subscriber-on w.publisher.grants w.subscribers w.pool s (with_version_if key found u) (version-site key found u) (subst (λ (x : List (ℕ × Holder)). IsHeldWell publication w.publisher.grants s.site.0 x) (sym (version-held key found u)) new) i
 
@@ -381,11 +381,11 @@ module _ (publication : Publication) where
       own_closing = λ w h b p none. b.1.0;
       forgetting = λ w h b p none. b.1.0;
       same = λ w h s b p at none. same-on w h s s b.1.0 at refl refl;
-      sub_change = λ w h s change d b p at named fine is none. change-on w h s change d b.1.0 at is;
-      sub_closing = λ w h s b p at none. same-on w h s (sub_closed (sub_at_moment w.moment s)) b.1.0 at refl refl;
-      anew = λ w h s b p at none. same-on w h s (reinitialised (by_made h s.site) (sub_at_moment w.moment s)).0 b.1.0 at refl refl;
+      subscriber_change = λ w h s change d b p at named fine is none. change-on w h s change d b.1.0 at is;
+      subscriber_closing = λ w h s b p at none. same-on w h s (subscriber_closed (subscriber_at_moment w.moment s)) b.1.0 at refl refl;
+      anew = λ w h s b p at none. same-on w h s (reinitialised (by_made h s.site) (subscriber_at_moment w.moment s)).0 b.1.0 at refl refl;
       sends_join = λ w h s b p at joining none. message-on w h s (with_message ask.Join s) (Asks (request.Join (join_of s))) b.1.0 at refl refl tt;
-      sends_upload = λ w h s b p at fine none. (let made = upload_sent (by_made h s.site) (sub_closed (sub_at_moment w.moment s)) in message-on w h s made.0 (Asks (request.Upload made.1)) b.1.0 at refl refl tt);
+      sends_upload = λ w h s b p at fine none. (let made = upload_sent (by_made h s.site) (subscriber_closed (subscriber_at_moment w.moment s)) in message-on w h s made.0 (Asks (request.Upload made.1)) b.1.0 at refl refl tt);
       sends_ranges = λ w h s b p at fine none. message-on w h s (with_message ask.Ranges s) (Asks (request.Ranges (record { site = s.site; seq = s.seq + 1; wants = map want_of s.held }))) b.1.0 at refl refl (record {
         sender = refl;
         ascend = subst (λ (keys : List ℕ). IsStrictlySortedBy nat_cmp keys) (sym (wants-are s.held)) (here-well w h s b.1.0 at).ascend;

@@ -52,7 +52,7 @@ use Rattle.merge_model.specs.Subscriber.Reinit.{discarded, reinitialised}
 use Rattle.merge_model.specs.Failing.Runs.{model_behind}
 use Rattle.merge_model.specs.Subscriber.Sending.{join_of, upload_sent, want_of, with_message}
 use Rattle.merge_model.specs.World.Steps.{kept_decisions, upload_questions}
-use Rattle.merge_model.specs.Subscriber.{sub_at_moment, sub_closed, sub_last_closed, sub_made_locally, sub_next_dot}
+use Rattle.merge_model.specs.Subscriber.{subscriber_at_moment, subscriber_closed, subscriber_last_closed, subscriber_made_locally, subscriber_next_dot}
 use Rattle.merge_model.specs.Tables.{PublisherTables, SubscriberTables}
 use Rattle.merge_model.specs.Subscriber.Taking.{key_of_download, taken}
 use Rattle.merge_model.specs.World.{Saying, World, with_publisher, with_subscriber}
@@ -302,12 +302,12 @@ module _ (publication : Publication) where
           same-on h.made (Noting.noted_purge publication judge p h).made left w.pool (lines-on lines (fold Noting.with_purged h keys) ∙ fold-leave (λ (x : History). x.made) Noting.with_purged (λ x key. refl) keys h)
           (moves-on h.made w.publisher.mappings left w.pool (all-filter (λ (e : RowSite × Mapping). KeyIsMade h.made e.0.key) (λ (e : RowSite × Mapping). not (is_old_left publication p e)) w.publisher.mappings i.moves) i));
       same = λ w h s b i at. i;
-      sub_change = λ w h s change d b i at named fine is. made-on h.made (Noting.with_change publication (sub_next_dot s) (sub_last_closed s + 1) change d.0 h).made w.publisher.mappings w.pool (λ c inside. inr inside) i;
-      sub_closing = λ w h s b i at. i;
+      subscriber_change = λ w h s change d b i at named fine is. made-on h.made (Noting.with_change publication (subscriber_next_dot s) (subscriber_last_closed s + 1) change d.0 h).made w.publisher.mappings w.pool (λ c inside. inr inside) i;
+      subscriber_closing = λ w h s b i at. i;
       anew = λ w h s b i at. (let judge : SubscriberJudge = by_made h s.site in
           same-on h.made (Noting.noted_anew judge s h).made w.publisher.mappings w.pool (fold-leave (λ (x : History). x.made) (Noting.with_discarded s.site) (λ x row. refl) (discarded judge s) h) i);
       sends_join = λ w h s b i at joining. posts-on h.made w.publisher.mappings w.pool s.site (Asks (request.Join (join_of s))) tt i;
-      sends_upload = λ w h s b i at fine. posts-on h.made w.publisher.mappings w.pool s.site (Asks (request.Upload (upload_sent (by_made h s.site) (sub_closed (sub_at_moment w.moment s))).1)) tt i;
+      sends_upload = λ w h s b i at fine. posts-on h.made w.publisher.mappings w.pool s.site (Asks (request.Upload (upload_sent (by_made h s.site) (subscriber_closed (subscriber_at_moment w.moment s))).1)) tt i;
       sends_ranges = λ w h s b i at fine. posts-on h.made w.publisher.mappings w.pool s.site (Asks (request.Ranges (record { site = s.site; seq = s.seq + 1; wants = map want_of s.held }))) tt i;
       sends_ask = λ w h s b i at fine. posts-on h.made w.publisher.mappings w.pool s.site (Asks (request.Download (record { site = s.site; seq = s.seq + 1; from = s.watermark }))) tt i;
       joins = λ w h number m b i at fine acts. (

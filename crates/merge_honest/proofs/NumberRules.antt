@@ -27,7 +27,7 @@ use Rattle.merge_model.specs.World.Faults.{join_fault, judged_state}
 use Rattle.merge_model.specs.History.{History, made_at}
 use Rattle.merge_model.specs.Tables.Keys.{at_number}
 use Rattle.merge_model.specs.History.Model.{Model}
-use Rattle.merge_model.specs.Subscriber.{sub_last_closed}
+use Rattle.merge_model.specs.Subscriber.{subscriber_last_closed}
 use Rattle.merge_model.specs.Tables.{PublisherTables, SubscriberTables}
 use Rattle.merge_model.specs.declared.letter.Letter.{Letter}
 use Rattle.merge_model.specs.declared.letter.Message.TheVariants.{Asks}
@@ -75,8 +75,8 @@ module _ (publication : Publication) (m : Model) (k : Known publication m) where
   last-low : (n to : ℕ) (s : SubscriberTables) → at_number m.world.subscribers n ≡ Some s → last_of to (made_at h n) ≤ counter_limit
   last-low n to s at =
       let named : n ≡ 0 → ⊥ = found-named m.world.subscribers n s k.whole.0.0.none at in
-      let order : InOrder s.changes (sub_last_closed s + 1) (made_at h n) = (k.whole.0.0.numbered.subscribers n s at).order named in
-      let within = order-within to s.changes (sub_last_closed s + 1) (made_at h n) order in
+      let order : InOrder s.changes (subscriber_last_closed s + 1) (made_at h n) = (k.whole.0.0.numbered.subscribers n s at).order named in
+      let within = order-within to s.changes (subscriber_last_closed s + 1) (made_at h n) order in
       let low = (k.bounded.subscribers n s at).changes in
       omega (arith, within, low)
 

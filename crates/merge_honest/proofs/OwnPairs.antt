@@ -41,7 +41,7 @@ use Rattle.merge_model.specs.Laws.{AreSubSorted}
 use Rattle.merge_model.specs.Subscriber.Reinit.{reinitialised}
 use Rattle.merge_model.specs.Failing.Runs.{model_behind}
 use Rattle.merge_model.specs.Subscriber.Sending.{upload_end, upload_item, upload_sent, with_message}
-use Rattle.merge_model.specs.Subscriber.{generations_at, sub_at_moment, sub_closed, sub_last_closed, sub_made_locally, sub_next_dot, sub_version_at, with_open, with_version_if}
+use Rattle.merge_model.specs.Subscriber.{generations_at, subscriber_at_moment, subscriber_closed, subscriber_last_closed, subscriber_made_locally, subscriber_next_dot, subscriber_version_at, with_open, with_version_if}
 use Rattle.merge_model.specs.Tables.{SubscriberTables}
 use Rattle.merge_model.specs.Subscriber.Taking.{key_of_download, row_above, taken, with_item, with_order}
 use Rattle.merge_model.specs.World.{Saying, World, empty_world, subscriber_at}
@@ -131,7 +131,7 @@ taken-own n judge now (reply.Refused number values) s all = all
 
 version-own : (n : ℕ) (key : Key) (found : Option Version) (u : SubscriberTables) → HeldPair n found → AllOwn n u.rows → AllOwn n (with_version_if key found u).rows
 version-own n key None u new all = all
-version-own n key (Some version) u new all = put-own n u.rows key (record { version = version; generations = with_open (sub_last_closed u + 1) (generations_at u key) }) (own-any n (with_open (sub_last_closed u + 1) (generations_at u key)) version.lineage new) all
+version-own n key (Some version) u new all = put-own n u.rows key (record { version = version; generations = with_open (subscriber_last_closed u + 1) (generations_at u key) }) (own-any n (with_open (subscriber_last_closed u + 1) (generations_at u key)) version.lineage new) all
 
 -- An upload.
 
@@ -192,9 +192,9 @@ module _ (publication : Publication) (says : Saying) where
   here-own w h s i at = i.rows s.site.0 s at
 
   -- what an upload has by what was made is what it has by rows
-  upload-own : (w : World) (h : History) (s : SubscriberTables) → Ground publication w h → OwnPairsIn w h → subscriber_at w s.site ≡ Some s → MessageHasOwn (Asks (request.Upload (upload_sent (by_made h s.site) (sub_closed (sub_at_moment w.moment s))).1))
+  upload-own : (w : World) (h : History) (s : SubscriberTables) → Ground publication w h → OwnPairsIn w h → subscriber_at w s.site ≡ Some s → MessageHasOwn (Asks (request.Upload (upload_sent (by_made h s.site) (subscriber_closed (subscriber_at_moment w.moment s))).1))
   upload-own w h s g i at =
-      let c : SubscriberTables = sub_closed (sub_at_moment w.moment s) in
+      let c : SubscriberTables = subscriber_closed (subscriber_at_moment w.moment s) in
       let to : ℕ = upload_end (by_made h s.site) c in
       let named : s.site.0 ≡ 0 → ⊥ = found-named w.subscribers s.site.0 s g.none at in
       let alike = decides-alike (record { world = w; history = h }) (g.received, (g.numbered, g.rows)) g.unsent s named at in
@@ -215,14 +215,14 @@ module _ (publication : Publication) (says : Saying) where
     own_closing = λ w h g i. i;
     forgetting = λ w h g i. i;
     same = λ w h s g i at. subscriber-on w h s s refl (here-own w h s i at) i;
-    sub_change = λ w h s change d g i at named fine is. (let t : SubscriberTables = (sub_made_locally publication change d (sub_at_moment w.moment s)).0 in
-        let u : SubscriberTables = record (sub_at_moment w.moment s) { changes = s.changes + 1; held = d.1 } in
-        let key : Key = key_of (sub_next_dot s) change in
-        subscriber-on w h s t (version-site _ _ _) (version-own s.site.0 key (version_after publication (sub_next_dot s) d.0 change (sub_version_at s key)) u (after-pair publication (sub_next_dot s) d.0 change (sub_version_at s key)) (here-own w h s i at)) i);
-    sub_closing = λ w h s g i at. subscriber-on w h s (sub_closed (sub_at_moment w.moment s)) refl (here-own w h s i at) i;
-    anew = λ w h s g i at. subscriber-on w h s (reinitialised (by_made h s.site) (sub_at_moment w.moment s)).0 refl tt i;
+    subscriber_change = λ w h s change d g i at named fine is. (let t : SubscriberTables = (subscriber_made_locally publication change d (subscriber_at_moment w.moment s)).0 in
+        let u : SubscriberTables = record (subscriber_at_moment w.moment s) { changes = s.changes + 1; held = d.1 } in
+        let key : Key = key_of (subscriber_next_dot s) change in
+        subscriber-on w h s t (version-site _ _ _) (version-own s.site.0 key (version_after publication (subscriber_next_dot s) d.0 change (subscriber_version_at s key)) u (after-pair publication (subscriber_next_dot s) d.0 change (subscriber_version_at s key)) (here-own w h s i at)) i);
+    subscriber_closing = λ w h s g i at. subscriber-on w h s (subscriber_closed (subscriber_at_moment w.moment s)) refl (here-own w h s i at) i;
+    anew = λ w h s g i at. subscriber-on w h s (reinitialised (by_made h s.site) (subscriber_at_moment w.moment s)).0 refl tt i;
     sends_join = λ w h s g i at joining. message-on w h s (with_message ask.Join s) (Asks (request.Join _)) i at refl refl tt;
-    sends_upload = λ w h s g i at fine. message-on w h s (upload_sent (by_made h s.site) (sub_closed (sub_at_moment w.moment s))).0 (Asks (request.Upload _)) i at refl refl (upload-own w h s g i at);
+    sends_upload = λ w h s g i at fine. message-on w h s (upload_sent (by_made h s.site) (subscriber_closed (subscriber_at_moment w.moment s))).0 (Asks (request.Upload _)) i at refl refl (upload-own w h s g i at);
     sends_ranges = λ w h s g i at fine. message-on w h s (with_message ask.Ranges s) (Asks (request.Ranges _)) i at refl refl tt;
     sends_ask = λ w h s g i at fine. message-on w h s (with_message (ask.Download s.watermark) s) (Asks (request.Download _)) i at refl refl tt;
     joins = λ w h number m g i at fine acts. letter-on w.subscribers w.pool m.site (Replies (reply.Joined _)) tt i;

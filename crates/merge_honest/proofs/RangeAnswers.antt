@@ -17,8 +17,8 @@ use Rattle.merge_ident.specs.declared.grants.Ask.{Ask}
 use Rattle.merge_ident.specs.declared.grants.Grant.{Grant}
 use Rattle.merge_ident.specs.declared.grants.GrantAnswer.TheVariants.{Granted, Kept, NotDue}
 use Rattle.merge_ident.specs.declared.grants.GrantPlan.{GrantPlan}
-use Rattle.merge_ident.specs.declared.grants.IdentFault.{IdentFault}
-use Rattle.merge_ident.specs.declared.grants.IdentFault.TheVariants.{NoRange, TooMany}
+use Rattle.merge_ident.specs.declared.grants.IdentityFault.{IdentityFault}
+use Rattle.merge_ident.specs.declared.grants.IdentityFault.TheVariants.{NoRange, TooMany}
 use Rattle.merge_ident.specs.declared.grants.Range.{Range}
 use Rattle.merge_ident.specs.declared.grants.Rule.{Rule}
 use Rattle.merge_ident.proofs.Added.{count_by-with_grant}
@@ -71,7 +71,7 @@ kept-number site article sought number range grants (Some grant) is e =
     let fits : is_numbered article site sought grant ≡ true = found-fits (is_numbered article site sought) grants grant is in
     grind (arith, nat_tests, fits, same)
 
-next-number : (b : Bool) (k number : ℕ) (made range : Range) (fault : IdentFault) → (let answer : Answer = if b then Ok (Granted k made) else Err fault in answer) ≡ Ok (Granted number range) → number ≡ k
+next-number : (b : Bool) (k number : ℕ) (made range : Range) (fault : IdentityFault) → (let answer : Answer = if b then Ok (Granted k made) else Err fault in answer) ≡ Ok (Granted number range) → number ≡ k
 next-number true k number made range fault e = cc
 next-number false k number made range fault e = absurd cc
 
@@ -80,7 +80,7 @@ ruled-number None site k greatest number range e = absurd cc
 ruled-number (Some rule) site k greatest number range e =
     next-number (nat_le (next_end rule site greatest) (natural rule.greatest)) k number (record { begin = pos (next_begin rule greatest); end = pos (next_end rule site greatest) }) range (NoRange (next_begin rule greatest) rule.greatest) e
 
-next-kept : (b : Bool) (k number : ℕ) (made range : Range) (fault : IdentFault) → (let answer : Answer = if b then Ok (Granted k made) else Err fault in answer) ≡ Ok (Kept number range) → ⊥
+next-kept : (b : Bool) (k number : ℕ) (made range : Range) (fault : IdentityFault) → (let answer : Answer = if b then Ok (Granted k made) else Err fault in answer) ≡ Ok (Kept number range) → ⊥
 next-kept true k number made range fault e = cc
 next-kept false k number made range fault e = cc
 

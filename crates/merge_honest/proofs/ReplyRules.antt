@@ -17,7 +17,7 @@ use Rattle.merge_batch.specs.declared.request.Outstanding.TheVariants as ask
 use Rattle.merge_model.specs.World.Faults.{heard_by, reply_fault, standing_of}
 use Rattle.merge_model.specs.History.Model.{Model}
 use Rattle.merge_model.specs.Failing.Runs.{model_behind}
-use Rattle.merge_model.specs.Subscriber.{sub_last_closed}
+use Rattle.merge_model.specs.Subscriber.{subscriber_last_closed}
 use Rattle.merge_model.specs.Tables.{SubscriberTables}
 use Rattle.merge_model.specs.Subscriber.Taking.{seq_of, taken}
 use Rattle.merge_model.specs.World.{subscriber_at}
@@ -35,7 +35,7 @@ use Rattle.merge_honest.proofs.Rules.{Known, known-always}
 
 -- What fits: of an upload that was taken, what the site knows to be received, and what it closed.
 
-uploaded-by : (publication : Publication) (sent : Outstanding) (m : Uploaded) (s : SubscriberTables) → TakesAll m.received sent → ((from to : ℕ) → sent ≡ ask.Upload from to → s.received ≤ to) → m.received ≤ sub_last_closed s → reply_fault publication sent (reply.Uploaded m) s ≡ None
+uploaded-by : (publication : Publication) (sent : Outstanding) (m : Uploaded) (s : SubscriberTables) → TakesAll m.received sent → ((from to : ℕ) → sent ≡ ask.Upload from to → s.received ≤ to) → m.received ≤ subscriber_last_closed s → reply_fault publication sent (reply.Uploaded m) s ≡ None
 unfolding broken_by_reply
 uploaded-by publication ask.Join m s all goes up = absurd all
 uploaded-by publication ask.Ranges m s all goes up = absurd all
@@ -68,7 +68,7 @@ is_downloaded other = false
 
 -- what the tables of a site know of an upload's answer
 abbrev KnowsUpload : SubscriberTables → Outstanding → Reply → Type 0
-KnowsUpload s sent (reply.Uploaded m) = ((from to : ℕ) → sent ≡ ask.Upload from to → s.received ≤ to) × (m.received ≤ sub_last_closed s)
+KnowsUpload s sent (reply.Uploaded m) = ((from to : ℕ) → sent ≡ ask.Upload from to → s.received ≤ to) × (m.received ≤ subscriber_last_closed s)
 KnowsUpload s sent r = Unit {0}
 
 fits-by : (publication : Publication) (sent : Outstanding) (r : Reply) (s : SubscriberTables) → is_downloaded r ≡ false → IsOutstanding s sent (Replies r) → HasRanges (Replies r) → KnowsUpload s sent r → reply_fault publication sent r s ≡ None

@@ -12,7 +12,7 @@ use Rattle.merge_types.specs.declared.changes.Tracking.TheVariants as tracking
 use Rattle.merge_types.specs.declared.identifiers.Dot.{Dot}
 use Rattle.merge_types.specs.declared.identifiers.SiteId.{SiteId}
 use Rattle.merge_types.specs.declared.row_key.RowKey.{RowKey as Key}
-use Rattle.merge_types.specs.declared.values.ColType.{ColType}
+use Rattle.merge_types.specs.declared.values.ColumnType.{ColumnType}
 use Rattle.merge_types.specs.declared.values.Column.{Column}
 use Rattle.merge_types.specs.declared.values.Value.{Value}
 use Rattle.merge_units.specs.Length.{stored_length}
@@ -92,13 +92,13 @@ row-typed tracking.Row fits columns [] has typed = absurd has
 row-typed tracking.Row fits columns (cell ∷ other ∷ cells) has typed = absurd has
 row-typed tracking.ByColumn fits columns cells has typed = (let both = cells-values fits 0 cells has.1 typed in (both.0, both.1 ∙ has.0))
 
-abbrev types_of : List Column → List ColType
+abbrev types_of : List Column → List ColumnType
 types_of columns = map (λ (column : Column). column.ty) columns
 
-column-fits : (types : List ColType) (n : ℕ) (ty : ColType) (value : Value) → slice_get types n ≡ Some ty → fits_place types n value ≡ true → fits_column ty value ≡ true
+column-fits : (types : List ColumnType) (n : ℕ) (ty : ColumnType) (value : Value) → slice_get types n ≡ Some ty → fits_place types n value ≡ true → fits_column ty value ≡ true
 column-fits types n ty value is fit = grind (arith, is, fit)
 
-columns-fit : (types : List ColType) (n : ℕ) (columns : List Column) (values : List Value) → ((k : ℕ) → slice_get (types_of columns) k ≡ slice_get types (n + k)) → length values ≡ length columns → ValuesFrom (fits_place types) n values → values_fit columns values ≡ true
+columns-fit : (types : List ColumnType) (n : ℕ) (columns : List Column) (values : List Value) → ((k : ℕ) → slice_get (types_of columns) k ≡ slice_get types (n + k)) → length values ≡ length columns → ValuesFrom (fits_place types) n values → values_fit columns values ≡ true
 columns-fit types n [] [] at even typed = refl
 columns-fit types n [] (value ∷ values) at even typed = absurd (omega (arith, even))
 columns-fit types n (column ∷ columns) [] at even typed = absurd (omega (arith, even))
@@ -114,7 +114,7 @@ set-by (Some identity) values set = set identity.column refl refl
 
 article-fits : (article : Article) (cells : List Cell) → BodyIsRight article.tracking (types_of article.columns) (option_map (λ (identity : Identity). identity.column) article.identity) (Live cells) → cells_fit article cells ≡ true
 article-fits article cells right =
-    let types : List ColType = types_of article.columns in
+    let types : List ColumnType = types_of article.columns in
     let tracked : cells_fit_tracking article.tracking cells ≡ true = tracking-fits article.tracking (length types) cells right.shaped.0 in
     let typed = row-typed article.tracking (fits_place types) (length types) cells right.shaped.0 right.typed in
     let values : values_fit article.columns (row_values cells) ≡ true =

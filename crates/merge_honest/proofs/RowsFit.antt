@@ -17,8 +17,8 @@ use Rattle.merge_types.specs.declared.identifiers.Dot.{Dot}
 use Rattle.merge_types.specs.declared.identifiers.RowId.{RowId}
 use Rattle.merge_types.specs.declared.identifiers.SiteId.{SiteId}
 use Rattle.merge_types.specs.declared.row_key.RowKey.{RowKey as Key}
-use Rattle.merge_types.specs.declared.values.ColType.{ColType}
-use Rattle.merge_types.specs.declared.values.ColType.TheVariants as column
+use Rattle.merge_types.specs.declared.values.ColumnType.{ColumnType}
+use Rattle.merge_types.specs.declared.values.ColumnType.TheVariants as column
 use Rattle.merge_types.specs.declared.values.Column.{Column}
 use Rattle.merge_types.specs.declared.values.Value.{Value}
 use Rattle.merge_types.specs.declared.values.Value.TheVariants.{Bit, Bytes, Day, Guid, Int, Null, Text}
@@ -80,7 +80,7 @@ abbrev pub IsSet : Option ℕ → Option Value → Type 0
 IsSet identity found = is_some identity ≡ true → is_set found ≡ true
 
 -- What is asked of a body: cells by the tracking, values of their columns' types, the identity value, and the length.
-pub record BodyIsRight (tr : Tracking) (types : List ColType) (identity : Option ℕ) (body : Body) : Type 0 where
+pub record BodyIsRight (tr : Tracking) (types : List ColumnType) (identity : Option ℕ) (body : Body) : Type 0 where
   pub shaped : BodyFits (IsSet identity) tr (length types) identity body
   pub typed : BodyTyped (fits_place types) tr body
   pub short : stored_length (cells_of body) ≤ row_limit
@@ -117,7 +117,7 @@ same-shape tracking.Row columns (o ∷ []) (t ∷ u ∷ theirs) one other = absu
 same-shape tracking.ByColumn columns ours theirs one other = same-ones ours theirs (one.0 ∙ sym other.0) one.1 other.1
 
 -- A merge whose decision counts.
-module _ (meeting : Meeting) (resolver : ℕ) (decides : Option ℕ) (types : List ColType) (identity : Option ℕ) (tr : Tracking) (few : length types ≤ 64) (here there : Knowing) (dot : Dot) where
+module _ (meeting : Meeting) (resolver : ℕ) (decides : Option ℕ) (types : List ColumnType) (identity : Option ℕ) (tr : Tracking) (few : length types ≤ 64) (here there : Knowing) (dot : Dot) where
   abbrev asked : Asked
   asked = asked_by meeting resolver decides types identity tr
 
@@ -215,7 +215,7 @@ module _ (resolvers : ℕ) (publication : Publication) (valid : IsValid resolver
 
   -- A local change.
 
-  live-parts : (tr : Tracking) (types : List ColType) (identity : Option ℕ) (body : Body) → is_live body ≡ true → BodyIsRight tr types identity body → CellsFit (IsSet identity) tr (length types) identity (cells_of body) × CellsTyped (fits_place types) tr (cells_of body)
+  live-parts : (tr : Tracking) (types : List ColumnType) (identity : Option ℕ) (body : Body) → is_live body ≡ true → BodyIsRight tr types identity body → CellsFit (IsSet identity) tr (length types) identity (cells_of body) × CellsTyped (fits_place types) tr (cells_of body)
   live-parts tr types identity (Live cells) lives right = (right.shaped, right.typed)
   live-parts tr types identity (Dead top) lives right = absurd cc
 
@@ -251,7 +251,7 @@ module _ (resolvers : ℕ) (publication : Publication) (valid : IsValid resolver
       → BodyIsRight (tracking_at publication article) (types_at publication article) (identity_column publication article) (Live (new_cells (tracking_at publication article) dot (new_values publication article value settings)))
   inserted-right dot article value settings held typed short row takes =
       let tr : Tracking = tracking_at publication article in
-      let types : List ColType = types_at publication article in
+      let types : List ColumnType = types_at publication article in
       let identity : Option ℕ = identity_column publication article in
       record {
         shaped = inserted-fits (IsSet identity) tr types identity dot value settings (column-within resolvers publication valid article) (λ some. set-is value (whole_number (Some value)) refl (takes some));
@@ -265,7 +265,7 @@ module _ (resolvers : ℕ) (publication : Publication) (valid : IsValid resolver
       → BodyIsRight (tracking_at publication article) (types_at publication article) (identity_column publication article) (Live (cells_after (tracking_at publication article) dot settings (cells_of version.body)))
   live-right dot article row settings version lives none typed short fine right =
       let tr : Tracking = tracking_at publication article in
-      let types : List ColType = types_at publication article in
+      let types : List ColumnType = types_at publication article in
       let identity : Option ℕ = identity_column publication article in
       let parts = live-parts tr types identity version.body lives right in
       record {

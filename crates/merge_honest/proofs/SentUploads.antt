@@ -19,7 +19,7 @@ use Rattle.merge_model.specs.Judge.ByHistory.{by_made, changed_between_by_made, 
 use Rattle.merge_model.specs.History.{History, MadeChange, made_at}
 use Rattle.merge_model.specs.Tables.Keys.{put_row, row_at}
 use Rattle.merge_model.specs.Subscriber.Sending.{upload_end, upload_item, upload_sent}
-use Rattle.merge_model.specs.Subscriber.{sub_last_closed, sub_version_at}
+use Rattle.merge_model.specs.Subscriber.{subscriber_last_closed, subscriber_version_at}
 use Rattle.merge_model.specs.Tables.{SubscriberTables}
 use Rattle.merge_model.proofs.Entries.EntryLists.{all-put}
 use Rattle.merge_model.proofs.Lists.KeyLookUps.{keys-tied}
@@ -118,7 +118,7 @@ item-between from to s entry None here = tt
 item-between from to s entry (Some version) here = here
 
 items-between : (from to : ℕ) (s : SubscriberTables) (entries : List (Key × ℕ)) → AllByRecursion (EntryBetween from to) entries → AllByRecursion (λ (item : UploadItem). StandsBetween from to item.generation) (filter_map (upload_item s) entries)
-items-between from to s entries all = all-filter_map (EntryBetween from to) (λ (item : UploadItem). StandsBetween from to item.generation) (upload_item s) (λ entry here. item-between from to s entry (sub_version_at s entry.0) here) entries all
+items-between from to s entries all = all-filter_map (EntryBetween from to) (λ (item : UploadItem). StandsBetween from to item.generation) (upload_item s) (λ entry here. item-between from to s entry (subscriber_version_at s entry.0) here) entries all
 
 above-item : (k : Key) (s : SubscriberTables) (entry : Key × ℕ) (found : Option Version) (items : List UploadItem) → key_cmp k entry.0 ≡ Less → AreAbove key_cmp k (map key_of_item items)
     → AreAbove key_cmp k (map key_of_item (cons_option (option_map (λ (version : Version). (let item : UploadItem = record { article = entry.0.article; row = entry.0.row; generation = entry.1; version = version } in item)) found) items))
@@ -127,7 +127,7 @@ above-item k s entry (Some version) items first rest = (first, rest)
 
 items-above : (k : Key) (s : SubscriberTables) (entries : List (Key × ℕ)) → AreAbove key_cmp k (keys_of entries) → AreAbove key_cmp k (map key_of_item (filter_map (upload_item s) entries))
 items-above k s [] above = tt
-items-above k s (entry ∷ entries) above = above-item k s entry (sub_version_at s entry.0) (filter_map (upload_item s) entries) above.0 (items-above k s entries above.1)
+items-above k s (entry ∷ entries) above = above-item k s entry (subscriber_version_at s entry.0) (filter_map (upload_item s) entries) above.0 (items-above k s entries above.1)
 
 ascend-item : (s : SubscriberTables) (entry : Key × ℕ) (found : Option Version) (items : List UploadItem) → AreAbove key_cmp entry.0 (map key_of_item items) → IsStrictlySortedBy key_cmp (map key_of_item items)
     → IsStrictlySortedBy key_cmp (map key_of_item (cons_option (option_map (λ (version : Version). (let item : UploadItem = record { article = entry.0.article; row = entry.0.row; generation = entry.1; version = version } in item)) found) items))
@@ -138,18 +138,18 @@ ascend-item s entry (Some version) items above rest = (above, rest)
 items-ascend : (s : SubscriberTables) (entries : List (Key × ℕ)) → IsStrictlySortedBy key_cmp (keys_of entries) → IsStrictlySortedBy key_cmp (map key_of_item (filter_map (upload_item s) entries))
 unfolding IsStrictlySortedBy
 items-ascend s [] sorted = tt
-items-ascend s (entry ∷ entries) sorted = ascend-item s entry (sub_version_at s entry.0) (filter_map (upload_item s) entries) (items-above entry.0 s entries sorted.0) (items-ascend s entries sorted.1)
+items-ascend s (entry ∷ entries) sorted = ascend-item s entry (subscriber_version_at s entry.0) (filter_map (upload_item s) entries) (items-above entry.0 s entries sorted.0) (items-ascend s entries sorted.1)
 
 -- The upload that a subscriber sends.
 pub sent-well : (h : History) (s : SubscriberTables) → IsMadeWell (upload_sent (by_made h s.site) s).1
 sent-well h s =
     let to : ℕ = upload_end (by_made h s.site) s in
     let items : ℕ → ℕ = λ (k : ℕ). length (changed_between_by_made h s.site s.received k) in
-    let few : items to ≤ item_limit = batch-holds (λ (k : ℕ). items k ≤ item_limit) items s.received (sub_last_closed s)
+    let few : items to ≤ item_limit = batch-holds (λ (k : ℕ). items k ≤ item_limit) items s.received (subscriber_last_closed s)
     (subst (λ (entries : List (Key × ℕ)). length entries ≤ item_limit) (sym (none-changed h s s.received)) (omega arith)) (λ k low up last is. grind (arith, nat_tests, is)) in
     let short = items-short s (changed_between_by_made h s.site s.received to) in
     record {
-      few_generations = batch-holds (λ (k : ℕ). k ≤ s.received + generation_limit) items s.received (sub_last_closed s) (omega arith) (λ k low up last is. up);
+      few_generations = batch-holds (λ (k : ℕ). k ≤ s.received + generation_limit) items s.received (subscriber_last_closed s) (omega arith) (λ k low up last is. up);
       few_items = omega (arith, few, short);
       ascend = items-ascend s (changed_between_by_made h s.site s.received to) (changed-ascend h s s.received to);
       stand = items-between s.received to s (changed_between_by_made h s.site s.received to) (changed-between h s s.received to);

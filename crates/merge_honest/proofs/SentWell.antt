@@ -34,7 +34,7 @@ use Rattle.merge_model.specs.Publisher.PublisherUpload.{taken_in}
 use Rattle.merge_model.specs.Subscriber.Reinit.{reinitialised}
 use Rattle.merge_model.specs.Failing.Runs.{model_behind}
 use Rattle.merge_model.specs.Subscriber.Sending.{join_of, sending_refusal, upload_sent, with_message}
-use Rattle.merge_model.specs.Subscriber.{empty_subscriber, is_joining, sub_at_moment, sub_closed, sub_made_locally, with_version_if}
+use Rattle.merge_model.specs.Subscriber.{empty_subscriber, is_joining, subscriber_at_moment, subscriber_closed, subscriber_made_locally, with_version_if}
 use Rattle.merge_model.specs.Tables.{PublisherTables, SubscriberTables}
 use Rattle.merge_model.specs.Subscriber.Taking.{taken}
 use Rattle.merge_model.specs.World.{Saying, World, empty_world, letter_at, subscriber_at}
@@ -176,13 +176,13 @@ module _ (publication : Publication) where
       own_closing = λ w h b i. publisher-on w.publisher (closed (here w)) w.subscribers w.pool (same-rises w.publisher (closed (here w)) refl (filling-rises w.publisher.gens.filling)) i;
       forgetting = λ w h b i. (let q : PublisherTables = (purge publication w.moment w.publisher).0 in publisher-on w.publisher q w.subscribers w.pool (same-rises w.publisher q refl (omega arith)) i);
       same = λ w h s b i at. subscriber-on w.publisher w.subscribers w.pool s s refl (here-known w h s i at) i;
-      sub_change = λ w h s change d b i at named fine is. (let t : SubscriberTables = (sub_made_locally publication change d (sub_at_moment w.moment s)).0 in
+      subscriber_change = λ w h s change d b i at named fine is. (let t : SubscriberTables = (subscriber_made_locally publication change d (subscriber_at_moment w.moment s)).0 in
           subscriber-on w.publisher w.subscribers w.pool s t (version-site _ _ _) (stays-known w.publisher s.site.0 s t (version-joined _ _ _) (here-known w h s i at)) i);
-      sub_closing = λ w h s b i at. (let t : SubscriberTables = sub_closed (sub_at_moment w.moment s) in subscriber-on w.publisher w.subscribers w.pool s t refl (stays-known w.publisher s.site.0 s t refl (here-known w h s i at)) i);
-      anew = λ w h s b i at. (let t : SubscriberTables = (reinitialised (by_made h s.site) (sub_at_moment w.moment s)).0 in
+      subscriber_closing = λ w h s b i at. (let t : SubscriberTables = subscriber_closed (subscriber_at_moment w.moment s) in subscriber-on w.publisher w.subscribers w.pool s t refl (stays-known w.publisher s.site.0 s t refl (here-known w h s i at)) i);
+      anew = λ w h s b i at. (let t : SubscriberTables = (reinitialised (by_made h s.site) (subscriber_at_moment w.moment s)).0 in
           subscriber-on w.publisher w.subscribers w.pool s t refl (record { subscribes = (here-known w h s i at).subscribes; remembered = λ joined. absurd (grind (arith, joined)) }) i);
       sends_join = λ w h s b i at joining. message-put w h s (with_message ask.Join s) (Asks (request.Join (join_of s))) i at refl refl (record { sender = is-sender w.publisher s (here-known w h s i at); numbered = omega arith });
-      sends_upload = λ w h s b i at fine. (let c : SubscriberTables = sub_closed (sub_at_moment w.moment s) in
+      sends_upload = λ w h s b i at fine. (let c : SubscriberTables = subscriber_closed (subscriber_at_moment w.moment s) in
           let k = here-known w h s i at in
           let joins : s.is_joined ≡ true = joined-now s fine in
           message-put w h s (upload_sent (by_made h s.site) c).0 (Asks (request.Upload (upload_sent (by_made h s.site) c).1)) i at refl refl (record {

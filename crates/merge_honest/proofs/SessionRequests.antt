@@ -42,7 +42,7 @@ use Rattle.merge_model.specs.Publisher.PublisherUpload.{is_new, too_many_new, up
 use Rattle.merge_model.specs.Tables.Refusals.{counter_end, first_refusal, refused_if, unless}
 use Rattle.merge_model.specs.Subscriber.Sending.{join_made, join_of, ranges_made, sending_refusal, unsent_rows, upload_made, upload_sent, want_of, with_message}
 use Rattle.merge_model.specs.World.Steps.{Deliver, Send, SendDownload, SendJoin, SendRanges, SendUpload, Sending, deliver_letter, deliver_request, kept_decisions, post, posted, send_from, step_by, unless_refused, upload_questions}
-use Rattle.merge_model.specs.Subscriber.{sub_at_moment, sub_closed, sub_counters}
+use Rattle.merge_model.specs.Subscriber.{subscriber_at_moment, subscriber_closed, subscriber_counters}
 use Rattle.merge_model.specs.Tables.{PublisherTables, SubscriberTables}
 use Rattle.merge_model.specs.World.{Saying, World, letter_at, subscriber_at, with_publisher, with_subscriber}
 use Rattle.merge_model.specs.declared.letter.Letter.{Letter}
@@ -143,8 +143,8 @@ module _ (publication : Publication) (says : Saying) where
     abbrev K : Model × Outcome → Type 0
     K = Asked s.site
 
-    own-ends : (why : Refusal) → counter_end (sub_counters s) ≡ Some why → EndsFor m s.site why
-    own-ends why is = (let c = counter-is (sub_counters s) why is in subst (EndsFor m s.site) (sym c.is) (inr (record { tables = s; here = at; ends = c.ends })))
+    own-ends : (why : Refusal) → counter_end (subscriber_counters s) ≡ Some why → EndsFor m s.site why
+    own-ends why is = (let c = counter-is (subscriber_counters s) why is in subst (EndsFor m s.site) (sym c.is) (inr (record { tables = s; here = at; ends = c.ends })))
 
     unjoined : (b : Bool) → b ≡ true → not b ≡ false
     unjoined true is = refl
@@ -153,7 +153,7 @@ module _ (publication : Publication) (says : Saying) where
     sending-ends : s.is_joined ≡ true → (why : Refusal) → sending_refusal s ≡ Some why → EndsFor m s.site why
     sending-ends joined why is =
         let none : refused_if (not s.is_joined) Joining ≡ None = refused-not (not s.is_joined) Joining (unjoined s.is_joined joined) in
-        own-ends why (sym (first-only (counter_end (sub_counters s))) ∙ sym (first-passed (refused_if (not s.is_joined) Joining) (counter_end (sub_counters s) ∷ []) none) ∙ is)
+        own-ends why (sym (first-only (counter_end (subscriber_counters s))) ∙ sym (first-passed (refused_if (not s.is_joined) Joining) (counter_end (subscriber_counters s) ∷ []) none) ∙ is)
 
     newer : (message : Message) (u : SubscriberTables) → IsNewer (posted_model s.site message (with_subscriber u w) h) s.site s.site (s.seq + 1)
     newer message u = record { same = refl; behind = omega (arith, behind) }
@@ -170,7 +170,7 @@ module _ (publication : Publication) (says : Saying) where
         let u : SubscriberTables = with_message ask.Join s in
         let act : Option (SubscriberTables × Join) → World × Outcome = posted s.site (λ (y : Join). request.Join y) w in
         step-made SendJoin
-        (unless-known K w h (counter_end (sub_counters s)) own-ends (join_made s) act h (λ fine.
+        (unless-known K w h (counter_end (subscriber_counters s)) own-ends (join_made s) act h (λ fine.
         subst (λ (b : Bool). (let made : Option (SubscriberTables × Join) = if b then None else Some (u, join_of s) in After K (act made) h h)) (sym joining)
         (fresh-put (request.Join (join_of s)) u (newer (Asks (request.Join (join_of s))) u))))
 
@@ -178,7 +178,7 @@ module _ (publication : Publication) (says : Saying) where
       pub upload-asked : Asked s.site (model_step publication says m (Send s.site SendUpload))
       upload-asked =
           let judge : SubscriberJudge = by_made h s.site in
-          let made : SubscriberTables × Upload = upload_sent judge (sub_closed (sub_at_moment w.moment s)) in
+          let made : SubscriberTables × Upload = upload_sent judge (subscriber_closed (subscriber_at_moment w.moment s)) in
           let act : Option (SubscriberTables × Upload) → World × Outcome = posted s.site (λ (y : Upload). request.Upload y) w in
           step-made SendUpload
           (unless-known K w h (sending_refusal s) (sending-ends joined) (upload_made judge w.moment s) act h (λ fine.

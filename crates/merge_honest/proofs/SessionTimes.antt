@@ -39,7 +39,7 @@ use Rattle.merge_model.specs.Tables.Refusals.{counter_end}
 use Rattle.merge_model.specs.Subscriber.Sending.{join_made, join_of, make_ask, make_join, make_ranges, make_upload, with_message}
 use Rattle.merge_model.specs.World.Session.{ask as asking}
 use Rattle.merge_model.specs.World.Steps.{Action, Deliver, Send, SendDownload, SendJoin, SendRanges, SendUpload, Sending, deliver_letter, deliver_reply, deliver_request, kept_decisions, post, posted, send_from, step_by, unless_refused, upload_questions}
-use Rattle.merge_model.specs.Subscriber.{sub_counters}
+use Rattle.merge_model.specs.Subscriber.{subscriber_counters}
 use Rattle.merge_model.specs.Tables.{PublisherTables, SubscriberTables}
 use Rattle.merge_model.specs.World.{Judges, Saying, World, letter_at, subscriber_at, with_publisher, with_subscriber}
 use Rattle.merge_model.specs.declared.letter.Letter.{Letter}
@@ -240,7 +240,7 @@ module _ (publication : Publication) (says : Saying) (m : Model) (s : Subscriber
       let act : Option (SubscriberTables × Join) → World × Outcome = posted s.site (λ (y : Join). request.Join y) w in
       let acts : join_acts a (here w) ≡ true = grind (arith, nat_tests, behind) in
       send-step publication says Acts Rests s.site m s SendJoin at
-      (unless-step (Sent publication says Acts Rests s.site) w h (λ why. tt) (counter_end (sub_counters s)) (join_made s) act h (λ fine.
+      (unless-step (Sent publication says Acts Rests s.site) w h (λ why. tt) (counter_end (subscriber_counters s)) (join_made s) act h (λ fine.
       subst (λ (b : Bool). (let made : Option (SubscriberTables × Join) = if b then None else Some (u, a) in After (Sent publication says Acts Rests s.site) (act made) h h)) (sym joining)
       (post-step (Sent publication says Acts Rests s.site) s.site (Asks (request.Join a)) v h h
       (comes-step publication says Acts Rests s.site (Answered publication says Acts Rests s.site) s.site (Asks (request.Join a)) v h

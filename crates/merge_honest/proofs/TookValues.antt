@@ -58,7 +58,7 @@ use Rattle.merge_model.specs.Subscriber.Reinit.{discarded, reinitialised}
 use Rattle.merge_model.specs.Failing.Runs.{model_behind}
 use Rattle.merge_model.specs.Subscriber.Sending.{join_of, upload_sent, want_of, with_message}
 use Rattle.merge_model.specs.World.Steps.{kept_decisions, upload_questions}
-use Rattle.merge_model.specs.Subscriber.{sub_at_moment, sub_closed, sub_drawn, sub_last_closed, sub_local_refusal, sub_made_locally, sub_next_dot, sub_version_at, taken_value, with_version_if}
+use Rattle.merge_model.specs.Subscriber.{subscriber_at_moment, subscriber_closed, subscriber_drawn, subscriber_last_closed, subscriber_local_refusal, subscriber_made_locally, subscriber_next_dot, subscriber_version_at, taken_value, with_version_if}
 use Rattle.merge_model.specs.Tables.{PublisherTables, SubscriberTables}
 use Rattle.merge_model.specs.Subscriber.Taking.{taken, with_grant}
 use Rattle.merge_model.specs.World.{Saying, World, subscriber_at, with_publisher, with_subscriber}
@@ -170,20 +170,20 @@ own-draw publication p (Update article row values) holds = (holds, λ dot insert
 own-draw publication p (Delete article row) holds = (holds, λ dot insert has. absurd cc)
 
 module _ (publication : Publication) (s : SubscriberTables) (article : ℕ) (holds : Holds publication s.held) where
-  abbrev SubDraw : Result (Value × List (ℕ × Holder)) Refusal → Type 0
-  SubDraw draw = IfOk draw (λ d. Draws publication article d.1 d.0)
+  abbrev SubscriberDraw : Result (Value × List (ℕ × Holder)) Refusal → Type 0
+  SubscriberDraw draw = IfOk draw (λ d. Draws publication article d.1 d.0)
 
-  value-draws : (holder : Holder) (result : Result ℤ IdentityEnd) → SubDraw (taken_value s article holder result)
+  value-draws : (holder : Holder) (result : Result ℤ IdentityEnd) → SubscriberDraw (taken_value s article holder result)
   value-draws holder (Ok value) = (λ other is. put-held s.held article other (after_take holder) (holds other is), λ is. refl)
   value-draws holder (Err used_up) = tt
 
-  there-draws : (found : Option Holder) → at_number s.held article ≡ found → (let draw : Result (Value × List (ℕ × Holder)) Refusal = elim found [ None ↦ Ok (Null, s.held) | Some holder ↦ taken_value s article holder (answer_to_take holder) ] in SubDraw draw)
+  there-draws : (found : Option Holder) → at_number s.held article ≡ found → (let draw : Result (Value × List (ℕ × Holder)) Refusal = elim found [ None ↦ Ok (Null, s.held) | Some holder ↦ taken_value s article holder (answer_to_take holder) ] in SubscriberDraw draw)
   there-draws None at = (holds, λ is. absurd (let here = holds article is in grind (arith, here, at)))
   there-draws (Some holder) at = value-draws holder (answer_to_take holder)
 
-sub-draw : (publication : Publication) (s : SubscriberTables) (change : Change) → Holds publication s.held → IfOk (sub_drawn s change) (λ d. DrawsFor publication change d.1 d.0)
+sub-draw : (publication : Publication) (s : SubscriberTables) (change : Change) → Holds publication s.held → IfOk (subscriber_drawn s change) (λ d. DrawsFor publication change d.1 d.0)
 sub-draw publication s (Insert article values) holds =
-    draws-for publication article (λ (d : Value × List (ℕ × Holder)). d.1) (λ (d : Value × List (ℕ × Holder)). d.0) (λ (d : Value × List (ℕ × Holder)). DrawsFor publication (Insert article values) d.1 d.0) (sub_drawn s (Insert article values))
+    draws-for publication article (λ (d : Value × List (ℕ × Holder)). d.1) (λ (d : Value × List (ℕ × Holder)). d.0) (λ (d : Value × List (ℕ × Holder)). DrawsFor publication (Insert article values) d.1 d.0) (subscriber_drawn s (Insert article values))
     (λ d draws. (draws.0, λ dot insert has. draws.1 has)) (there-draws publication s article holds (at_number s.held article) refl)
 sub-draw publication s (Update article row values) holds = (holds, λ dot insert has. absurd cc)
 sub-draw publication s (Delete article row) holds = (holds, λ dot insert has. absurd cc)
@@ -316,19 +316,19 @@ module _ (publication : Publication) where
     counted-at w n s true is named at = absurd (named (grind (arith, nat_tests, is)))
     counted-at w n s false is named at = grind (arith, is, at)
 
-    sub-on : (w : World) (h : History) (s : SubscriberTables) (change : Change) (d : Value × List (ℕ × Holder)) → Base w h → In w h → subscriber_at w s.site ≡ Some s → (s.site.0 ≡ 0 → ⊥) → sub_local_refusal publication change s ≡ None → sub_drawn s change ≡ Ok d
-        → (let t : SubscriberTables = (sub_made_locally publication change d (sub_at_moment w.moment s)).0 in In (record w { subscribers = put_number w.subscribers t.site.0 t }) (Noting.with_change publication (sub_next_dot s) (sub_last_closed s + 1) change d.0 h))
+    sub-on : (w : World) (h : History) (s : SubscriberTables) (change : Change) (d : Value × List (ℕ × Holder)) → Base w h → In w h → subscriber_at w s.site ≡ Some s → (s.site.0 ≡ 0 → ⊥) → subscriber_local_refusal publication change s ≡ None → subscriber_drawn s change ≡ Ok d
+        → (let t : SubscriberTables = (subscriber_made_locally publication change d (subscriber_at_moment w.moment s)).0 in In (record w { subscribers = put_number w.subscribers t.site.0 t }) (Noting.with_change publication (subscriber_next_dot s) (subscriber_last_closed s + 1) change d.0 h))
     sub-on w h s change d b i at named fine is =
         let m : Model = record { world = w; history = h } in
-        let dot : Dot = sub_next_dot s in
+        let dot : Dot = subscriber_next_dot s in
         let key : Key = key_of dot change in
-        let found : Option Version = version_after publication dot d.0 change (sub_version_at s key) in
-        let u : SubscriberTables = record (sub_at_moment w.moment s) { changes = s.changes + 1; held = d.1 } in
+        let found : Option Version = version_after publication dot d.0 change (subscriber_version_at s key) in
+        let u : SubscriberTables = record (subscriber_at_moment w.moment s) { changes = s.changes + 1; held = d.1 } in
         let draws : DrawsFor publication change d.1 d.0 = subst (λ (draw : Result (Value × List (ℕ × Holder)) Refusal). IfOk draw (λ x. DrawsFor publication change x.1 x.0)) is (sub-draw publication s change (i.each s.site.0 s at)) in
         let counted : changes_of w s.site.0 ≡ s.changes = counted-at w s.site.0 s (s.site.0 == 0) refl named at in
-        let new = took-made publication h (changes_of w) (ground publication m b).known.numbered dot (sub_last_closed s + 1) change d.0 (past_at h s.site.0 key) (omega (arith, counted)) (held-knows h s.site.0 key (ground publication m b).known.knowledge)
+        let new = took-made publication h (changes_of w) (ground publication m b).known.numbered dot (subscriber_last_closed s + 1) change d.0 (past_at h s.site.0 key) (omega (arith, counted)) (held-knows h s.site.0 key (ground publication m b).known.knowledge)
         (λ insert. b.accepted.makers.there s.site.0 s at key (sub-held publication change s fine insert)) (draws.1 dot) in
-        put-on w h (Noting.with_change publication dot (sub_last_closed s + 1) change d.0 h) s (with_version_if key found u) (version-site key found u) (subst (Holds publication) (sym (version-held key found u)) draws.0) (new, i.made) i
+        put-on w h (Noting.with_change publication dot (subscriber_last_closed s + 1) change d.0 h) s (with_version_if key found u) (version-site key found u) (subst (Holds publication) (sym (version-held key found u)) draws.0) (new, i.made) i
 
     took-keep : StepsKeep publication says Base In
     took-keep = record {
@@ -342,14 +342,14 @@ module _ (publication : Publication) where
           made-is w (with_publisher (purge publication w.moment w.publisher).0 w) h (Noting.noted_purge publication judge (here w) h) refl refl
           (same-made h.made (Noting.noted_purge publication judge (here w) h) (lines-on lines (fold Noting.with_purged h keys) ∙ fold-leave (λ (x : History). x.made) Noting.with_purged (λ x key. refl) keys h) i.made) i);
       same = λ w h s b i at. put-on w h h s s refl (i.each s.site.0 s at) i.made i;
-      sub_change = λ w h s change d b i at named fine is. sub-on w h s change d b i at named fine is;
-      sub_closing = λ w h s b i at. put-on w h h s (sub_closed (sub_at_moment w.moment s)) refl (i.each s.site.0 s at) i.made i;
+      subscriber_change = λ w h s change d b i at named fine is. sub-on w h s change d b i at named fine is;
+      subscriber_closing = λ w h s b i at. put-on w h h s (subscriber_closed (subscriber_at_moment w.moment s)) refl (i.each s.site.0 s at) i.made i;
       anew = λ w h s b i at. (let judge : SubscriberJudge = by_made h s.site in
-          put-on w h (Noting.noted_anew judge s h) s (reinitialised judge (sub_at_moment w.moment s)).0 refl (i.each s.site.0 s at)
+          put-on w h (Noting.noted_anew judge s h) s (reinitialised judge (subscriber_at_moment w.moment s)).0 refl (i.each s.site.0 s at)
           (same-made h.made (Noting.noted_anew judge s h) (fold-leave (λ (x : History). x.made) (Noting.with_discarded s.site) (λ x row. refl) (discarded judge s) h) i.made) i);
       sends_join = λ w h s b i at joining. (let t : SubscriberTables = with_message ask.Join s in let v : World = with_subscriber t w in
           posts s.site (Asks (request.Join (join_of s))) v v h refl refl (put-on w h h s t refl (i.each s.site.0 s at) i.made i));
-      sends_upload = λ w h s b i at fine. (let made : SubscriberTables × Upload = upload_sent (by_made h s.site) (sub_closed (sub_at_moment w.moment s)) in let v : World = with_subscriber made.0 w in
+      sends_upload = λ w h s b i at fine. (let made : SubscriberTables × Upload = upload_sent (by_made h s.site) (subscriber_closed (subscriber_at_moment w.moment s)) in let v : World = with_subscriber made.0 w in
           posts s.site (Asks (request.Upload made.1)) v v h refl refl (put-on w h h s made.0 refl (i.each s.site.0 s at) i.made i));
       sends_ranges = λ w h s b i at fine. (let t : SubscriberTables = with_message ask.Ranges s in let v : World = with_subscriber t w in
           posts s.site (Asks (request.Ranges (record { site = s.site; seq = s.seq + 1; wants = map want_of s.held }))) v v h refl refl (put-on w h h s t refl (i.each s.site.0 s at) i.made i));

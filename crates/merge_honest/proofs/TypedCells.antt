@@ -7,7 +7,7 @@ use Rattle.merge_types.specs.declared.changes.Setting.{Setting}
 use Rattle.merge_types.specs.declared.changes.Tracking.{Tracking}
 use Rattle.merge_types.specs.declared.changes.Tracking.TheVariants as tracking
 use Rattle.merge_types.specs.declared.identifiers.Dot.{Dot}
-use Rattle.merge_types.specs.declared.values.ColType.{ColType}
+use Rattle.merge_types.specs.declared.values.ColumnType.{ColumnType}
 use Rattle.merge_types.specs.declared.values.Value.{Value}
 use Rattle.merge_types.specs.Fitting.{fits_column}
 use Rattle.merge_units.specs.Cases.{bodies_case, is_both, is_conflict, news_case, sides_of}
@@ -204,7 +204,7 @@ HasShape tr columns (Dead top) = Unit {0}
 
 -- Decisions that count.
 
-values-suffix : (f : ℕ → Option ColType) (fits : ℕ → Value → Bool) (n : ℕ) (types : List ColType) (values : List Value) → ((place : ℕ) (ty : ColType) (value : Value) → f place ≡ Some ty → fits place value ≡ fits_column ty value)
+values-suffix : (f : ℕ → Option ColumnType) (fits : ℕ → Value → Bool) (n : ℕ) (types : List ColumnType) (values : List Value) → ((place : ℕ) (ty : ColumnType) (value : Value) → f place ≡ Some ty → fits place value ≡ fits_column ty value)
     → ((k : ℕ) → slice_get types k ≡ f (n + k)) → fit_all fits_column types values ≡ true → ValuesFrom fits n values
 values-suffix f fits n [] [] same at fit = tt
 values-suffix f fits n [] (value ∷ values) same at fit = absurd cc
@@ -215,10 +215,10 @@ values-suffix f fits n (ty ∷ types) (value ∷ values) same at fit =
     let here : f n ≡ Some ty = (let place : n + 0 ≡ n = omega arith in ap f (sym place) ∙ sym (at 0)) in
     (same n ty value here ∙ first, values-suffix f fits (n + 1) types values same (λ k. at (suc k) ∙ ap f (let place : n + suc k ≡ n + 1 + k = omega arith in place)) rest)
 
-place-of : (found : Option ColType) (ty : ColType) (types : List ColType) (place : ℕ) (value : Value) → slice_get types place ≡ Some ty → fits_place types place value ≡ fits_column ty value
+place-of : (found : Option ColumnType) (ty : ColumnType) (types : List ColumnType) (place : ℕ) (value : Value) → slice_get types place ≡ Some ty → fits_place types place value ≡ fits_column ty value
 place-of found ty types place value is = (let at = is in grind (arith, at))
 
-pub typed-row : (types : List ColType) (values : List Value) → fit_all fits_column types values ≡ true → ValuesFrom (fits_place types) 0 values
+pub typed-row : (types : List ColumnType) (values : List Value) → fit_all fits_column types values ≡ true → ValuesFrom (fits_place types) 0 values
 typed-row types values fit = values-suffix (λ (k : ℕ). slice_get types k) (fits_place types) 0 types values (λ place ty value is. place-of None ty types place value is) (λ k. ap (λ (place : ℕ). slice_get types place) (let same : k ≡ 0 + k = omega arith in same)) fit
 
 by-tests : (P : Decision → Type 0) (fit within : Bool) (kept : List Value) → P KeepPublisher → (fit ≡ true → P (Custom kept)) → P (if fit then within_or_kept within kept else KeepPublisher)
@@ -226,7 +226,7 @@ by-tests P true true kept keep custom = custom refl
 by-tests P true false kept keep custom = keep
 by-tests P false within kept keep custom = keep
 
-module _ (meeting : Meeting) (resolver : ℕ) (decides : Option ℕ) (types : List ColType) (identity : Option ℕ) where
+module _ (meeting : Meeting) (resolver : ℕ) (decides : Option ℕ) (types : List ColumnType) (identity : Option ℕ) where
   abbrev fits : ℕ → Value → Bool
   fits = fits_place types
 

@@ -26,7 +26,7 @@ use Rattle.merge_model.specs.Publisher.PublisherUpload.{upload}
 use Rattle.merge_model.specs.Subscriber.Reinit.{reinitialise}
 use Rattle.merge_model.specs.Subscriber.Sending.{make_ask, make_join, make_ranges, make_upload}
 use Rattle.merge_model.specs.World.Steps.{Action, CloseAt, Deliver, Forget, Look, Make, MakeAnew, Pass, Send, SendDownload, SendJoin, SendRanges, SendUpload, Sending, at_subscriber, close_publisher, close_subscriber, deliver_letter, deliver_reply, deliver_request, kept_decisions, make_anew, make_at_publisher, make_at_subscriber, post, posted, send_from, step_by, unless_refused, upload_questions}
-use Rattle.merge_model.specs.Subscriber.{close_sub_generation, sub_local}
+use Rattle.merge_model.specs.Subscriber.{close_subscriber_generation, subscriber_local}
 use Rattle.merge_model.specs.Tables.{PublisherTables, SubscriberTables}
 use Rattle.merge_model.specs.Subscriber.Taking.{take_reply}
 use Rattle.merge_model.specs.World.{Judges, Saying, World, letter_at, subscriber_at, with_publisher, with_subscriber}
@@ -100,10 +100,10 @@ module _ (Has : Upload → Type 0) where
       upload-step (Pass seconds) = h
       upload-step (Make site change) = if-uploads (site.0 == 0) (make_at_publisher publication judges change w) (at_subscriber site w (make_at_subscriber publication change w))
           (unless-uploads (local publication (judges.publisher 0) w.moment change w.publisher) _ (λ a. h))
-          (there-uploads site (make_at_subscriber publication change w) (λ s at. unless-uploads (sub_local publication w.moment change s) _ (λ a. h)))
+          (there-uploads site (make_at_subscriber publication change w) (λ s at. unless-uploads (subscriber_local publication w.moment change s) _ (λ a. h)))
       upload-step (CloseAt site) = if-uploads (site.0 == 0) (close_publisher w) (at_subscriber site w (close_subscriber w))
           (unless-uploads (close_generation w.moment w.publisher) _ (λ a. h))
-          (there-uploads site (close_subscriber w) (λ s at. unless-uploads (close_sub_generation w.moment s) _ (λ a. h)))
+          (there-uploads site (close_subscriber w) (λ s at. unless-uploads (close_subscriber_generation w.moment s) _ (λ a. h)))
       upload-step (Send site sending) = there-uploads site (send_from judges sending w) (λ s at. send-uploads site sending s at)
       upload-step (Deliver number) = letter-uploads number (letter_at w number)
       upload-step (MakeAnew site) = there-uploads site (make_anew judges w) (λ s at. unless-uploads (reinitialise (judges.subscriber s.site s) w.moment s) _ (λ a. h))

@@ -4,13 +4,13 @@ use Rattle.std.specs.Prelude.{Some, length, ◌+◌, ◌<◌, ◌≡◌, ◌≤�
 use Rattle.merge_types.specs.Limits.{counter_limit, entry_limit, item_limit, rows_limit}
 use Rattle.merge_model.specs.Tables.Keys.{at_number}
 use Rattle.merge_model.specs.Publisher.{last_closed}
-use Rattle.merge_model.specs.Subscriber.{sub_last_closed}
+use Rattle.merge_model.specs.Subscriber.{subscriber_last_closed}
 use Rattle.merge_model.specs.Tables.{PublisherTables, SubscriberTables}
 use Rattle.merge_model.specs.World.{World}
 
 pub record IsBounded (s : SubscriberTables) : Type 0 where
   pub changes : s.changes ≤ counter_limit
-  pub closed : sub_last_closed s ≤ counter_limit
+  pub closed : subscriber_last_closed s ≤ counter_limit
   pub seq : s.seq ≤ counter_limit
   -- the open generation is not full
   pub unfilled : s.gens.filling.filled < entry_limit

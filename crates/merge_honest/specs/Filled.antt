@@ -5,7 +5,7 @@ use Rattle.merge_batch.specs.declared.request.Request.TheVariants as request
 use Rattle.merge_batch.specs.declared.request.Upload.{Upload}
 use Rattle.merge_model.specs.History.{History, MadeChange, made_at}
 use Rattle.merge_model.specs.Tables.Keys.{at_number}
-use Rattle.merge_model.specs.Subscriber.{sub_last_closed}
+use Rattle.merge_model.specs.Subscriber.{subscriber_last_closed}
 use Rattle.merge_model.specs.Tables.{SubscriberTables}
 use Rattle.merge_model.specs.World.{World}
 use Rattle.merge_model.specs.declared.letter.Message.{Message}
@@ -18,7 +18,7 @@ count_in generation made = count_by (λ (change : MadeChange). change.generation
 -- no generation of a site has more changes than fill one, and the open one has as many as its filling says
 pub record IsFilled (made : List MadeChange) (s : SubscriberTables) : Type 0 where
   pub few : (generation : ℕ) → count_in generation made ≤ entry_limit
-  pub entered : count_in (sub_last_closed s + 1) made ≡ s.gens.filling.filled
+  pub entered : count_in (subscriber_last_closed s + 1) made ≡ s.gens.filling.filled
 
 abbrev pub AreFilled : World → History → Type 0
 AreFilled w h = (n : ℕ) (s : SubscriberTables) → at_number w.subscribers n ≡ Some s → IsFilled (made_at h n) s

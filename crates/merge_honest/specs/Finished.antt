@@ -16,7 +16,7 @@ use Rattle.merge_model.specs.Publisher.PublisherUpload.{too_many_new}
 use Rattle.merge_model.specs.Tables.Refusals.{counter_end}
 use Rattle.merge_model.specs.World.Session.{Session, session}
 use Rattle.merge_model.specs.Laws.SlipLaws.{is_slip}
-use Rattle.merge_model.specs.Subscriber.{sub_counters}
+use Rattle.merge_model.specs.Subscriber.{subscriber_counters}
 use Rattle.merge_model.specs.Tables.{SubscriberTables}
 use Rattle.merge_model.specs.World.{Saying, subscriber_at}
 use Rattle.merge_laws.specs.Laws.Effects.{history_judge}
@@ -26,7 +26,7 @@ use Rattle.merge_honest.specs.Delivered.{IsRequest}
 pub record OwnCounterEnds (k : Model) (site : SiteId) (value : ℕ) : Type 0 where
   pub tables : SubscriberTables
   pub here : subscriber_at k.world site ≡ Some tables
-  pub ends : counter_end (sub_counters tables) ≡ Some (CounterEnd value)
+  pub ends : counter_end (subscriber_counters tables) ≡ Some (CounterEnd value)
 
 -- the new rows of an upload of the site would be too many
 pub record UploadIsTooMuch (k : Model) (site : SiteId) (rows : ℕ) : Type 0 where

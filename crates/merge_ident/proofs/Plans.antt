@@ -13,8 +13,8 @@ use Rattle.merge_ident.specs.declared.grants.Grant.{Grant}
 use Rattle.merge_ident.specs.declared.grants.Rule.{Rule}
 use Rattle.merge_ident.specs.declared.grants.Ask.{Ask}
 use Rattle.merge_ident.specs.declared.grants.GrantPlan.{GrantPlan}
-use Rattle.merge_ident.specs.declared.grants.IdentFault.{IdentFault}
-use Rattle.merge_ident.specs.declared.grants.IdentFault.TheVariants.{NoRange}
+use Rattle.merge_ident.specs.declared.grants.IdentityFault.{IdentityFault}
+use Rattle.merge_ident.specs.declared.grants.IdentityFault.TheVariants.{NoRange}
 use Rattle.merge_ident.specs.declared.grants.GrantAnswer.TheVariants.{Granted}
 use Rattle.merge_ident.specs.Grants.{natural, granted_to, greatest_end, with_grant, with_grants, IsGranted}
 use Rattle.merge_ident.specs.Answers.{rule_of, size_for, next_begin, next_end, ruled_answer, kept_answer, answer_by, answer_of, new_grant, with_new, plan_of, plans_of, grants_with, grants_with_all}
@@ -43,7 +43,7 @@ begins_behind rule greatest fits = grind (arith, nat_tests, seed_from_one rule f
 size_is_some : (rule : Rule) (site : ℕ) → IsRule rule → 1 ≤ size_for rule site
 size_is_some rule site fits = grind (arith, nat_tests, fits.range, fits.pub_range)
 
-next-by_test : (b : Bool) (rule : Rule) (ask : Ask) (grants : List Grant) (fault : IdentFault) → IsRule rule → ask.have ≡ granted_to ask.article ask.site.0 grants
+next-by_test : (b : Bool) (rule : Rule) (ask : Ask) (grants : List Grant) (fault : IdentityFault) → IsRule rule → ask.have ≡ granted_to ask.article ask.site.0 grants
     → IsNextIfAny grants (new_grant ask (if b then Ok (Granted (ask.have + 1) (record { begin = pos (next_begin rule (greatest_end ask.article grants)); end = pos (next_end rule ask.site.0 (greatest_end ask.article grants)) })) else Err fault))
 next-by_test true rule ask grants fault fits has =
     let behind = begins_behind rule (greatest_end ask.article grants) fits in
@@ -55,7 +55,7 @@ next-by_test true rule ask grants fault fits has =
     }
 next-by_test false rule ask grants fault fits has = tt
 
-table_follows : (o : Ordering) (due : Bool) (rule : Option Rule) (found : Option Grant) (fault : IdentFault) (ask : Ask) (grants : List Grant) → (o ≡ Equal → ask.have ≡ granted_to ask.article ask.site.0 grants)
+table_follows : (o : Ordering) (due : Bool) (rule : Option Rule) (found : Option Grant) (fault : IdentityFault) (ask : Ask) (grants : List Grant) → (o ≡ Equal → ask.have ≡ granted_to ask.article ask.site.0 grants)
     → IfSome rule IsRule → IsNextIfAny grants (new_grant ask (answer_by o due (kept_answer found) (Err fault) (ruled_answer rule ask.site.0 (ask.have + 1) (greatest_end ask.article grants))))
 table_follows Less due rule None fault ask grants has fits = tt
 table_follows Less due rule (Some g) fault ask grants has fits = tt

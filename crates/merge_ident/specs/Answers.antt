@@ -10,8 +10,8 @@ use Rattle.merge_ident.specs.declared.grants.Ask.{Ask}
 use Rattle.merge_ident.specs.declared.grants.GrantPlan.{GrantPlan}
 use Rattle.merge_ident.specs.declared.grants.GrantAnswer.{GrantAnswer}
 use Rattle.merge_ident.specs.declared.grants.GrantAnswer.TheVariants.{Granted, Kept, NotDue}
-use Rattle.merge_ident.specs.declared.grants.IdentFault.{IdentFault}
-use Rattle.merge_ident.specs.declared.grants.IdentFault.TheVariants.{NoRange, TooMany, NoMemory}
+use Rattle.merge_ident.specs.declared.grants.IdentityFault.{IdentityFault}
+use Rattle.merge_ident.specs.declared.grants.IdentityFault.TheVariants.{NoRange, TooMany, NoMemory}
 use Rattle.merge_ident.specs.Grants.{natural, granted_to, is_numbered, greatest_end, with_grant}
 
 abbrev pub ask_of : SiteId → ℕ → ℕ → Bool → Ask
@@ -19,7 +19,7 @@ ask_of site article have due = record { site = site; article = article; have = h
 
 -- what a call answers
 abbrev pub Answer : Type 0
-Answer = Result GrantAnswer IdentFault
+Answer = Result GrantAnswer IdentityFault
 
 -- the rule of an article
 abbrev pub rule_of : List Rule → ℕ → Option Rule

@@ -6,7 +6,7 @@ ghost use Rattle.merge_ident.specs.Answers.{answer_of, rule_of, kept_answer, nex
 ghost use Rattle.merge_ident.specs.Books.{IsRule, IsBook, AllFollow, room_for_all};
 
 use crate::halving::{granted, greatest};
-use crate::{Answer, Ask, Grant, GrantAnswer, GrantPlan, IdentFault, Range, Rule};
+use crate::{Answer, Ask, Grant, GrantAnswer, GrantPlan, IdentityFault, Range, Rule};
 use merge_types::NoMemory;
 use std::alloc::Global;
 use std::cmp::Ordering;
@@ -95,7 +95,7 @@ fn next_range(rule: &Rule, greatest: u64, ask: Ask) -> Answer
     };
     let end = begin + size as u64 - 1;
     if end > rule.greatest as u64 {
-        return Err(IdentFault::NoRange {
+        return Err(IdentityFault::NoRange {
             next: begin,
             greatest: rule.greatest,
         });
@@ -164,7 +164,7 @@ pub fn answer(rules: &[Rule], grants: &[Grant], planned: &[Grant], ask: Ask) -> 
     let granted = granted_in(grants, planned, ask);
     match ask.have.cmp(&granted) {
         Ordering::Less => kept(grants, planned, ask),
-        Ordering::Greater => Err(IdentFault::TooMany { granted }),
+        Ordering::Greater => Err(IdentityFault::TooMany { granted }),
         Ordering::Equal if !ask.due => Ok(GrantAnswer::NotDue),
         Ordering::Equal => {
             let rule = rule_for(rules, ask.article);

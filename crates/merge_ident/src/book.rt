@@ -5,7 +5,7 @@ ghost use Rattle.merge_ident.specs.Answers.{ask_of, answer_of, grants_after, rul
 ghost use Rattle.merge_ident.specs.Books.{IsRule, IsReady, book_with, book_with_all};
 
 use crate::{
-    Ask, Grant, GrantAnswer, GrantPlan, GrantPlans, Grants, IdentFault, Rules, asks, halving,
+    Ask, Grant, GrantAnswer, GrantPlan, GrantPlans, Grants, IdentityFault, Rules, asks, halving,
 };
 use merge_types::{Listing, NoMemory, SiteId};
 use std::alloc::Global;
@@ -73,7 +73,7 @@ impl RangeBook {
         article: u8,
         have: u64,
         due: bool,
-    ) -> Result<GrantAnswer, IdentFault>
+    ) -> Result<GrantAnswer, IdentityFault>
         requires { IsSome (rule_of self.old.rules article) }
         ensures answer { IsAnswer result (answer_of self.old.rules self.old.grants (ask_of site article have due)) }
         ensures grants { self.new.grants ≡ grants_after self.old.grants (ask_of site article have due) result }

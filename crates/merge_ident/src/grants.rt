@@ -70,7 +70,7 @@ pub enum GrantAnswer {
 
 /// Why a site gets no range.
 #[derive(Clone, Copy, Debug, PartialEq, Eq, Error)]
-pub enum IdentFault {
+pub enum IdentityFault {
     /// The next range would pass the greatest value. `next` may be 2^63.
     #[error("no range from {next} to {greatest}")]
     NoRange { next: u64, greatest: i64 },
@@ -82,19 +82,19 @@ pub enum IdentFault {
     NoMemory,
 }
 
-impl From<NoMemory> for IdentFault {
+impl From<NoMemory> for IdentityFault {
     ghost use Rattle.std.specs.Prelude.{◌≡◌};
-    ghost use Rattle.merge_ident.specs.declared.grants.IdentFault.TheVariants as fault;
+    ghost use Rattle.merge_ident.specs.declared.grants.IdentityFault.TheVariants as fault;
 
     ghost from_gives = { λ _ e. e ≡ fault.NoMemory };
 
     fn from(_: NoMemory) -> Self {
-        IdentFault::NoMemory
+        IdentityFault::NoMemory
     }
 }
 
 /// What a call of the book answers.
-pub type Answer = Result<GrantAnswer, IdentFault>;
+pub type Answer = Result<GrantAnswer, IdentityFault>;
 
 /// An ask with its answer, for which a book has taken the memory.
 #[derive(Clone, Copy, Debug, PartialEq, Eq)]

@@ -17,7 +17,8 @@ mod slots;
 pub use book::RangeBook;
 pub use first_bad::{can_follow, first_bad_grant};
 pub use grants::{
-    Answer, Ask, Grant, GrantAnswer, GrantPlan, GrantPlans, Grants, IdentFault, Range, Rule, Rules,
+    Answer, Ask, Grant, GrantAnswer, GrantPlan, GrantPlans, Grants, IdentityFault, Range, Rule,
+    Rules,
 };
 pub use ranges::{Holding, IdentityUsedUp, RangeEvent, Ranges};
 pub use seen_grants::{End, LastGrant, SeenGrants, Taker};

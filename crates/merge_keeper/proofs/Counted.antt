@@ -84,7 +84,7 @@ move_counted old new t place move counted more g =
     ∙ ap (λ (n : ℕ). rows_in t g + n) (sym (count_push (λ (move : RowSite × Mapping). g == move.1.generation) t.mappings (place, move)))
 
 -- the index of a subscriber goes on with a row more
-pub sub_row_counted : (old new : Counts) (t : SubscriberStored) (key : RowKey) (row : SubscriberRow) → IsSubCounted old t
+pub subscriber_row_counted : (old new : Counts) (t : SubscriberStored) (key : RowKey) (row : SubscriberRow) → IsSubCounted old t
     → ((g : ℕ) → t.received < g → count_at new g ≡ count_at old g + times_in g (key, row)) → IsSubCounted new (record t { rows = t.rows ++ (key, row) ∷ [] })
-sub_row_counted old new t key row counted more g above =
+subscriber_row_counted old new t key row counted more g above =
     more g above ∙ ap (λ (n : ℕ). n + times_in g (key, row)) (counted g above) ∙ sym (sum_push (times_in g) t.rows (key, row))

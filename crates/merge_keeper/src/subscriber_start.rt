@@ -212,7 +212,7 @@ fn count_all(counts: &mut Counts, received: u64, generations: &[u64]) -> Result<
 }
 
 // Takes in a row.
-#[tactic(auto, using(crate::proofs::Counted::sub_row_counted))]
+#[tactic(auto, using(crate::proofs::Counted::subscriber_row_counted))]
 fn add_row(so_far: &mut SubscriberSoFar, key: RowKey, row: SubscriberRow) -> Result<(), NoMemory>
     requires on { GoesOn so_far.old }
     ensures tables { OnOk result (so_far.new.tables ≡ record so_far.old.tables { rows = so_far.old.tables.rows ++ (key, row) ∷ [] }) }

@@ -46,7 +46,7 @@ use Rattle.merge_model.specs.Publisher.PublisherLocal.{version_at}
 use Rattle.merge_model.specs.Tables.Publications.{tracking_at}
 use Rattle.merge_model.specs.Subscriber.Reinit.{discarded, numbered_from}
 use Rattle.merge_model.specs.Subscriber.Sending.{upload_item}
-use Rattle.merge_model.specs.Subscriber.{sub_version_at, with_version_if}
+use Rattle.merge_model.specs.Subscriber.{subscriber_version_at, with_version_if}
 use Rattle.merge_types.specs.declared.row_key.RowKey.{RowKey as Key}
 use Rattle.merge_units.specs.declared.site_row.PublisherRow.{PublisherRow}
 use Rattle.merge_units.specs.declared.site_row.SubscriberRow.{SubscriberRow}
@@ -175,7 +175,7 @@ module _ (Q : List Dot → Type 0) where
 
   -- At a subscriber.
 
-  pub own-found : (s : SubscriberTables) (key : Key) → OfOwnRows s.rows → OfSome OfVersion (sub_version_at s key)
+  pub own-found : (s : SubscriberTables) (key : Key) → OfOwnRows s.rows → OfSome OfVersion (subscriber_version_at s key)
   own-found s key all = some-map (λ (row : SubscriberRow). OfVersion row.version) OfVersion (λ (row : SubscriberRow). row.version) (λ row fits. fits) (row_at s.rows key) (values-found (λ (x : SubscriberRow). OfVersion x.version) (is_at (key_cmp key)) s.rows all)
 
   pub held-found : (p : PublisherTables) (key : Key) → OfRows p.rows → OfSome OfVersion (version_at p key)
@@ -222,7 +222,7 @@ module _ (Q : List Dot → Type 0) where
   pub sent-items : (s : SubscriberTables) (rows : List (Key × ℕ)) → OfOwnRows s.rows → AllByRecursion (λ (item : UploadItem). OfVersion item.version) (filter_map (upload_item s) rows)
   sent-items s rows all = all-filter_map (λ (row : Key × ℕ). Unit {0}) (λ (item : UploadItem). OfVersion item.version) (upload_item s)
       (λ row unit. some-map OfVersion (λ (item : UploadItem). OfVersion item.version) (λ (version : Version). (let item : UploadItem = record { article = row.0.article; row = row.0.row; generation = row.1; version = version } in item)) (λ version fits. fits)
-      (sub_version_at s row.0) (own-found s row.0 all)) rows (all-unit rows)
+      (subscriber_version_at s row.0) (own-found s row.0 all)) rows (all-unit rows)
 
   if-order : (b : Bool) → OfOrder Q (if b then order.RemoveLeft else order.RemoveDeleted)
   if-order true = tt

@@ -54,7 +54,7 @@ use Rattle.merge_model.specs.World.Steps.{Action, CloseAt, Deliver, Forget, Look
 use Rattle.merge_resolve.specs.Questions.{question_of as asked_of}
 use Rattle.merge_model.specs.declared.outcome.Outcome.TheVariants.{Closes, Discards, Made, NoLetter, Refuses, Took}
 use Rattle.merge_model.specs.declared.outcome.Outcome.{Outcome}
-use Rattle.merge_model.specs.Subscriber.{sub_at_moment, sub_closed, sub_counters, sub_drawn, sub_last_closed, sub_local_refusal, sub_made_locally, sub_next_dot}
+use Rattle.merge_model.specs.Subscriber.{subscriber_at_moment, subscriber_closed, subscriber_counters, subscriber_drawn, subscriber_last_closed, subscriber_local_refusal, subscriber_made_locally, subscriber_next_dot}
 use Rattle.merge_types.specs.declared.row_key.RowKey.{RowKey as Key}
 use Rattle.merge_model.specs.Tables.{PublisherTables, SubscriberTables}
 use Rattle.merge_model.specs.Subscriber.Taking.{met_by, seq_of, taken}
@@ -110,17 +110,17 @@ pub record StepsKeep (publication : Publication) (says : Saying) (B P : World �
       → P (with_publisher (purge publication w.moment w.publisher).0 w) (Noting.noted_purge publication (by_past h (pasts_with h 0)) (here w) h)
   -- a subscriber's own
   pub same : (w : World) (h : History) (s : SubscriberTables) → B w h → P w h → subscriber_at w s.site ≡ Some s → P (with_subscriber s w) h
-  pub sub_change : (w : World) (h : History) (s : SubscriberTables) (change : Change) (d : Value × List (ℕ × Holder)) → B w h → P w h → subscriber_at w s.site ≡ Some s → (s.site.0 ≡ 0 → ⊥)
-      → sub_local_refusal publication change s ≡ None → sub_drawn s change ≡ Ok d
-      → P (with_subscriber (sub_made_locally publication change d (sub_at_moment w.moment s)).0 w) (Noting.with_change publication (sub_next_dot s) (sub_last_closed s + 1) change d.0 h)
-  pub sub_closing : (w : World) (h : History) (s : SubscriberTables) → B w h → P w h → subscriber_at w s.site ≡ Some s → P (with_subscriber (sub_closed (sub_at_moment w.moment s)) w) h
+  pub subscriber_change : (w : World) (h : History) (s : SubscriberTables) (change : Change) (d : Value × List (ℕ × Holder)) → B w h → P w h → subscriber_at w s.site ≡ Some s → (s.site.0 ≡ 0 → ⊥)
+      → subscriber_local_refusal publication change s ≡ None → subscriber_drawn s change ≡ Ok d
+      → P (with_subscriber (subscriber_made_locally publication change d (subscriber_at_moment w.moment s)).0 w) (Noting.with_change publication (subscriber_next_dot s) (subscriber_last_closed s + 1) change d.0 h)
+  pub subscriber_closing : (w : World) (h : History) (s : SubscriberTables) → B w h → P w h → subscriber_at w s.site ≡ Some s → P (with_subscriber (subscriber_closed (subscriber_at_moment w.moment s)) w) h
   pub anew : (w : World) (h : History) (s : SubscriberTables) → B w h → P w h → subscriber_at w s.site ≡ Some s
-      → (let judge : SubscriberJudge = by_made h s.site in P (with_subscriber (reinitialised judge (sub_at_moment w.moment s)).0 w) (Noting.noted_anew judge s h))
+      → (let judge : SubscriberJudge = by_made h s.site in P (with_subscriber (reinitialised judge (subscriber_at_moment w.moment s)).0 w) (Noting.noted_anew judge s h))
   -- the messages that it makes
   pub sends_join : (w : World) (h : History) (s : SubscriberTables) → B w h → P w h → subscriber_at w s.site ≡ Some s → s.is_joined ≡ false
       → Sends P s.site (Asks (request.Join (join_of s))) (with_subscriber (with_message ask.Join s) w) h
   pub sends_upload : (w : World) (h : History) (s : SubscriberTables) → B w h → P w h → subscriber_at w s.site ≡ Some s → sending_refusal s ≡ None
-      → (let made : SubscriberTables × Upload = upload_sent (by_made h s.site) (sub_closed (sub_at_moment w.moment s)) in Sends P s.site (Asks (request.Upload made.1)) (with_subscriber made.0 w) h)
+      → (let made : SubscriberTables × Upload = upload_sent (by_made h s.site) (subscriber_closed (subscriber_at_moment w.moment s)) in Sends P s.site (Asks (request.Upload made.1)) (with_subscriber made.0 w) h)
   pub sends_ranges : (w : World) (h : History) (s : SubscriberTables) → B w h → P w h → subscriber_at w s.site ≡ Some s → sending_refusal s ≡ None
       → Sends P s.site (Asks (request.Ranges (record { site = s.site; seq = s.seq + 1; wants = map want_of s.held }))) (with_subscriber (with_message ask.Ranges s) w) h
   pub sends_ask : (w : World) (h : History) (s : SubscriberTables) → B w h → P w h → subscriber_at w s.site ≡ Some s → sending_refusal s ≡ None
@@ -244,35 +244,35 @@ module _ (publication : Publication) (says : Saying) (B P : World → History �
       own : subscriber_at w s.site ≡ Some s
       own = own-at w h r site s at
 
-      sub-drawn : (change : Change) (draw : Result (Value × List (ℕ × Holder)) Refusal) → (s.site.0 ≡ 0 → ⊥) → sub_local_refusal publication change s ≡ None → sub_drawn s change ≡ draw
-          → (let done : Result (SubscriberTables × RowId) Refusal = elim draw [ Err refusal ↦ Err refusal | Ok d ↦ Ok (sub_made_locally publication change d (sub_at_moment w.moment s)) ] in
-          let after : History = elim draw [ Err refusal ↦ h | Ok d ↦ Noting.with_change publication (sub_next_dot s) (sub_last_closed s + 1) change d.0 h ] in
+      sub-drawn : (change : Change) (draw : Result (Value × List (ℕ × Holder)) Refusal) → (s.site.0 ≡ 0 → ⊥) → subscriber_local_refusal publication change s ≡ None → subscriber_drawn s change ≡ draw
+          → (let done : Result (SubscriberTables × RowId) Refusal = elim draw [ Err refusal ↦ Err refusal | Ok d ↦ Ok (subscriber_made_locally publication change d (subscriber_at_moment w.moment s)) ] in
+          let after : History = elim draw [ Err refusal ↦ h | Ok d ↦ Noting.with_change publication (subscriber_next_dot s) (subscriber_last_closed s + 1) change d.0 h ] in
           After (unless_refused w done (λ (made : SubscriberTables × RowId). (with_subscriber made.0 w, Made made.1))) after h)
       sub-drawn change (Err refusal) named fine is = p
-      sub-drawn change (Ok d) named fine is = keeps.sub_change w h s change d b p own named fine is
+      sub-drawn change (Ok d) named fine is = keeps.subscriber_change w h s change d b p own named fine is
 
-      sub-refused : (change : Change) (refusal : Option Refusal) → (s.site.0 ≡ 0 → ⊥) → sub_local_refusal publication change s ≡ refusal
+      sub-refused : (change : Change) (refusal : Option Refusal) → (s.site.0 ≡ 0 → ⊥) → subscriber_local_refusal publication change s ≡ refusal
           → (let done : Result (SubscriberTables × RowId) Refusal = elim refusal [
             | Some why ↦ Err why
-            | None ↦ elim (sub_drawn s change) [ Err why ↦ Err why | Ok d ↦ Ok (sub_made_locally publication change d (sub_at_moment w.moment s)) ]
+            | None ↦ elim (subscriber_drawn s change) [ Err why ↦ Err why | Ok d ↦ Ok (subscriber_made_locally publication change d (subscriber_at_moment w.moment s)) ]
           ] in
           After (unless_refused w done (λ (made : SubscriberTables × RowId). (with_subscriber made.0 w, Made made.1))) (Noting.noted_at_subscriber publication change s h) h)
       sub-refused change (Some why) named is = p
-      sub-refused change None named is = sub-drawn change (sub_drawn s change) named is refl
+      sub-refused change None named is = sub-drawn change (subscriber_drawn s change) named is refl
 
     make-after : (site : SiteId) (change : Change) → After (make_at publication (by_history h) site change w) (noted publication says (by_history h) w (Make site change) h) h
     make-after site change = if-after (site.0 == 0) (make_at_publisher publication (by_history h) change w) (at_subscriber site w (make_at_subscriber publication change w))
         (Noting.noted_at_publisher publication (by_past h (pasts_with h 0)) change (here w) h) (let after : History = elim (subscriber_at w site) [ None ↦ h | Some s ↦ Noting.noted_at_subscriber publication change s h ] in after) h
         (λ own. own-after change)
         (λ named. there-after site (subscriber_at w site) (make_at_subscriber publication change w) (λ (s : SubscriberTables). Noting.noted_at_subscriber publication change s h) refl
-        (λ s at. sub-refused site s at change (sub_local_refusal publication change s) (λ is. not-zero site.0 named (sym (r.subscribers site.0 s at).keyed ∙ is)) refl))
+        (λ s at. sub-refused site s at change (subscriber_local_refusal publication change s) (λ is. not-zero site.0 named (sym (r.subscribers site.0 s at).keyed ∙ is)) refl))
 
     close-after : (site : SiteId) → After (close_at site w) h h
     close-after site = if-same (site.0 == 0) (close_publisher w) (at_subscriber site w (close_subscriber w)) h
         (unless-after (counter_end (counters w.publisher)) (closed (here w), last_closed (closed (here w))) (λ (done : PublisherTables × ℕ). (with_publisher done.0 w, Closes done.1)) h (λ fine. keeps.own_closing w h b p))
         (there-same site (subscriber_at w site) (close_subscriber w) refl
-        (λ s at. (let t : SubscriberTables = sub_closed (sub_at_moment w.moment s) in
-        unless-after (counter_end (sub_counters s)) (t, sub_last_closed t) (λ (done : SubscriberTables × ℕ). (with_subscriber done.0 w, Closes done.1)) h (λ fine. keeps.sub_closing w h s b p (own site s at)))))
+        (λ s at. (let t : SubscriberTables = subscriber_closed (subscriber_at_moment w.moment s) in
+        unless-after (counter_end (subscriber_counters s)) (t, subscriber_last_closed t) (λ (done : SubscriberTables × ℕ). (with_subscriber done.0 w, Closes done.1)) h (λ fine. keeps.subscriber_closing w h s b p (own site s at)))))
 
     -- Messages that a subscriber makes.
 
@@ -282,10 +282,10 @@ module _ (publication : Publication) (says : Saying) (B P : World → History �
       join-after false is = post-after s.site (Asks (request.Join (join_of s))) (with_subscriber (with_message ask.Join s) w) h h (keeps.sends_join w h s b p (own site s at) is)
 
       upload-after : (rows : List (Key × ℕ)) → sending_refusal s ≡ None
-          → (let made : Option (SubscriberTables × Upload) = elim rows [ [] ↦ None | row ∷ rest ↦ Some (upload_sent (by_made h s.site) (sub_closed (sub_at_moment w.moment s))) ] in After (posted s.site (λ (m : Upload). request.Upload m) w made) h h)
+          → (let made : Option (SubscriberTables × Upload) = elim rows [ [] ↦ None | row ∷ rest ↦ Some (upload_sent (by_made h s.site) (subscriber_closed (subscriber_at_moment w.moment s))) ] in After (posted s.site (λ (m : Upload). request.Upload m) w made) h h)
       upload-after [] fine = p
       upload-after (row ∷ rest) fine =
-          let made : SubscriberTables × Upload = upload_sent (by_made h s.site) (sub_closed (sub_at_moment w.moment s)) in
+          let made : SubscriberTables × Upload = upload_sent (by_made h s.site) (subscriber_closed (subscriber_at_moment w.moment s)) in
           post-after s.site (Asks (request.Upload made.1)) (with_subscriber made.0 w) h h (keeps.sends_upload w h s b p (own site s at) fine)
 
       ranges-after : (held : List (ℕ × Holder)) → sending_refusal s ≡ None → (let made : Option (SubscriberTables × RangeAsk) = elim held [ [] ↦ None | entry ∷ entries ↦ Some (with_message ask.Ranges s, record { site = s.site; seq = s.seq + 1; wants = map want_of s.held }) ] in After (posted s.site (λ (m : RangeAsk). request.Ranges m) w made) h h)
@@ -293,7 +293,7 @@ module _ (publication : Publication) (says : Saying) (B P : World → History �
       ranges-after (entry ∷ entries) fine = post-after s.site (Asks (request.Ranges (record { site = s.site; seq = s.seq + 1; wants = map want_of s.held }))) (with_subscriber (with_message ask.Ranges s) w) h h (keeps.sends_ranges w h s b p (own site s at) fine)
 
       send-after : (sending : Sending) → After (send_from (by_history h) sending w s) h h
-      send-after SendJoin = unless-after (counter_end (sub_counters s)) (join_made s) (posted s.site (λ (m : Join). request.Join m) w) h (λ fine. join-after s.is_joined refl)
+      send-after SendJoin = unless-after (counter_end (subscriber_counters s)) (join_made s) (posted s.site (λ (m : Join). request.Join m) w) h (λ fine. join-after s.is_joined refl)
       send-after SendUpload = unless-after (sending_refusal s) (upload_made (by_made h s.site) w.moment s) (posted s.site (λ (m : Upload). request.Upload m) w) h (λ fine. upload-after (unsent_rows (by_made h s.site) s) fine)
       send-after SendRanges = unless-after (sending_refusal s) (ranges_made s) (posted s.site (λ (m : RangeAsk). request.Ranges m) w) h (λ fine. ranges-after s.held fine)
       send-after SendDownload =
@@ -302,7 +302,7 @@ module _ (publication : Publication) (says : Saying) (B P : World → History �
           (λ fine. post-after s.site (Asks (request.Download made.1)) (with_subscriber made.0 w) h h (keeps.sends_ask w h s b p (own site s at) fine))
 
       anew-after : After (make_anew (by_history h) w s) (Noting.noted_anew (by_made h s.site) s h) h
-      anew-after = unless-after (counter_end (sub_counters s)) (reinitialised (by_made h s.site) (sub_at_moment w.moment s)) (λ (done : SubscriberTables × ℕ). (with_subscriber done.0 w, Discards done.1)) (Noting.noted_anew (by_made h s.site) s h)
+      anew-after = unless-after (counter_end (subscriber_counters s)) (reinitialised (by_made h s.site) (subscriber_at_moment w.moment s)) (λ (done : SubscriberTables × ℕ). (with_subscriber done.0 w, Discards done.1)) (Noting.noted_anew (by_made h s.site) s h)
           (λ fine. keeps.anew w h s b p (own site s at))
 
       -- Replies.

@@ -25,7 +25,7 @@ use Rattle.merge_model.specs.Judge.ByHistory.{received_by_done, received_number_
 use Rattle.merge_model.specs.Laws.Bridge.{SubscriberDecidesAlike}
 use Rattle.merge_model.specs.Tables.Keys.{at_number}
 use Rattle.merge_model.specs.Tables.{SubscriberTables}
-use Rattle.merge_model.specs.Subscriber.{sub_last_closed}
+use Rattle.merge_model.specs.Subscriber.{subscriber_last_closed}
 use Rattle.merge_model.specs.World.{Saying, letter_at}
 use Rattle.merge_model.specs.declared.letter.Message.TheVariants.{Asks}
 use Rattle.merge_model.specs.History.Model.{Model}
@@ -74,7 +74,7 @@ GapIsDone m = (site from : ℕ) → is_gap_by_number m.world.publisher site from
 
 -- A site never takes as received, nor does the publisher, a generation that the site has not closed.
 abbrev pub TakesOnlyClosed : Model → Type 0
-TakesOnlyClosed m = (site : ℕ) (s : SubscriberTables) → at_number m.world.subscribers site ≡ Some s → (s.received ≤ sub_last_closed s) × (received_by_number m.world.publisher site ≤ sub_last_closed s)
+TakesOnlyClosed m = (site : ℕ) (s : SubscriberTables) → at_number m.world.subscribers site ≡ Some s → (s.received ≤ subscriber_last_closed s) × (received_by_number m.world.publisher site ≤ subscriber_last_closed s)
 
 -- The publisher's number of a site's last change is the greatest number of a change in the generations that have acted.
 abbrev pub ReceivedNumberIsDone : Model → Type 0
@@ -86,7 +86,7 @@ UnmetIsDone m = (site number : ℕ) → 1 ≤ number → is_unmet_by_number m.wo
 
 -- A subscriber keeps of each closed generation that is not received the greatest number of a change up to it, and so does an upload tell that of its last generation.
 abbrev pub ClosingsKeepTheLast : Model → Type 0
-ClosingsKeepTheLast m = (site generation : ℕ) (s : SubscriberTables) → at_number m.world.subscribers site ≡ Some s → s.received < generation → generation ≤ sub_last_closed s → moment_of s.gens.closings generation ≡ Some (last_through m.history site generation)
+ClosingsKeepTheLast m = (site generation : ℕ) (s : SubscriberTables) → at_number m.world.subscribers site ≡ Some s → s.received < generation → generation ≤ subscriber_last_closed s → moment_of s.gens.closings generation ≡ Some (last_through m.history site generation)
 
 abbrev pub UploadsTellTheLast : Model → Type 0
 UploadsTellTheLast m = (number : ℕ) (site : SiteId) (u : Upload) → letter_at m.world number ≡ Some (record { site = site; message = Asks (request.Upload u) }) → u.from < u.to → u.through ≡ last_through m.history site.0 u.to

@@ -4,7 +4,7 @@ use Rattle.std.specs.List.{All, AllPairs, Contains}
 use Rattle.std.proofs.lemmas.List.Elements.{All-cons}
 use Rattle.std.proofs.lemmas.List.Kept.{AllPairs-cons}
 use Rattle.merge_types.specs.Names.{is_name_text}
-use Rattle.merge_types.specs.declared.values.ColType.TheVariants as ty
+use Rattle.merge_types.specs.declared.values.ColumnType.TheVariants as ty
 use Rattle.merge_types.specs.declared.values.Column.{Column}
 use Rattle.merge_filter.specs.Answers.{IsAnswer as IsFilterAnswer}
 use Rattle.merge_filter.specs.Grammar.{column, compared, conj, filter, host, no_and, no_or}

@@ -1,7 +1,7 @@
 -- The publication of the generated script: customers, who go to the site of their region, and their orders.
 use Rattle.std.specs.Prelude.{List, None, Some, [], codes, ℕ, ◌∷◌}
 use Rattle.merge_types.specs.declared.values.Column.{Column}
-use Rattle.merge_types.specs.declared.values.ColType.TheVariants as ty
+use Rattle.merge_types.specs.declared.values.ColumnType.TheVariants as ty
 use Rattle.merge_types.specs.declared.changes.Tracking.TheVariants as tracking
 use Rattle.merge_filter.specs.Syntax.{Compare, Syntax}
 use Rattle.merge_filter.specs.declared.tree.Operand.TheVariants as operand
@@ -9,7 +9,7 @@ use Rattle.merge_filter.specs.declared.word.Sign.TheVariants as sign
 use Rattle.merge_schema.specs.declared.publication.Article.{Article}
 use Rattle.merge_schema.specs.declared.publication.JoinFilter.{JoinFilter}
 use Rattle.merge_schema.specs.declared.publication.Publication.{Publication}
-use Rattle.merge_schema.specs.declared.publication.SubKind.TheVariants as kind
+use Rattle.merge_schema.specs.declared.publication.SubscriptionKind.TheVariants as kind
 use Rattle.merge_schema.specs.declared.publication.Subscription.{Subscription}
 
 abbrev pub customer_columns : List Column

@@ -4,11 +4,11 @@ ghost use Rattle.merge_schema.specs.Valid.{IsValid};
 ghost use Rattle.merge_make.specs.Publication.{client, customer, customer_columns, made, of_region, order_columns, orders};
 
 use merge_filter::{Filter, parse};
-use merge_schema::{Article, JoinFilter, Publication, SubKind, Subscription};
-use merge_types::{ColType, Column, HostName, Listing, NoMemory, SiteId, Tracking, Words};
+use merge_schema::{Article, JoinFilter, Publication, Subscription, SubscriptionKind};
+use merge_types::{Column, ColumnType, HostName, Listing, NoMemory, SiteId, Tracking, Words};
 use std::alloc::Global;
 
-fn column(alloc: Global, name: &str, ty: ColType) -> Result<Column, NoMemory>
+fn column(alloc: Global, name: &str, ty: ColumnType) -> Result<Column, NoMemory>
     ensures { IfOk result (λ column. column ≡ record { name = name.now; ty = ty }) }
 {
     Ok(Column {
@@ -21,9 +21,9 @@ fn customer_columns(alloc: Global) -> Result<Listing<Column>, NoMemory>
     ensures { IfOk result (λ columns. columns ≡ customer_columns) }
 {
     let mut columns = Listing::empty(alloc);
-    columns.push(column(alloc, "id", ColType::Int)?)?;
-    columns.push(column(alloc, "region", ColType::Text)?)?;
-    columns.push(column(alloc, "credit", ColType::Int)?)?;
+    columns.push(column(alloc, "id", ColumnType::Int)?)?;
+    columns.push(column(alloc, "region", ColumnType::Text)?)?;
+    columns.push(column(alloc, "credit", ColumnType::Int)?)?;
     Ok(columns)
 }
 
@@ -31,8 +31,8 @@ fn order_columns(alloc: Global) -> Result<Listing<Column>, NoMemory>
     ensures { IfOk result (λ columns. columns ≡ order_columns) }
 {
     let mut columns = Listing::empty(alloc);
-    columns.push(column(alloc, "id", ColType::Int)?)?;
-    columns.push(column(alloc, "cust", ColType::Int)?)?;
+    columns.push(column(alloc, "id", ColumnType::Int)?)?;
+    columns.push(column(alloc, "cust", ColumnType::Int)?)?;
     Ok(columns)
 }
 
@@ -92,7 +92,7 @@ fn client(alloc: Global, site: u16, host: &str) -> Result<Subscription, NoMemory
     Ok(Subscription {
         site: SiteId(site),
         host: HostName(Words::of(alloc, host)?),
-        kind: SubKind::Client,
+        kind: SubscriptionKind::Client,
         priority: 0,
     })
 }

@@ -29,7 +29,7 @@ use Rattle.merge_model.specs.Tables.Refusals.{unless, counter_end}
 use Rattle.merge_model.specs.Tables.Changes.{key_of, version_after}
 use Rattle.merge_model.specs.Judge.{SubscriberJudge}
 use Rattle.merge_model.specs.World.Faults.{reply_fault}
-use Rattle.merge_model.specs.Subscriber.{sub_local, sub_local_refusal, sub_drawn, sub_made_locally, sub_version_at, sub_next_dot, with_version_if, close_sub_generation, sub_closed, sub_at_moment, sub_counters, sub_last_closed}
+use Rattle.merge_model.specs.Subscriber.{subscriber_local, subscriber_local_refusal, subscriber_drawn, subscriber_made_locally, subscriber_version_at, subscriber_next_dot, with_version_if, close_subscriber_generation, subscriber_closed, subscriber_at_moment, subscriber_counters, subscriber_last_closed}
 use Rattle.merge_model.specs.Subscriber.Sending.{with_message}
 use Rattle.merge_gens.proofs.ClosedGenerations.{sound_kept}
 use Rattle.merge_model.specs.Subscriber.Taking.{taken, take_reply, met_by, seq_of, row_above, with_received, with_item, with_order, key_of_download}
@@ -49,25 +49,25 @@ unless-ok P (Some refusal) a h = tt
 unless-ok P None a h = h
 
 -- by what holds of the tables that a change, a reply or a making anew leaves
-sub_drawn-ok : (S : SubscriberTables → Type 0) (publication : Publication) (now : Moment) (change : Change) (s : SubscriberTables) (draw : Result (Value × List (ℕ × Holder)) Refusal)
-    → ((d : Value × List (ℕ × Holder)) → S (sub_made_locally publication change d (sub_at_moment now s)).0)
-    → (let done : Result (SubscriberTables × RowId) Refusal = elim draw [ Err refusal ↦ Err refusal | Ok d ↦ Ok (sub_made_locally publication change d (sub_at_moment now s)) ] in IfOk done (λ a. S a.0))
-sub_drawn-ok S publication now change s (Err refusal) each = tt
-sub_drawn-ok S publication now change s (Ok d) each = each d
+subscriber_drawn-ok : (S : SubscriberTables → Type 0) (publication : Publication) (now : Moment) (change : Change) (s : SubscriberTables) (draw : Result (Value × List (ℕ × Holder)) Refusal)
+    → ((d : Value × List (ℕ × Holder)) → S (subscriber_made_locally publication change d (subscriber_at_moment now s)).0)
+    → (let done : Result (SubscriberTables × RowId) Refusal = elim draw [ Err refusal ↦ Err refusal | Ok d ↦ Ok (subscriber_made_locally publication change d (subscriber_at_moment now s)) ] in IfOk done (λ a. S a.0))
+subscriber_drawn-ok S publication now change s (Err refusal) each = tt
+subscriber_drawn-ok S publication now change s (Ok d) each = each d
 
-sub_local-ok : (S : SubscriberTables → Type 0) (publication : Publication) (now : Moment) (change : Change) (s : SubscriberTables)
-    → ((d : Value × List (ℕ × Holder)) → S (sub_made_locally publication change d (sub_at_moment now s)).0) → IfOk (sub_local publication now change s) (λ done. S done.0)
-sub_local-ok S publication now change s each = elim (sub_local_refusal publication change s)
+subscriber_local-ok : (S : SubscriberTables → Type 0) (publication : Publication) (now : Moment) (change : Change) (s : SubscriberTables)
+    → ((d : Value × List (ℕ × Holder)) → S (subscriber_made_locally publication change d (subscriber_at_moment now s)).0) → IfOk (subscriber_local publication now change s) (λ done. S done.0)
+subscriber_local-ok S publication now change s each = elim (subscriber_local_refusal publication change s)
     as (λ (refusal : Option Refusal). (let done : Result (SubscriberTables × RowId) Refusal = elim refusal [
       | Some why ↦ Err why
-      | None ↦ elim (sub_drawn s change) [ Err why ↦ Err why | Ok d ↦ Ok (sub_made_locally publication change d (sub_at_moment now s)) ]
+      | None ↦ elim (subscriber_drawn s change) [ Err why ↦ Err why | Ok d ↦ Ok (subscriber_made_locally publication change d (subscriber_at_moment now s)) ]
     ] in IfOk done (λ a. S a.0))) [
       | Some why ↦ tt
-      | None ↦ sub_drawn-ok S publication now change s (sub_drawn s change) each
+      | None ↦ subscriber_drawn-ok S publication now change s (subscriber_drawn s change) each
     ]
 
-close-ok : (S : SubscriberTables → Type 0) (now : Moment) (s : SubscriberTables) → S (sub_closed (sub_at_moment now s)) → IfOk (close_sub_generation now s) (λ done. S done.0)
-close-ok S now s h = unless-ok (λ (done : SubscriberTables × ℕ). S done.0) (counter_end (sub_counters s)) (sub_closed (sub_at_moment now s), sub_last_closed (sub_closed (sub_at_moment now s))) h
+close-ok : (S : SubscriberTables → Type 0) (now : Moment) (s : SubscriberTables) → S (subscriber_closed (subscriber_at_moment now s)) → IfOk (close_subscriber_generation now s) (λ done. S done.0)
+close-ok S now s h = unless-ok (λ (done : SubscriberTables × ℕ). S done.0) (counter_end (subscriber_counters s)) (subscriber_closed (subscriber_at_moment now s), subscriber_last_closed (subscriber_closed (subscriber_at_moment now s))) h
 
 if-ok : (S : SubscriberTables → Type 0) (b : Bool) (x y : Result (SubscriberTables × Taken) Refusal) → IfOk x (λ done. S done.0) → IfOk y (λ done. S done.0) → IfOk (if b then x else y) (λ done. S done.0)
 if-ok S true x y first second = first
@@ -88,8 +88,8 @@ reply-ok S publication judge now (reply.Ranged m) s same news = met-ok S publica
 reply-ok S publication judge now (reply.Downloaded m) s same news = met-ok S publication judge now (reply.Downloaded m) s s.outstanding same news
 reply-ok S publication judge now (reply.Refused number values) s same news = same
 
-anew-ok : (S : SubscriberTables → Type 0) (judge : SubscriberJudge) (now : Moment) (s : SubscriberTables) → S (reinitialised judge (sub_at_moment now s)).0 → IfOk (reinitialise judge now s) (λ done. S done.0)
-anew-ok S judge now s h = unless-ok (λ (done : SubscriberTables × ℕ). S done.0) (counter_end (sub_counters s)) (reinitialised judge (sub_at_moment now s)) h
+anew-ok : (S : SubscriberTables → Type 0) (judge : SubscriberJudge) (now : Moment) (s : SubscriberTables) → S (reinitialised judge (subscriber_at_moment now s)).0 → IfOk (reinitialise judge now s) (λ done. S done.0)
+anew-ok S judge now s h = unless-ok (λ (done : SubscriberTables × ℕ). S done.0) (counter_end (subscriber_counters s)) (reinitialised judge (subscriber_at_moment now s)) h
 
 -- Numbers rise.
 
@@ -103,14 +103,14 @@ version-rises b s key (Some version) r = record {
   latest_rises = r.latest_rises;
 }
 
-made-rises : (publication : Publication) (now : Moment) (change : Change) (s : SubscriberTables) (d : Value × List (ℕ × Holder)) → SubscriberRises s (sub_made_locally publication change d (sub_at_moment now s)).0
+made-rises : (publication : Publication) (now : Moment) (change : Change) (s : SubscriberTables) (d : Value × List (ℕ × Holder)) → SubscriberRises s (subscriber_made_locally publication change d (subscriber_at_moment now s)).0
 made-rises publication now change s d =
-    let t : SubscriberTables = sub_at_moment now s in
+    let t : SubscriberTables = subscriber_at_moment now s in
     let u : SubscriberTables = record t { changes = t.changes + 1; held = d.1 } in
-    version-rises s u (key_of (sub_next_dot t) change) (version_after publication (sub_next_dot t) d.0 change (sub_version_at t (key_of (sub_next_dot t) change)))
+    version-rises s u (key_of (subscriber_next_dot t) change) (version_after publication (subscriber_next_dot t) d.0 change (subscriber_version_at t (key_of (subscriber_next_dot t) change)))
     (record { changes_rise = omega arith; closed_rises = omega arith; seq_rises = omega arith; conflicts_rise = omega arith; latest_rises = omega arith })
 
-closing-rises : (now : Moment) (s : SubscriberTables) → SubscriberRises s (sub_closed (sub_at_moment now s))
+closing-rises : (now : Moment) (s : SubscriberTables) → SubscriberRises s (subscriber_closed (subscriber_at_moment now s))
 closing-rises now s = record {
   changes_rise = omega arith;
   closed_rises = closed_filling-rises s.gens.filling;
@@ -132,7 +132,7 @@ taken-rises judge now (reply.Ranged m) s = record { changes_rise = omega arith; 
 taken-rises judge now (reply.Downloaded m) s = record { changes_rise = omega arith; closed_rises = omega arith; seq_rises = omega arith; conflicts_rise = omega arith; latest_rises = omega arith }
 taken-rises judge now (reply.Refused number values) s = record { changes_rise = omega arith; closed_rises = omega arith; seq_rises = omega arith; conflicts_rise = omega arith; latest_rises = omega arith }
 
-anew-rises : (judge : SubscriberJudge) (now : Moment) (s : SubscriberTables) → SubscriberRises s (reinitialised judge (sub_at_moment now s)).0
+anew-rises : (judge : SubscriberJudge) (now : Moment) (s : SubscriberTables) → SubscriberRises s (reinitialised judge (subscriber_at_moment now s)).0
 anew-rises judge now s = record {
   changes_rise = omega arith;
   closed_rises = closed_filling-rises s.gens.filling;
@@ -143,7 +143,7 @@ anew-rises judge now s = record {
 
 pub subscriber_numbers_rise : SubscriberNumbersRise
 subscriber_numbers_rise = record {
-  by_change = λ publication now change s. sub_local-ok (SubscriberRises s) publication now change s (made-rises publication now change s);
+  by_change = λ publication now change s. subscriber_local-ok (SubscriberRises s) publication now change s (made-rises publication now change s);
   by_close = λ now s. close-ok (SubscriberRises s) now s (closing-rises now s);
   by_message = message-rises;
   by_closing = closing-rises;
@@ -177,7 +177,7 @@ items-sorted judge received [] rows k = k
 items-sorted judge received (item ∷ items) rows k = items-sorted judge received items (with_item judge received rows item)
     (if-sorted (judge.is_unsent received (key_of_download item)) rows (with_order (key_of_download item) item.act rows) k (order-sorted (key_of_download item) item.act rows k))
 
-at_moment-sorted : (now : Moment) (s : SubscriberTables) → AreSubSorted s → AreSubSorted (sub_at_moment now s)
+at_moment-sorted : (now : Moment) (s : SubscriberTables) → AreSubSorted s → AreSubSorted (subscriber_at_moment now s)
 at_moment-sorted now s k = record { rows_ascend = k.rows_ascend; generations_ascend = k.generations_ascend }
 
 version-sorted : (key : Key) (version : Option Version) (s : SubscriberTables) → AreSubSorted s → AreSubSorted (with_version_if key version s)
@@ -187,13 +187,13 @@ version-sorted key (Some version) s k = record {
   generations_ascend = entered-sound s.gens 1 (record { 0 = s.changes }) k.generations_ascend;
 }
 
-made-sorted : (publication : Publication) (change : Change) (d : Value × List (ℕ × Holder)) (t : SubscriberTables) → AreSubSorted t → AreSubSorted (sub_made_locally publication change d t).0
+made-sorted : (publication : Publication) (change : Change) (d : Value × List (ℕ × Holder)) (t : SubscriberTables) → AreSubSorted t → AreSubSorted (subscriber_made_locally publication change d t).0
 made-sorted publication change d t k =
     let u : SubscriberTables = record t { changes = t.changes + 1; held = d.1 } in
-    version-sorted (key_of (sub_next_dot t) change) (version_after publication (sub_next_dot t) d.0 change (sub_version_at t (key_of (sub_next_dot t) change))) u
+    version-sorted (key_of (subscriber_next_dot t) change) (version_after publication (subscriber_next_dot t) d.0 change (subscriber_version_at t (key_of (subscriber_next_dot t) change))) u
     (record { rows_ascend = k.rows_ascend; generations_ascend = k.generations_ascend })
 
-closing-sorted : (now : Moment) (s : SubscriberTables) → AreSubSorted s → AreSubSorted (sub_closed (sub_at_moment now s))
+closing-sorted : (now : Moment) (s : SubscriberTables) → AreSubSorted s → AreSubSorted (subscriber_closed (subscriber_at_moment now s))
 closing-sorted now s k = record { rows_ascend = k.rows_ascend; generations_ascend = closed-sound s.gens (record { 0 = s.changes }) k.generations_ascend }
 
 message-sorted : (sent : Outstanding) (s : SubscriberTables) → AreSubSorted s → AreSubSorted (with_message sent s)
@@ -202,16 +202,16 @@ message-sorted sent s k = record { rows_ascend = k.rows_ascend; generations_asce
 taken-sorted : (judge : SubscriberJudge) (now : Moment) (m : Reply) (s : SubscriberTables) → AreSubSorted s → AreSubSorted (taken judge now m s)
 taken-sorted judge now (reply.Joined m) s k = record { rows_ascend = k.rows_ascend; generations_ascend = k.generations_ascend }
 taken-sorted judge now (reply.Uploaded m) s k =
-    let t : SubscriberTables = record (sub_at_moment now s) { outstanding = None } in
+    let t : SubscriberTables = record (subscriber_at_moment now s) { outstanding = None } in
     received-sorted m.received t (record { rows_ascend = k.rows_ascend; generations_ascend = k.generations_ascend })
 taken-sorted judge now (reply.Ranged m) s k = record { rows_ascend = k.rows_ascend; generations_ascend = k.generations_ascend }
 taken-sorted judge now (reply.Downloaded m) s k =
-    let t : SubscriberTables = record (sub_at_moment now s) { outstanding = None } in
+    let t : SubscriberTables = record (subscriber_at_moment now s) { outstanding = None } in
     let r : AreSubSorted (with_received m.received t) = received-sorted m.received t (record { rows_ascend = k.rows_ascend; generations_ascend = k.generations_ascend }) in
     record { rows_ascend = items-sorted judge m.received m.items (with_received m.received t).rows r.rows_ascend; generations_ascend = r.generations_ascend }
 taken-sorted judge now (reply.Refused number values) s k = record { rows_ascend = k.rows_ascend; generations_ascend = k.generations_ascend }
 
-anew-sorted : (judge : SubscriberJudge) (now : Moment) (s : SubscriberTables) → AreSubSorted s → AreSubSorted (reinitialised judge (sub_at_moment now s)).0
+anew-sorted : (judge : SubscriberJudge) (now : Moment) (s : SubscriberTables) → AreSubSorted s → AreSubSorted (reinitialised judge (subscriber_at_moment now s)).0
 unfolding IsStrictlySortedBy
 anew-sorted judge now s k = record {
   rows_ascend = tt;
@@ -220,7 +220,7 @@ anew-sorted judge now s k = record {
 
 pub step-sub-sorted : (publication : Publication) (says : Saying) (judges : Judges) (w : World) (action : Action) → AllHold AreSubSorted w.subscribers → AllHold AreSubSorted (step_by publication says judges w action).0.subscribers
 step-sub-sorted publication says judges w action k = sub-step-holds publication AreSubSorted
-    (λ now change s h. sub_local-ok AreSubSorted publication now change s (λ d. made-sorted publication change d (sub_at_moment now s) (at_moment-sorted now s h)))
+    (λ now change s h. subscriber_local-ok AreSubSorted publication now change s (λ d. made-sorted publication change d (subscriber_at_moment now s) (at_moment-sorted now s h)))
     (λ now s h. close-ok AreSubSorted now s (closing-sorted now s h))
     message-sorted
     closing-sorted

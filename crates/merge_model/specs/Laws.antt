@@ -36,7 +36,7 @@ use Rattle.merge_model.specs.Subscriber.Reinit.{reinitialise}
 use Rattle.merge_model.specs.Subscriber.Sending.{with_message}
 use Rattle.merge_model.specs.World.Steps.{Action, step, step_by}
 use Rattle.merge_model.specs.declared.outcome.Outcome.TheVariants.{Refuses}
-use Rattle.merge_model.specs.Subscriber.{close_sub_generation, sub_at_moment, sub_closed, sub_local}
+use Rattle.merge_model.specs.Subscriber.{close_subscriber_generation, subscriber_at_moment, subscriber_closed, subscriber_local}
 use Rattle.merge_model.specs.Tables.{PublisherTables, SubscriberTables}
 use Rattle.merge_model.specs.Subscriber.Taking.{take_reply}
 use Rattle.merge_model.specs.World.{Judges, Saying, World}
@@ -138,10 +138,10 @@ pub record SubscriberRises (before after : SubscriberTables) : Type 0 where
   pub latest_rises : before.latest.0 ≤ after.latest.0
 
 pub record SubscriberNumbersRise : Type 0 where
-  pub by_change : (publication : Publication) (now : Moment) (change : Change) (s : SubscriberTables) → IfOk (sub_local publication now change s) (λ done. SubscriberRises s done.0)
-  pub by_close : (now : Moment) (s : SubscriberTables) → IfOk (close_sub_generation now s) (λ done. SubscriberRises s done.0)
+  pub by_change : (publication : Publication) (now : Moment) (change : Change) (s : SubscriberTables) → IfOk (subscriber_local publication now change s) (λ done. SubscriberRises s done.0)
+  pub by_close : (now : Moment) (s : SubscriberTables) → IfOk (close_subscriber_generation now s) (λ done. SubscriberRises s done.0)
   pub by_message : (sent : Outstanding) (s : SubscriberTables) → SubscriberRises s (with_message sent s)
-  pub by_closing : (now : Moment) (s : SubscriberTables) → SubscriberRises s (sub_closed (sub_at_moment now s))
+  pub by_closing : (now : Moment) (s : SubscriberTables) → SubscriberRises s (subscriber_closed (subscriber_at_moment now s))
   pub by_reply : (publication : Publication) (judge : SubscriberJudge) (now : Moment) (m : Reply) (s : SubscriberTables) → IfOk (take_reply publication judge now m s) (λ done. SubscriberRises s done.0)
   pub by_anew : (judge : SubscriberJudge) (now : Moment) (s : SubscriberTables) → IfOk (reinitialise judge now s) (λ done. SubscriberRises s done.0)
 

@@ -44,50 +44,50 @@ empty_subscriber publication site = record {
   held = new_holders publication;
 }
 
-abbrev pub sub_last_closed : SubscriberTables → ℕ
-sub_last_closed s = s.gens.filling.last_closed
+abbrev pub subscriber_last_closed : SubscriberTables → ℕ
+subscriber_last_closed s = s.gens.filling.last_closed
 
 -- a generation that closes keeps the number of the last change in it
-abbrev pub sub_closed : SubscriberTables → SubscriberTables
-sub_closed s = record s { gens = closed_now s.gens (record { 0 = s.changes }) }
+abbrev pub subscriber_closed : SubscriberTables → SubscriberTables
+subscriber_closed s = record s { gens = closed_now s.gens (record { 0 = s.changes }) }
 
-abbrev pub sub_at_moment : Moment → SubscriberTables → SubscriberTables
-sub_at_moment now s = record s { latest = later now s.latest }
+abbrev pub subscriber_at_moment : Moment → SubscriberTables → SubscriberTables
+subscriber_at_moment now s = record s { latest = later now s.latest }
 
-abbrev pub sub_counters : SubscriberTables → List ℕ
-sub_counters s = s.changes ∷ sub_last_closed s ∷ s.seq ∷ s.conflict_count ∷ []
+abbrev pub subscriber_counters : SubscriberTables → List ℕ
+subscriber_counters s = s.changes ∷ subscriber_last_closed s ∷ s.seq ∷ s.conflict_count ∷ []
 
 abbrev pub is_joining : SubscriberTables → Option Refusal
 is_joining s = refused_if (not s.is_joined) Joining
 
-abbrev pub close_sub_generation : Moment → SubscriberTables → Result (SubscriberTables × ℕ) Refusal
-close_sub_generation now s = let after = sub_closed (sub_at_moment now s) in unless (counter_end (sub_counters s)) (after, sub_last_closed after)
+abbrev pub close_subscriber_generation : Moment → SubscriberTables → Result (SubscriberTables × ℕ) Refusal
+close_subscriber_generation now s = let after = subscriber_closed (subscriber_at_moment now s) in unless (counter_end (subscriber_counters s)) (after, subscriber_last_closed after)
 
 -- Local changes.
 
-abbrev pub sub_version_at : SubscriberTables → Key → Option Version
-sub_version_at s key = option_map (λ (row : SubscriberRow). row.version) (row_at s.rows key)
+abbrev pub subscriber_version_at : SubscriberTables → Key → Option Version
+subscriber_version_at s key = option_map (λ (row : SubscriberRow). row.version) (row_at s.rows key)
 
-abbrev pub sub_next_dot : SubscriberTables → Dot
-sub_next_dot s = record { site = s.site; number = s.changes + 1 }
+abbrev pub subscriber_next_dot : SubscriberTables → Dot
+subscriber_next_dot s = record { site = s.site; number = s.changes + 1 }
 
 -- an identity value and the ranges that are left
 abbrev pub taken_value : SubscriberTables → ℕ → Holder → Result ℤ IdentityEnd → Result (Value × List (ℕ × Holder)) Refusal
 taken_value s article holder (Ok value) = Ok (Int value, put_number s.held article (after_take holder))
 taken_value s article holder (Err used_up) = Err (IdentityUsedUp used_up.end)
 
-abbrev pub sub_drawn : SubscriberTables → Change → Result (Value × List (ℕ × Holder)) Refusal
-sub_drawn s (Insert article values) = elim (at_number s.held article) [
+abbrev pub subscriber_drawn : SubscriberTables → Change → Result (Value × List (ℕ × Holder)) Refusal
+subscriber_drawn s (Insert article values) = elim (at_number s.held article) [
   | None ↦ Ok (Null, s.held)
   | Some holder ↦ taken_value s article holder (answer_to_take holder)
 ]
-sub_drawn s change = Ok (Null, s.held)
+subscriber_drawn s change = Ok (Null, s.held)
 
-abbrev pub sub_local_refusal : Publication → Change → SubscriberTables → Option Refusal
-sub_local_refusal publication change s = let dot = sub_next_dot s in first_refusal (
+abbrev pub subscriber_local_refusal : Publication → Change → SubscriberTables → Option Refusal
+subscriber_local_refusal publication change s = let dot = subscriber_next_dot s in first_refusal (
     is_joining s
-    ∷ counter_end (sub_counters s)
-    ∷ change_refusal publication dot change (sub_version_at s (key_of dot change)) (length s.rows)
+    ∷ counter_end (subscriber_counters s)
+    ∷ change_refusal publication dot change (subscriber_version_at s (key_of dot change)) (length s.rows)
     ∷ [])
 
 -- the generations in which a row was changed, with the open one
@@ -100,7 +100,7 @@ with_open current generations = filter (λ (generation : ℕ). nat_lt generation
 -- one entry in the open generation
 abbrev pub with_version : Key → Version → SubscriberTables → SubscriberTables
 with_version key version s = record s {
-  rows = put_row s.rows key (record { version = version; generations = with_open (sub_last_closed s + 1) (generations_at s key) });
+  rows = put_row s.rows key (record { version = version; generations = with_open (subscriber_last_closed s + 1) (generations_at s key) });
   gens = entered s.gens 1 (record { 0 = s.changes });
 }
 
@@ -108,17 +108,17 @@ abbrev pub with_version_if : Key → Option Version → SubscriberTables → Sub
 with_version_if key None s = s
 with_version_if key (Some version) s = with_version key version s
 
-abbrev pub sub_made_locally : Publication → Change → Value × List (ℕ × Holder) → SubscriberTables → SubscriberTables × RowId
-sub_made_locally publication change drawn s =
-    let dot = sub_next_dot s in
+abbrev pub subscriber_made_locally : Publication → Change → Value × List (ℕ × Holder) → SubscriberTables → SubscriberTables × RowId
+subscriber_made_locally publication change drawn s =
+    let dot = subscriber_next_dot s in
     let key = key_of dot change in
-    (with_version_if key (version_after publication dot drawn.0 change (sub_version_at s key)) (record s { changes = s.changes + 1; held = drawn.1 }), key.row)
+    (with_version_if key (version_after publication dot drawn.0 change (subscriber_version_at s key)) (record s { changes = s.changes + 1; held = drawn.1 }), key.row)
 
-abbrev pub sub_local : Publication → Moment → Change → SubscriberTables → Result (SubscriberTables × RowId) Refusal
-sub_local publication now change s = elim (sub_local_refusal publication change s) [
+abbrev pub subscriber_local : Publication → Moment → Change → SubscriberTables → Result (SubscriberTables × RowId) Refusal
+subscriber_local publication now change s = elim (subscriber_local_refusal publication change s) [
   | Some refusal ↦ Err refusal
-  | None ↦ elim (sub_drawn s change) [
+  | None ↦ elim (subscriber_drawn s change) [
     | Err refusal ↦ Err refusal
-    | Ok drawn ↦ Ok (sub_made_locally publication change drawn (sub_at_moment now s))
+    | Ok drawn ↦ Ok (subscriber_made_locally publication change drawn (subscriber_at_moment now s))
   ]
 ]

@@ -25,6 +25,6 @@ pub fn calls_are_steps()
 pub fn quiet_calls_change_nothing()
     ensures requests { QuietRequests }
     ensures closings { QuietClosings }
-    ensures sub_closings { QuietSubClosings }
+    ensures subscriber_closings { QuietSubClosings }
     ensures replies { QuietReplies }
 {}

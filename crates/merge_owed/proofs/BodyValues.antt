@@ -9,7 +9,7 @@ use Rattle.merge_types.specs.declared.changes.Setting.{Setting}
 use Rattle.merge_types.specs.declared.changes.Tracking.{Tracking}
 use Rattle.merge_types.specs.declared.changes.Tracking.TheVariants as tracking
 use Rattle.merge_types.specs.declared.identifiers.Dot.{Dot}
-use Rattle.merge_types.specs.declared.values.ColType.{ColType}
+use Rattle.merge_types.specs.declared.values.ColumnType.{ColumnType}
 use Rattle.merge_types.specs.declared.values.Value.{Value}
 use Rattle.merge_types.specs.declared.values.Value.TheVariants.{Null}
 use Rattle.merge_units.specs.Cases.{are_long, bodies_case, is_both, is_conflict, news_case, sides_of}
@@ -48,7 +48,7 @@ module _ (V : Option Value → Type 0) where
   either-fits value ours theirs (inr is) one other = subst V (sym is) other
 
   -- Merges.
-  module _ (meeting : Meeting) (resolver : ℕ) (decides : Option ℕ) (types : List ColType) (identity : Option ℕ) (tr : Tracking) (here there : Knowing) (dot : Dot) where
+  module _ (meeting : Meeting) (resolver : ℕ) (decides : Option ℕ) (types : List ColumnType) (identity : Option ℕ) (tr : Tracking) (here there : Knowing) (dot : Dot) where
     abbrev asked : Asked
     asked = asked_by meeting resolver decides types identity tr
 
@@ -160,7 +160,7 @@ module _ (V : Option Value → Type 0) where
       let new = new-columns dot values in
       ((new.0 ∙ even, new.1.0), λ column is. subst V (sym (ap (λ (vs : List Value). slice_get vs column) new.1.1)) (fits column is))
 
-  new-at : (g : ℕ → Value) (n k : ℕ) (types : List ColType) → k < length types → slice_get (map (λ (place : ℕ × ColType). g place.0) (enumerate_from n types)) k ≡ Some (g (n + k))
+  new-at : (g : ℕ → Value) (n k : ℕ) (types : List ColumnType) → k < length types → slice_get (map (λ (place : ℕ × ColumnType). g place.0) (enumerate_from n types)) k ≡ Some (g (n + k))
   new-at g n k [] low = absurd (omega (arith, low))
   new-at g n zero (ty ∷ types) low = ap (λ (place : ℕ). Some (g place)) (let same : n ≡ n + 0 = omega arith in same)
   new-at g n (suc k) (ty ∷ types) low = new-at g (n + 1) k types (omega (arith, low)) ∙ ap (λ (place : ℕ). Some (g place)) (let same : n + 1 + k ≡ n + suc k = omega arith in same)
@@ -169,11 +169,11 @@ module _ (V : Option Value → Type 0) where
   own-value true identity other is = refl
   own-value false identity other is = absurd cc
 
-  pub inserted-fits : (tr : Tracking) (types : List ColType) (identity : Option ℕ) (dot : Dot) (value : Value) (settings : List Setting) → ((column : ℕ) → identity ≡ Some column → column < length types) → V (Some value)
-      → CellsFit tr (length types) identity (new_cells tr dot (map (λ (place : ℕ × ColType). new_value identity value settings place.0) (enumerate_from 0 types)))
+  pub inserted-fits : (tr : Tracking) (types : List ColumnType) (identity : Option ℕ) (dot : Dot) (value : Value) (settings : List Setting) → ((column : ℕ) → identity ≡ Some column → column < length types) → V (Some value)
+      → CellsFit tr (length types) identity (new_cells tr dot (map (λ (place : ℕ × ColumnType). new_value identity value settings place.0) (enumerate_from 0 types)))
   inserted-fits tr types identity dot value settings within fits =
-      inserted-cells tr (length types) identity dot (map (λ (place : ℕ × ColType). new_value identity value settings place.0) (enumerate_from 0 types))
-      (length-map (enumerate_from 0 types) (λ (place : ℕ × ColType). new_value identity value settings place.0) ∙ length-enumerate_from 0 types)
+      inserted-cells tr (length types) identity dot (map (λ (place : ℕ × ColumnType). new_value identity value settings place.0) (enumerate_from 0 types))
+      (length-map (enumerate_from 0 types) (λ (place : ℕ × ColumnType). new_value identity value settings place.0) ∙ length-enumerate_from 0 types)
       (λ column is. subst V (sym (new-at (new_value identity value settings) 0 column types (within column is)
       ∙ ap (λ (place : ℕ). Some (new_value identity value settings place)) (let first : 0 + column ≡ column = omega arith in first)
       ∙ ap (λ (found : Option ℕ). Some (new_value found value settings column)) is

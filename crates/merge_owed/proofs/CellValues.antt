@@ -8,7 +8,7 @@ use Rattle.std.proofs.lemmas.Option.{slice_get-get_or, slice_get_within}
 use Rattle.merge_types.specs.declared.changes.Tracking.{Tracking}
 use Rattle.merge_types.specs.declared.changes.Tracking.TheVariants as tracking
 use Rattle.merge_types.specs.declared.identifiers.Dot.{Dot}
-use Rattle.merge_types.specs.declared.values.ColType.{ColType}
+use Rattle.merge_types.specs.declared.values.ColumnType.{ColumnType}
 use Rattle.merge_types.specs.declared.values.Value.{Value}
 use Rattle.merge_types.specs.Fitting.{fits_column}
 use Rattle.merge_units.specs.Cases.{side_of}
@@ -267,7 +267,7 @@ by-tests P true false kept keep custom = keep
 by-tests P false within kept keep custom = keep
 
 -- Two live bodies of one row.
-module _ (meeting : Meeting) (resolver : ℕ) (decides : Option ℕ) (types : List ColType) (identity : Option ℕ) where
+module _ (meeting : Meeting) (resolver : ℕ) (decides : Option ℕ) (types : List ColumnType) (identity : Option ℕ) where
   abbrev pub asked_by : Tracking → Asked
   asked_by tr = record { tracking = tr; resolver = resolver; column = decides; types = types; identity = identity }
 

@@ -32,7 +32,7 @@ use Rattle.merge_model.specs.Subscriber.Reinit.{reinitialised}
 use Rattle.merge_model.specs.History.Model.{Model}
 use Rattle.merge_model.specs.Failing.Runs.{model_behind, model_behind_actions}
 use Rattle.merge_model.specs.Subscriber.Sending.{upload_sent, with_message}
-use Rattle.merge_model.specs.Subscriber.{sub_at_moment, sub_closed, sub_drawn, sub_made_locally, taken_value, with_version_if}
+use Rattle.merge_model.specs.Subscriber.{subscriber_at_moment, subscriber_closed, subscriber_drawn, subscriber_made_locally, taken_value, with_version_if}
 use Rattle.merge_model.specs.Tables.{SubscriberTables}
 use Rattle.merge_model.specs.Subscriber.Taking.{taken, with_grant}
 use Rattle.merge_model.specs.World.{Saying, World, empty_world, with_subscriber}
@@ -72,7 +72,7 @@ found-drawn : (s : SubscriberTables) (article : ℕ) (found : Option Holder) →
 found-drawn s article None at all = all
 found-drawn s article (Some holder) at all = value-taken s article holder (answer_to_take holder) (all article holder at) all
 
-draw-keeps : (s : SubscriberTables) (change : Change) → AreThresholds s.held → IfOk (sub_drawn s change) (λ d. AreThresholds d.1)
+draw-keeps : (s : SubscriberTables) (change : Change) → AreThresholds s.held → IfOk (subscriber_drawn s change) (λ d. AreThresholds d.1)
 draw-keeps s (Insert article settings) all = found-drawn s article (at_number s.held article) refl all
 draw-keeps s (Update article row settings) all = all
 draw-keeps s (Delete article row) all = all
@@ -113,12 +113,12 @@ thresholds-keep publication says = record {
   own_closing = λ w h g p. p;
   forgetting = λ w h g p. p;
   same = λ w h s g p at. on-subscriber w h s p (p s.site.0 s at);
-  sub_change = λ w h s change d g p at named fine is. on-subscriber w h (sub_made_locally publication change d (sub_at_moment w.moment s)).0 p
+  subscriber_change = λ w h s change d g p at named fine is. on-subscriber w h (subscriber_made_locally publication change d (subscriber_at_moment w.moment s)).0 p
       (subst AreThresholds (sym (version-held _ _ _)) (subst (λ (draw : Result (Value × List (ℕ × Holder)) Refusal). IfOk draw (λ x. AreThresholds x.1)) is (draw-keeps s change (p s.site.0 s at))));
-  sub_closing = λ w h s g p at. on-subscriber w h (sub_closed (sub_at_moment w.moment s)) p (p s.site.0 s at);
-  anew = λ w h s g p at. on-subscriber w h (reinitialised (by_made h s.site) (sub_at_moment w.moment s)).0 p (p s.site.0 s at);
+  subscriber_closing = λ w h s g p at. on-subscriber w h (subscriber_closed (subscriber_at_moment w.moment s)) p (p s.site.0 s at);
+  anew = λ w h s g p at. on-subscriber w h (reinitialised (by_made h s.site) (subscriber_at_moment w.moment s)).0 p (p s.site.0 s at);
   sends_join = λ w h s g p at joining. on-subscriber w h (with_message ask.Join s) p (p s.site.0 s at);
-  sends_upload = λ w h s g p at fine. on-subscriber w h (upload_sent (by_made h s.site) (sub_closed (sub_at_moment w.moment s))).0 p (p s.site.0 s at);
+  sends_upload = λ w h s g p at fine. on-subscriber w h (upload_sent (by_made h s.site) (subscriber_closed (subscriber_at_moment w.moment s))).0 p (p s.site.0 s at);
   sends_ranges = λ w h s g p at fine. on-subscriber w h (with_message ask.Ranges s) p (p s.site.0 s at);
   sends_ask = λ w h s g p at fine. on-subscriber w h (with_message (ask.Download s.watermark) s) p (p s.site.0 s at);
   joins = λ w h number m g p at fine acts. p;

@@ -13,7 +13,7 @@ use Rattle.merge_types.specs.declared.identifiers.Dot.{Dot}
 use Rattle.merge_types.specs.declared.identifiers.RowId.{RowId}
 use Rattle.merge_types.specs.declared.identifiers.SiteId.{SiteId}
 use Rattle.merge_types.specs.declared.row_key.RowKey.{RowKey as Key}
-use Rattle.merge_types.specs.declared.values.ColType.{ColType}
+use Rattle.merge_types.specs.declared.values.ColumnType.{ColumnType}
 use Rattle.merge_types.specs.declared.values.Column.{Column}
 use Rattle.merge_types.specs.declared.values.Value.{Value}
 use Rattle.merge_units.specs.Cases.{case_by, is_conflict}
@@ -91,7 +91,7 @@ article-valid resolvers all [] place article valid at = absurd cc
 article-valid resolvers all (first ∷ articles) zero article valid at = subst (IsValidArticle resolvers all) (some_same first article at) (All-head (IsValidArticle resolvers all) first articles valid)
 article-valid resolvers all (first ∷ articles) (suc place) article valid at = article-valid resolvers all articles place article (All-tail (IsValidArticle resolvers all) first articles valid) at
 
-typed-within : (columns : List Column) (column : ℕ) (ty : ColType) (found : Option Column) → slice_get columns column ≡ found → option_map (λ (c : Column). c.ty) found ≡ Some ty → column < length columns
+typed-within : (columns : List Column) (column : ℕ) (ty : ColumnType) (found : Option Column) → slice_get columns column ≡ found → option_map (λ (c : Column). c.ty) found ≡ Some ty → column < length columns
 typed-within columns column ty None at is = absurd cc
 typed-within columns column ty (Some c) at is = slice_get_within columns column c at
 

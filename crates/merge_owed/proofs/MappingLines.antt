@@ -102,8 +102,8 @@ module _ (publication : Publication) (valid : CanBeSaid publication) (says : Say
     own_closing = λ w h b adds. adds-same w h b _;
     forgetting = λ w h b adds. purge-adds w h b;
     same = λ w h s b adds at. adds-same w h b _;
-    sub_change = λ w h s change d b adds at named fine is. adds-same w h b _;
-    sub_closing = λ w h s b adds at. adds-same w h b _;
+    subscriber_change = λ w h s change d b adds at named fine is. adds-same w h b _;
+    subscriber_closing = λ w h s b adds at. adds-same w h b _;
     anew = λ w h s b adds at. adds-none before w.publisher _ (anew-lines (by_history h) s.site (Some s) h ∙ b.1);
     sends_join = λ w h s b adds at joining. adds-same w h b _;
     sends_upload = λ w h s b adds at fine. adds-same w h b _;

@@ -42,7 +42,7 @@ use Rattle.merge_model.specs.Tables.Refusals.{counter_end, unless}
 use Rattle.merge_model.specs.Subscriber.Reinit.{reinitialise}
 use Rattle.merge_model.specs.Subscriber.Sending.{make_ask, make_join, make_ranges, make_upload}
 use Rattle.merge_model.specs.World.Steps.{Action, CloseAt, Deliver, Forget, Look, Make, MakeAnew, Pass, Send, SendDownload, SendJoin, SendRanges, SendUpload, Sending, after_upload, answered, at_subscriber, close_publisher, close_subscriber, deliver_letter, deliver_reply, deliver_request, kept_decisions, make_anew, make_at_publisher, make_at_subscriber, post, posted, send_from, step_by, unless_refused, upload_questions}
-use Rattle.merge_model.specs.Subscriber.{close_sub_generation, sub_local}
+use Rattle.merge_model.specs.Subscriber.{close_subscriber_generation, subscriber_local}
 use Rattle.merge_model.specs.Tables.{PublisherTables, SubscriberTables}
 use Rattle.merge_model.specs.Subscriber.Taking.{take_reply}
 use Rattle.merge_model.specs.World.{Judges, Saying, World, letter_at, subscriber_at, with_publisher}
@@ -217,10 +217,10 @@ module _ (publication : Publication) (valid : CanBeSaid publication) (says : Say
   step-ends (Pass seconds) = stays (Pass seconds)
   step-ends (Make site change) = if-ends (Make site change) (site.0 == 0) (make_at_publisher publication judges change w) (at_subscriber site w (make_at_subscriber publication change w))
       (own-refused (Make site change) (judges.publisher 0) change (local_refusal publication change p) left-so)
-      (found-ends (Make site change) site (subscriber_at w site) (make_at_subscriber publication change w) (λ s. unless-ends (Make site change) (sub_local publication w.moment change s) _ (λ a. stays (Make site change))))
+      (found-ends (Make site change) site (subscriber_at w site) (make_at_subscriber publication change w) (λ s. unless-ends (Make site change) (subscriber_local publication w.moment change s) _ (λ a. stays (Make site change))))
   step-ends (CloseAt site) = if-ends (CloseAt site) (site.0 == 0) (close_publisher w) (at_subscriber site w (close_subscriber w))
       (closing-ends (CloseAt site) (counter_end (counters p)))
-      (found-ends (CloseAt site) site (subscriber_at w site) (close_subscriber w) (λ s. unless-ends (CloseAt site) (close_sub_generation w.moment s) _ (λ a. stays (CloseAt site))))
+      (found-ends (CloseAt site) site (subscriber_at w site) (close_subscriber w) (λ s. unless-ends (CloseAt site) (close_subscriber_generation w.moment s) _ (λ a. stays (CloseAt site))))
   step-ends (Send site sending) = found-ends (Send site sending) site (subscriber_at w site) (send_from judges sending w) (λ s. send-ends (Send site sending) sending s)
   step-ends (Deliver number) = letter-ends number (letter_at w number) refl
   step-ends (MakeAnew site) = found-ends (MakeAnew site) site (subscriber_at w site) (make_anew judges w) (λ s. unless-ends (MakeAnew site) (reinitialise (judges.subscriber s.site s) w.moment s) _ (λ a. stays (MakeAnew site)))

@@ -31,7 +31,7 @@ use Rattle.merge_model.specs.Publisher.PublisherPurge.{is_old_tombstone}
 use Rattle.merge_model.specs.Publisher.PublisherUpload.{brings_news}
 use Rattle.merge_model.specs.World.Session.{Stepping}
 use Rattle.merge_model.specs.World.Steps.{Action, CloseAt, Deliver, Forget, Look, Make, MakeAnew, Pass, Send, kept_decisions, step_by, upload_questions}
-use Rattle.merge_model.specs.Subscriber.{sub_drawn, sub_last_closed, sub_next_dot}
+use Rattle.merge_model.specs.Subscriber.{subscriber_drawn, subscriber_last_closed, subscriber_next_dot}
 use Rattle.merge_model.specs.Tables.{PublisherTables, SubscriberTables}
 use Rattle.merge_model.specs.World.{Judges, Saying, World, letter_at, subscriber_at}
 use Rattle.merge_model.specs.declared.event.Event.{Event}
@@ -68,14 +68,14 @@ own-leaves publication judge change p (Ok d) h = lines-leave (Noting.lines_of_en
 sub-leaves : (publication : Publication) (change : Change) (s : SubscriberTables) (draw : Result (Value × List (ℕ × Holder)) Refusal) (h : History)
     → (let k : History = elim draw [
       | Err refusal ↦ h
-      | Ok d ↦ Noting.with_change publication (sub_next_dot s) (sub_last_closed s + 1) change d.0 h
+      | Ok d ↦ Noting.with_change publication (subscriber_next_dot s) (subscriber_last_closed s + 1) change d.0 h
     ] in k.purged ≡ h.purged)
 sub-leaves publication change s (Err refusal) h = refl
 sub-leaves publication change s (Ok d) h = refl
 
 found-leaves : (publication : Publication) (change : Change) (found : Option SubscriberTables) (h : History) → (let k : History = elim found [ None ↦ h | Some s ↦ Noting.noted_at_subscriber publication change s h ] in k.purged ≡ h.purged)
 found-leaves publication change None h = refl
-found-leaves publication change (Some s) h = sub-leaves publication change s (sub_drawn s change) h
+found-leaves publication change (Some s) h = sub-leaves publication change s (subscriber_drawn s change) h
 
 make-leaves : (publication : Publication) (judges : Judges) (site : SiteId) (change : Change) (w : World) (h : History) → (noted_make publication judges site change w h).purged ≡ h.purged
 make-leaves publication judges site change w h =

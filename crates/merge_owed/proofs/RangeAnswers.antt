@@ -13,7 +13,7 @@ use Rattle.merge_ident.specs.declared.grants.Ask.{Ask}
 use Rattle.merge_ident.specs.declared.grants.Grant.{Grant}
 use Rattle.merge_ident.specs.declared.grants.GrantAnswer.TheVariants.{Granted, Kept, NotDue}
 use Rattle.merge_ident.specs.declared.grants.GrantPlan.{GrantPlan}
-use Rattle.merge_ident.specs.declared.grants.IdentFault.TheVariants.{TooMany}
+use Rattle.merge_ident.specs.declared.grants.IdentityFault.TheVariants.{TooMany}
 use Rattle.merge_ident.specs.declared.grants.Rule.{Rule}
 use Rattle.merge_ident.proofs.Added.{count_by-with_grant, find-with_other, greatest_end-with_grant}
 use Rattle.merge_batch.specs.Asks.{wanted_article}

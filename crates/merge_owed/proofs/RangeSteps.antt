@@ -12,7 +12,7 @@ use Rattle.merge_ident.specs.Grants.{greatest_end, granted_to, is_numbered, natu
 use Rattle.merge_ident.specs.Holders.{Holder, Received, after_receive, is_due, last_two, size_of, unused}
 use Rattle.merge_ident.specs.declared.grants.Grant.{Grant}
 use Rattle.merge_ident.specs.declared.grants.GrantAnswer.TheVariants.{Granted, Kept, NotDue}
-use Rattle.merge_ident.specs.declared.grants.IdentFault.TheVariants.{NoRange, TooMany}
+use Rattle.merge_ident.specs.declared.grants.IdentityFault.TheVariants.{NoRange, TooMany}
 use Rattle.merge_ident.specs.declared.grants.Range.{Range}
 use Rattle.merge_ident.specs.declared.grants.Rule.{Rule}
 use Rattle.merge_batch.specs.declared.reply.RangeGrant.{RangeGrant}

@@ -6,7 +6,7 @@ use Rattle.merge_gens.specs.declared.sites.SiteState.{SiteState}
 use Rattle.merge_model.specs.Tables.Keys.{at_number}
 use Rattle.merge_model.specs.History.Model.{Model}
 use Rattle.merge_model.specs.Failing.Runs.{model_behind_actions}
-use Rattle.merge_model.specs.Subscriber.{sub_last_closed}
+use Rattle.merge_model.specs.Subscriber.{subscriber_last_closed}
 use Rattle.merge_model.proofs.Lists.Finding.{found-named}
 use Rattle.merge_laws.specs.Laws.{OfEveryValidActions}
 use Rattle.merge_laws.proofs.Lineages.LineagesAlways.{ground, kept-by-actions, publisher-alike}
@@ -33,4 +33,4 @@ subscribers-tell resolvers publication valid says tallies slips actions n s at =
     let i = unsent-by-actions publication says tallies slips actions in
     let own : s.site.0 ≡ n = (g.received.subscribers n s at).keyed in
     let there : at_number m.world.subscribers s.site.0 ≡ Some s = ap (λ (k : ℕ). at_number m.world.subscribers k) own ∙ at in
-    ap (λ (rows : List (Key × ℕ)). length rows) ((decides-alike m i.0 i.1 s (λ zero. found-named m.world.subscribers n s g.none at (sym own ∙ zero)) there).changed_between s.received (sub_last_closed s + 1) (omega arith))
+    ap (λ (rows : List (Key × ℕ)). length rows) ((decides-alike m i.0 i.1 s (λ zero. found-named m.world.subscribers n s g.none at (sym own ∙ zero)) there).changed_between s.received (subscriber_last_closed s + 1) (omega arith))

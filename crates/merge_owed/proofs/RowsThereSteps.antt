@@ -22,7 +22,7 @@ use Rattle.merge_model.specs.Publisher.{last_closed}
 use Rattle.merge_model.specs.Publisher.PublisherLocal.{Drawn, changing_locally, local_refusal, made_locally, next_dot, with_draw}
 use Rattle.merge_model.specs.Publisher.PublisherPurge.{is_old_tombstone, purge}
 use Rattle.merge_model.specs.Subscriber.Reinit.{discarded}
-use Rattle.merge_model.specs.Subscriber.{sub_last_closed, sub_next_dot}
+use Rattle.merge_model.specs.Subscriber.{subscriber_last_closed, subscriber_next_dot}
 use Rattle.merge_model.specs.Tables.{PublisherTables, SubscriberTables}
 use Rattle.merge_model.specs.World.{Saying, World, subscriber_at, with_publisher}
 use Rattle.merge_model.proofs.Lists.KeyLookUps.{key-itself}
@@ -77,7 +77,7 @@ module _ (publication : Publication) (w : World) (h : History) (change : Change)
 -- A local change of a subscriber is not accepted yet.
 
 sub-there : (publication : Publication) (w : World) (h : History) (s : SubscriberTables) (change : Change) (value : Value) → Base publication w h → RowsThere w h → subscriber_at w s.site ≡ Some s → (s.site.0 ≡ 0 → ⊥)
-    → (let k : History = Noting.with_change publication (sub_next_dot s) (sub_last_closed s + 1) change value h in AllThere w.publisher.rows k.accepted k.purged k.made)
+    → (let k : History = Noting.with_change publication (subscriber_next_dot s) (subscriber_last_closed s + 1) change value h in AllThere w.publisher.rows k.accepted k.purged k.made)
 sub-there publication w h s change value b t at named =
     ((λ accept. absurd (let new = sub-new publication w h s change value (b.0.grounded.0, b.0.accepted.accepted.counts) b.0.grounded.1.0 at named in grind (arith, accept, new))), t)
 
@@ -114,8 +114,8 @@ there-keeps publication says = record {
   own_closing = λ w h b t. t;
   forgetting = λ w h b t. purge-there publication w h (by_past h (pasts_with h 0)) b t;
   same = λ w h s b t at. t;
-  sub_change = λ w h s change d b t at named fine is. sub-there publication w h s change d.0 b t at named;
-  sub_closing = λ w h s b t at. t;
+  subscriber_change = λ w h s change d b t at named fine is. sub-there publication w h s change d.0 b t at named;
+  subscriber_closing = λ w h s b t at. t;
   anew = λ w h s b t at. lost-on (λ (x : History). AllThere w.publisher.rows x.accepted x.purged x.made) s.site (discarded (by_made h s.site) s) h (λ lost. t);
   sends_join = λ w h s b t at joining. t;
   sends_upload = λ w h s b t at fine. t;

@@ -12,7 +12,7 @@ use Rattle.merge_types.specs.declared.changes.Tracking.{Tracking}
 use Rattle.merge_types.specs.declared.changes.Tracking.TheVariants as tracking
 use Rattle.merge_types.specs.declared.identifiers.Dot.{Dot}
 use Rattle.merge_types.specs.declared.row_key.RowKey.{RowKey as Key}
-use Rattle.merge_types.specs.declared.values.ColType.{ColType}
+use Rattle.merge_types.specs.declared.values.ColumnType.{ColumnType}
 use Rattle.merge_types.specs.declared.values.Column.{Column}
 use Rattle.merge_types.specs.declared.values.Value.{Value}
 use Rattle.merge_units.specs.Cases.{are_long, bodies_case, case_by, is_both, news_case, side_of, sides_of}
@@ -56,12 +56,12 @@ column-tops : (dot : Dot) (values : List Value) → AllByRecursion (λ (cell : C
 column-tops dot [] = (tt, refl)
 column-tops dot (value ∷ values) = (let rest = column-tops dot values in ((refl, rest.0), omega (arith, rest.1)))
 
-inserted-tops : (tr : Tracking) (columns : List Column) (dot : Dot) (value : ℕ × ColType → Value)
+inserted-tops : (tr : Tracking) (columns : List Column) (dot : Dot) (value : ℕ × ColumnType → Value)
     → (let values : List Value = map value (enumerate_from 0 (map (λ (column : Column). column.ty) columns)) in
     TopsStand (count_by_tracking tr columns) (Live (new_cells tr dot values)) (OfCells (map (λ (place : ℕ). dot ∷ []) (range_with_len 0 (count_by_tracking tr columns)))))
 inserted-tops tracking.Row columns dot value = (refl, (dot-first dot [], tt))
 inserted-tops tracking.ByColumn columns dot value =
-    let types : List ColType = map (λ (column : Column). column.ty) columns in
+    let types : List ColumnType = map (λ (column : Column). column.ty) columns in
     let values : List Value = map value (enumerate_from 0 types) in
     let even : length values ≡ length columns = length-map (enumerate_from 0 types) value ∙ length-enumerate_from 0 types ∙ length-map columns (λ (column : Column). column.ty) in
     let new = column-tops dot values in
@@ -195,7 +195,7 @@ live-changed publication dot article settings (Live cells) past lives tops = upd
 changed-tops : (publication : Publication) (made : List MadeChange) (dot : Dot) (change : Change) (value : Value) (held : Option Version) (rows : ℕ) (past : Past) → change_refusal publication dot change held rows ≡ None → HeldFits (HasTops publication made) (key_of dot change) held past
     → HeldFits (HasTops publication made) (key_of dot change) (version_after publication dot value change held) (past_after publication dot change past)
 changed-tops publication made dot (Insert article settings) value held rows past fine fits =
-    inserted-tops (tracking_at publication article) (columns_at publication article) dot (λ (place : ℕ × ColType). new_value (identity_column publication article) value settings place.0)
+    inserted-tops (tracking_at publication article) (columns_at publication article) dot (λ (place : ℕ × ColumnType). new_value (identity_column publication article) value settings place.0)
 changed-tops publication made dot (Update article row settings) value None rows past fine fits = tt
 changed-tops publication made dot (Update article row settings) value (Some held) rows past fine fits =
     let first = first-none (no_row (Update article row settings) (Some held)) _ fine in

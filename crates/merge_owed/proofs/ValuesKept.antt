@@ -43,7 +43,7 @@ use Rattle.merge_model.specs.Publisher.PublisherUpload.{taken_in, upload_refusal
 use Rattle.merge_model.specs.Failing.Runs.{model_after_actions, model_behind_actions}
 use Rattle.merge_model.specs.Subscriber.Sending.{join_of, want_of, with_message}
 use Rattle.merge_model.specs.World.Steps.{Action, kept_decisions, upload_questions}
-use Rattle.merge_model.specs.Subscriber.{sub_at_moment, sub_closed, sub_last_closed, sub_made_locally, sub_next_dot, sub_version_at}
+use Rattle.merge_model.specs.Subscriber.{subscriber_at_moment, subscriber_closed, subscriber_last_closed, subscriber_made_locally, subscriber_next_dot, subscriber_version_at}
 use Rattle.merge_model.specs.Tables.{PublisherTables, SubscriberTables}
 use Rattle.merge_model.specs.World.{Saying, World, subscriber_at, with_publisher, with_subscriber}
 use Rattle.merge_model.specs.declared.letter.Message.TheVariants.{Asks, Replies}
@@ -222,14 +222,14 @@ module _ (publication : Publication) (known : List MadeChange) (before : Registe
         (change-is publication (is_later 0 (changes_of w 0)) dot is_new d.value r.register change held (past_at h 0 (key_of dot change))))
 
     sub-holds : (w : World) (h : History) (s : SubscriberTables) (change : Change) (d : Value × List (ℕ × Holder)) → Base publication w h → Holds w h → subscriber_at w s.site ≡ Some s → (s.site.0 ≡ 0 → ⊥)
-        → Holds (with_subscriber (sub_made_locally publication change d (sub_at_moment w.moment s)).0 w) (Noting.with_change publication (sub_next_dot s) (sub_last_closed s + 1) change d.0 h)
+        → Holds (with_subscriber (subscriber_made_locally publication change d (subscriber_at_moment w.moment s)).0 w) (Noting.with_change publication (subscriber_next_dot s) (subscriber_last_closed s + 1) change d.0 h)
     sub-holds w h s change d b r at named =
-        let dot : Dot = sub_next_dot s in
-        let held : Option Version = sub_version_at s (key_of dot change) in
+        let dot : Dot = subscriber_next_dot s in
+        let held : Option Version = subscriber_version_at s (key_of dot change) in
         let count : s.changes ≡ changes_of w s.site.0 = own-count w s (s.site.0 == 0) refl named at in
         let is_new : is_later s.site.0 (changes_of w s.site.0) dot ≡ true = grind (arith, nat_tests, count) in
         let g : Key → ℕ → List Value = made_by_change publication (is_later s.site.0 (changes_of w s.site.0)) dot is_new d.0 r.register change held in
-        goes-on w h b r s.site.0 g (with_subscriber (sub_made_locally publication change d (sub_at_moment w.moment s)).0 w) (Noting.with_change publication dot (sub_last_closed s + 1) change d.0 h) (λ x is. inr is)
+        goes-on w h b r s.site.0 g (with_subscriber (subscriber_made_locally publication change d (subscriber_at_moment w.moment s)).0 w) (Noting.with_change publication dot (subscriber_last_closed s + 1) change d.0 h) (λ x is. inr is)
         (sub-change publication says (Has (register_after w h b r s.site.0 g)) w h (ground publication (record { world = w; history = h }) b) (stays-with w h b r s.site.0 g) s at change d
         (change-is publication (is_later s.site.0 (changes_of w s.site.0)) dot is_new d.0 r.register change held (past_at h s.site.0 (key_of dot change))))
 
@@ -256,8 +256,8 @@ module _ (publication : Publication) (known : List MadeChange) (before : Registe
       forgetting = λ w h b r. on _ h (Noting.noted_purge publication (by_past h (pasts_with h 0)) (here w) h) w r (purge-keep (λ (k : History). AreAmong h.made k.made) (notes-stay h.made) publication (by_past h (pasts_with h 0)) (here w) h (λ x is. is))
           (forgets publication says (Has r.register) w h (ground publication (record { world = w; history = h }) b) r.every);
       same = λ w h s b r at. on _ h h w r (λ x is. is) (stays publication says (Has r.register) w h (ground publication (record { world = w; history = h }) b) r.every s at s refl refl refl);
-      sub_change = λ w h s change d b r at named fine is. sub-holds w h s change d b r at named;
-      sub_closing = λ w h s b r at. on _ h h w r (λ x is. is) (stays publication says (Has r.register) w h (ground publication (record { world = w; history = h }) b) r.every s at (sub_closed (sub_at_moment w.moment s)) refl refl refl);
+      subscriber_change = λ w h s change d b r at named fine is. sub-holds w h s change d b r at named;
+      subscriber_closing = λ w h s b r at. on _ h h w r (λ x is. is) (stays publication says (Has r.register) w h (ground publication (record { world = w; history = h }) b) r.every s at (subscriber_closed (subscriber_at_moment w.moment s)) refl refl refl);
       anew = λ w h s b r at. on _ h (Noting.noted_anew (by_made h s.site) s h) w r (anew-keep (λ (k : History). AreAmong h.made k.made) (notes-stay h.made) (by_made h s.site) s h (λ x is. is))
           (anew publication says (Has r.register) w h (ground publication (record { world = w; history = h }) b) r.every s at);
       sends_join = λ w h s b r at joining. (let u : SubscriberTables = with_message ask.Join s in

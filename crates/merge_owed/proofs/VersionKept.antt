@@ -38,7 +38,7 @@ use Rattle.merge_model.specs.Publisher.PublisherUpload.{taken_in, upload_refusal
 use Rattle.merge_model.specs.Tables.Refusals.{counter_end}
 use Rattle.merge_model.specs.Failing.Runs.{model_after_actions, model_behind, model_behind_actions}
 use Rattle.merge_model.specs.Subscriber.Sending.{join_of, want_of, with_message}
-use Rattle.merge_model.specs.Subscriber.{is_joining, sub_at_moment, sub_closed, sub_counters, sub_last_closed, sub_local_refusal, sub_made_locally, sub_next_dot, sub_version_at}
+use Rattle.merge_model.specs.Subscriber.{is_joining, subscriber_at_moment, subscriber_closed, subscriber_counters, subscriber_last_closed, subscriber_local_refusal, subscriber_made_locally, subscriber_next_dot, subscriber_version_at}
 use Rattle.merge_model.specs.Tables.{PublisherTables, SubscriberTables}
 use Rattle.merge_model.specs.World.{Saying, World, subscriber_at, with_publisher, with_subscriber}
 use Rattle.merge_model.specs.declared.event.Event.{Event}
@@ -125,22 +125,22 @@ module _ (publication : Publication) (P : List MadeChange → Key → Version �
           (own-change publication says (P made) w h b.0 (more-made h.made made w h (λ x is. inr is) t.0) change d
           (on.changed h.made dot (last_closed p + 1) change d.value (version_at w.publisher key) (length w.publisher.rows) (past_at h 0 key) (record { site = omega arith; from_one = omega arith; fits = omega (arith, small) }) refused.0))
 
-      sub-holds : (w : World) (h : History) (s : SubscriberTables) (change : Change) (d : Value × List (ℕ × Holder)) → Base publication w h → Holds w h → subscriber_at w s.site ≡ Some s → sub_local_refusal publication change s ≡ None
-          → Holds (with_subscriber (sub_made_locally publication change d (sub_at_moment w.moment s)).0 w) (Noting.with_change publication (sub_next_dot s) (sub_last_closed s + 1) change d.0 h)
+      sub-holds : (w : World) (h : History) (s : SubscriberTables) (change : Change) (d : Value × List (ℕ × Holder)) → Base publication w h → Holds w h → subscriber_at w s.site ≡ Some s → subscriber_local_refusal publication change s ≡ None
+          → Holds (with_subscriber (subscriber_made_locally publication change d (subscriber_at_moment w.moment s)).0 w) (Noting.with_change publication (subscriber_next_dot s) (subscriber_last_closed s + 1) change d.0 h)
       sub-holds w h s change d b t at fine =
-          let dot : Dot = sub_next_dot s in
+          let dot : Dot = subscriber_next_dot s in
           let key : Key = key_of dot change in
           let past : Past = past_after publication dot change (past_at h s.site.0 key) in
-          let c : MadeChange = Noting.made_change publication dot (sub_last_closed s + 1) change d.0 key past in
+          let c : MadeChange = Noting.made_change publication dot (subscriber_last_closed s + 1) change d.0 key past in
           let made : List MadeChange = c ∷ h.made in
           let waits = first-none (is_joining s) _ fine in
-          let counted = first-none (counter_end (sub_counters s)) _ waits.1 in
-          let refused = first-none (change_refusal publication dot change (sub_version_at s key) (length s.rows)) _ counted.1 in
+          let counted = first-none (counter_end (subscriber_counters s)) _ waits.1 in
+          let refused = first-none (change_refusal publication dot change (subscriber_version_at s key) (length s.rows)) _ counted.1 in
           let small = sub-small publication change s fine in
           let low : s.site.0 ≤ 63 = b.1.0 s.site.0 s at in
-          goes-over made (with_subscriber (sub_made_locally publication change d (sub_at_moment w.moment s)).0 w) (Noting.with_change publication dot (sub_last_closed s + 1) change d.0 h) (λ x is. is) (λ x is. inr (t.1 x is))
+          goes-over made (with_subscriber (subscriber_made_locally publication change d (subscriber_at_moment w.moment s)).0 w) (Noting.with_change publication dot (subscriber_last_closed s + 1) change d.0 h) (λ x is. is) (λ x is. inr (t.1 x is))
           (sub-change publication says (P made) w h b.0 (more-made h.made made w h (λ x is. inr is) t.0) s at change d
-          (on.changed h.made dot (sub_last_closed s + 1) change d.0 (sub_version_at s key) (length s.rows) (past_at h s.site.0 key) (record { site = omega (arith, low); from_one = omega arith; fits = omega (arith, small) }) refused.0))
+          (on.changed h.made dot (subscriber_last_closed s + 1) change d.0 (subscriber_version_at s key) (length s.rows) (past_at h s.site.0 key) (record { site = omega (arith, low); from_one = omega arith; fits = omega (arith, small) }) refused.0))
 
       upload-holds : (w : World) (h : History) (number : ℕ) (m : Upload) → Base publication w h → Holds w h → comes w number m.site (Asks (request.Upload m))
           → (let judge : PublisherJudge = by_past h (pasts_with h number) in upload_refusal publication judge w.moment m w.publisher ≡ None
@@ -160,8 +160,8 @@ module _ (publication : Publication) (P : List MadeChange → Key → Version �
         forgetting = λ w h b t. goes-over h.made _ (Noting.noted_purge publication (by_past h (pasts_with h 0)) (here w) h)
             (purge-keep (λ (k : History). AreAmong h.made k.made) (notes-stay h.made) publication (by_past h (pasts_with h 0)) (here w) h (λ x is. is)) t.1 (forgets publication says (P h.made) w h b.0 t.0);
         same = λ w h s b t at. (stays publication says (P h.made) w h b.0 t.0 s at s refl refl refl, t.1);
-        sub_change = λ w h s change d b t at named fine is. sub-holds w h s change d b t at fine;
-        sub_closing = λ w h s b t at. (stays publication says (P h.made) w h b.0 t.0 s at (sub_closed (sub_at_moment w.moment s)) refl refl refl, t.1);
+        subscriber_change = λ w h s change d b t at named fine is. sub-holds w h s change d b t at fine;
+        subscriber_closing = λ w h s b t at. (stays publication says (P h.made) w h b.0 t.0 s at (subscriber_closed (subscriber_at_moment w.moment s)) refl refl refl, t.1);
         anew = λ w h s b t at. goes-over h.made _ (Noting.noted_anew (by_made h s.site) s h) (anew-keep (λ (k : History). AreAmong h.made k.made) (notes-stay h.made) (by_made h s.site) s h (λ x is. is)) t.1
             (anew publication says (P h.made) w h b.0 t.0 s at);
         sends_join = λ w h s b t at joining. (let u : SubscriberTables = with_message ask.Join s in

@@ -13,7 +13,7 @@ use Rattle.merge_gens.specs.Entries.{entry_cmp}
 use Rattle.merge_gens.specs.Moves.{row_site_cmp}
 use Rattle.merge_gens.specs.Plan as gens
 use Rattle.merge_gens.specs.declared.moves.Mapping.{Mapping}
-use Rattle.merge_gens.specs.declared.plan.GenPlan.{GenPlan}
+use Rattle.merge_gens.specs.declared.plan.GenerationPlan.{GenerationPlan}
 use Rattle.merge_gens.specs.declared.sites.SiteState.{SiteState}
 use Rattle.merge_units.specs.declared.site_row.PublisherRow.{PublisherRow}
 use Rattle.merge_ident.specs.Holders.{Holder}
@@ -46,7 +46,7 @@ same-rules publication p q changes rows count conflicts held grants keeps = reco
 }
 
 -- changes that change no row
-abbrev pub still_changes : Held → Moment → GenPlan → Changes
+abbrev pub still_changes : Held → Moment → GenerationPlan → Changes
 still_changes h latest plan = record {
   changes = h.changes;
   conflict_count = h.conflict_count;
@@ -60,7 +60,7 @@ still_changes h latest plan = record {
   held = [];
 }
 
-pub still-ready : (h : Held) (d : Draft) (latest : Moment) (plan : GenPlan) → live_in h.membership ≡ live_pairs h.rows.rows → AreIndexed h.rows.rows h.changed.entries → AreMoved h.mappings.rows h.moved.rows
+pub still-ready : (h : Held) (d : Draft) (latest : Moment) (plan : GenerationPlan) → live_in h.membership ≡ live_pairs h.rows.rows → AreIndexed h.rows.rows h.changed.entries → AreMoved h.mappings.rows h.moved.rows
     → KeepsRules h.membership.publication (tables_of h) → d.changes ≡ still_changes h latest plan → d.plan ≡ None → d.index.changed.changes ≡ [] → d.index.moved ≡ [] → gens.IsPrepared h.gens plan → IsDrafted h d
 still-ready h d latest plan live indexed moved keeps changes none index moves prepared = record {
   rows = rw changes (ready-none PublisherRow key_cmp h.rows.slots);

@@ -9,7 +9,7 @@ ghost use Rattle.merge_pub.specs.Held.{publication_of, tables_of};
 
 use crate::publisher::Publisher;
 use merge_conflict::ConflictTable;
-use merge_gens::{GenBook, GenIndex};
+use merge_gens::{GenerationBook, GenerationIndex};
 use merge_ident::{RangeBook, Ranges, Rule, Rules};
 use merge_part::Membership;
 use merge_schema::{Article, Publication};
@@ -84,13 +84,13 @@ impl Publisher {
         Ok(Publisher {
             alloc,
             membership,
-            changed: GenIndex::new(alloc),
+            changed: GenerationIndex::new(alloc),
             moved: Table::new(alloc),
             rows: Table::new(alloc),
             mappings: Table::new(alloc),
             sites: Table::new(alloc),
             held,
-            gens: GenBook::new(alloc),
+            gens: GenerationBook::new(alloc),
             conflicts: ConflictTable::new(alloc),
             grants: RangeBook::new(alloc, rules),
             changes: 0,

@@ -12,7 +12,7 @@ use crate::publisher::Publisher;
 use merge_batch::Refusal;
 use merge_change::check_counters;
 use merge_conflict::ConflictPlan;
-use merge_gens::{GenPlan, IndexPlan};
+use merge_gens::{GenerationPlan, IndexPlan};
 use merge_steps::{Changes, Draft, IndexChanges};
 use merge_types::{Listing, Moment};
 use std::alloc::Global;
@@ -41,7 +41,7 @@ pub fn still(
     changes: u64,
     conflict_count: u64,
     latest: Moment,
-    gens: GenPlan,
+    gens: GenerationPlan,
 ) -> Draft
     ensures changes { result.changes ≡ record { changes = changes; conflict_count = conflict_count; latest = latest; gens = gens; rows = []; mappings = []; sites = []; conflicts = record { rows = [] }; grants = []; held = [] } }
     ensures plan { result.plan ≡ None }

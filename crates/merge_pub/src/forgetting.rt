@@ -11,7 +11,7 @@ ghost use Rattle.merge_pub.specs.Held.{IsDrafted, publication_of, tables_of};
 
 use crate::closing::still;
 use crate::publisher::Publisher;
-use merge_gens::{GenPlan, IndexChange, Mapping, RowSite, SiteState};
+use merge_gens::{GenerationPlan, IndexChange, Mapping, RowSite, SiteState};
 use merge_steps::{Draft, IndexChanges, MoveEntry, moved_edits};
 use merge_table::{Edit, Table};
 use merge_types::{Listing, Moment, NoMemory, RowKey};
@@ -56,7 +56,7 @@ fn forget_draft(
     changes: u64,
     conflict_count: u64,
     latest: Moment,
-    gens: GenPlan,
+    gens: GenerationPlan,
     rows: Listing<Edit<RowKey, PublisherRow>>,
     mappings: Listing<Edit<RowSite, Mapping>>,
     sites: Listing<Edit<u16, SiteState>>,

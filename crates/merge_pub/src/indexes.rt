@@ -15,7 +15,7 @@ ghost use Rattle.merge_steps.specs.MoveEntries.{move_entry_cmp};
 ghost use Rattle.merge_pub.specs.Restoring.{AreIndexesOf, changed_put, moved_put, versions_of};
 ghost use Rattle.merge_steps.specs.Working.{row_change};
 
-use merge_gens::{GenIndex, Mapping, RowSite};
+use merge_gens::{GenerationIndex, Mapping, RowSite};
 use merge_part::{Membership, RowChange};
 use merge_schema::Publication;
 use merge_steps::{MoveEntry, live_values, move_entry};
@@ -29,7 +29,7 @@ use std::sync::ledger::Ledger;
 #[derive(Drop)]
 pub(crate) struct Indexes {
     pub(crate) membership: Membership,
-    pub(crate) changed: GenIndex,
+    pub(crate) changed: GenerationIndex,
     pub(crate) moved: Table<MoveEntry, ()>,
 }
 
@@ -97,10 +97,10 @@ fn membership_of<L: Ledger>(
 }
 
 // The rows by the generations of their last changes.
-fn changed_by(alloc: Global, rows: &[(RowKey, PublisherRow)]) -> Result<GenIndex, NoMemory>
+fn changed_by(alloc: Global, rows: &[(RowKey, PublisherRow)]) -> Result<GenerationIndex, NoMemory>
     ensures { IfOk result (λ index. index.entries ≡ entries_after_all set.empty (map changed_put rows.now)) }
 {
-    let mut index = GenIndex::new(alloc);
+    let mut index = GenerationIndex::new(alloc);
     for (key, row) in rows {
         index.put(row.changed, *key)?;
     }

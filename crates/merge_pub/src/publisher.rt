@@ -9,7 +9,7 @@ ghost use Rattle.merge_pub.specs.After.{after};
 ghost use Rattle.merge_pub.specs.Held.{IsDrafted, IsAnyPrepared, live_after_any, publication_of, tables_of};
 
 use merge_conflict::ConflictTable;
-use merge_gens::{GenBook, GenIndex, Mapping, RowSite, SiteState};
+use merge_gens::{GenerationBook, GenerationIndex, Mapping, RowSite, SiteState};
 use merge_ident::{RangeBook, Ranges};
 use merge_part::{Membership, MembershipPlan};
 use merge_schema::Publication;
@@ -26,13 +26,13 @@ use std::marker::Model;
 pub struct Publisher {
     pub(crate) alloc: Global,
     pub(crate) membership: Membership,
-    pub(crate) changed: GenIndex,
+    pub(crate) changed: GenerationIndex,
     pub(crate) moved: Table<MoveEntry, ()>,
     pub(crate) rows: Table<RowKey, PublisherRow>,
     pub(crate) mappings: Table<RowSite, Mapping>,
     pub(crate) sites: Table<u16, SiteState>,
     pub(crate) held: Table<u8, Ranges>,
-    pub(crate) gens: GenBook,
+    pub(crate) gens: GenerationBook,
     pub(crate) conflicts: ConflictTable,
     pub(crate) grants: RangeBook,
     pub(crate) changes: u64,
@@ -113,7 +113,11 @@ fn make_plan(membership: &mut Membership, plan: Option<MembershipPlan>)
 }
 
 // Makes the changes of the indexes.
-fn make_entries(changed: &mut GenIndex, moved: &mut Table<MoveEntry, ()>, index: IndexChanges)
+fn make_entries(
+    changed: &mut GenerationIndex,
+    moved: &mut Table<MoveEntry, ()>,
+    index: IndexChanges,
+)
     requires changed { IsReady entry_cmp changed.old.slots index.changed.changes }
     requires moved { IsReady move_entry_cmp moved.old.slots index.moved }
     ensures changed { changed.new.entries ≡ entries_after_all changed.old.entries index.changed.changes }

@@ -17,7 +17,7 @@ use merge_batch::{
     Ended, EndedRanges, Holdings, RangeAsk, RangeGrant, RangeGrants, Ranged, Refusal, ranges_fault,
 };
 use merge_gens::SiteState;
-use merge_ident::{Ask, GrantAnswer, GrantPlan, GrantPlans, IdentFault, RangeBook};
+use merge_ident::{Ask, GrantAnswer, GrantPlan, GrantPlans, IdentityFault, RangeBook};
 use merge_steps::{Draft, push_some};
 use merge_types::{Listing, Moment, NoMemory, RowId, SiteId};
 use std::alloc::Global;
@@ -95,7 +95,7 @@ fn ended_by(plan: &GrantPlan) -> Option<Ended>
     ensures { result ≡ ended_by plan.now.ask.article plan.now.answer }
 {
     match plan.answer {
-        Err(IdentFault::NoRange { next, greatest }) => Some(Ended {
+        Err(IdentityFault::NoRange { next, greatest }) => Some(Ended {
             article: plan.ask.article,
             next,
             greatest,

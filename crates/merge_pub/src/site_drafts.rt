@@ -10,7 +10,7 @@ ghost use Rattle.merge_pub.specs.Held.{IsDrafted, publication_of, tables_of};
 
 use crate::closing::still;
 use crate::publisher::Publisher;
-use merge_gens::{GenPlan, SiteState};
+use merge_gens::{GenerationPlan, SiteState};
 use merge_ident::GrantPlans;
 use merge_steps::Draft;
 use merge_table::Edit;
@@ -36,7 +36,7 @@ fn site_draft(
     changes: u64,
     conflict_count: u64,
     latest: Moment,
-    gens: GenPlan,
+    gens: GenerationPlan,
     sites: Listing<Edit<u16, SiteState>>,
 ) -> Draft
     ensures changes { result.changes ≡ record { changes = changes; conflict_count = conflict_count; latest = latest; gens = gens; rows = []; mappings = []; sites = sites; conflicts = record { rows = [] }; grants = []; held = [] } }
@@ -55,7 +55,7 @@ fn grant_draft(
     changes: u64,
     conflict_count: u64,
     latest: Moment,
-    gens: GenPlan,
+    gens: GenerationPlan,
     grants: GrantPlans,
 ) -> Draft
     ensures changes { result.changes ≡ record { changes = changes; conflict_count = conflict_count; latest = latest; gens = gens; rows = []; mappings = []; sites = []; conflicts = record { rows = [] }; grants = grants; held = [] } }

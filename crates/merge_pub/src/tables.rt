@@ -14,7 +14,7 @@ ghost use Rattle.merge_pub.specs.Restoring.{tables_in, tables_with};
 use crate::starting::Kept;
 use merge_change::table_of;
 use merge_conflict::ConflictTable;
-use merge_gens::{GenBook, Mapping, RowSite, SiteState};
+use merge_gens::{GenerationBook, Mapping, RowSite, SiteState};
 use merge_ident::{Grants, RangeBook, Ranges, Rules};
 use merge_table::Table;
 use merge_types::{Listing, Moment, NoMemory, RowKey};
@@ -34,7 +34,7 @@ pub(crate) struct KeyedTables {
 #[derive(Drop)]
 pub(crate) struct Tables {
     pub(crate) keyed: KeyedTables,
-    pub(crate) gens: GenBook,
+    pub(crate) gens: GenerationBook,
     pub(crate) conflicts: ConflictTable,
     pub(crate) grants: RangeBook,
     pub(crate) changes: u64,
@@ -69,7 +69,7 @@ pub(crate) fn tables_of(alloc: Global, rules: Rules, kept: Kept) -> Result<Table
     let keyed = keyed_tables(alloc, rows, mappings, sites, held)?;
     Ok(Tables {
         keyed,
-        gens: GenBook::restore(filling, closings),
+        gens: GenerationBook::restore(filling, closings),
         conflicts: ConflictTable::restore(conflicts),
         grants: book_of(rules, grants),
         changes,

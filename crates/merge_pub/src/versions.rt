@@ -16,7 +16,7 @@ ghost use Rattle.merge_steps.specs.Step.{Subscribes, changing};
 ghost use Rattle.merge_steps.specs.Working as work;
 
 use crate::publisher::Publisher;
-use merge_gens::{GenPlan, Mapping, RowSite};
+use merge_gens::{GenerationPlan, Mapping, RowSite};
 use merge_steps::{Besides, Changes, Draft, IndexChanges, MoveEntry, draft_step};
 use merge_table::{Edit, Table};
 use merge_types::{Listing, NoMemory, RowKey, Steps};
@@ -50,7 +50,7 @@ fn changes_of(
     besides: Besides,
     rows: Listing<Edit<RowKey, PublisherRow>>,
     mappings: Listing<Edit<RowSite, Mapping>>,
-    gens: GenPlan,
+    gens: GenerationPlan,
 ) -> Changes
     ensures { result ≡ record { changes = besides.changes; conflict_count = besides.conflict_count; latest = besides.latest; gens = gens; rows = rows; mappings = mappings; sites = besides.sites; conflicts = besides.conflicts; grants = besides.grants; held = besides.held } }
 {

@@ -11,7 +11,7 @@ use Rattle.merge_types.specs.Length.{row_length, stored_length as value_length}
 use Rattle.merge_types.specs.declared.identifiers.Dot.{Dot}
 use Rattle.merge_types.specs.declared.changes.Tracking.{Tracking}
 use Rattle.merge_types.specs.declared.changes.Tracking.TheVariants as tracking
-use Rattle.merge_types.specs.declared.values.ColType.{ColType}
+use Rattle.merge_types.specs.declared.values.ColumnType.{ColumnType}
 use Rattle.merge_types.specs.declared.values.Value.{Value}
 use Rattle.merge_units.specs.declared.version.Cell.{Cell}
 use Rattle.merge_units.specs.declared.version.Body.{Body}
@@ -88,14 +88,14 @@ all_in_one vs (side.Incoming ∷ []) (p ∷ []) even one any = absurd cc
 all_in_one vs (side.Both ∷ []) (p ∷ []) even one any = omega arith
 
 -- a list that fits has as many values as the conflicting cells take
-taken_by : (t : Tracking) (types : List ColType) (ss : List Side) (ps : List Cell) (values kept : List Value) → FitsTracking t ps → value_count ps ≡ length types → length ss ≡ length ps → list_any is_both ss ≡ true
+taken_by : (t : Tracking) (types : List ColumnType) (ss : List Side) (ps : List Cell) (values kept : List Value) → FitsTracking t ps → value_count ps ≡ length types → length ss ≡ length ps → list_any is_both ss ≡ true
     → fit_columns (tracking_kind t) types (filter_map both_place (enumerate_from 0 ss)) values ≡ true → length kept ≡ length values → length kept ≡ taken_count (Custom kept) ss ps
 taken_by tracking.Row types ss ps values kept fits columns even any fit same =
     omega (arith, fit_all_length fits_column types values fit, all_in_one kept ss ps even fits any)
 taken_by tracking.ByColumn types ss ps values kept fits columns even any fit same =
     omega (arith, fit_all_length (fits_place types) (filter_map both_place (enumerate_from 0 ss)) values fit, one_each kept 0 ss ps even fits)
 
-even_by : (t : Tracking) (types : List ColType) (cells : List ℕ) (values : List Value) → fit_columns (tracking_kind t) types cells values ≡ true → is_by_row (tracking_kind t) ≡ false → length cells ≡ length values
+even_by : (t : Tracking) (types : List ColumnType) (cells : List ℕ) (values : List Value) → fit_columns (tracking_kind t) types cells values ≡ true → is_by_row (tracking_kind t) ≡ false → length cells ≡ length values
 even_by tracking.Row types cells values fit by_row = absurd cc
 even_by tracking.ByColumn types cells values fit by_row = fit_all_length (fits_place types) cells values fit
 

@@ -2,8 +2,8 @@
 use Rattle.std.specs.Prelude.{ℕ, int_le, nat_le, ◌+◌, ◌==◌, ◌&&◌, Bool, true, false, if◌then◌else◌, List, [], ◌∷◌, length, slice_get, slice_set, Option, Some, None}
 use Rattle.merge_types.specs.Fitting.{fits_column}
 use Rattle.merge_types.specs.Limits.{row_limit}
-use Rattle.merge_types.specs.declared.ColType.{ColType}
-use Rattle.merge_types.specs.declared.ColType.TheVariants as column
+use Rattle.merge_types.specs.declared.ColumnType.{ColumnType}
+use Rattle.merge_types.specs.declared.ColumnType.TheVariants as column
 use Rattle.merge_types.specs.declared.Value.{Value}
 use Rattle.merge_types.specs.declared.Value.TheVariants.{Null, Int, Bit, Text, Day, Guid, Bytes}
 use Rattle.merge_units.specs.declared.version.Cell.{Cell}
@@ -20,11 +20,11 @@ use Rattle.merge_resolve.specs.declared.case.ConflictCase.{ConflictCase}
 use Rattle.merge_resolve.specs.Columns.{body_value}
 
 -- whether the column at a place may have a value
-abbrev pub fits_some : Option ColType → Value → Bool
+abbrev pub fits_some : Option ColumnType → Value → Bool
 fits_some None value = false
 fits_some (Some ty) value = fits_column ty value
 
-abbrev pub fits_place : List ColType → ℕ → Value → Bool
+abbrev pub fits_place : List ColumnType → ℕ → Value → Bool
 fits_place types place value = fits_some (slice_get types place) value
 
 -- there is one value for each, and it fits
@@ -39,7 +39,7 @@ is_by_row kind.ByRow = true
 is_by_row _ = false
 
 -- with row tracking there is one value for each column, else one for each conflicting cell in order
-abbrev pub fit_columns : CaseKind → List ColType → List ℕ → List Value → Bool
+abbrev pub fit_columns : CaseKind → List ColumnType → List ℕ → List Value → Bool
 fit_columns kind types cells values = if is_by_row kind then fit_all fits_column types values else fit_all (fits_place types) cells values
 
 -- the identity column keeps its value
@@ -78,14 +78,14 @@ within_or_kept false values = KeepPublisher
 
 -- a list that fits counts as one with the identity column's own value. One that does not fit, or gives too long a row,
 -- and each list where one of the bodies is a delete, counts as keeping the publisher's version
-abbrev pub counted_list : List ColType → Option ℕ → List Side → ConflictCase → Body → Body → List Value → Decision
+abbrev pub counted_list : List ColumnType → Option ℕ → List Side → ConflictCase → Body → Body → List Value → Decision
 counted_list types identity sides case (Live ours) (Live theirs) values =
     if fit_columns case.kind types case.cells values
     then (let kept = with_own case identity (body_value case.kind case.publisher identity) values in within_or_kept (is_within sides ours theirs kept) kept)
     else KeepPublisher
 counted_list types identity sides case _ _ values = KeepPublisher
 
-abbrev pub counted_decision : List ColType → Option ℕ → List Side → ConflictCase → Decision → Decision
+abbrev pub counted_decision : List ColumnType → Option ℕ → List Side → ConflictCase → Decision → Decision
 counted_decision types identity sides case KeepPublisher = KeepPublisher
 counted_decision types identity sides case TakeSubscriber = TakeSubscriber
 counted_decision types identity sides case (Custom values) = counted_list types identity sides case case.publisher case.incoming values

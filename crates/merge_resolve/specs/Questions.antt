@@ -3,7 +3,7 @@ use Rattle.std.specs.Prelude.{ℕ, Option, Some, None, List, [], map, filter_map
 use Rattle.std.specs.List.{enumerate_from}
 use Rattle.merge_types.specs.declared.changes.Tracking.{Tracking}
 use Rattle.merge_types.specs.declared.changes.Tracking.TheVariants as tracking
-use Rattle.merge_types.specs.declared.values.ColType.{ColType}
+use Rattle.merge_types.specs.declared.values.ColumnType.{ColumnType}
 use Rattle.merge_types.specs.declared.values.Column.{Column}
 use Rattle.merge_schema.specs.declared.publication.Article.{Article}
 use Rattle.merge_schema.specs.declared.publication.Identity.{Identity}
@@ -50,7 +50,7 @@ pub record Asked : Type 0 where
   -- the place of its resolver, and of the column by which this decides
   pub resolver : ℕ
   pub column : Option ℕ
-  pub types : List ColType
+  pub types : List ColumnType
   pub identity : Option ℕ
 
 abbrev pub asked_of : Article → Asked

@@ -5,7 +5,7 @@ ghost use Rattle.merge_resolve.specs.Questions.{question_of};
 ghost use Rattle.merge_resolve.specs.Changes.{ChangesAt};
 
 use crate::{ConflictCase, Handed};
-use merge_types::{ColType, Listing, NoMemory};
+use merge_types::{ColumnType, Listing, NoMemory};
 use merge_units::{Decision, Sides};
 use std::alloc::Global;
 
@@ -18,13 +18,13 @@ pub struct Question {
     /// The side of each cell.
     pub sides: Sides,
     /// The types of the article's columns.
-    pub types: ColTypes,
+    pub types: ColumnTypes,
     /// The place of its identity column.
     pub identity: Option<u8>,
 }
 
 /// The types of columns, in order.
-pub type ColTypes = Listing<ColType>;
+pub type ColumnTypes = Listing<ColumnType>;
 
 /// The decisions on questions, in their order.
 pub type Decisions = Listing<Decision>;

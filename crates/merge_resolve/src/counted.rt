@@ -8,7 +8,7 @@ ghost use Rattle.merge_resolve.specs.Counted.{is_custom, is_by_row, fits_place, 
 use crate::values::body_value;
 use crate::{CaseKind, ConflictCase};
 use merge_types::limits::ROW_LIMIT;
-use merge_types::{ColType, NoMemory, Value, Values};
+use merge_types::{ColumnType, NoMemory, Value, Values};
 use merge_units::{Body, Cell, Decision, Side};
 use std::alloc::Global;
 
@@ -16,7 +16,7 @@ use std::alloc::Global;
 /// column, and cells that are new on these sides.
 pub fn counted_decision(
     alloc: Global,
-    types: &[ColType],
+    types: &[ColumnType],
     identity: Option<u8>,
     sides: &[Side],
     case: &ConflictCase,
@@ -36,7 +36,7 @@ pub fn counted_decision(
 
 fn counted_list(
     alloc: Global,
-    types: &[ColType],
+    types: &[ColumnType],
     identity: Option<u8>,
     sides: &[Side],
     case: &ConflictCase,
@@ -69,7 +69,7 @@ pub fn is_by_row(kind: CaseKind) -> bool
 }
 
 // Whether the values are as many as are asked for, and fit.
-fn fit_columns(kind: CaseKind, types: &[ColType], cells: &[u8], values: &[Value]) -> bool
+fn fit_columns(kind: CaseKind, types: &[ColumnType], cells: &[u8], values: &[Value]) -> bool
     ensures fit { result ≡ fit_columns kind types.now cells.now values.now }
     ensures counted { IsTrue result → is_by_row kind ≡ false → length cells.now ≡ length values.now }
 {
@@ -80,7 +80,7 @@ fn fit_columns(kind: CaseKind, types: &[ColType], cells: &[u8], values: &[Value]
     }
 }
 
-fn fit_row(types: &[ColType], values: &[Value]) -> bool
+fn fit_row(types: &[ColumnType], values: &[Value]) -> bool
     ensures { result ≡ fit_all fits_column types.now values.now }
 {
     if types.len() != values.len() {
@@ -94,7 +94,7 @@ fn fit_row(types: &[ColType], values: &[Value]) -> bool
     true
 }
 
-fn fit_places(types: &[ColType], cells: &[u8], values: &[Value]) -> bool
+fn fit_places(types: &[ColumnType], cells: &[u8], values: &[Value]) -> bool
     ensures fit { result ≡ fit_all (fits_place types.now) cells.now values.now }
     ensures counted { IsTrue result → length cells.now ≡ length values.now }
 {
@@ -109,7 +109,7 @@ fn fit_places(types: &[ColType], cells: &[u8], values: &[Value]) -> bool
     true
 }
 
-fn fits_place(types: &[ColType], place: u8, value: &Value) -> bool
+fn fits_place(types: &[ColumnType], place: u8, value: &Value) -> bool
     ensures { result ≡ fits_place types.now place value.now }
 {
     match types.get(place as usize) {

@@ -7,7 +7,7 @@ ghost use Rattle.merge_units.specs.Version.{new_tops};
 ghost use Rattle.merge_resolve.specs.Priorities.{server_priority, priority_at, top_priority, greatest_priority, incoming_priority};
 
 use merge_lineage::Lineage;
-use merge_schema::{Publication, SubKind, Subscription};
+use merge_schema::{Publication, Subscription, SubscriptionKind};
 use merge_types::{Dot, SiteId};
 use merge_units::{Body, Cell, Version};
 
@@ -82,8 +82,8 @@ fn server_priority(subscription: &Subscription) -> Option<u16>
     ensures { result ≡ server_priority subscription.now }
 {
     match subscription.kind {
-        SubKind::Server => Some(subscription.priority),
-        SubKind::Client => None,
+        SubscriptionKind::Server => Some(subscription.priority),
+        SubscriptionKind::Client => None,
     }
 }
 

@@ -4,7 +4,7 @@ ghost use Rattle.std.specs.List.{enumerate_from};
 ghost use Rattle.merge_types.specs.declared.values.Column.{Column};
 ghost use Rattle.merge_resolve.specs.Questions.{kind_of, sides_of_case, both_place, conflicting_places, asked_of, case_asked, question_asked};
 
-use crate::{CaseKind, ColTypes, ConflictCase, Places, Question};
+use crate::{CaseKind, ColumnTypes, ConflictCase, Places, Question};
 use merge_schema::Article;
 use merge_types::{Column, Moment, NoMemory, RowId, SiteId, Tracking};
 use merge_units::{Case, Side, Sides, Version};
@@ -92,10 +92,10 @@ fn both_places(alloc: Global, sides: &[Side]) -> Result<Vec<u8>, NoMemory>
     Ok(places)
 }
 
-fn types_of(alloc: Global, columns: &[Column]) -> Result<ColTypes, NoMemory>
+fn types_of(alloc: Global, columns: &[Column]) -> Result<ColumnTypes, NoMemory>
     ensures { IfOk result (λ types. types ≡ map (λ (column : Column). column.ty) columns.now) }
 {
-    let mut types = ColTypes::empty(alloc);
+    let mut types = ColumnTypes::empty(alloc);
     for column in columns {
         types.push(column.ty)?;
     }

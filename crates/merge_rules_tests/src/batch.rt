@@ -10,9 +10,9 @@ use merge_batch::{
 use merge_gens::SiteState;
 use merge_ident::{Grant, Range};
 use merge_lineage::{Lineage, are_ascending};
-use merge_schema::{Article, Identity, Publication, SubKind, Subscription};
+use merge_schema::{Article, Identity, Publication, Subscription, SubscriptionKind};
 use merge_types::{
-    ColType, Column, Dot, HostName, Listing, RowId, SiteId, Tracking, Value, Values, Words,
+    Column, ColumnType, Dot, HostName, Listing, RowId, SiteId, Tracking, Value, Values, Words,
 };
 use merge_units::{Body, Cell, Cells, Version};
 use std::alloc::Global;
@@ -93,7 +93,7 @@ impl HeardRanges for Tables {
     }
 }
 
-fn column(alloc: Global, name: &str, ty: ColType) -> Result<Column, Fail> {
+fn column(alloc: Global, name: &str, ty: ColumnType) -> Result<Column, Fail> {
     Ok(Column {
         name: Words::of(alloc, name)?,
         ty,
@@ -102,8 +102,8 @@ fn column(alloc: Global, name: &str, ty: ColType) -> Result<Column, Fail> {
 
 fn ticket(alloc: Global) -> Result<Article, Fail> {
     let mut columns = Listing::empty(alloc);
-    columns.push(column(alloc, "no", ColType::Int)?)?;
-    columns.push(column(alloc, "note", ColType::Text)?)?;
+    columns.push(column(alloc, "no", ColumnType::Int)?)?;
+    columns.push(column(alloc, "note", ColumnType::Text)?)?;
     Ok(Article {
         name: Words::of(alloc, "ticket")?,
         columns,
@@ -130,7 +130,7 @@ fn publication(alloc: Global) -> Result<Publication, Fail> {
     subscriptions.push(Subscription {
         site: SiteId(1),
         host: HostName(Words::of(alloc, "h1")?),
-        kind: SubKind::Client,
+        kind: SubscriptionKind::Client,
         priority: 0,
     })?;
     Ok(Publication {

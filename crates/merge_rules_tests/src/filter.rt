@@ -2,26 +2,26 @@
 ghost use Rattle.std.specs.Prelude.{◌≡◌, ◌≤◌};
 
 use merge_filter::{FilterFault, Truth, eval, parse};
-use merge_types::{ColType, Column, HostName, NoMemory, Octets, Steps, Value, Words};
+use merge_types::{Column, ColumnType, HostName, NoMemory, Octets, Steps, Value, Words};
 use std::alloc::Global;
 use std::marker::Brand;
 use std::sync::ledger::{Blank, Ledger};
 use std::test::Fail;
 
-fn column(alloc: Global, name: &str, ty: ColType) -> Result<Column, NoMemory> {
+fn column(alloc: Global, name: &str, ty: ColumnType) -> Result<Column, NoMemory> {
     let name = Words::of(alloc, name)?;
     Ok(Column { name, ty })
 }
 
 fn columns(alloc: Global) -> Result<Vec<Column>, NoMemory> {
     let mut columns = Vec::new(alloc);
-    columns.push(column(alloc, "qty", ColType::Int)?)?;
-    columns.push(column(alloc, "region", ColType::Text)?)?;
-    columns.push(column(alloc, "d", ColType::Bytes)?)?;
-    columns.push(column(alloc, "day", ColType::Day)?)?;
-    columns.push(column(alloc, "g", ColType::Guid)?)?;
-    columns.push(column(alloc, "b", ColType::Bit)?)?;
-    columns.push(column(alloc, "AND", ColType::Int)?)?;
+    columns.push(column(alloc, "qty", ColumnType::Int)?)?;
+    columns.push(column(alloc, "region", ColumnType::Text)?)?;
+    columns.push(column(alloc, "d", ColumnType::Bytes)?)?;
+    columns.push(column(alloc, "day", ColumnType::Day)?)?;
+    columns.push(column(alloc, "g", ColumnType::Guid)?)?;
+    columns.push(column(alloc, "b", ColumnType::Bit)?)?;
+    columns.push(column(alloc, "AND", ColumnType::Int)?)?;
     Ok(columns)
 }
 

@@ -11,7 +11,7 @@ use merge_model::{Answer, HeldRanges, ShownRow, SiteStanding};
 use merge_report::{text_of, texts_of};
 use merge_schema::{Article, Publication};
 use merge_types::{
-    ColType, Column, Dot, Listing, Moment, RowId, RowKey, SiteId, Tracking, Value, Values, Words,
+    Column, ColumnType, Dot, Listing, Moment, RowId, RowKey, SiteId, Tracking, Value, Values, Words,
 };
 use merge_units::{Body, Cell, Cells, Version};
 use std::alloc::Global;
@@ -26,7 +26,7 @@ fn article(alloc: Global, name: &str, column: &str) -> Result<Article, Fail> {
     let mut columns = Listing::empty(alloc);
     columns.push(Column {
         name: Words::of(alloc, column)?,
-        ty: ColType::Int,
+        ty: ColumnType::Int,
     })?;
     Ok(Article {
         name: Words::of(alloc, name)?,

@@ -4,13 +4,14 @@ ghost use Rattle.merge_resolve.specs.Questions.{sides_of_case};
 
 use merge_lineage::Lineage;
 use merge_resolve::{
-    Additive, CaseKind, ColTypes, ConflictCase, Handed, Maximum, Meeting, Minimum, Places,
+    Additive, CaseKind, ColumnTypes, ConflictCase, Handed, Maximum, Meeting, Minimum, Places,
     Priority, Question, Resolver, ResolverChoice, SubscriberWins, ask_all, counted_decision,
     incoming_priority, publisher_priority,
 };
-use merge_schema::{Article, Publication, SubKind, Subscription, Tracking};
+use merge_schema::{Article, Publication, Subscription, SubscriptionKind, Tracking};
 use merge_types::{
-    ColType, Column, Dot, HostName, Listing, Moment, NoMemory, RowId, SiteId, Value, Values, Words,
+    Column, ColumnType, Dot, HostName, Listing, Moment, NoMemory, RowId, SiteId, Value, Values,
+    Words,
 };
 use merge_units::{Body, Case, Cell, Cells, Decision, Side, Sides, Version};
 use std::alloc::Global;
@@ -324,7 +325,7 @@ fn question(alloc: Global, place: u8) -> Result<Question, Fail>
         place,
         case: case(alloc, &PLAIN)?,
         sides: Sides::empty(alloc),
-        types: ColTypes::empty(alloc),
+        types: ColumnTypes::empty(alloc),
         identity: None,
     })
 }
@@ -389,7 +390,7 @@ fn is_counted(
         values.push(Value::Int(42))?;
     }
     let decision = Decision::Custom(values);
-    let types = [ColType::Int, ColType::Int];
+    let types = [ColumnType::Int, ColumnType::Int];
     let sides = [Side::Both, Side::Neither];
     let counted = counted_decision(alloc, &types, identity, &sides, &asked, decision)?;
     Ok(is_expected(&counted, told, &PLAIN))
@@ -422,7 +423,7 @@ fn article(alloc: Global) -> Result<Article, Fail> {
     for name in ["id", "total"] {
         columns.push(Column {
             name: Words::of(alloc, name)?,
-            ty: ColType::Int,
+            ty: ColumnType::Int,
         })?;
     }
     Ok(Article {
@@ -483,7 +484,7 @@ fn asked(alloc: Global, conflict: &Case) -> Result<Question, Fail>
 fn a_question_is_built_from_its_article(rt: HostRuntime) -> Result<(), Fail> {
     let conflict = one_conflict(rt.alloc())?;
     let question = asked(rt.alloc(), &conflict)?;
-    let types = [ColType::Int, ColType::Int];
+    let types = [ColumnType::Int, ColumnType::Int];
     for (holds, what) in [
         (
             question.place == ResolverChoice::Additive.place(),
@@ -519,7 +520,7 @@ fn a_question_of_a_delete_names_no_cell(rt: HostRuntime) -> Result<(), Fail> {
 fn subscription(
     alloc: Global,
     site: u16,
-    kind: SubKind,
+    kind: SubscriptionKind,
     priority: u16,
 ) -> Result<Subscription, Fail> {
     Ok(Subscription {
@@ -533,8 +534,8 @@ fn subscription(
 // Site 1 is a client, and site 2 a server.
 fn publication(alloc: Global) -> Result<Publication, Fail> {
     let mut subscriptions = Listing::empty(alloc);
-    subscriptions.push(subscription(alloc, 1, SubKind::Client, 0)?)?;
-    subscriptions.push(subscription(alloc, 2, SubKind::Server, 300)?)?;
+    subscriptions.push(subscription(alloc, 1, SubscriptionKind::Client, 0)?)?;
+    subscriptions.push(subscription(alloc, 2, SubscriptionKind::Server, 300)?)?;
     Ok(Publication {
         name: Words::of(alloc, "sales")?,
         retention_days: 14,

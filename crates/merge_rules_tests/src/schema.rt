@@ -1,8 +1,8 @@
 //! Publication texts with their answers. Expected answers are worked out from docs/use/publication-file.md.
 use merge_schema::{
-    Article, Identity, JoinFilter, SchemaFault, SubKind, Subscription, is_built, read,
+    Article, Identity, JoinFilter, SchemaFault, Subscription, SubscriptionKind, is_built, read,
 };
-use merge_types::{ColType, Column, NoMemory, SiteId, Tracking};
+use merge_types::{Column, ColumnType, NoMemory, SiteId, Tracking};
 use std::alloc::Global;
 use std::test::Fail;
 
@@ -811,8 +811,8 @@ fn are_number_and_reference(columns: &[Column]) -> bool {
     match columns {
         [number, reference] => {
             number.name.as_str() == "number"
-                && number.ty == ColType::Int
-                && reference.ty == ColType::Guid
+                && number.ty == ColumnType::Int
+                && reference.ty == ColumnType::Guid
         }
         _ => false,
     }
@@ -838,8 +838,8 @@ fn are_of_customers(joins: &[JoinFilter]) -> bool {
 fn are_north_and_south(subscriptions: &[Subscription]) -> bool {
     match subscriptions {
         [north, south] => {
-            (north.site.0, north.kind, north.priority) == (3, SubKind::Server, 50)
-                && (south.site.0, south.kind, south.priority) == (5, SubKind::Client, 0)
+            (north.site.0, north.kind, north.priority) == (3, SubscriptionKind::Server, 50)
+                && (south.site.0, south.kind, south.priority) == (5, SubscriptionKind::Client, 0)
                 && south.host.0.as_str() == "south"
         }
         _ => false,

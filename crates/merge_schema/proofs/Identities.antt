@@ -1,7 +1,7 @@
 -- The identity column of an article stays what it is as further columns are read.
 use Rattle.std.proofs.Common.{◌≡◌, ℕ, zero, suc, List, [], ◌∷◌, ◌++◌, ◌⊎◌, inl, inr, length, Option, Some, None, IsSome, sym, ap, subst}
 use Rattle.merge_types.specs.declared.values.Column.{Column}
-use Rattle.merge_types.specs.declared.values.ColType.TheVariants as types
+use Rattle.merge_types.specs.declared.values.ColumnType.TheVariants as types
 use Rattle.merge_filter.specs.Types.{column_type}
 use Rattle.merge_schema.specs.declared.publication.Identity.{Identity}
 use Rattle.merge_schema.specs.Valid.{HasValidIdentity}

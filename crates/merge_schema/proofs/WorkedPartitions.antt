@@ -12,7 +12,7 @@ use Rattle.merge_schema.specs.declared.publication.Article.{Article}
 use Rattle.merge_schema.specs.declared.publication.JoinFilter.{JoinFilter}
 use Rattle.merge_schema.specs.declared.publication.Publication.{Publication}
 use Rattle.merge_schema.specs.declared.publication.Subscription.{Subscription}
-use Rattle.merge_schema.specs.declared.publication.SubKind.TheVariants as kinds
+use Rattle.merge_schema.specs.declared.publication.SubscriptionKind.TheVariants as kinds
 use Rattle.merge_schema.specs.Partition.{LiveRow, partition_of, partition_at, is_in_at}
 
 abbrev north : List ℕ

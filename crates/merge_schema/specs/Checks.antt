@@ -2,8 +2,8 @@
 use Rattle.std.specs.Prelude.{ℕ, List, map, Bool, true, false, not, ◌&&◌, ◌||◌, ◌==◌, codes, decimal, if◌then◌else◌, Option, Some, None, find, Result, Ok, Err}
 use Rattle.std.specs.List.{list_any}
 use Rattle.merge_types.specs.declared.values.Column.{Column}
-use Rattle.merge_types.specs.declared.values.ColType.{ColType}
-use Rattle.merge_types.specs.declared.values.ColType.TheVariants as types
+use Rattle.merge_types.specs.declared.values.ColumnType.{ColumnType}
+use Rattle.merge_types.specs.declared.values.ColumnType.TheVariants as types
 use Rattle.merge_filter.specs.Types.{column_type}
 use Rattle.merge_schema.specs.declared.draft.ArticleDraft.{ArticleDraft}
 use Rattle.merge_schema.specs.declared.draft.Draft.{Draft}
@@ -63,13 +63,13 @@ lacks_resolver_column article = lacks_named article.columns article.resolver_col
 -- columns by which a resolver can't decide
 
 -- maximum and minimum compare integers and days
-abbrev pub is_compared : Option ColType → Bool
+abbrev pub is_compared : Option ColumnType → Bool
 is_compared (Some types.Int) = true
 is_compared (Some types.Day) = true
 is_compared _ = false
 
 -- additive adds integers
-abbrev pub is_added : Option ColType → Bool
+abbrev pub is_added : Option ColumnType → Bool
 is_added (Some types.Int) = true
 is_added _ = false
 
@@ -77,7 +77,7 @@ abbrev pub is_identity : Option Identity → ℕ → Bool
 is_identity None place = false
 is_identity (Some identity) place = identity.column == place
 
-abbrev pub can_decide : ℕ → Option ColType → Bool → Bool
+abbrev pub can_decide : ℕ → Option ColumnType → Bool → Bool
 can_decide resolver ty of_identity =
     if (resolver == 1) || (resolver == 2) then is_compared ty
     else if resolver == 3 then is_added ty && not of_identity

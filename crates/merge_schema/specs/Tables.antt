@@ -5,8 +5,8 @@ use Rattle.merge_types.specs.Limits.{filter_limit}
 use Rattle.merge_types.specs.declared.changes.Tracking.{Tracking}
 use Rattle.merge_types.specs.declared.changes.Tracking.TheVariants.{Row, ByColumn}
 use Rattle.merge_types.specs.declared.values.Column.{Column}
-use Rattle.merge_types.specs.declared.values.ColType.{ColType}
-use Rattle.merge_types.specs.declared.values.ColType.TheVariants as types
+use Rattle.merge_types.specs.declared.values.ColumnType.{ColumnType}
+use Rattle.merge_types.specs.declared.values.ColumnType.TheVariants as types
 use Rattle.merge_schema.specs.declared.draft.ArticleDraft.{ArticleDraft}
 use Rattle.merge_schema.specs.declared.draft.Draft.{Draft}
 use Rattle.merge_schema.specs.declared.draft.JoinDraft.{JoinDraft}
@@ -14,8 +14,8 @@ use Rattle.merge_schema.specs.declared.fault.SchemaFault.{SchemaFault}
 use Rattle.merge_schema.specs.declared.fault.SchemaFault.TheVariants.{BadValue}
 use Rattle.merge_schema.specs.declared.keys.Shape.TheVariants as shapes
 use Rattle.merge_schema.specs.declared.publication.Identity.{Identity}
-use Rattle.merge_schema.specs.declared.publication.SubKind.{SubKind}
-use Rattle.merge_schema.specs.declared.publication.SubKind.TheVariants.{Server, Client}
+use Rattle.merge_schema.specs.declared.publication.SubscriptionKind.{SubscriptionKind}
+use Rattle.merge_schema.specs.declared.publication.SubscriptionKind.TheVariants.{Server, Client}
 use Rattle.merge_schema.specs.declared.publication.Subscription.{Subscription}
 use Rattle.merge_schema.specs.Keys.{known_only}
 use Rattle.merge_schema.specs.Steps.{◌>>=◌, each}
@@ -26,7 +26,7 @@ use Rattle.merge_schema.specs.Values.{or_bad, needed, optional, any_text, some_t
 abbrev pub tracking_named : List ℕ → Option Tracking
 tracking_named text = if bytes_eq text (codes "row") then Some Row else if bytes_eq text (codes "column") then Some ByColumn else None
 
-abbrev pub type_named : List ℕ → Option ColType
+abbrev pub type_named : List ℕ → Option ColumnType
 type_named text =
     if bytes_eq text (codes "int") then Some types.Int
     else if bytes_eq text (codes "bit") then Some types.Bit
@@ -36,7 +36,7 @@ type_named text =
     else if bytes_eq text (codes "bytes") then Some types.Bytes
     else None
 
-abbrev pub kind_named : List ℕ → Option SubKind
+abbrev pub kind_named : List ℕ → Option SubscriptionKind
 kind_named text = if bytes_eq text (codes "server") then Some Server else if bytes_eq text (codes "client") then Some Client else None
 
 abbrev pub handler_named : List ℕ → Option ℕ
@@ -72,11 +72,11 @@ if_in_list resolvers (Some place) = if nat_lt place resolvers then Some place el
 abbrev pub needs_column : ℕ → Bool
 needs_column resolver = (resolver == 1) || (resolver == 2) || (resolver == 3)
 
-abbrev pub is_int : ColType → Bool
+abbrev pub is_int : ColumnType → Bool
 is_int types.Int = true
 is_int _ = false
 
-abbrev pub is_server : SubKind → Bool
+abbrev pub is_server : SubscriptionKind → Bool
 is_server Server = true
 is_server Client = false
 
@@ -88,10 +88,10 @@ tracking_at ms = optional (codes "tracking") (codes "row") any_text ms >>= λ wo
 abbrev pub resolver_at : ℕ → Members → Result ℕ SchemaFault
 resolver_at resolvers ms = optional (codes "resolver") (codes "priority") any_text ms >>= λ word. or_bad (codes "resolver") (if_in_list resolvers (resolver_named word))
 
-abbrev pub type_at : Members → Result ColType SchemaFault
+abbrev pub type_at : Members → Result ColumnType SchemaFault
 type_at ms = needed (codes "type") any_text ms >>= λ word. or_bad (codes "type") (type_named word)
 
-abbrev pub kind_at : Members → Result SubKind SchemaFault
+abbrev pub kind_at : Members → Result SubscriptionKind SchemaFault
 kind_at ms = optional (codes "kind") (codes "client") any_text ms >>= λ word. or_bad (codes "kind") (kind_named word)
 
 -- keys that depend on another key of their table
@@ -101,11 +101,11 @@ abbrev pub resolver_column : ℕ → Members → Result (Option (List ℕ)) Sche
 resolver_column resolver ms = if needs_column resolver then needed (codes "resolver_column") some_text ms else optional (codes "resolver_column") None some_text ms
 
 -- the table of an identity column, which is of type int and the only one of its article
-abbrev pub identity_table : ColType → Bool → List ℕ → Data → Result (Option Members) SchemaFault
+abbrev pub identity_table : ColumnType → Bool → List ℕ → Data → Result (Option Members) SchemaFault
 identity_table ty taken key d = if is_int ty && not taken then (one_table key d >>= λ ms. Ok (Some ms)) else Err (BadValue key)
 
 -- a client has no priority
-abbrev pub priority_for : SubKind → List ℕ → Data → Result ℕ SchemaFault
+abbrev pub priority_for : SubscriptionKind → List ℕ → Data → Result ℕ SchemaFault
 priority_for kind key d = if is_server kind then count_from 0 9999 key d else Err (BadValue key)
 
 -- each table of an array, in order

@@ -1,7 +1,7 @@
 -- What holds of every publication that a file says.
 use Rattle.std.specs.Prelude.{◌≡◌, ◌≢◌, ◌<◌, ◌≤◌, ℕ, pos, true, int_le, List, length, map, slice_get, All, AllPairs, Option, Some, None}
 use Rattle.merge_types.specs.declared.values.Column.{Column}
-use Rattle.merge_types.specs.declared.values.ColType.TheVariants as types
+use Rattle.merge_types.specs.declared.values.ColumnType.TheVariants as types
 use Rattle.merge_filter.specs.Eval.{width}
 use Rattle.merge_filter.specs.Syntax.{Syntax}
 use Rattle.merge_filter.specs.Types.{column_type, are_alike}
@@ -10,7 +10,7 @@ use Rattle.merge_schema.specs.declared.publication.Article.{Article}
 use Rattle.merge_schema.specs.declared.publication.Identity.{Identity}
 use Rattle.merge_schema.specs.declared.publication.JoinFilter.{JoinFilter}
 use Rattle.merge_schema.specs.declared.publication.Publication.{Publication}
-use Rattle.merge_schema.specs.declared.publication.SubKind.TheVariants.{Client}
+use Rattle.merge_schema.specs.declared.publication.SubscriptionKind.TheVariants.{Client}
 use Rattle.merge_schema.specs.declared.publication.Subscription.{Subscription}
 use Rattle.merge_schema.specs.Ancestors.{columns_if}
 use Rattle.merge_schema.specs.Checks.{column_names, can_decide, is_identity}

@@ -1,7 +1,7 @@
 -- What holds of the tables of a file, before the names in them are looked up.
 use Rattle.std.specs.Prelude.{◌≡◌, ◌<◌, ◌≤◌, ◌⊎◌, ℕ, true, length, All, Option, Some, None, IsSome}
 use Rattle.merge_types.specs.declared.values.Column.{Column}
-use Rattle.merge_types.specs.declared.values.ColType.TheVariants as types
+use Rattle.merge_types.specs.declared.values.ColumnType.TheVariants as types
 use Rattle.merge_script.specs.Names.{is_name_text}
 use Rattle.merge_schema.specs.declared.draft.ArticleDraft.{ArticleDraft}
 use Rattle.merge_schema.specs.declared.draft.Draft.{Draft}

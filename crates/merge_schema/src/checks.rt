@@ -16,7 +16,7 @@ use crate::names::{
 use crate::publication::Identity;
 use crate::values::bad_value;
 use merge_filter::column_type;
-use merge_types::{ColType, Words};
+use merge_types::{ColumnType, Words};
 use std::alloc::Global;
 
 fn distinct_columns(alloc: Global, articles: &[ArticleDraft]) -> Result<(), SchemaFault>
@@ -89,20 +89,20 @@ fn lacks_resolver_column(article: &ArticleDraft) -> bool
     }
 }
 
-fn is_compared(ty: Option<ColType>) -> bool
+fn is_compared(ty: Option<ColumnType>) -> bool
     ensures { result ≡ is_compared ty }
 {
     match ty {
-        Some(ColType::Int) | Some(ColType::Day) => true,
+        Some(ColumnType::Int) | Some(ColumnType::Day) => true,
         _ => false,
     }
 }
 
-fn is_added(ty: Option<ColType>) -> bool
+fn is_added(ty: Option<ColumnType>) -> bool
     ensures { result ≡ is_added ty }
 {
     match ty {
-        Some(ColType::Int) => true,
+        Some(ColumnType::Int) => true,
         _ => false,
     }
 }
@@ -117,7 +117,7 @@ fn is_identity(identity: Option<Identity>, place: usize) -> bool
 }
 
 // Whether a resolver can decide by a column of this type.
-fn can_decide(resolver: u8, ty: Option<ColType>, of_identity: bool) -> bool
+fn can_decide(resolver: u8, ty: Option<ColumnType>, of_identity: bool) -> bool
     ensures { result ≡ can_decide resolver ty of_identity }
 {
     if resolver == 1 || resolver == 2 {

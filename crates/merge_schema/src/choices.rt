@@ -2,8 +2,8 @@
 ghost use Rattle.std.specs.Prelude.{◌≡◌, ◌<◌, IfSome};
 ghost use Rattle.merge_schema.specs.Tables.{tracking_named, type_named, kind_named, handler_named, resolver_named, if_in_list, needs_column};
 
-use crate::publication::SubKind;
-use merge_types::{ColType, Tracking};
+use crate::publication::SubscriptionKind;
+use merge_types::{ColumnType, Tracking};
 
 pub fn tracking_named(text: &str) -> Option<Tracking>
     ensures { result ≡ tracking_named text.now }
@@ -17,33 +17,33 @@ pub fn tracking_named(text: &str) -> Option<Tracking>
     }
 }
 
-pub fn type_named(text: &str) -> Option<ColType>
+pub fn type_named(text: &str) -> Option<ColumnType>
     ensures { result ≡ type_named text.now }
 {
     if text == "int" {
-        Some(ColType::Int)
+        Some(ColumnType::Int)
     } else if text == "bit" {
-        Some(ColType::Bit)
+        Some(ColumnType::Bit)
     } else if text == "text" {
-        Some(ColType::Text)
+        Some(ColumnType::Text)
     } else if text == "day" {
-        Some(ColType::Day)
+        Some(ColumnType::Day)
     } else if text == "guid" {
-        Some(ColType::Guid)
+        Some(ColumnType::Guid)
     } else if text == "bytes" {
-        Some(ColType::Bytes)
+        Some(ColumnType::Bytes)
     } else {
         None
     }
 }
 
-pub fn kind_named(text: &str) -> Option<SubKind>
+pub fn kind_named(text: &str) -> Option<SubscriptionKind>
     ensures { result ≡ kind_named text.now }
 {
     if text == "server" {
-        Some(SubKind::Server)
+        Some(SubscriptionKind::Server)
     } else if text == "client" {
-        Some(SubKind::Client)
+        Some(SubscriptionKind::Client)
     } else {
         None
     }

@@ -22,5 +22,5 @@ pub use built::is_built;
 pub use fault::SchemaFault;
 pub use laws::{ancestor_laws, partition_laws, validity_laws};
 pub use merge_types::Tracking;
-pub use publication::{Article, Identity, JoinFilter, Publication, SubKind, Subscription};
+pub use publication::{Article, Identity, JoinFilter, Publication, Subscription, SubscriptionKind};
 pub use reading::read;

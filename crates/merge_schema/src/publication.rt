@@ -7,7 +7,7 @@ use std::alloc::AllocError;
 
 /// Whether a subscriber's versions weigh by a priority of its own.
 #[derive(Clone, Copy, Debug, PartialEq, Eq)]
-pub enum SubKind {
+pub enum SubscriptionKind {
     Server,
     Client,
 }
@@ -17,7 +17,7 @@ pub enum SubKind {
 pub struct Subscription {
     pub site: SiteId,
     pub host: HostName,
-    pub kind: SubKind,
+    pub kind: SubscriptionKind,
     /// 0 to 9999, and 0 for a client.
     pub priority: u16,
 }
@@ -153,7 +153,7 @@ impl Exact for Publication {
     ghost exact = { λ value copy same. same };
 }
 
-impl Exact for SubKind {
+impl Exact for SubscriptionKind {
     ghost use Rattle.std.proofs.Common.{rules};
 
     ghost exact = { Prim.search rules };

@@ -2,10 +2,10 @@
 ghost use Rattle.std.specs.Prelude.{◌≡◌, ◌<◌, ◌≤◌, ◌+◌, ◌⊎◌, All, IfOk, IsSome, true, List, [], map, length, option_map, is_some, Some, None, codes};
 ghost use Rattle.toml.specs.View.{table_view, view};
 ghost use Rattle.merge_script.specs.Names.{is_name_text};
-ghost use Rattle.merge_types.specs.declared.values.ColType.TheVariants as types;
+ghost use Rattle.merge_types.specs.declared.values.ColumnType.TheVariants as types;
 ghost use Rattle.merge_types.specs.declared.values.Column.{Column};
 ghost use Rattle.merge_schema.specs.declared.draft.ArticleDraft.{ArticleDraft};
-ghost use Rattle.merge_schema.specs.declared.publication.SubKind.TheVariants.{Client};
+ghost use Rattle.merge_schema.specs.declared.publication.SubscriptionKind.TheVariants.{Client};
 ghost use Rattle.merge_schema.specs.declared.publication.Subscription.{Subscription};
 ghost use Rattle.merge_schema.specs.Valid.{HasValidRanges, HasValidIdentity, IsValidSubscription};
 ghost use Rattle.merge_schema.specs.ValidTables.{IsNewIdentity, IsColumnIdentity, IsValidDraft, HasValidTables};
@@ -17,13 +17,13 @@ use crate::choices::{kind_named, needs_column, resolver_within, tracking_named, 
 use crate::draft::{ArticleDraft, Draft, JoinDraft};
 use crate::fault::SchemaFault;
 use crate::keys::{Shape, known_only};
-use crate::publication::{Identity, SubKind, Subscription};
+use crate::publication::{Identity, Subscription, SubscriptionKind};
 use crate::values::{
     bad_value, count_at, count_from, count_or, fitting, integer_or, missing, name_at, one_table,
     short_text_at, short_text_if, tables_at, tables_or_none, text_at, text_if, text_or, value_at,
 };
 use merge_types::limits::FILTER_LIMIT;
-use merge_types::{ColType, Column, HostName, Listing, SiteId, Tracking, Words};
+use merge_types::{Column, ColumnType, HostName, Listing, SiteId, Tracking, Words};
 use std::alloc::Global;
 use toml::{Table, Value};
 
@@ -81,14 +81,14 @@ fn resolver_column_at(
     }
 }
 
-fn type_at(alloc: Global, table: &Table) -> Result<ColType, SchemaFault>
+fn type_at(alloc: Global, table: &Table) -> Result<ColumnType, SchemaFault>
     ensures { Gives (λ x. x) result (type_at (table_view table.now)) }
 {
     let word = text_at(alloc, table, "type")?;
     fitting(alloc, type_named(word), "type")
 }
 
-fn kind_at(alloc: Global, table: &Table) -> Result<SubKind, SchemaFault>
+fn kind_at(alloc: Global, table: &Table) -> Result<SubscriptionKind, SchemaFault>
     ensures { Gives (λ x. x) result (kind_at (table_view table.now)) }
 {
     let word = text_or(alloc, table, "kind", "client")?;
@@ -98,7 +98,7 @@ fn kind_at(alloc: Global, table: &Table) -> Result<SubKind, SchemaFault>
 fn identity_at<'a>(
     alloc: Global,
     table: &'a Table,
-    ty: ColType,
+    ty: ColumnType,
     taken: bool,
 ) -> Result<Option<&'a Table>, SchemaFault>
     ensures table { Gives (λ x. option_map (λ t. table_view t.now) x) result (optional (codes "identity") None (identity_table ty taken) (table_view table.now)) }
@@ -107,7 +107,7 @@ fn identity_at<'a>(
     match value_at(table, "identity") {
         None => Ok(None),
         Some(value) => {
-            if ty == ColType::Int && !taken {
+            if ty == ColumnType::Int && !taken {
                 Ok(Some(one_table(alloc, value, "identity")?))
             } else {
                 Err(bad_value(alloc, "identity"))
@@ -265,7 +265,7 @@ fn articles_of(
     Ok(articles)
 }
 
-fn priority_at(alloc: Global, table: &Table, kind: SubKind) -> Result<u16, SchemaFault>
+fn priority_at(alloc: Global, table: &Table, kind: SubscriptionKind) -> Result<u16, SchemaFault>
     ensures priority { Gives (λ x. x) result (optional (codes "priority") 0 (priority_for kind) (table_view table.now)) }
     ensures low { IfOk result (λ x. x ≤ 9999) }
     ensures none { IfOk result (λ x. kind ≡ Client → x ≡ 0) }
@@ -273,8 +273,8 @@ fn priority_at(alloc: Global, table: &Table, kind: SubKind) -> Result<u16, Schem
     match value_at(table, "priority") {
         None => Ok(0),
         Some(value) => match kind {
-            SubKind::Client => Err(bad_value(alloc, "priority")),
-            SubKind::Server => Ok(count_from(alloc, value, "priority", 0, 9999)? as u16),
+            SubscriptionKind::Client => Err(bad_value(alloc, "priority")),
+            SubscriptionKind::Server => Ok(count_from(alloc, value, "priority", 0, 9999)? as u16),
         },
     }
 }

@@ -10,8 +10,8 @@ use Rattle.merge_schema.specs.contracts.publication.Article as Article
 use Rattle.merge_schema.specs.contracts.publication.Publication as Publication
 use Rattle.merge_part.specs.contracts.membership.Membership as Membership
 use Rattle.merge_part.proofs.keeping.Kept.TheSendSync as kept
-use Rattle.merge_gens.proofs.index.GenIndex.TheSendSync as index
-use Rattle.merge_gens.proofs.book.GenBook.TheSendSync as book
+use Rattle.merge_gens.proofs.index.GenerationIndex.TheSendSync as index
+use Rattle.merge_gens.proofs.book.GenerationBook.TheSendSync as book
 use Rattle.merge_conflict.proofs.table.ConflictTable.TheSendSync as conflicts
 use Rattle.merge_ident.proofs.book.RangeBook.TheSendSync as ranges
 use Rattle.merge_gens.proofs.moves.Mapping.TheSendSync as mapping

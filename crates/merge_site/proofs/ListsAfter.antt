@@ -19,7 +19,7 @@ use Rattle.merge_table.proofs.Takes.{filter_is_takes, insert_last}
 use Rattle.merge_gens.specs.Book.{Book, IsSound, forgotten_if_any}
 use Rattle.merge_gens.specs.Plan.{settled}
 use Rattle.merge_gens.specs.declared.closings.Closing.{Closing}
-use Rattle.merge_gens.specs.declared.plan.GenPlan.{GenPlan}
+use Rattle.merge_gens.specs.declared.plan.GenerationPlan.{GenerationPlan}
 use Rattle.merge_conflict.specs.Rising.{AreRising, RiseAbove}
 use Rattle.merge_conflict.specs.declared.row.ConflictRow.{ConflictRow}
 use Rattle.merge_keeper.specs.Entries.{closing_of, closing_pair, conflict_of, conflict_pair}
@@ -106,7 +106,7 @@ book_stays book (UpTo generation) = refl
 book_stays book (Before cutoff) = refl
 
 -- the generations that are kept after a plan, and without those that are forgotten
-pub closings-changed : (book : Book) (plan : GenPlan) (forgets : Option Forgets) → IsSound (settled book plan) → closings_after book.closings (closing_changes book.closings plan.closings forgets) ≡ (book_left (settled book plan) forgets).closings
+pub closings-changed : (book : Book) (plan : GenerationPlan) (forgets : Option Forgets) → IsSound (settled book plan) → closings_after book.closings (closing_changes book.closings plan.closings forgets) ≡ (book_left (settled book plan) forgets).closings
 closings-changed book plan None sound =
     in_turn book.closings (map closing_put plan.closings) [] []
     ∙ ap (map closing_of) (members_behind closing_pair book.closings plan.closings (sorted_closings (book.closings ++ plan.closings) sound.ascending))

@@ -7,7 +7,7 @@ use Rattle.merge_batch.specs.declared.refusal.Refusal.{Refusal}
 use Rattle.merge_batch.specs.declared.reply.Reply.{Reply}
 use Rattle.merge_model.specs.Judge.ByNumbers.{by_rows}
 use Rattle.merge_model.specs.World.Calls.{Called, is_later, message_commits, message_or_none, reply_commits}
-use Rattle.merge_model.specs.Subscriber.{close_sub_generation}
+use Rattle.merge_model.specs.Subscriber.{close_subscriber_generation}
 use Rattle.merge_model.specs.Tables.{SubscriberTables}
 use Rattle.merge_model.specs.Subscriber.Taking.{take_reply}
 use Rattle.merge_model.specs.declared.outcome.Taken.{Taken}
@@ -58,7 +58,7 @@ always worked = ok-all worked (λ made e. e)
 
 -- a closing that commits nothing changes nothing
 pub closing-still : (h now : Held) (moment : Moment) (worked : Result (Draft × ℕ) Refusal) (commits : Bool) → tables_of now ≡ tables_of h → commits ≡ (is_later moment (tables_of h).latest || nat_lt 0 (tables_of h).gens.filling.filled)
-    → IfOk worked (λ made. close_sub_generation moment (tables_of h) ≡ Ok (drafted (tables_of h) made)) → IfOk worked (λ made. commits ≡ false → after made.0.changes (tables_of now) ≡ tables_of now)
+    → IfOk worked (λ made. close_subscriber_generation moment (tables_of h) ≡ Ok (drafted (tables_of h) made)) → IfOk worked (λ made. commits ≡ false → after made.0.changes (tables_of now) ≡ tables_of now)
 closing-still h now moment (Err why) commits same is made = tt
 closing-still h now moment (Ok worked) commits same is made = λ quiet.
     subst (λ (t : SubscriberTables). after worked.0.changes t ≡ t) (sym same) (sub-closings-quiet moment (tables_of h) (drafted (tables_of h) worked) made (sym is ∙ quiet))

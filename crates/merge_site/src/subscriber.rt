@@ -9,7 +9,7 @@ ghost use Rattle.merge_model.specs.World.Calls.{always_commits, closing_commits,
 ghost use Rattle.merge_model.specs.Subscriber.Reinit.{reinitialise};
 ghost use Rattle.merge_model.specs.World.Reports.{marks_of, unsent_count};
 ghost use Rattle.merge_model.specs.Subscriber.Sending.{make_ask, make_join, make_ranges, make_upload};
-ghost use Rattle.merge_model.specs.Subscriber.{close_sub_generation, empty_subscriber, sub_local};
+ghost use Rattle.merge_model.specs.Subscriber.{close_subscriber_generation, empty_subscriber, subscriber_local};
 ghost use Rattle.merge_model.specs.Subscriber.Taking.{take_reply};
 ghost use Rattle.merge_schema.specs.Valid.{IsValid};
 ghost use Rattle.merge_sub.specs.Held.{tables_of};
@@ -129,7 +129,7 @@ impl<K: Keeper> KeptSubscriber<K> {
     pub fn local(&mut self, now: Moment, change: &Change) -> Result<RowId, Refusal>
         requires place { has_article self.old.publication (article_of change.now) ≡ true }
         requires ascend { ColumnsAscend (settings_of change.now) }
-        ensures called { SubscriberCall (sub_local self.old.publication now change.now self.old.tables) always_commits self.old self.new result }
+        ensures called { SubscriberCall (subscriber_local self.old.publication now change.now self.old.tables) always_commits self.old self.new result }
         ensures publication { self.new.publication ≡ self.old.publication }
         ensures site { self.new.tables.site ≡ self.old.tables.site }
     {
@@ -145,7 +145,7 @@ impl<K: Keeper> KeptSubscriber<K> {
 
     /// Closes the open generation, and gives the last closed one.
     pub fn close_generation(&mut self, now: Moment) -> Result<u64, Refusal>
-        ensures called { SubscriberCall (close_sub_generation now self.old.tables) (closing_commits now self.old.tables.latest self.old.tables.gens) self.old self.new result }
+        ensures called { SubscriberCall (close_subscriber_generation now self.old.tables) (closing_commits now self.old.tables.latest self.old.tables.gens) self.old self.new result }
         ensures publication { self.new.publication ≡ self.old.publication }
         ensures site { self.new.tables.site ≡ self.old.tables.site }
     {

@@ -7,7 +7,7 @@ use Rattle.std.proofs.lemmas.Bool.{and_from, and_parts}
 use Rattle.std.proofs.lemmas.Bool.Decides.{nat_tests}
 use Rattle.merge_types.specs.Fitting.{fits_column}
 use Rattle.merge_types.specs.declared.identifiers.Dot.{Dot}
-use Rattle.merge_types.specs.declared.values.ColType.{ColType}
+use Rattle.merge_types.specs.declared.values.ColumnType.{ColumnType}
 use Rattle.merge_types.specs.declared.values.Column.{Column}
 use Rattle.merge_types.specs.declared.values.Value.{Value}
 use Rattle.merge_units.specs.Laws.{PicksSide}
@@ -141,19 +141,19 @@ module _ (identity : Option ℕ) (dot : Dot) where
 
 -- Values that are decided.
 
-abbrev pub fits_at : List ColType → ℕ → Value → Bool
-fits_at types place value = option_map_or (λ (ty : ColType). fits_column ty value) (slice_get types place) false
+abbrev pub fits_at : List ColumnType → ℕ → Value → Bool
+fits_at types place value = option_map_or (λ (ty : ColumnType). fits_column ty value) (slice_get types place) false
 
 -- a decided value fits the column at its place
-abbrev pub is_good_at : List ColType → Option ℕ → ℕ → Value → Bool
+abbrev pub is_good_at : List ColumnType → Option ℕ → ℕ → Value → Bool
 is_good_at types identity place value = fits_at types place value && set_at identity place value
 
 -- the columns from a place on have their types there
-abbrev pub Aligned : List ColType → ℕ → List Column → Type 0
+abbrev pub Aligned : List ColumnType → ℕ → List Column → Type 0
 Aligned types n [] = Unit {0}
 Aligned types n (column ∷ columns) = (slice_get types n ≡ Some column.ty) × Aligned types (n + 1) columns
 
-aligned-from : (types : List ColType) (n : ℕ) (columns : List Column) → ((k : ℕ) → slice_get types (n + k) ≡ slice_get (map (λ (column : Column). column.ty) columns) k ⊎ (length columns < k + 1)) → Aligned types n columns
+aligned-from : (types : List ColumnType) (n : ℕ) (columns : List Column) → ((k : ℕ) → slice_get types (n + k) ≡ slice_get (map (λ (column : Column). column.ty) columns) k ⊎ (length columns < k + 1)) → Aligned types n columns
 aligned-from types n [] at = tt
 aligned-from types n (column ∷ columns) at = (first (at 0), aligned-from types (n + 1) columns (λ k. let place : n + 1 + k ≡ n + suc k = omega arith in rw place (behind k (at (suc k)))))
   where
@@ -168,13 +168,13 @@ aligned-from types n (column ∷ columns) at = (first (at 0), aligned-from types
 pub types-aligned : (columns : List Column) → Aligned (map (λ (column : Column). column.ty) columns) 0 columns
 types-aligned columns = aligned-from (map (λ (column : Column). column.ty) columns) 0 columns (λ k. let place : 0 + k ≡ k = omega arith in inl (rw place refl))
 
-decided-here : (types : List ColType) (identity : Option ℕ) (n : ℕ) (column : Column) (value : Value) → slice_get types n ≡ Some column.ty → is_good_at types identity n value ≡ true → are_good identity n (column ∷ []) (value ∷ []) ≡ true
+decided-here : (types : List ColumnType) (identity : Option ℕ) (n : ℕ) (column : Column) (value : Value) → slice_get types n ≡ Some column.ty → is_good_at types identity n value ≡ true → are_good identity n (column ∷ []) (value ∷ []) ≡ true
 decided-here types identity n column value at good =
     let parts = and_parts (fits_at types n value) (set_at identity n value) good in
     let fit : fits_column column.ty value ≡ true = rw at at parts.0 in
     and_from _ _ (and_from _ _ fit parts.1) refl
 
-module _ (types : List ColType) (identity : Option ℕ) (dot : Dot) (vs : List Value) where
+module _ (types : List ColumnType) (identity : Option ℕ) (dot : Dot) (vs : List Value) where
   abbrev places : ℕ → List Side → List ℕ
   places n ss = filter_map both_place (enumerate_from n ss)
 
@@ -219,15 +219,15 @@ module _ (types : List ColType) (identity : Option ℕ) (dot : Dot) (vs : List V
       subst (λ (k : ℕ). are_good identity n (column ∷ columns) (take k (value ∷ values) ++ row_values (result_cells dot (Custom vs) (drop k (value ∷ values)) ss ps is)) ≡ true) (sym count)
       (one-join identity n column columns (value ∷ []) (row_values (result_cells dot (Custom vs) values ss ps is)) (decided-here types identity n column value aligned.0 fits.0) rest)
 
-place-fits : (types : List ColType) (place : ℕ) (value : Value) → fits_place types place value ≡ true → fits_at types place value ≡ true
+place-fits : (types : List ColumnType) (place : ℕ) (value : Value) → fits_place types place value ≡ true → fits_at types place value ≡ true
 place-fits types place value fit = by (slice_get types place) fit
   where
-    by : (found : Option ColType) → fits_some found value ≡ true → option_map_or (λ (ty : ColType). fits_column ty value) found false ≡ true
+    by : (found : Option ColumnType) → fits_some found value ≡ true → option_map_or (λ (ty : ColumnType). fits_column ty value) found false ≡ true
     by None fit = absurd (cc fit)
     by (Some ty) fit = fit
 
 -- decided values by places, where no identity column asks for its own
-pub placed-plain : (types : List ColType) (places : List ℕ) (values : List Value) → fit_all (fits_place types) places values ≡ true → fit_all (is_good_at types None) places values ≡ true
+pub placed-plain : (types : List ColumnType) (places : List ℕ) (values : List Value) → fit_all (fits_place types) places values ≡ true → fit_all (is_good_at types None) places values ≡ true
 placed-plain types [] [] fit = refl
 placed-plain types [] (value ∷ values) fit = absurd (cc fit)
 placed-plain types (place ∷ places) [] fit = absurd (cc fit)
@@ -235,7 +235,7 @@ placed-plain types (place ∷ places) (value ∷ values) fit =
     let parts = and_parts (fits_place types place value) (fit_all (fits_place types) places values) fit in
     and_from _ _ (and_from _ _ (place-fits types place value parts.0) refl) (placed-plain types places values parts.1)
 
-own-here : (types : List ColType) (identity : ℕ) (own value : Value) (place : ℕ) (b : Bool) → (place == identity) ≡ b → fits_place types place value ≡ true → fits_at types identity own ≡ true → is_set (Some own) ≡ true
+own-here : (types : List ColumnType) (identity : ℕ) (own value : Value) (place : ℕ) (b : Bool) → (place == identity) ≡ b → fits_place types place value ≡ true → fits_at types identity own ≡ true → is_set (Some own) ≡ true
     → is_good_at types (Some identity) place (let v : Value = if b then own else value in v) ≡ true
 own-here types identity own value place true is fit own-fits set =
     let same : place ≡ identity = grind (arith, nat_tests, is) in
@@ -244,7 +244,7 @@ own-here types identity own value place false is fit own-fits set =
     and_from _ _ (place-fits types place value fit) (ap (λ (b : Bool). (let c : Bool = if b then is_set (Some value) else true in c)) is)
 
 -- and with the identity column's own one
-pub placed-own : (types : List ColType) (identity : ℕ) (own : Value) (places : List ℕ) (values : List Value) → fit_all (fits_place types) places values ≡ true → fits_at types identity own ≡ true → is_set (Some own) ≡ true
+pub placed-own : (types : List ColumnType) (identity : ℕ) (own : Value) (places : List ℕ) (values : List Value) → fit_all (fits_place types) places values ≡ true → fits_at types identity own ≡ true → is_set (Some own) ≡ true
     → fit_all (is_good_at types (Some identity)) places (own_placed identity own places values) ≡ true
 placed-own types identity own [] [] fit own-fits set = refl
 placed-own types identity own [] (value ∷ values) fit own-fits set = absurd (cc fit)
@@ -298,7 +298,7 @@ row-own place n (column ∷ columns) (value ∷ values) (our ∷ ours) (suc k) o
     and_from _ _ (and_from _ _ parts.0 (set-apart place n value (omega arith))) (row-own place (n + 1) columns values ours k own (omega arith) parts.1 goods.1 is)
 
 -- what is at a place of a row that fits, fits there
-pub good-at : (identity : Option ℕ) (types : List ColType) (n : ℕ) (columns : List Column) (values : List Value) → Aligned types n columns → are_good identity n columns values ≡ true
+pub good-at : (identity : Option ℕ) (types : List ColumnType) (n : ℕ) (columns : List Column) (values : List Value) → Aligned types n columns → are_good identity n columns values ≡ true
     → (k : ℕ) (value : Value) → slice_get values k ≡ Some value → fits_at types (n + k) value ≡ true
 good-at identity types n [] [] aligned good k value is = absurd (cc is)
 good-at identity types n [] (other ∷ values) aligned good k value is = absurd (cc good)

@@ -14,7 +14,7 @@ use Rattle.merge_types.specs.Limits.{row_limit}
 use Rattle.merge_types.specs.declared.identifiers.Dot.{Dot}
 use Rattle.merge_types.specs.declared.changes.Tracking.{Tracking}
 use Rattle.merge_types.specs.declared.changes.Tracking.TheVariants as tracking
-use Rattle.merge_types.specs.declared.values.ColType.{ColType}
+use Rattle.merge_types.specs.declared.values.ColumnType.{ColumnType}
 use Rattle.merge_types.specs.declared.values.Column.{Column}
 use Rattle.merge_types.specs.declared.values.Value.{Value}
 use Rattle.merge_lineage.specs.Lineage.{knows}
@@ -36,7 +36,7 @@ use Rattle.merge_units.specs.declared.version.Version.{Version}
 use Rattle.merge_units.proofs.Fits.{length-sides_of}
 use Rattle.merge_units.proofs.Limit.{rows_stay_by}
 use Rattle.merge_units.proofs.Shapes.{result_fits}
-use Rattle.merge_types.specs.declared.values.ColType.TheVariants as types
+use Rattle.merge_types.specs.declared.values.ColumnType.TheVariants as types
 use Rattle.merge_schema.specs.Valid.{HasValidIdentity, IsValid, IsValidArticle}
 use Rattle.merge_schema.specs.declared.publication.Article.{Article}
 use Rattle.merge_schema.specs.declared.publication.Identity.{Identity}
@@ -207,7 +207,7 @@ module _ (meeting : Meeting) (article : Article) (place : HasPlace article) (dot
   abbrev the_case : ConflictCase
   the_case = case_asked meeting (asked_of article) (Live ps) (Live is) (case.Conflict ss)
 
-  abbrev column_types : List ColType
+  abbrev column_types : List ColumnType
   column_types = map (λ (column : Column). column.ty) article.columns
 
   module _ (our_ones : list_all has_one_value ps ≡ true) (their_ones : list_all has_one_value is ≡ true) where
@@ -384,7 +384,7 @@ at-place P [] all k x is = absurd (cc is)
 at-place P (y ∷ ys) all zero x is = let same : y ≡ x = cc is in subst P same (All-head P y ys all)
 at-place P (y ∷ ys) all (suc k) x is = at-place P ys (All-tail P y ys all) k x is
 
-typed-within : (columns : List Column) (place : ℕ) (ty : ColType) → option_map (λ (column : Column). column.ty) (slice_get columns place) ≡ Some ty → place < length columns
+typed-within : (columns : List Column) (place : ℕ) (ty : ColumnType) → option_map (λ (column : Column). column.ty) (slice_get columns place) ≡ Some ty → place < length columns
 typed-within [] place ty is = absurd (cc is)
 typed-within (column ∷ columns) zero ty is = omega arith
 typed-within (column ∷ columns) (suc place) ty is = omega (arith, typed-within columns place ty is)

@@ -17,7 +17,7 @@ use Rattle.merge_ident.specs.Grants.{granted_to, is_of, with_grant}
 use Rattle.merge_ident.specs.Holders.{Holder, after_receive, after_take, answer_to_take}
 use Rattle.merge_ident.specs.declared.grants.Grant.{Grant}
 use Rattle.merge_ident.specs.declared.grants.GrantAnswer.TheVariants.{Granted, Kept, NotDue}
-use Rattle.merge_ident.specs.declared.grants.IdentFault.{IdentFault}
+use Rattle.merge_ident.specs.declared.grants.IdentityFault.{IdentityFault}
 use Rattle.merge_ident.specs.declared.grants.GrantPlan.{GrantPlan}
 use Rattle.merge_ident.specs.declared.grants.Range.{Range}
 use Rattle.merge_ident.specs.declared.grants.Rule.{Rule}

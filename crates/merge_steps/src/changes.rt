@@ -1,7 +1,7 @@
 //! The changes of a step.
 use crate::site_moves::MoveEntry;
 use merge_conflict::ConflictPlan;
-use merge_gens::{GenPlan, IndexPlan, Mapping, RowSite, SiteState};
+use merge_gens::{GenerationPlan, IndexPlan, Mapping, RowSite, SiteState};
 use merge_ident::{GrantPlans, Ranges};
 use merge_part::MembershipPlan;
 use merge_table::Edit;
@@ -14,7 +14,7 @@ pub struct Changes {
     pub changes: u64,
     pub conflict_count: u64,
     pub latest: Moment,
-    pub gens: GenPlan,
+    pub gens: GenerationPlan,
     pub rows: Listing<Edit<RowKey, PublisherRow>>,
     pub mappings: Listing<Edit<RowSite, Mapping>>,
     pub sites: Listing<Edit<u16, SiteState>>,

@@ -3,7 +3,7 @@ ghost use Rattle.std.specs.Prelude.{◌≡◌, ◌<◌, AllPairs};
 ghost use Rattle.merge_gens.specs.Book.{last_before};
 ghost use Rattle.merge_steps.specs.OldSpans.{IsSpan};
 
-use merge_gens::{Closing, GenBook};
+use merge_gens::{Closing, GenerationBook};
 use merge_types::Moment;
 
 /// The generations from one on, up to another.
@@ -15,7 +15,7 @@ pub struct Span {
 
 /// Generations among which all stand that closed before the moment: from the first that is kept, up
 /// to the last one that did.
-pub fn old_span(gens: &GenBook, cutoff: Moment) -> Span
+pub fn old_span(gens: &GenerationBook, cutoff: Moment) -> Span
     ensures { IsSpan gens.now.book.closings cutoff result }
 {
     span_up_to(gens.closings(), cutoff, gens.last_before(cutoff))

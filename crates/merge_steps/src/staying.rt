@@ -2,7 +2,7 @@
 ghost use Rattle.std.specs.Prelude.{◌≡◌};
 ghost use Rattle.merge_steps.specs.Purging.{gone_if, is_old_at, is_old_mapping, is_old_row, take_if};
 
-use merge_gens::{GenBook, IndexEntry, Mapping, MoveKind, RowSite};
+use merge_gens::{GenerationBook, IndexEntry, Mapping, MoveKind, RowSite};
 use merge_table::Edit;
 use merge_types::{Moment, RowKey};
 use merge_units::PublisherRow;
@@ -10,7 +10,7 @@ use merge_units::PublisherRow;
 /// What stays, by the moment before which a generation is old.
 #[derive(Clone, Copy)]
 pub struct Staying<'a> {
-    pub gens: &'a GenBook,
+    pub gens: &'a GenerationBook,
     pub cutoff: Moment,
 }
 

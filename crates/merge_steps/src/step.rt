@@ -3,7 +3,7 @@ ghost use Rattle.std.specs.Prelude.{◌≡◌, ◌≤◌, ◌<◌, ◌+◌, ◌*
 ghost use Rattle.std.specs.List.{zip as zipped};
 ghost use Rattle.merge_gens.specs.Book.{entered};
 ghost use Rattle.merge_gens.specs.Filling.{generations_of};
-ghost use Rattle.merge_gens.specs.Plan as gens_plan;
+ghost use Rattle.merge_gens.specs.Plan as generations_plan;
 ghost use Rattle.merge_table.specs.Edits.{rows_after_all};
 ghost use Rattle.merge_part.specs.Live.{live_after_all, live_rows as listed};
 ghost use Rattle.merge_part.specs.Moves.{AreMoves};
@@ -19,7 +19,7 @@ ghost use Rattle.merge_steps.specs.Working as work;
 use crate::edits::{mapping_edits, moved_edits};
 use crate::entries::{found_entries, indexing, keys_in, returns, row_changes, version_edits};
 use crate::site_moves::MoveEntry;
-use merge_gens::{GenBook, GenPlan, IndexChange, Mapping, MoveKind, RowSite};
+use merge_gens::{GenerationBook, GenerationPlan, IndexChange, Mapping, MoveKind, RowSite};
 use merge_part::{Membership, MembershipPlan, Move};
 use merge_table::{Edit, Table};
 use merge_types::{Listing, Moment, NoMemory, RowKey, Steps};
@@ -43,7 +43,7 @@ pub struct Worked {
     pub mappings: Listing<Edit<RowSite, Mapping>>,
     pub index: Listing<IndexChange>,
     pub moved: Listing<Edit<MoveEntry, ()>>,
-    pub gens: GenPlan,
+    pub gens: GenerationPlan,
     pub plan: MembershipPlan,
 }
 
@@ -131,7 +131,7 @@ fn work_out(
     alloc: Global,
     rows: &Table<RowKey, PublisherRow>,
     mappings: &Table<RowSite, Mapping>,
-    gens: &mut GenBook,
+    gens: &mut GenerationBook,
     versions: Vec<(RowKey, Version)>,
     found: Found,
     latest: Moment,
@@ -142,8 +142,8 @@ fn work_out(
     ensures mappings { IfOk result (λ w. w.mappings ≡ row.mapping_edits found.entries (drop (length versions.items) (generations_of gens.old.book.filling (length versions.items + length found.entries))) (work.returns mappings.now.rows found.changed found.moves)) }
     ensures index { IfOk result (λ w. w.index ≡ work.all_indexing rows.now.rows (zipped versions.items (take (length versions.items) (generations_of gens.old.book.filling (length versions.items + length found.entries))))) }
     ensures moved { IfOk result (λ w. w.moved ≡ row.moved_edits mappings.now.rows w.mappings) }
-    ensures gens { IfOk result (λ w. gens_plan.settled gens.old.book w.gens ≡ entered gens.old.book (length versions.items + length found.entries) latest) }
-    ensures ready { IfOk result (λ w. gens_plan.IsPrepared gens.new w.gens) }
+    ensures gens { IfOk result (λ w. generations_plan.settled gens.old.book w.gens ≡ entered gens.old.book (length versions.items + length found.entries) latest) }
+    ensures ready { IfOk result (λ w. generations_plan.IsPrepared gens.new w.gens) }
     ensures plan { IfOk result (λ w. w.plan ≡ found.plan) }
     ensures same { gens.new.book ≡ gens.old.book }
 {
@@ -165,7 +165,7 @@ fn work_out(
 pub fn draft_step<L: Ledger>(
     alloc: Global,
     membership: &mut Membership,
-    gens: &mut GenBook,
+    gens: &mut GenerationBook,
     rows: &Table<RowKey, PublisherRow>,
     mappings: &Table<RowSite, Mapping>,
     versions: Vec<(RowKey, Version)>,
@@ -187,7 +187,7 @@ pub fn draft_step<L: Ledger>(
     ensures follows { IfOk result (λ w. live_after_plan membership.new w.plan ≡ live_pairs (rows_after_all key_cmp rows.now.rows w.rows)) }
     ensures kept { IfOk result (λ w. KeepsFitting membership.old.publication versions.items rows.now.rows w) }
     ensures planned { IfOk result (λ w. IsPrepared membership.new w.plan) }
-    ensures prepared { IfOk result (λ w. gens_plan.IsPrepared gens.new w.gens) }
+    ensures prepared { IfOk result (λ w. generations_plan.IsPrepared gens.new w.gens) }
     ensures publication { membership.new.publication ≡ membership.old.publication }
     ensures live { live_in membership.new ≡ live_in membership.old }
     ensures cost { steps.new ≤ steps.old + length membership.old.publication.subscriptions * living (map work.row_change versions.items) }

@@ -16,7 +16,7 @@ use Rattle.merge_model.specs.History.{MadeChange, made_at}
 use Rattle.merge_model.specs.History.Model.{Model}
 use Rattle.merge_model.specs.Publisher.{new_holders}
 use Rattle.merge_model.specs.Failing.Runs.{model_behind}
-use Rattle.merge_model.specs.Subscriber.{sub_last_closed}
+use Rattle.merge_model.specs.Subscriber.{subscriber_last_closed}
 use Rattle.merge_model.specs.Tables.{PublisherTables, SubscriberTables}
 use Rattle.merge_model.proofs.Lists.Finding.{found-named}
 use Rattle.merge_model.proofs.Lists.{all-three}
@@ -43,19 +43,19 @@ closing-loads p closing closed latest from low been = (omega (arith, low, closed
 
 -- A subscriber.
 
-module _ (publication : Publication) (s : SubscriberTables) (keep : ℕ → ℕ) (rises : (low high : ℕ) → low ≤ high → keep low ≤ keep high) (within : (generation : ℕ) → keep generation ≤ s.changes) (changes : s.changes < number_limit) (closed : sub_last_closed s < number_limit) where
+module _ (publication : Publication) (s : SubscriberTables) (keep : ℕ → ℕ) (rises : (low high : ℕ) → low ≤ high → keep low ≤ keep high) (within : (generation : ℕ) → keep generation ≤ s.changes) (changes : s.changes < number_limit) (closed : subscriber_last_closed s < number_limit) where
   abbrev Sound : List Closing → Closing → Type 0
   Sound front closing = start_subscriber.closing_is_sound (with_closings (subscriber_stored s) (new_holders publication) front) closing ≡ true
 
-  one-sound : (front : List Closing) (closing : Closing) → s.received < closing.generation → closing.generation ≤ sub_last_closed s → last_number front ≤ closing.moment.0 → closing.moment.0 ≤ s.changes → Sound front closing
+  one-sound : (front : List Closing) (closing : Closing) → s.received < closing.generation → closing.generation ≤ subscriber_last_closed s → last_number front ≤ closing.moment.0 → closing.moment.0 ≤ s.changes → Sound front closing
   unfolding start_subscriber.closing_is_sound
   one-sound front closing above low rise up = grind (arith, nat_tests, above, low, rise, up)
 
-  each-loads : (front closings : List Closing) (next : ℕ) → s.received < next → Run (sub_last_closed s) next closings → AllByRecursion (λ (c : Closing). c.moment.0 ≡ keep c.generation) closings → last_number front ≤ keep next → KeepOneByOne (SubscriberClosingLoads publication s) front closings
+  each-loads : (front closings : List Closing) (next : ℕ) → s.received < next → Run (subscriber_last_closed s) next closings → AllByRecursion (λ (c : Closing). c.moment.0 ≡ keep c.generation) closings → last_number front ≤ keep next → KeepOneByOne (SubscriberClosingLoads publication s) front closings
   each-loads front [] next above run kept rise = tt
   each-loads front (closing ∷ closings) next above run kept rise =
       let same : closing.generation ≡ next = run.0 in
-      let low : next ≤ sub_last_closed s = (let is = run.1 in grind (arith, nat_tests, is)) in
+      let low : next ≤ subscriber_last_closed s = (let is = run.1 in grind (arith, nat_tests, is)) in
       let here : closing.moment.0 ≡ keep closing.generation = kept.0 in
       let at : keep next ≤ keep closing.generation = rises next closing.generation (omega (arith, same)) in
       let up = within closing.generation in
@@ -65,9 +65,9 @@ module _ (publication : Publication) (s : SubscriberTables) (keep : ℕ → ℕ)
         each-loads (front ++ closing ∷ []) closings (next + 1) (omega (arith, above)) run.2 kept.1 (omega (arith, more, here, later)),
       )
 
-  all-load : ClosingsRun s → ((generation : ℕ) → s.received + 1 ≤ generation → generation ≤ sub_last_closed s → moment_of s.gens.closings generation ≡ Some (keep generation)) → SubscriberClosingsLoad publication s
+  all-load : ClosingsRun s → ((generation : ℕ) → s.received + 1 ≤ generation → generation ≤ subscriber_last_closed s → moment_of s.gens.closings generation ≡ Some (keep generation)) → SubscriberClosingsLoad publication s
   all-load run found = record {
-    each = each-loads [] s.gens.closings (s.received + 1) (omega arith) run (run-keeps (sub_last_closed s) (s.received + 1) keep s.gens.closings run found) (omega arith);
+    each = each-loads [] s.gens.closings (s.received + 1) (omega arith) run (run-keeps (subscriber_last_closed s) (s.received + 1) keep s.gens.closings run found) (omega arith);
     run = run;
   }
 
@@ -85,7 +85,7 @@ closings-load resolvers publication valid says tallies slips events =
           let tells = k.whole.0.0.numbered.subscribers n s at in
           let order = tells.order (found-named m.world.subscribers n s k.whole.0.0.none at) in
           let b = k.bounded.subscribers n s at in
-          all-load publication s (λ (g : ℕ). last_of g made) (λ low high up. last-rises low high made up) (λ g. order-within g s.changes (sub_last_closed s + 1) made order)
+          all-load publication s (λ (g : ℕ). last_of g made) (λ low high up. last-rises low high made up) (λ g. order-within g s.changes (subscriber_last_closed s + 1) made order)
           (let low = b.changes in omega (arith, low)) (let low = b.closed in omega (arith, low)) (closings-run publication says tallies slips events (resolvers, valid) n s at)
           (λ g above low. tells.keeps g (omega (arith, above)) low));
     }

@@ -28,7 +28,7 @@ use Rattle.merge_model.specs.Judge.{SubscriberJudge}
 use Rattle.merge_model.specs.Tables.Refusals.{counter_end, unless}
 use Rattle.merge_model.specs.Subscriber.Reinit.{reinitialised}
 use Rattle.merge_model.specs.Subscriber.Sending.{join_made, join_of, ranges_made, sending_refusal, unsent_rows, upload_made, upload_sent, want_of, with_message}
-use Rattle.merge_model.specs.Subscriber.{sub_at_moment, sub_closed, sub_counters, sub_drawn, sub_local_refusal, sub_made_locally, sub_next_dot, sub_version_at, with_version_if}
+use Rattle.merge_model.specs.Subscriber.{subscriber_at_moment, subscriber_closed, subscriber_counters, subscriber_drawn, subscriber_local_refusal, subscriber_made_locally, subscriber_next_dot, subscriber_version_at, with_version_if}
 use Rattle.merge_model.specs.Tables.{SubscriberTables}
 use Rattle.merge_model.specs.Subscriber.Taking.{met_by, seq_of, take_reply, taken}
 use Rattle.merge_model.specs.declared.outcome.Taken.{Taken}
@@ -42,7 +42,7 @@ use Rattle.merge_ident.specs.Answers.{Answer, answer_by, answer_of, grants_after
 use Rattle.merge_ident.specs.Books.{IsRule}
 use Rattle.merge_ident.specs.Grants.{granted_to, greatest_end, is_numbered, natural}
 use Rattle.merge_ident.specs.declared.grants.Ask.{Ask}
-use Rattle.merge_ident.specs.declared.grants.IdentFault.TheVariants.{NoRange, TooMany}
+use Rattle.merge_ident.specs.declared.grants.IdentityFault.TheVariants.{NoRange, TooMany}
 use Rattle.merge_ident.specs.declared.grants.Range.{Range}
 use Rattle.merge_ident.specs.declared.grants.Rule.{Rule}
 use Rattle.merge_schema.specs.declared.publication.Identity.{Identity}
@@ -197,7 +197,7 @@ module _ (publication : Publication) (rules : All IsRule (rules_of publication))
   found-keys s article None at keys = keys
   found-keys s article (Some holder) at keys = taken-keys s article holder (answer_to_take holder) at keys
 
-  draw-keys : (s : SubscriberTables) (change : Change) → S s → IfOk (sub_drawn s change) (λ d. Keys d.1)
+  draw-keys : (s : SubscriberTables) (change : Change) → S s → IfOk (subscriber_drawn s change) (λ d. Keys d.1)
   draw-keys s (Insert article settings) keys = found-keys s article (at_number s.held article) refl keys
   draw-keys s (Update article row settings) keys = keys
   draw-keys s (Delete article row) keys = keys
@@ -207,15 +207,15 @@ module _ (publication : Publication) (rules : All IsRule (rules_of publication))
   version-keys key (Some version) u keys = keys
 
   drawn-on : (now : Moment) (change : Change) (s : SubscriberTables) (draw : Result (Value × List (ℕ × Holder)) Refusal) → IfOk draw (λ d. Keys d.1)
-      → (let done : Result (SubscriberTables × RowId) Refusal = elim draw [ Err refusal ↦ Err refusal | Ok drawn ↦ Ok (sub_made_locally publication change drawn (sub_at_moment now s)) ] in IfOk done (λ a. S a.0))
+      → (let done : Result (SubscriberTables × RowId) Refusal = elim draw [ Err refusal ↦ Err refusal | Ok drawn ↦ Ok (subscriber_made_locally publication change drawn (subscriber_at_moment now s)) ] in IfOk done (λ a. S a.0))
   drawn-on now change s (Err refusal) keys = tt
-  drawn-on now change s (Ok drawn) keys = (let key : Key = key_of (sub_next_dot s) change in
-      version-keys key (version_after publication (sub_next_dot s) drawn.0 change (sub_version_at s key)) (record (sub_at_moment now s) { changes = s.changes + 1; held = drawn.1 }) keys)
+  drawn-on now change s (Ok drawn) keys = (let key : Key = key_of (subscriber_next_dot s) change in
+      version-keys key (version_after publication (subscriber_next_dot s) drawn.0 change (subscriber_version_at s key)) (record (subscriber_at_moment now s) { changes = s.changes + 1; held = drawn.1 }) keys)
 
   local-on : (now : Moment) (change : Change) (s : SubscriberTables) (found : Option Refusal) → S s
-      → (let done : Result (SubscriberTables × RowId) Refusal = elim found [ Some refusal ↦ Err refusal | None ↦ elim (sub_drawn s change) [ Err refusal ↦ Err refusal | Ok drawn ↦ Ok (sub_made_locally publication change drawn (sub_at_moment now s)) ] ] in IfOk done (λ a. S a.0))
+      → (let done : Result (SubscriberTables × RowId) Refusal = elim found [ Some refusal ↦ Err refusal | None ↦ elim (subscriber_drawn s change) [ Err refusal ↦ Err refusal | Ok drawn ↦ Ok (subscriber_made_locally publication change drawn (subscriber_at_moment now s)) ] ] in IfOk done (λ a. S a.0))
   local-on now change s (Some refusal) keys = tt
-  local-on now change s None keys = drawn-on now change s (sub_drawn s change) (draw-keys s change keys)
+  local-on now change s None keys = drawn-on now change s (subscriber_drawn s change) (draw-keys s change keys)
 
   unless-on : {A : Type 0} (refusal : Option Refusal) (t : SubscriberTables) (a : A) → S t → (let done : Result (SubscriberTables × A) Refusal = unless refusal (t, a) in IfOk done (λ x. S x.0))
   unless-on (Some why) t a is = tt
@@ -230,7 +230,7 @@ module _ (publication : Publication) (rules : All IsRule (rules_of publication))
   join-on s false keys = keys
 
   upload-on : (judge : SubscriberJudge) (now : Moment) (s : SubscriberTables) (rows : List (Key × ℕ)) → S s
-      → (let made : Option (SubscriberTables × Upload) = elim rows [ [] ↦ None | row ∷ rest ↦ Some (upload_sent judge (sub_closed (sub_at_moment now s))) ] in OfMade S made)
+      → (let made : Option (SubscriberTables × Upload) = elim rows [ [] ↦ None | row ∷ rest ↦ Some (upload_sent judge (subscriber_closed (subscriber_at_moment now s))) ] in OfMade S made)
   upload-on judge now s [] keys = tt
   upload-on judge now s (row ∷ rest) keys = keys
 
@@ -275,14 +275,14 @@ module _ (publication : Publication) (rules : All IsRule (rules_of publication))
 
   sub-keys-keep : CallsKeep publication S
   sub-keys-keep = record {
-    of_local = λ now change s keys. local-on now change s (sub_local_refusal publication change s) keys;
-    of_close = λ now s keys. unless-on (counter_end (sub_counters s)) (sub_closed (sub_at_moment now s)) _ keys;
-    of_join = λ s keys. unless-made (counter_end (sub_counters s)) (join_made s) (join-on s s.is_joined keys);
+    of_local = λ now change s keys. local-on now change s (subscriber_local_refusal publication change s) keys;
+    of_close = λ now s keys. unless-on (counter_end (subscriber_counters s)) (subscriber_closed (subscriber_at_moment now s)) _ keys;
+    of_join = λ s keys. unless-made (counter_end (subscriber_counters s)) (join_made s) (join-on s s.is_joined keys);
     of_upload = λ judge now s keys. unless-made (sending_refusal s) (upload_made judge now s) (upload-on judge now s (unsent_rows judge s) keys);
     of_ranges = λ s keys. unless-made (sending_refusal s) (ranges_made s) (ranges-on s s.held keys);
     of_ask = λ s keys. unless-on (sending_refusal s) (with_message (ask.Download s.watermark) s) _ keys;
     of_reply = λ judge now m s keys. reply-on judge now m s keys;
-    of_anew = λ judge now s keys. unless-on (counter_end (sub_counters s)) (reinitialised judge (sub_at_moment now s)).0 _ keys;
+    of_anew = λ judge now s keys. unless-on (counter_end (subscriber_counters s)) (reinitialised judge (subscriber_at_moment now s)).0 _ keys;
   }
 
   -- The publisher.

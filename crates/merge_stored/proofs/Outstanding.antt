@@ -23,7 +23,7 @@ use Rattle.merge_model.specs.Tables.Keys.{at_number, put_number}
 use Rattle.merge_model.specs.Subscriber.Reinit.{reinitialised}
 use Rattle.merge_model.specs.Failing.Runs.{model_behind}
 use Rattle.merge_model.specs.Subscriber.Sending.{upload_end, upload_sent, with_message}
-use Rattle.merge_model.specs.Subscriber.{sub_at_moment, sub_closed, sub_last_closed, sub_next_dot, sub_version_at, with_version_if}
+use Rattle.merge_model.specs.Subscriber.{subscriber_at_moment, subscriber_closed, subscriber_last_closed, subscriber_next_dot, subscriber_version_at, with_version_if}
 use Rattle.merge_model.specs.Tables.{SubscriberTables}
 use Rattle.merge_model.specs.Subscriber.Taking.{taken}
 use Rattle.merge_model.specs.World.{Saying, World}
@@ -47,26 +47,26 @@ sent-later last later None up fits = tt
 sent-later last later (Some p) up fits = (fits.0, ends-later last later p.1 up fits.1)
 
 -- the same message, and more closed generations
-later-fits : (s t : SubscriberTables) → t.outstanding ≡ s.outstanding → sub_last_closed s ≤ sub_last_closed t → OutstandingFits s → OutstandingFits t
-later-fits s t same up fits = subst (λ (found : Option (ℕ × Outstanding)). SentFits (sub_last_closed t) found) (sym same) (sent-later (sub_last_closed s) (sub_last_closed t) s.outstanding up fits)
+later-fits : (s t : SubscriberTables) → t.outstanding ≡ s.outstanding → subscriber_last_closed s ≤ subscriber_last_closed t → OutstandingFits s → OutstandingFits t
+later-fits s t same up fits = subst (λ (found : Option (ℕ × Outstanding)). SentFits (subscriber_last_closed t) found) (sym same) (sent-later (subscriber_last_closed s) (subscriber_last_closed t) s.outstanding up fits)
 
 pub closed-up : (filling : Filling) → filling.last_closed ≤ (fill.closed filling).last_closed
 closed-up filling = grind (arith, nat_tests)
 
-new-fits : (s : SubscriberTables) (sent : Outstanding) → EndsBy (sub_last_closed s) sent → OutstandingFits (with_message sent s)
+new-fits : (s : SubscriberTables) (sent : Outstanding) → EndsBy (subscriber_last_closed s) sent → OutstandingFits (with_message sent s)
 new-fits s sent ends = (omega arith, ends)
 
-upload-fits : (judge : SubscriberJudge) (now : Moment) (s : SubscriberTables) → s.received ≤ sub_last_closed s → OutstandingFits (upload_sent judge (sub_closed (sub_at_moment now s))).0
+upload-fits : (judge : SubscriberJudge) (now : Moment) (s : SubscriberTables) → s.received ≤ subscriber_last_closed s → OutstandingFits (upload_sent judge (subscriber_closed (subscriber_at_moment now s))).0
 upload-fits judge now s own =
-    let c : SubscriberTables = sub_closed (sub_at_moment now s) in
-    let up : sub_last_closed s ≤ sub_last_closed c = closed-up s.gens.filling in
-    let begins : c.received ≤ sub_last_closed c = omega (arith, own, up) in
-    let ends : upload_end judge c ≤ sub_last_closed c = batch-holds (λ (k : ℕ). k ≤ sub_last_closed c) (λ (to : ℕ). length (judge.changed_between c.received to)) c.received (sub_last_closed c) begins (λ k above within low is. low) in
+    let c : SubscriberTables = subscriber_closed (subscriber_at_moment now s) in
+    let up : subscriber_last_closed s ≤ subscriber_last_closed c = closed-up s.gens.filling in
+    let begins : c.received ≤ subscriber_last_closed c = omega (arith, own, up) in
+    let ends : upload_end judge c ≤ subscriber_last_closed c = batch-holds (λ (k : ℕ). k ≤ subscriber_last_closed c) (λ (to : ℕ). length (judge.changed_between c.received to)) c.received (subscriber_last_closed c) begins (λ k above within low is. low) in
     new-fits c (ask.Upload c.received (upload_end judge c)) (begins, ends)
 
-change-fits : (key : Key) (found : Option Version) (now : Moment) (held : List (ℕ × Holder)) (s : SubscriberTables) → OutstandingFits s → (let u : SubscriberTables = record (sub_at_moment now s) { changes = s.changes + 1; held = held } in OutstandingFits (with_version_if key found u))
+change-fits : (key : Key) (found : Option Version) (now : Moment) (held : List (ℕ × Holder)) (s : SubscriberTables) → OutstandingFits s → (let u : SubscriberTables = record (subscriber_at_moment now s) { changes = s.changes + 1; held = held } in OutstandingFits (with_version_if key found u))
 change-fits key None now held s fits = fits
-change-fits key (Some version) now held s fits = (let u : SubscriberTables = record (sub_at_moment now s) { changes = s.changes + 1; held = held } in later-fits s (with_version_if key (Some version) u) refl (omega arith) fits)
+change-fits key (Some version) now held s fits = (let u : SubscriberTables = record (subscriber_at_moment now s) { changes = s.changes + 1; held = held } in later-fits s (with_version_if key (Some version) u) refl (omega arith) fits)
 
 taken-fits : (judge : SubscriberJudge) (now : Moment) (m : Reply) (s : SubscriberTables) → OutstandingFits (taken judge now m s)
 taken-fits judge now (reply.Joined m) s = tt
@@ -89,15 +89,15 @@ module _ (publication : Publication) (says : Saying) where
     own_closing = λ w h g p. p;
     forgetting = λ w h g p. p;
     same = λ w h s g p at. on w s s refl (p s.site.0 s at) p;
-    sub_change = λ w h s change d g p at named fine is. (
-        let key : Key = key_of (sub_next_dot s) change in
-        let found : Option Version = version_after publication (sub_next_dot s) d.0 change (sub_version_at s key) in
-        let u : SubscriberTables = record (sub_at_moment w.moment s) { changes = s.changes + 1; held = d.1 } in
+    subscriber_change = λ w h s change d g p at named fine is. (
+        let key : Key = key_of (subscriber_next_dot s) change in
+        let found : Option Version = version_after publication (subscriber_next_dot s) d.0 change (subscriber_version_at s key) in
+        let u : SubscriberTables = record (subscriber_at_moment w.moment s) { changes = s.changes + 1; held = d.1 } in
         on w s (with_version_if key found u) (version-site key found u) (change-fits key found w.moment d.1 s (p s.site.0 s at)) p);
-    sub_closing = λ w h s g p at. on w s (sub_closed (sub_at_moment w.moment s)) refl (later-fits s (sub_closed (sub_at_moment w.moment s)) refl (closed-up s.gens.filling) (p s.site.0 s at)) p;
-    anew = λ w h s g p at. on w s (reinitialised (by_made h s.site) (sub_at_moment w.moment s)).0 refl tt p;
+    subscriber_closing = λ w h s g p at. on w s (subscriber_closed (subscriber_at_moment w.moment s)) refl (later-fits s (subscriber_closed (subscriber_at_moment w.moment s)) refl (closed-up s.gens.filling) (p s.site.0 s at)) p;
+    anew = λ w h s g p at. on w s (reinitialised (by_made h s.site) (subscriber_at_moment w.moment s)).0 refl tt p;
     sends_join = λ w h s g p at joining. on w s (with_message ask.Join s) refl (new-fits s ask.Join tt) p;
-    sends_upload = λ w h s g p at fine. on w s (upload_sent (by_made h s.site) (sub_closed (sub_at_moment w.moment s))).0 refl (upload-fits (by_made h s.site) w.moment s (g.received.subscribers s.site.0 s at).own) p;
+    sends_upload = λ w h s g p at fine. on w s (upload_sent (by_made h s.site) (subscriber_closed (subscriber_at_moment w.moment s))).0 refl (upload-fits (by_made h s.site) w.moment s (g.received.subscribers s.site.0 s at).own) p;
     sends_ranges = λ w h s g p at fine. on w s (with_message ask.Ranges s) refl (new-fits s ask.Ranges tt) p;
     sends_ask = λ w h s g p at fine. on w s (with_message (ask.Download s.watermark) s) refl (new-fits s (ask.Download s.watermark) tt) p;
     joins = λ w h number m g p at fine acts. p;

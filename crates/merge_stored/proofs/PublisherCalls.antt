@@ -31,7 +31,7 @@ use Rattle.merge_model.specs.Publisher.PublisherUpload.{upload}
 use Rattle.merge_model.specs.Subscriber.Reinit.{reinitialise}
 use Rattle.merge_model.specs.Subscriber.Sending.{make_ask, make_join, make_ranges, make_upload}
 use Rattle.merge_model.specs.World.Steps.{Action, CloseAt, Deliver, Forget, Look, Make, MakeAnew, Pass, Send, SendDownload, SendJoin, SendRanges, SendUpload, Sending, after_upload, answered, at_subscriber, close_at, close_publisher, close_subscriber, deliver_letter, deliver_reply, deliver_request, kept_decisions, make_anew, make_at, make_at_publisher, make_at_subscriber, post, posted, send_from, step_by, unless_refused, upload_questions}
-use Rattle.merge_model.specs.Subscriber.{close_sub_generation, sub_local}
+use Rattle.merge_model.specs.Subscriber.{close_subscriber_generation, subscriber_local}
 use Rattle.merge_model.specs.Tables.{PublisherTables, SubscriberTables}
 use Rattle.merge_model.specs.Subscriber.Taking.{take_reply}
 use Rattle.merge_model.specs.World.{Judges, Saying, World, letter_at, subscriber_at, with_publisher, with_subscriber}
@@ -85,12 +85,12 @@ module _ (publication : Publication) (S : PublisherTables → Type 0) where
       make-holds : (site : SiteId) (change : Change) → Holds (make_at publication judges site change w).0
       make-holds site change = if-holds (site.0 == 0) (make_at_publisher publication judges change w) (at_subscriber site w (make_at_subscriber publication change w))
           (call-holds (local publication (judges.publisher 0) w.moment change w.publisher) (λ (done : PublisherTables × RowId). (with_publisher done.0 w, Made done.1)) (keeps.of_local (judges.publisher 0) w.moment change w.publisher h) (λ a is. is))
-          (there-holds site (make_at_subscriber publication change w) (λ s. left-holds (sub_local publication w.moment change s) (λ (done : SubscriberTables × RowId). (with_subscriber done.0 w, Made done.1)) (λ a. h)))
+          (there-holds site (make_at_subscriber publication change w) (λ s. left-holds (subscriber_local publication w.moment change s) (λ (done : SubscriberTables × RowId). (with_subscriber done.0 w, Made done.1)) (λ a. h)))
 
       close-holds : (site : SiteId) → Holds (close_at site w).0
       close-holds site = if-holds (site.0 == 0) (close_publisher w) (at_subscriber site w (close_subscriber w))
           (call-holds (close_generation w.moment w.publisher) (λ (done : PublisherTables × ℕ). (with_publisher done.0 w, Closes done.1)) (keeps.of_close w.moment w.publisher h) (λ a is. is))
-          (there-holds site (close_subscriber w) (λ s. left-holds (close_sub_generation w.moment s) (λ (done : SubscriberTables × ℕ). (with_subscriber done.0 w, Closes done.1)) (λ a. h)))
+          (there-holds site (close_subscriber w) (λ s. left-holds (close_subscriber_generation w.moment s) (λ (done : SubscriberTables × ℕ). (with_subscriber done.0 w, Closes done.1)) (λ a. h)))
 
       send-holds : (sending : Sending) (s : SubscriberTables) → Holds (send_from judges sending w s).0
       send-holds SendJoin s = left-holds (make_join s) (posted s.site (λ (m : Join). request.Join m) w) (λ made. sent-holds s.site (λ (m : Join). request.Join m) made)

@@ -15,7 +15,7 @@ use Rattle.merge_keeper.specs.SubscriberStart as start_subscriber
 use Rattle.merge_model.specs.Tables.Keys.{at_number}
 use Rattle.merge_model.specs.History.Model.{Model}
 use Rattle.merge_model.specs.Failing.Runs.{model_behind}
-use Rattle.merge_model.specs.Subscriber.{sub_last_closed}
+use Rattle.merge_model.specs.Subscriber.{subscriber_last_closed}
 use Rattle.merge_model.specs.Tables.{PublisherTables, SubscriberTables}
 use Rattle.merge_typed.specs.Typed.{MomentFits}
 use Rattle.merge_laws.specs.Laws.{OfEveryValidRun}
@@ -95,14 +95,14 @@ kinds-agree last (Some (number, ask.Upload from to)) fits = (let some = one-on n
 kinds-agree last (Some (number, ask.Ranges)) fits = (let some = one-on number fits.0 in grind (arith, some))
 kinds-agree last (Some (number, ask.Download from)) fits = (let some = one-on number fits.0 in grind (arith, some))
 
-module _ (s : SubscriberTables) (site : s.site.0 ≤ 63) (changes : s.changes < number_limit) (closed : sub_last_closed s < number_limit) (conflicts : s.conflict_count < number_limit) (filled : s.gens.filling.filled < 1000) (latest : MomentFits s.latest) (seq : s.seq < number_limit) (own : s.received ≤ sub_last_closed s)
+module _ (s : SubscriberTables) (site : s.site.0 ≤ 63) (changes : s.changes < number_limit) (closed : subscriber_last_closed s < number_limit) (conflicts : s.conflict_count < number_limit) (filled : s.gens.filling.filled < 1000) (latest : MomentFits s.latest) (seq : s.seq < number_limit) (own : s.received ≤ subscriber_last_closed s)
     (mark : s.watermark < number_limit) (fits : OutstandingFits s) (given : (number : ℕ) (sent : Outstanding) → s.outstanding ≡ Some (number, sent) → number ≡ s.seq) (asked : (number from : ℕ) → s.outstanding ≡ Some (number, ask.Download from) → from ≡ s.watermark) where
   sub-front : IsFront (of_subscriber.state_of (subscriber_stored s)).front
-  sub-front = (omega (arith, site), (fits-64 s.changes changes, (fits-64 (sub_last_closed s) closed, (omega (arith, filled), (fits-64 s.conflict_count conflicts, latest)))))
+  sub-front = (omega (arith, site), (fits-64 s.changes changes, (fits-64 (subscriber_last_closed s) closed, (omega (arith, filled), (fits-64 s.conflict_count conflicts, latest)))))
 
   numbers-fit : AreTalkNumbers (of_subscriber.state_of (subscriber_stored s)).talk
   numbers-fit =
-      let sent = talk-of (sub_last_closed s) s.watermark s.seq number_limit s.outstanding fits closed mark given asked seq in
+      let sent = talk-of (subscriber_last_closed s) s.watermark s.seq number_limit s.outstanding fits closed mark given asked seq in
       (fits-64 s.seq seq, (fits-64 (outstanding_number s.outstanding) sent.0, (fits-64 (outstanding_from s.outstanding) sent.1.0, (fits-64 (outstanding_to s.outstanding) sent.1.1, (omega (arith, own, closed), (fits-64 s.watermark mark, (kind-low s.outstanding, (phase-is s.is_joined).0)))))))
 
   talk-is : is_talk (of_subscriber.state_of (subscriber_stored s)).talk ≡ true
@@ -110,13 +110,13 @@ module _ (s : SubscriberTables) (site : s.site.0 ≤ 63) (changes : s.changes < 
 
   talk-sound : start_subscriber.talk_is_sound (of_subscriber.state_of (subscriber_stored s)).talk ≡ true
   unfolding start_subscriber.talk_is_sound
-  talk-sound = (let one = counter-is s.seq seq in let two = kinds-agree (sub_last_closed s) s.outstanding fits in grind (arith, one, two))
+  talk-sound = (let one = counter-is s.seq seq in let two = kinds-agree (subscriber_last_closed s) s.outstanding fits in grind (arith, one, two))
 
   sub-sound : start_subscriber.state_is_sound s.site s.conflict_count (of_subscriber.state_of (subscriber_stored s)) ≡ true
   unfolding start_subscriber.state_is_sound
   sub-sound =
       let one = counter-is s.changes changes in
-      let two = counter-is (sub_last_closed s) closed in
+      let two = counter-is (subscriber_last_closed s) closed in
       let three = counter-is s.conflict_count conflicts in
       let four = talk-sound in
       grind (arith, nat_tests, one, two, three, four, filled, own)

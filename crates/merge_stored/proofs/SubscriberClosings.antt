@@ -24,7 +24,7 @@ use Rattle.merge_model.specs.Tables.Keys.{at_number, put_number}
 use Rattle.merge_model.specs.Subscriber.Reinit.{reinitialised}
 use Rattle.merge_model.specs.Failing.Runs.{model_behind}
 use Rattle.merge_model.specs.Subscriber.Sending.{upload_sent, with_message}
-use Rattle.merge_model.specs.Subscriber.{sub_at_moment, sub_closed, sub_last_closed, sub_next_dot, sub_version_at, with_version_if}
+use Rattle.merge_model.specs.Subscriber.{subscriber_at_moment, subscriber_closed, subscriber_last_closed, subscriber_next_dot, subscriber_version_at, with_version_if}
 use Rattle.merge_model.specs.Tables.{SubscriberTables}
 use Rattle.merge_model.specs.Subscriber.Taking.{seq_of, taken}
 use Rattle.merge_model.specs.World.{Saying, World}
@@ -39,17 +39,17 @@ use Rattle.merge_stored.proofs.ClosingLists.{run-forgotten, run-moved}
 use Rattle.merge_stored.proofs.Outstanding.{closed-up}
 
 abbrev pub ClosingsRun : SubscriberTables → Type 0
-ClosingsRun s = Run (sub_last_closed s) (s.received + 1) s.gens.closings
+ClosingsRun s = Run (subscriber_last_closed s) (s.received + 1) s.gens.closings
 
-closed-run : (now : Moment) (s : SubscriberTables) → ClosingsRun s → ClosingsRun (sub_closed (sub_at_moment now s))
-closed-run now s run = run-moved (sub_last_closed s) (fill.closed s.gens.filling).last_closed (s.received + 1) (record { 0 = s.changes }) s.gens.closings (closed-up s.gens.filling) run
+closed-run : (now : Moment) (s : SubscriberTables) → ClosingsRun s → ClosingsRun (subscriber_closed (subscriber_at_moment now s))
+closed-run now s run = run-moved (subscriber_last_closed s) (fill.closed s.gens.filling).last_closed (s.received + 1) (record { 0 = s.changes }) s.gens.closings (closed-up s.gens.filling) run
 
-change-run : (key : Key) (found : Option Version) (now : Moment) (held : List (ℕ × Holder)) (s : SubscriberTables) → ClosingsRun s → (let u : SubscriberTables = record (sub_at_moment now s) { changes = s.changes + 1; held = held } in ClosingsRun (with_version_if key found u))
+change-run : (key : Key) (found : Option Version) (now : Moment) (held : List (ℕ × Holder)) (s : SubscriberTables) → ClosingsRun s → (let u : SubscriberTables = record (subscriber_at_moment now s) { changes = s.changes + 1; held = held } in ClosingsRun (with_version_if key found u))
 change-run key None now held s run = run
-change-run key (Some version) now held s run = run-moved (sub_last_closed s) (fill.filled_by s.gens.filling 1).last_closed (s.received + 1) (record { 0 = s.changes + 1 }) s.gens.closings (omega arith) run
+change-run key (Some version) now held s run = run-moved (subscriber_last_closed s) (fill.filled_by s.gens.filling 1).last_closed (s.received + 1) (record { 0 = s.changes + 1 }) s.gens.closings (omega arith) run
 
-received-run : (s : SubscriberTables) (received : ℕ) → s.received ≤ received → received ≤ sub_last_closed s → ClosingsRun s → Run (sub_last_closed s) (received + 1) (filter (λ (c : Closing). nat_lt received c.generation) s.gens.closings)
-received-run s received low up run = run-forgotten (sub_last_closed s) (s.received + 1) received s.gens.closings (omega (arith, low)) up run
+received-run : (s : SubscriberTables) (received : ℕ) → s.received ≤ received → received ≤ subscriber_last_closed s → ClosingsRun s → Run (subscriber_last_closed s) (received + 1) (filter (λ (c : Closing). nat_lt received c.generation) s.gens.closings)
+received-run s received low up run = run-forgotten (subscriber_last_closed s) (s.received + 1) received s.gens.closings (omega (arith, low)) up run
 
 reply-run : (publication : Publication) (judge : SubscriberJudge) (now : Moment) (sent : Outstanding) (m : Reply) (s : SubscriberTables) → reply_fault publication sent m s ≡ None → s.outstanding ≡ Some (seq_of m, sent)
     → ((seq from to : ℕ) → s.outstanding ≡ Some (seq, ask.Upload from to) → s.received ≤ to) → ClosingsRun s → ClosingsRun (taken judge now m s)
@@ -73,15 +73,15 @@ module _ (publication : Publication) (says : Saying) where
     own_closing = λ w h g p. p;
     forgetting = λ w h g p. p;
     same = λ w h s g p at. on w s s refl (p s.site.0 s at) p;
-    sub_change = λ w h s change d g p at named fine is. (
-        let key : Key = key_of (sub_next_dot s) change in
-        let found : Option Version = version_after publication (sub_next_dot s) d.0 change (sub_version_at s key) in
-        let u : SubscriberTables = record (sub_at_moment w.moment s) { changes = s.changes + 1; held = d.1 } in
+    subscriber_change = λ w h s change d g p at named fine is. (
+        let key : Key = key_of (subscriber_next_dot s) change in
+        let found : Option Version = version_after publication (subscriber_next_dot s) d.0 change (subscriber_version_at s key) in
+        let u : SubscriberTables = record (subscriber_at_moment w.moment s) { changes = s.changes + 1; held = d.1 } in
         on w s (with_version_if key found u) (version-site key found u) (change-run key found w.moment d.1 s (p s.site.0 s at)) p);
-    sub_closing = λ w h s g p at. on w s (sub_closed (sub_at_moment w.moment s)) refl (closed-run w.moment s (p s.site.0 s at)) p;
-    anew = λ w h s g p at. on w s (reinitialised (by_made h s.site) (sub_at_moment w.moment s)).0 refl refl p;
+    subscriber_closing = λ w h s g p at. on w s (subscriber_closed (subscriber_at_moment w.moment s)) refl (closed-run w.moment s (p s.site.0 s at)) p;
+    anew = λ w h s g p at. on w s (reinitialised (by_made h s.site) (subscriber_at_moment w.moment s)).0 refl refl p;
     sends_join = λ w h s g p at joining. on w s (with_message ask.Join s) refl (p s.site.0 s at) p;
-    sends_upload = λ w h s g p at fine. on w s (upload_sent (by_made h s.site) (sub_closed (sub_at_moment w.moment s))).0 refl (closed-run w.moment s (p s.site.0 s at)) p;
+    sends_upload = λ w h s g p at fine. on w s (upload_sent (by_made h s.site) (subscriber_closed (subscriber_at_moment w.moment s))).0 refl (closed-run w.moment s (p s.site.0 s at)) p;
     sends_ranges = λ w h s g p at fine. on w s (with_message ask.Ranges s) refl (p s.site.0 s at) p;
     sends_ask = λ w h s g p at fine. on w s (with_message (ask.Download s.watermark) s) refl (p s.site.0 s at) p;
     joins = λ w h number m g p at fine acts. p;

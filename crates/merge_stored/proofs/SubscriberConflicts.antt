@@ -29,7 +29,7 @@ use Rattle.merge_model.specs.Publisher.{later}
 use Rattle.merge_model.specs.Tables.Refusals.{counter_end, unless}
 use Rattle.merge_model.specs.Subscriber.Reinit.{discarded, numbered_from, reinitialised}
 use Rattle.merge_model.specs.Subscriber.Sending.{join_made, join_of, ranges_made, sending_refusal, unsent_rows, upload_made, upload_sent, want_of, with_message}
-use Rattle.merge_model.specs.Subscriber.{sub_at_moment, sub_closed, sub_counters, sub_drawn, sub_local_refusal, sub_made_locally, sub_next_dot, sub_version_at, with_version_if}
+use Rattle.merge_model.specs.Subscriber.{subscriber_at_moment, subscriber_closed, subscriber_counters, subscriber_drawn, subscriber_local_refusal, subscriber_made_locally, subscriber_next_dot, subscriber_version_at, with_version_if}
 use Rattle.merge_model.specs.Tables.{SubscriberTables}
 use Rattle.merge_model.specs.Subscriber.Taking.{met_by, seq_of, take_reply, taken}
 use Rattle.merge_model.specs.declared.outcome.Taken.{Taken}
@@ -59,26 +59,26 @@ same-on s t site rows count up b = record {
   each = later-own t.site.0 s.latest.0 t.latest.0 t.conflicts up (subst (λ (n : ℕ). AllByRecursion (OwnLost n s.latest.0) t.conflicts) (sym site) (subst (λ (x : List ConflictRow). AllByRecursion (OwnLost s.site.0 s.latest.0) x) (sym rows) b.each));
 }
 
-at-later : (now : Moment) (s : SubscriberTables) → s.latest.0 ≤ (sub_at_moment now s).latest.0
+at-later : (now : Moment) (s : SubscriberTables) → s.latest.0 ≤ (subscriber_at_moment now s).latest.0
 at-later now s = grind (arith, nat_tests)
 
 stays : (s : SubscriberTables) → s.latest.0 ≤ s.latest.0
 stays s = omega arith
 
-version-on : (key : Key) (found : Option Version) (now : Moment) (held : List (ℕ × Holder)) (s : SubscriberTables) → S s → (let u : SubscriberTables = record (sub_at_moment now s) { changes = s.changes + 1; held = held } in S (with_version_if key found u))
-version-on key None now held s b = same-on s (record (sub_at_moment now s) { changes = s.changes + 1; held = held }) refl refl refl (at-later now s) b
-version-on key (Some version) now held s b = same-on s (with_version_if key (Some version) (record (sub_at_moment now s) { changes = s.changes + 1; held = held })) refl refl refl (at-later now s) b
+version-on : (key : Key) (found : Option Version) (now : Moment) (held : List (ℕ × Holder)) (s : SubscriberTables) → S s → (let u : SubscriberTables = record (subscriber_at_moment now s) { changes = s.changes + 1; held = held } in S (with_version_if key found u))
+version-on key None now held s b = same-on s (record (subscriber_at_moment now s) { changes = s.changes + 1; held = held }) refl refl refl (at-later now s) b
+version-on key (Some version) now held s b = same-on s (with_version_if key (Some version) (record (subscriber_at_moment now s) { changes = s.changes + 1; held = held })) refl refl refl (at-later now s) b
 
 drawn-on : (publication : Publication) (now : Moment) (change : Change) (s : SubscriberTables) (draw : Result (Value × List (ℕ × Holder)) Refusal) → S s
-    → (let done : Result (SubscriberTables × RowId) Refusal = elim draw [ Err refusal ↦ Err refusal | Ok drawn ↦ Ok (sub_made_locally publication change drawn (sub_at_moment now s)) ] in IfOk done (λ a. S a.0))
+    → (let done : Result (SubscriberTables × RowId) Refusal = elim draw [ Err refusal ↦ Err refusal | Ok drawn ↦ Ok (subscriber_made_locally publication change drawn (subscriber_at_moment now s)) ] in IfOk done (λ a. S a.0))
 drawn-on publication now change s (Err refusal) b = tt
-drawn-on publication now change s (Ok drawn) b = (let key : Key = key_of (sub_next_dot s) change in
-    version-on key (version_after publication (sub_next_dot s) drawn.0 change (sub_version_at s key)) now drawn.1 s b)
+drawn-on publication now change s (Ok drawn) b = (let key : Key = key_of (subscriber_next_dot s) change in
+    version-on key (version_after publication (subscriber_next_dot s) drawn.0 change (subscriber_version_at s key)) now drawn.1 s b)
 
 local-on : (publication : Publication) (now : Moment) (change : Change) (s : SubscriberTables) (found : Option Refusal) → S s
-    → (let done : Result (SubscriberTables × RowId) Refusal = elim found [ Some refusal ↦ Err refusal | None ↦ elim (sub_drawn s change) [ Err refusal ↦ Err refusal | Ok drawn ↦ Ok (sub_made_locally publication change drawn (sub_at_moment now s)) ] ] in IfOk done (λ a. S a.0))
+    → (let done : Result (SubscriberTables × RowId) Refusal = elim found [ Some refusal ↦ Err refusal | None ↦ elim (subscriber_drawn s change) [ Err refusal ↦ Err refusal | Ok drawn ↦ Ok (subscriber_made_locally publication change drawn (subscriber_at_moment now s)) ] ] in IfOk done (λ a. S a.0))
 local-on publication now change s (Some refusal) b = tt
-local-on publication now change s None b = drawn-on publication now change s (sub_drawn s change) b
+local-on publication now change s None b = drawn-on publication now change s (subscriber_drawn s change) b
 
 unless-on : {A : Type 0} (refusal : Option Refusal) (t : SubscriberTables) (a : A) → S t → (let done : Result (SubscriberTables × A) Refusal = unless refusal (t, a) in IfOk done (λ x. S x.0))
 unless-on (Some why) t a is = tt
@@ -93,18 +93,18 @@ join-on s true b = tt
 join-on s false b = same-on s (with_message ask.Join s) refl refl refl (stays s) b
 
 upload-on : (judge : SubscriberJudge) (now : Moment) (s : SubscriberTables) (rows : List (Key × ℕ)) → S s
-    → (let made : Option (SubscriberTables × Upload) = elim rows [ [] ↦ None | row ∷ rest ↦ Some (upload_sent judge (sub_closed (sub_at_moment now s))) ] in OfMade S made)
+    → (let made : Option (SubscriberTables × Upload) = elim rows [ [] ↦ None | row ∷ rest ↦ Some (upload_sent judge (subscriber_closed (subscriber_at_moment now s))) ] in OfMade S made)
 upload-on judge now s [] b = tt
-upload-on judge now s (row ∷ rest) b = same-on s (upload_sent judge (sub_closed (sub_at_moment now s))).0 refl refl refl (at-later now s) b
+upload-on judge now s (row ∷ rest) b = same-on s (upload_sent judge (subscriber_closed (subscriber_at_moment now s))).0 refl refl refl (at-later now s) b
 
 ranges-on : (s : SubscriberTables) (held : List (ℕ × Holder)) → S s
     → (let made : Option (SubscriberTables × RangeAsk) = elim held [ [] ↦ None | entry ∷ entries ↦ Some (with_message ask.Ranges s, record { site = s.site; seq = s.seq + 1; wants = map want_of s.held }) ] in OfMade S made)
 ranges-on s [] b = tt
 ranges-on s (entry ∷ entries) b = same-on s (with_message ask.Ranges s) refl refl refl (stays s) b
 
-anew-on : (judge : SubscriberJudge) (now : Moment) (s : SubscriberTables) → S s → S (reinitialised judge (sub_at_moment now s)).0
+anew-on : (judge : SubscriberJudge) (now : Moment) (s : SubscriberTables) → S s → S (reinitialised judge (subscriber_at_moment now s)).0
 anew-on judge now s b =
-    let u : SubscriberTables = sub_at_moment now s in
+    let u : SubscriberTables = subscriber_at_moment now s in
     let rows : List (Key × Version) = discarded judge u in
     let lost : List ConflictRow = numbered_from u (u.conflict_count + 1) rows in
     let before : S u = same-on s u refl refl refl (at-later now s) b in
@@ -142,12 +142,12 @@ reply-on publication judge now (reply.Refused number values) s b = b
 
 pub conflicts-keep : (publication : Publication) → CallsKeep publication S
 conflicts-keep publication = record {
-  of_local = λ now change s b. local-on publication now change s (sub_local_refusal publication change s) b;
-  of_close = λ now s b. unless-on (counter_end (sub_counters s)) (sub_closed (sub_at_moment now s)) _ (same-on s (sub_closed (sub_at_moment now s)) refl refl refl (at-later now s) b);
-  of_join = λ s b. unless-made (counter_end (sub_counters s)) (join_made s) (join-on s s.is_joined b);
+  of_local = λ now change s b. local-on publication now change s (subscriber_local_refusal publication change s) b;
+  of_close = λ now s b. unless-on (counter_end (subscriber_counters s)) (subscriber_closed (subscriber_at_moment now s)) _ (same-on s (subscriber_closed (subscriber_at_moment now s)) refl refl refl (at-later now s) b);
+  of_join = λ s b. unless-made (counter_end (subscriber_counters s)) (join_made s) (join-on s s.is_joined b);
   of_upload = λ judge now s b. unless-made (sending_refusal s) (upload_made judge now s) (upload-on judge now s (unsent_rows judge s) b);
   of_ranges = λ s b. unless-made (sending_refusal s) (ranges_made s) (ranges-on s s.held b);
   of_ask = λ s b. unless-on (sending_refusal s) (with_message (ask.Download s.watermark) s) _ (same-on s (with_message (ask.Download s.watermark) s) refl refl refl (stays s) b);
   of_reply = λ judge now m s b. reply-on publication judge now m s b;
-  of_anew = λ judge now s b. unless-on (counter_end (sub_counters s)) (reinitialised judge (sub_at_moment now s)).0 _ (anew-on judge now s b);
+  of_anew = λ judge now s b. unless-on (counter_end (subscriber_counters s)) (reinitialised judge (subscriber_at_moment now s)).0 _ (anew-on judge now s b);
 }

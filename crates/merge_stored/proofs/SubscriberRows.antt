@@ -41,7 +41,7 @@ use Rattle.merge_model.specs.Laws.{AreSubSorted}
 use Rattle.merge_model.specs.Subscriber.Reinit.{discarded, reinitialised}
 use Rattle.merge_model.specs.Failing.Runs.{model_behind}
 use Rattle.merge_model.specs.Subscriber.Sending.{upload_sent, with_message}
-use Rattle.merge_model.specs.Subscriber.{sub_at_moment, sub_closed, sub_last_closed, sub_next_dot, sub_version_at, with_open, with_version_if}
+use Rattle.merge_model.specs.Subscriber.{subscriber_at_moment, subscriber_closed, subscriber_last_closed, subscriber_next_dot, subscriber_version_at, with_open, with_version_if}
 use Rattle.merge_model.specs.Tables.{SubscriberTables}
 use Rattle.merge_model.specs.Subscriber.Taking.{key_of_download, row_above, taken, with_item, with_order}
 use Rattle.merge_model.specs.World.{Saying, World, empty_world, subscriber_at}
@@ -49,7 +49,7 @@ use Rattle.merge_model.specs.declared.event.Event.{Event}
 use Rattle.merge_model.proofs.Entries.EntryLists.{all-put}
 use Rattle.merge_model.proofs.Lists.Finding.{all-weaker}
 use Rattle.merge_model.proofs.Publishers.Sorted.{key_total}
-use Rattle.merge_laws.specs.Invariants.Unsent.{RowsTell, gens_in}
+use Rattle.merge_laws.specs.Invariants.Unsent.{RowsTell, generations_in}
 use Rattle.merge_laws.proofs.Runs.Ground.{Ground, grounded-always}
 use Rattle.merge_laws.proofs.Received.Models.{begins-with}
 use Rattle.merge_laws.proofs.Unsent.UnsentKept.{all-found, reply-site, version-site}
@@ -238,10 +238,10 @@ held-length weigh None none = none
 held-length weigh (Some row) none = refl
 
 -- the rows with a version more, in the open generation
-put-total : (weigh : List ℕ → ℕ) (more : ℕ) (key : Key) (version : Version) (current : ℕ) (rows : Rows) → IsStrictlySortedBy key_cmp (keys_of rows) → weigh [] ≡ 0 → (let gens : List ℕ = gens_in rows key in weigh (with_open current gens) ≤ weigh gens + more
+put-total : (weigh : List ℕ → ℕ) (more : ℕ) (key : Key) (version : Version) (current : ℕ) (rows : Rows) → IsStrictlySortedBy key_cmp (keys_of rows) → weigh [] ≡ 0 → (let gens : List ℕ = generations_in rows key in weigh (with_open current gens) ≤ weigh gens + more
     → (let new : SubscriberRow = record { version = version; generations = with_open current gens } in total weigh (put_row rows key new) ≤ total weigh rows + more))
 put-total weigh more key version current rows sorted none up =
-    let gens : List ℕ = gens_in rows key in
+    let gens : List ℕ = generations_in rows key in
     let new : SubscriberRow = record { version = version; generations = with_open current gens } in
     let sums = sum_by-insert_entry (λ (r : SubscriberRow). weigh r.generations) key_total rows key new sorted in
     let held = held-length weigh (row_at rows key) none in
@@ -252,16 +252,16 @@ gens-by : (b : Bool) (row : SubscriberRow) (found : Option SubscriberRow) → nu
 gens-by true row found first rest = first
 gens-by false row found first rest = rest
 
-gens-ascend : (key : Key) (rows : Rows) → AllByRecursion Ascends rows → numbers_ascend (gens_in rows key) ≡ true
+gens-ascend : (key : Key) (rows : Rows) → AllByRecursion Ascends rows → numbers_ascend (generations_in rows key) ≡ true
 gens-ascend key [] all = refl
 gens-ascend key (row ∷ rows) all = gens-by (is_at (key_cmp key) row.0) row.1 (row_at rows key) all.0 (gens-ascend key rows all.1)
 
 change-on : (key : Key) (found : Option Version) (now : Moment) (held : List (ℕ × Holder)) (s : SubscriberTables) → AreSubSorted s → RowsHaveRoom s
-    → (let u : SubscriberTables = record (sub_at_moment now s) { changes = s.changes + 1; held = held } in RowsHaveRoom (with_version_if key found u))
+    → (let u : SubscriberTables = record (subscriber_at_moment now s) { changes = s.changes + 1; held = held } in RowsHaveRoom (with_version_if key found u))
 change-on key None now held s sorted b = record { few = (let low = b.few in omega (arith, low)); ascend = b.ascend; room = b.room }
 change-on key (Some version) now held s sorted b =
-    let current : ℕ = sub_last_closed s + 1 in
-    let gens : List ℕ = gens_in s.rows key in
+    let current : ℕ = subscriber_last_closed s + 1 in
+    let gens : List ℕ = generations_in s.rows key in
     let new : SubscriberRow = record { version = version; generations = with_open current gens } in
     record {
       few = (let sums = put-total length 1 key version current s.rows sorted.rows_ascend refl (length-open current gens) in let low = b.few in omega (arith, sums, low));
@@ -270,7 +270,7 @@ change-on key (Some version) now held s sorted b =
           let low = b.room generation in let room = entered-room s.gens.filling generation sorted.generations_ascend.unfilled in omega (arith, sums, low, room));
     }
 
-closing-on : (now : Moment) (s : SubscriberTables) → AreSubSorted s → RowsHaveRoom s → RowsHaveRoom (sub_closed (sub_at_moment now s))
+closing-on : (now : Moment) (s : SubscriberTables) → AreSubSorted s → RowsHaveRoom s → RowsHaveRoom (subscriber_closed (subscriber_at_moment now s))
 closing-on now s sorted b = record {
   few = b.few;
   ascend = b.ascend;
@@ -296,9 +296,9 @@ discarded-few : (unsent : Key → Bool) (rows : Rows) → AllByRecursion (λ (ro
 discarded-few unsent [] all = omega arith
 discarded-few unsent (row ∷ rows) all = discarded-step (unsent row.0) row (filter_map (found_by unsent) rows) rows all.0 (discarded-few unsent rows all.1)
 
-anew-on : (h : History) (now : Moment) (s : SubscriberTables) → AreSubSorted s → RowsTell (made_at h s.site.0) s.received s.rows → RowsHaveRoom s → RowsHaveRoom (reinitialised (by_made h s.site) (sub_at_moment now s)).0
+anew-on : (h : History) (now : Moment) (s : SubscriberTables) → AreSubSorted s → RowsTell (made_at h s.site.0) s.received s.rows → RowsHaveRoom s → RowsHaveRoom (reinitialised (by_made h s.site) (subscriber_at_moment now s)).0
 anew-on h now s sorted tell b =
-    let u : SubscriberTables = sub_at_moment now s in
+    let u : SubscriberTables = subscriber_at_moment now s in
     let judge : SubscriberJudge = by_made h s.site in
     let lost : List (Key × Version) = discarded judge u in
     let few : length lost ≤ total length s.rows = discarded-few (is_unsent_by_made h s.site s.received) s.rows
@@ -335,15 +335,15 @@ module _ (publication : Publication) (says : Saying) where
     own_closing = λ w h g p. p;
     forgetting = λ w h g p. p;
     same = λ w h s g p at. on w s s refl (p s.site.0 s at) p;
-    sub_change = λ w h s change d g p at named fine is. (
-        let key : Key = key_of (sub_next_dot s) change in
-        let found : Option Version = version_after publication (sub_next_dot s) d.0 change (sub_version_at s key) in
-        let u : SubscriberTables = record (sub_at_moment w.moment s) { changes = s.changes + 1; held = d.1 } in
+    subscriber_change = λ w h s change d g p at named fine is. (
+        let key : Key = key_of (subscriber_next_dot s) change in
+        let found : Option Version = version_after publication (subscriber_next_dot s) d.0 change (subscriber_version_at s key) in
+        let u : SubscriberTables = record (subscriber_at_moment w.moment s) { changes = s.changes + 1; held = d.1 } in
         on w s (with_version_if key found u) (version-site key found u) (change-on key found w.moment d.1 s (sorted-of w h s g at) (p s.site.0 s at)) p);
-    sub_closing = λ w h s g p at. on w s (sub_closed (sub_at_moment w.moment s)) refl (closing-on w.moment s (sorted-of w h s g at) (p s.site.0 s at)) p;
-    anew = λ w h s g p at. on w s (reinitialised (by_made h s.site) (sub_at_moment w.moment s)).0 refl (anew-on h w.moment s (sorted-of w h s g at) (g.unsent s.site.0 s (found-named w.subscribers s.site.0 s g.none at) at) (p s.site.0 s at)) p;
+    subscriber_closing = λ w h s g p at. on w s (subscriber_closed (subscriber_at_moment w.moment s)) refl (closing-on w.moment s (sorted-of w h s g at) (p s.site.0 s at)) p;
+    anew = λ w h s g p at. on w s (reinitialised (by_made h s.site) (subscriber_at_moment w.moment s)).0 refl (anew-on h w.moment s (sorted-of w h s g at) (g.unsent s.site.0 s (found-named w.subscribers s.site.0 s g.none at) at) (p s.site.0 s at)) p;
     sends_join = λ w h s g p at joining. on w s (with_message ask.Join s) refl (sent-on s 0 ask.Join (p s.site.0 s at)) p;
-    sends_upload = λ w h s g p at fine. (let c : SubscriberTables = sub_closed (sub_at_moment w.moment s) in let t : SubscriberTables = (upload_sent (by_made h s.site) c).0 in
+    sends_upload = λ w h s g p at fine. (let c : SubscriberTables = subscriber_closed (subscriber_at_moment w.moment s) in let t : SubscriberTables = (upload_sent (by_made h s.site) c).0 in
         on w s t refl (let b = closing-on w.moment s (sorted-of w h s g at) (p s.site.0 s at) in record { few = b.few; ascend = b.ascend; room = b.room }) p);
     sends_ranges = λ w h s g p at fine. on w s (with_message ask.Ranges s) refl (sent-on s 0 ask.Ranges (p s.site.0 s at)) p;
     sends_ask = λ w h s g p at fine. on w s (with_message (ask.Download s.watermark) s) refl (sent-on s 0 (ask.Download s.watermark) (p s.site.0 s at)) p;

@@ -17,7 +17,7 @@ use Rattle.merge_keeper.specs.declared.stored.SubscriberStored.{SubscriberStored
 use Rattle.merge_model.specs.History.Model.{Model}
 use Rattle.merge_model.specs.Publisher.{new_holders}
 use Rattle.merge_model.specs.Failing.Runs.{model_behind}
-use Rattle.merge_model.specs.Subscriber.{sub_last_closed}
+use Rattle.merge_model.specs.Subscriber.{subscriber_last_closed}
 use Rattle.merge_model.specs.Tables.{SubscriberTables}
 use Rattle.merge_model.proofs.Lists.Finding.{all-weaker}
 use Rattle.merge_laws.specs.Laws.{OfEveryValidRun}
@@ -80,7 +80,7 @@ at-most-open filling g false false closed is some = (
     let above : filling.last_closed + 1 < g = grind (arith, nat_tests, closed, is) in
     let room = room-above filling g above in absurd (omega (arith, room, some)))
 
-module _ (publication : Publication) (s : SubscriberTables) (changes : s.changes ≤ counter_limit) (closed : sub_last_closed s ≤ counter_limit) where
+module _ (publication : Publication) (s : SubscriberTables) (changes : s.changes ≤ counter_limit) (closed : subscriber_last_closed s ≤ counter_limit) where
   abbrev with_front : Rows → SubscriberStored
   with_front front = of_subscriber.with_rows (subscriber_stored s) (new_holders publication) front
 

@@ -10,7 +10,7 @@ use Rattle.merge_keeper.specs.SubscriberStart as start_subscriber
 use Rattle.merge_model.specs.Tables.Keys.{at_number}
 use Rattle.merge_model.specs.History.Model.{Model}
 use Rattle.merge_model.specs.Publisher.{new_holders}
-use Rattle.merge_model.specs.Subscriber.{sub_last_closed}
+use Rattle.merge_model.specs.Subscriber.{subscriber_last_closed}
 use Rattle.merge_model.specs.Tables.{PublisherTables, SubscriberTables}
 use Rattle.merge_model.specs.World.{Saying}
 use Rattle.merge_typed.specs.Typed.{MomentFits}
@@ -25,7 +25,7 @@ SubscriberClosingLoads publication s front closing = (closing.generation < 2 ^ 6
 -- at a subscriber all above the received one are there
 pub record SubscriberClosingsLoad (publication : Publication) (s : SubscriberTables) : Type 0 where
   pub each : KeepOneByOne (SubscriberClosingLoads publication s) [] s.gens.closings
-  pub run : Run (sub_last_closed s) (s.received + 1) s.gens.closings
+  pub run : Run (subscriber_last_closed s) (s.received + 1) s.gens.closings
 
 pub record AllClosingsLoad (publication : Publication) (m : Model) : Type 0 where
   pub publisher : MomentFits m.world.publisher.latest → AllByRecursion (PublisherClosingLoads m.world.publisher) m.world.publisher.gens.closings

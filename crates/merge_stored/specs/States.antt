@@ -10,7 +10,7 @@ use Rattle.merge_keeper.specs.SubscriberRules as of_subscriber
 use Rattle.merge_keeper.specs.SubscriberStart as start_subscriber
 use Rattle.merge_model.specs.Tables.Keys.{at_number}
 use Rattle.merge_model.specs.History.Model.{Model}
-use Rattle.merge_model.specs.Subscriber.{sub_last_closed}
+use Rattle.merge_model.specs.Subscriber.{subscriber_last_closed}
 use Rattle.merge_model.specs.Tables.{PublisherTables, SubscriberTables}
 use Rattle.merge_model.specs.World.{Saying}
 use Rattle.merge_typed.specs.Typed.{MomentFits}
@@ -26,7 +26,7 @@ SentFits last None = Unit {0}
 SentFits last (Some p) = (1 ≤ p.0) × EndsBy last p.1
 
 abbrev pub OutstandingFits : SubscriberTables → Type 0
-OutstandingFits s = SentFits (sub_last_closed s) s.outstanding
+OutstandingFits s = SentFits (subscriber_last_closed s) s.outstanding
 
 -- the record of a state, and whether a start takes it
 abbrev pub PublisherStateLoads : PublisherTables → Type 0

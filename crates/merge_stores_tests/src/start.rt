@@ -2,8 +2,8 @@
 use merge_ident::Ranges;
 use merge_keeper::{StartFault, start_publisher, start_subscriber};
 use merge_ports::{Entries, EntryKey};
-use merge_schema::{Article, Identity, Publication, SubKind, Subscription};
-use merge_types::{ColType, Column, HostName, Listing, Octets, SiteId, Tracking, Words};
+use merge_schema::{Article, Identity, Publication, Subscription, SubscriptionKind};
+use merge_types::{Column, ColumnType, HostName, Listing, Octets, SiteId, Tracking, Words};
 use std::alloc::{AllocError, Global};
 use std::test::Fail;
 
@@ -12,7 +12,7 @@ fn article(alloc: Global) -> Result<Article, Fail> {
     let mut columns = Listing::empty(alloc);
     columns.push(Column {
         name: Words::of(alloc, "qty")?,
-        ty: ColType::Int,
+        ty: ColumnType::Int,
     })?;
     Ok(Article {
         name: Words::of(alloc, "item")?,
@@ -37,7 +37,7 @@ fn subscription(alloc: Global) -> Result<Subscription, Fail> {
     Ok(Subscription {
         site: SiteId(1),
         host: HostName(Words::of(alloc, "h1")?),
-        kind: SubKind::Server,
+        kind: SubscriptionKind::Server,
         priority: 0,
     })
 }

@@ -27,7 +27,7 @@ use Rattle.merge_gens.specs.Filling.{closed}
 use Rattle.merge_gens.specs.declared.filling.Filling.{Filling}
 use Rattle.merge_gens.specs.Plan.{IsPrepared, settled}
 use Rattle.merge_gens.specs.Book.{BookWithRoom}
-use Rattle.merge_gens.specs.declared.plan.GenPlan.{GenPlan}
+use Rattle.merge_gens.specs.declared.plan.GenerationPlan.{GenerationPlan}
 use Rattle.merge_gens.specs.declared.index.IndexEntry.{IndexEntry}
 use Rattle.merge_conflict.specs.declared.table.ConflictPlan.{ConflictPlan}
 use Rattle.merge_table.specs.declared.edit.Edit.{Edit}
@@ -41,7 +41,7 @@ use Rattle.merge_model.specs.Tables.Keys.{row_at, same_key}
 use Rattle.merge_model.specs.Subscriber.Reinit.{discarded, made_anew, numbered_from, reinitialise}
 use Rattle.merge_model.specs.Publisher.{later}
 use Rattle.merge_model.specs.Tables.Refusals.{counter_end}
-use Rattle.merge_model.specs.Subscriber.{sub_at_moment, sub_closed, sub_counters}
+use Rattle.merge_model.specs.Subscriber.{subscriber_at_moment, subscriber_closed, subscriber_counters}
 use Rattle.merge_model.proofs.Lists.{all-append}
 use Rattle.merge_model.specs.Tables.{SubscriberTables}
 use Rattle.merge_model.proofs.Lists.KeyLookUps.{key-test, keys-same}
@@ -194,7 +194,7 @@ emptied-book book sound last is = rw is (ap (λ (closings : List Closing). (let 
 
 pub emptied : (s : SubscriberTables) (now : Moment) (lost : List ConflictRow) (c : Changes) → settled s.gens c.gens ≡ closed_now s.gens (record { 0 = s.changes }) → gens.IsSound (settled s.gens c.gens) → (last : ℕ) → last ≡ (closed s.gens.filling).last_closed
     → c.state ≡ record { changes = s.changes; conflict_count = s.conflict_count + length lost; latest = later now s.latest; seq = s.seq; outstanding = None; received = last; watermark = 0; is_joined = false } → c.done ≡ Some last
-    → c.rows ≡ dropped_rows s.rows → c.held ≡ [] → c.conflicts.rows ≡ lost → after c s ≡ made_anew lost (sub_closed (sub_at_moment now s))
+    → c.rows ≡ dropped_rows s.rows → c.held ≡ [] → c.conflicts.rows ≡ lost → after c s ≡ made_anew lost (subscriber_closed (subscriber_at_moment now s))
 emptied s now lost c closes sound last is state done rows held conflicts =
     let book : forgotten (settled s.gens c.gens) last ≡ record (closed_now s.gens (record { 0 = s.changes })) { closings = [] } =
     emptied-book (settled s.gens c.gens) sound last (is ∙ ap (λ (b : Book). b.filling.last_closed) (sym closes)) ∙ ap (λ (b : Book). (let e : Book = record b { closings = [] } in e)) closes in
@@ -215,12 +215,12 @@ emptied-sound publication s entries sound made none held within limited numbered
   numbered = numbered;
 }
 
-pub anew-made : (s : SubscriberTables) (now : Moment) → counter_end (sub_counters s) ≡ None → IsStrictlySortedBy key_cmp (keys_of s.rows) → (latest : Moment) → latest ≡ later now s.latest
-    → (lost : List ConflictRow) → lost ≡ lost_from (record { site = s.site; received = s.received; latest = latest }) (s.conflict_count + 1) s.rows → (made : SubscriberTables) → made ≡ made_anew lost (sub_closed (sub_at_moment now s)) → (count : ℕ) → count ≡ length lost
+pub anew-made : (s : SubscriberTables) (now : Moment) → counter_end (subscriber_counters s) ≡ None → IsStrictlySortedBy key_cmp (keys_of s.rows) → (latest : Moment) → latest ≡ later now s.latest
+    → (lost : List ConflictRow) → lost ≡ lost_from (record { site = s.site; received = s.received; latest = latest }) (s.conflict_count + 1) s.rows → (made : SubscriberTables) → made ≡ made_anew lost (subscriber_closed (subscriber_at_moment now s)) → (count : ℕ) → count ≡ length lost
     → reinitialise (by_rows s) now s ≡ Ok (made, count)
 anew-made s now below sorted latest late lost is made done count all =
-    let numbered : lost ≡ numbered_from (sub_at_moment now s) (s.conflict_count + 1) (discarded (by_rows s) (sub_at_moment now s)) =
-    is ∙ ap (λ (m : Moment). lost_from (record { site = s.site; received = s.received; latest = m }) (s.conflict_count + 1) s.rows) late ∙ lost-numbered s (sub_at_moment now s) s.rows (rows-found s.rows sorted) (s.conflict_count + 1) in
+    let numbered : lost ≡ numbered_from (subscriber_at_moment now s) (s.conflict_count + 1) (discarded (by_rows s) (subscriber_at_moment now s)) =
+    is ∙ ap (λ (m : Moment). lost_from (record { site = s.site; received = s.received; latest = m }) (s.conflict_count + 1) s.rows) late ∙ lost-numbered s (subscriber_at_moment now s) s.rows (rows-found s.rows sorted) (s.conflict_count + 1) in
     rw (below, done, all, numbered) refl
 
 -- The loop over the rows.
@@ -243,21 +243,21 @@ pub anew-numbered : (h now : Held) → h ≡ now → IsSound h.publication (tabl
 anew-numbered h now view sound d lost is =
     subst (λ (x : Held). AreNumbered (x.state.conflict_count + length lost) (x.conflicts.rows ++ lost)) view (discarded-numbered d h.rows.rows h.state.conflict_count h.conflicts.rows lost is sound.numbered)
 
-pub anew-done : (h now : Held) → h ≡ now → (moment : Moment) → counter_end (sub_counters (tables_of now)) ≡ None → IsStrictlySortedBy key_cmp (keys_of h.rows.rows) → (latest : Moment) → latest ≡ later moment h.state.latest
+pub anew-done : (h now : Held) → h ≡ now → (moment : Moment) → counter_end (subscriber_counters (tables_of now)) ≡ None → IsStrictlySortedBy key_cmp (keys_of h.rows.rows) → (latest : Moment) → latest ≡ later moment h.state.latest
     → (lost : List ConflictRow) → lost ≡ lost_from (record { site = h.site; received = h.state.received; latest = latest }) (h.state.conflict_count + 1) h.rows.rows
-    → (made : SubscriberTables) → made ≡ made_anew lost (sub_closed (sub_at_moment moment (tables_of now))) → (count : ℕ) → count ≡ length lost → reinitialise (by_rows (tables_of now)) moment (tables_of now) ≡ Ok (made, count)
+    → (made : SubscriberTables) → made ≡ made_anew lost (subscriber_closed (subscriber_at_moment moment (tables_of now))) → (count : ℕ) → count ≡ length lost → reinitialise (by_rows (tables_of now)) moment (tables_of now) ≡ Ok (made, count)
 anew-done h now view moment below sorted latest late lost is made done count all =
     anew-made (tables_of now) moment below (subst (λ (x : Held). IsStrictlySortedBy key_cmp (keys_of x.rows.rows)) view sorted)
     latest (subst (λ (x : Held). latest ≡ later moment x.state.latest) view late)
     lost (subst (λ (x : Held). lost ≡ lost_from (record { site = x.site; received = x.state.received; latest = latest }) (x.state.conflict_count + 1) x.rows.rows) view is) made done count all
 
-pub emptied-draft : (h now : Held) → h ≡ now → (moment : Moment) (lost : List ConflictRow) (d : Changes) (plan : GenPlan) (last : ℕ) (rows : List (Edit RowKey SubscriberRow)) (kept : ConflictPlan)
+pub emptied-draft : (h now : Held) → h ≡ now → (moment : Moment) (lost : List ConflictRow) (d : Changes) (plan : GenerationPlan) (last : ℕ) (rows : List (Edit RowKey SubscriberRow)) (kept : ConflictPlan)
     → d ≡ record { state = record { changes = h.state.changes; conflict_count = h.state.conflict_count + length lost; latest = later moment h.state.latest; seq = h.state.seq; outstanding = None; received = last; watermark = 0; is_joined = false }; gens = plan; done = Some last; rows = rows; held = []; conflicts = kept }
     → settled h.gens.book plan ≡ closed_now h.gens.book (record { 0 = h.state.changes }) → (prepared : BookWithRoom) → prepared.book ≡ h.gens.book → IsPrepared prepared plan
-    → last ≡ (closed h.gens.book.filling).last_closed → rows ≡ dropped_rows h.rows.rows → kept.rows ≡ lost → after d (tables_of now) ≡ made_anew lost (sub_closed (sub_at_moment moment (tables_of now)))
+    → last ≡ (closed h.gens.book.filling).last_closed → rows ≡ dropped_rows h.rows.rows → kept.rows ≡ lost → after d (tables_of now) ≡ made_anew lost (subscriber_closed (subscriber_at_moment moment (tables_of now)))
 emptied-draft h now view moment lost d plan last rows kept is closes prepared same ready last_is dropped lost_is =
     let sound : gens.IsSound (settled h.gens.book plan) = subst (λ (b : Book). gens.IsSound (settled b plan)) same ready.sound in
-    subst (λ (x : Held). after d (tables_of x) ≡ made_anew lost (sub_closed (sub_at_moment moment (tables_of x)))) view
+    subst (λ (x : Held). after d (tables_of x) ≡ made_anew lost (subscriber_closed (subscriber_at_moment moment (tables_of x)))) view
     (rw is (emptied (tables_of h) moment lost (record { state = record { changes = h.state.changes; conflict_count = h.state.conflict_count + length lost; latest = later moment h.state.latest; seq = h.state.seq; outstanding = None; received = last; watermark = 0; is_joined = false }; gens = plan; done = Some last; rows = rows; held = []; conflicts = kept })
     closes sound last last_is refl refl dropped refl lost_is))
 

@@ -36,7 +36,7 @@ use Rattle.merge_batch.specs.declared.refusal.Refusal.{Refusal}
 use Rattle.merge_change.specs.Allowed.{CanBeAsked, FitsHeld, HasIdentity, IsIdentity, IsNewAt}
 use Rattle.merge_model.specs.Tables.Keys.{at_number, put_number, put_row, row_at}
 use Rattle.merge_model.specs.Publisher.{later}
-use Rattle.merge_model.specs.Subscriber.{generations_at, sub_counters, sub_drawn, sub_last_closed, sub_local, sub_local_refusal, sub_next_dot, sub_version_at, taken_value, with_open}
+use Rattle.merge_model.specs.Subscriber.{generations_at, subscriber_counters, subscriber_drawn, subscriber_last_closed, subscriber_local, subscriber_local_refusal, subscriber_next_dot, subscriber_version_at, taken_value, with_open}
 use Rattle.merge_model.specs.Tables.{SubscriberTables}
 use Rattle.merge_sub.proofs.Indexed.{replaced-indexed}
 use Rattle.merge_sub.proofs.Rows.{fitting-put, made-more, made-put}
@@ -61,12 +61,12 @@ fits-found publication rows fitting key None is = tt
 fits-found publication rows fitting key (Some row) is = fitting key row is
 
 pub can-be-asked : (publication : Publication) (s : SubscriberTables) (entries : set.FinSet entry_cmp) → IsSound publication s entries → (change : Change) → has_article publication (article_of change) ≡ true → ColumnsAscend (settings_of change)
-    → CanBeAsked publication change (sub_version_at s (changed_key s change))
+    → CanBeAsked publication change (subscriber_version_at s (changed_key s change))
 can-be-asked publication s entries sound change place ascend = record {
   valid = sound.valid;
   place = place;
   ascend = ascend;
-  fits = subst (λ (article : ℕ). FitsHeld publication article (sub_version_at s (changed_key s change))) (key-article (sub_next_dot s) change) (fits-found publication s.rows sound.fitting (changed_key s change) (row_at s.rows (changed_key s change)) refl);
+  fits = subst (λ (article : ℕ). FitsHeld publication article (subscriber_version_at s (changed_key s change))) (key-article (subscriber_next_dot s) change) (fits-found publication s.rows sound.fitting (changed_key s change) (row_at s.rows (changed_key s change)) refl);
 }
 
 new-found : (site : SiteId) (changes : ℕ) (rows : List (RowKey × SubscriberRow)) → AreMade site changes rows → (key : RowKey) (found : Option SubscriberRow) → row_at rows key ≡ found
@@ -75,7 +75,7 @@ unfolding AreMade
 new-found site changes rows made key None is = tt
 new-found site changes rows made key (Some row) is = let below = made key row is in grind (arith, nat_tests, below)
 
-pub is-new : (publication : Publication) (s : SubscriberTables) (entries : set.FinSet entry_cmp) → IsSound publication s entries → (key : RowKey) → IsNewAt (sub_next_dot s) (sub_version_at s key)
+pub is-new : (publication : Publication) (s : SubscriberTables) (entries : set.FinSet entry_cmp) → IsSound publication s entries → (key : RowKey) → IsNewAt (subscriber_next_dot s) (subscriber_version_at s key)
 is-new publication s entries sound key = new-found s.site s.changes s.rows sound.made key (row_at s.rows key) refl
 
 -- The change is the last one of its site that the new version knows.
@@ -117,20 +117,20 @@ never-none publication dot identity (Delete article row) (Some version) lives no
 
 -- All is sound after a change.
 pub local-sound : (publication : Publication) (s : SubscriberTables) (entries : set.FinSet entry_cmp) → IsSound publication s entries → (change : Change) (identity : Value) → HasIdentity publication change identity
-    → (held : List (ℕ × Holder)) → AreRanged publication held → (key : RowKey) (row : SubscriberRow) (index : List (Edit IndexEntry (Unit {0}))) → IsChanged publication s change identity key row index → (latest : Moment) → sub_last_closed s < counter_limit → s.gens.filling.filled < entry_limit
+    → (held : List (ℕ × Holder)) → AreRanged publication held → (key : RowKey) (row : SubscriberRow) (index : List (Edit IndexEntry (Unit {0}))) → IsChanged publication s change identity key row index → (latest : Moment) → subscriber_last_closed s < counter_limit → s.gens.filling.filled < entry_limit
     → IsSound publication (with_change key row held latest s) (entries_after_all entries index)
 local-sound publication s entries sound change identity whole held ranged key row index changed latest closed filled =
-    let on : GoesOn (sub_last_closed s) (sub_last_closed s + (s.gens.filling.filled + 1) / entry_limit) = entry-goes-on (sub_last_closed s) s.gens.filling.filled closed filled in
-    let dot : Dot = sub_next_dot s in
+    let on : GoesOn (subscriber_last_closed s) (subscriber_last_closed s + (s.gens.filling.filled + 1) / entry_limit) = entry-goes-on (subscriber_last_closed s) s.gens.filling.filled closed filled in
+    let dot : Dot = subscriber_next_dot s in
     let at : RowKey = changed_key s change in
     let last : number_of row.version.lineage s.site.0 ≤ s.changes + 1 =
-    version-last publication dot identity change (sub_version_at s at) (held-last s.site s.changes s.rows sound.made at (row_at s.rows at) refl) row.version changed.version in
+    version-last publication dot identity change (subscriber_version_at s at) (held-last s.site s.changes s.rows sound.made at (row_at s.rows at) refl) row.version changed.version in
     record {
       valid = sound.valid;
       indexed = rw (changed.index, changed.at) (replaced-indexed s.rows entries at row sound.indexed);
       fitting = fitting-put publication s.rows sound.fitting key row (changed.fits whole);
       made = made-put s.site (s.changes + 1) s.rows (made-more s.site s.changes s.rows sound.made) key row last;
-      opened = kept-changed (sub_last_closed s) (sub_last_closed s + (s.gens.filling.filled + 1) / entry_limit) on.rises s.rows sound.opened key row (rw changed.at changed.generations);
+      opened = kept-changed (subscriber_last_closed s) (subscriber_last_closed s + (s.gens.filling.filled + 1) / entry_limit) on.rises s.rows sound.opened key row (rw changed.at changed.generations);
       within = omega (arith, sound.within, on.rises);
       limited = on.limited sound.limited;
       ranged = ranged;
@@ -155,12 +155,12 @@ taken-whole s article holder (Ok value) drawn done = (value, sym (ap value_in do
 taken-whole s article holder (Err used_up) drawn done = absurd cc
 
 drawn-whole : (s : SubscriberTables) (article : ℕ) (values : List Setting) (found : Option Holder) → at_number s.held article ≡ found → (column : Option ℕ) → is_some found ≡ is_some column
-    → (drawn : Value × List (ℕ × Holder)) → sub_drawn s (Insert article values) ≡ Ok drawn → IsIdentity column drawn.0
+    → (drawn : Value × List (ℕ × Holder)) → subscriber_drawn s (Insert article values) ≡ Ok drawn → IsIdentity column drawn.0
 drawn-whole s article values found is None same drawn done = tt
 drawn-whole s article values None is (Some column) same drawn done = absurd cc
-drawn-whole s article values (Some holder) is (Some column) same drawn done = taken-whole s article holder (answer_to_take holder) drawn (rw (sub_drawn, is) at done)
+drawn-whole s article values (Some holder) is (Some column) same drawn done = taken-whole s article holder (answer_to_take holder) drawn (rw (subscriber_drawn, is) at done)
 
-pub drawn-identity : (publication : Publication) (s : SubscriberTables) → AreRanged publication s.held → (change : Change) (drawn : Value × List (ℕ × Holder)) → sub_drawn s change ≡ Ok drawn → HasIdentity publication change drawn.0
+pub drawn-identity : (publication : Publication) (s : SubscriberTables) → AreRanged publication s.held → (change : Change) (drawn : Value × List (ℕ × Holder)) → subscriber_drawn s change ≡ Ok drawn → HasIdentity publication change drawn.0
 unfolding AreRanged
 drawn-identity publication s ranged (Insert article values) drawn done = drawn-whole s article values (at_number s.held article) refl (identity_column publication article) (ranged article) drawn done
 drawn-identity publication s ranged (Update article row values) drawn done = tt
@@ -184,61 +184,61 @@ taken-ranged : (publication : Publication) (s : SubscriberTables) → AreRanged 
 taken-ranged publication s ranged article holder some (Ok value) drawn done = subst (λ (held : List (ℕ × Holder)). AreRanged publication held) (ap (held_in s.held) done) (put-ranged publication s.held ranged article (after_take holder) some)
 taken-ranged publication s ranged article holder some (Err used_up) drawn done = absurd cc
 
-insert-ranged : (publication : Publication) (s : SubscriberTables) → AreRanged publication s.held → (article : ℕ) (values : List Setting) (found : Option Holder) → at_number s.held article ≡ found → (drawn : Value × List (ℕ × Holder)) → sub_drawn s (Insert article values) ≡ Ok drawn
+insert-ranged : (publication : Publication) (s : SubscriberTables) → AreRanged publication s.held → (article : ℕ) (values : List Setting) (found : Option Holder) → at_number s.held article ≡ found → (drawn : Value × List (ℕ × Holder)) → subscriber_drawn s (Insert article values) ≡ Ok drawn
     → AreRanged publication drawn.1
-insert-ranged publication s ranged article values None is drawn done = subst (λ (held : List (ℕ × Holder)). AreRanged publication held) (ap (held_in s.held) (rw (sub_drawn, is) at done)) ranged
-insert-ranged publication s ranged article values (Some holder) is drawn done = taken-ranged publication s ranged article holder (ap is_some is) (answer_to_take holder) drawn (rw (sub_drawn, is) at done)
+insert-ranged publication s ranged article values None is drawn done = subst (λ (held : List (ℕ × Holder)). AreRanged publication held) (ap (held_in s.held) (rw (subscriber_drawn, is) at done)) ranged
+insert-ranged publication s ranged article values (Some holder) is drawn done = taken-ranged publication s ranged article holder (ap is_some is) (answer_to_take holder) drawn (rw (subscriber_drawn, is) at done)
 
-pub drawn-ranged : (publication : Publication) (s : SubscriberTables) → AreRanged publication s.held → (change : Change) (drawn : Value × List (ℕ × Holder)) → sub_drawn s change ≡ Ok drawn → AreRanged publication drawn.1
+pub drawn-ranged : (publication : Publication) (s : SubscriberTables) → AreRanged publication s.held → (change : Change) (drawn : Value × List (ℕ × Holder)) → subscriber_drawn s change ≡ Ok drawn → AreRanged publication drawn.1
 drawn-ranged publication s ranged (Insert article values) drawn done = insert-ranged publication s ranged article values (at_number s.held article) refl drawn done
 drawn-ranged publication s ranged (Update article row values) drawn done = subst (λ (held : List (ℕ × Holder)). AreRanged publication held) (ap (held_in s.held) done) ranged
 drawn-ranged publication s ranged (Delete article row) drawn done = subst (λ (held : List (ℕ × Holder)). AreRanged publication held) (ap (held_in s.held) done) ranged
 
 -- The step of the machine.
 
-pub local-refused : (publication : Publication) (now : Moment) (change : Change) (s : SubscriberTables) (refusal : Refusal) → sub_local_refusal publication change s ≡ Some refusal → sub_local publication now change s ≡ Err refusal
-local-refused publication now change s refusal is = rw (sub_local, is) refl
+pub local-refused : (publication : Publication) (now : Moment) (change : Change) (s : SubscriberTables) (refusal : Refusal) → subscriber_local_refusal publication change s ≡ Some refusal → subscriber_local publication now change s ≡ Err refusal
+local-refused publication now change s refusal is = rw (subscriber_local, is) refl
 
-pub local-undrawn : (publication : Publication) (now : Moment) (change : Change) (s : SubscriberTables) (refusal : Refusal) → sub_local_refusal publication change s ≡ None → sub_drawn s change ≡ Err refusal → sub_local publication now change s ≡ Err refusal
-local-undrawn publication now change s refusal passes is = rw (sub_local, passes, is) refl
+pub local-undrawn : (publication : Publication) (now : Moment) (change : Change) (s : SubscriberTables) (refusal : Refusal) → subscriber_local_refusal publication change s ≡ None → subscriber_drawn s change ≡ Err refusal → subscriber_local publication now change s ≡ Err refusal
+local-undrawn publication now change s refusal passes is = rw (subscriber_local, passes, is) refl
 
-pub local-made : (publication : Publication) (now : Moment) (change : Change) (s : SubscriberTables) → sub_local_refusal publication change s ≡ None
-    → (identity : Value) (held : List (ℕ × Holder)) → sub_drawn s change ≡ Ok (identity, held) → (key : RowKey) (row : SubscriberRow) (index : List (Edit IndexEntry (Unit {0}))) → IsChanged publication s change identity key row index
-    → (latest : Moment) → latest ≡ later now s.latest → (made : SubscriberTables) → made ≡ with_change key row held latest s → sub_local publication now change s ≡ Ok (made, key.row)
+pub local-made : (publication : Publication) (now : Moment) (change : Change) (s : SubscriberTables) → subscriber_local_refusal publication change s ≡ None
+    → (identity : Value) (held : List (ℕ × Holder)) → subscriber_drawn s change ≡ Ok (identity, held) → (key : RowKey) (row : SubscriberRow) (index : List (Edit IndexEntry (Unit {0}))) → IsChanged publication s change identity key row index
+    → (latest : Moment) → latest ≡ later now s.latest → (made : SubscriberTables) → made ≡ with_change key row held latest s → subscriber_local publication now change s ≡ Ok (made, key.row)
 local-made publication now change s passes identity held drawn key row index changed latest late made is =
-    let kept : (let r : SubscriberRow = record { version = row.version; generations = with_open (sub_last_closed s + 1) (generations_at s (changed_key s change)) } in r) ≡ row = ap (λ (g : List ℕ). (let r : SubscriberRow = record { version = row.version; generations = g } in r)) (sym changed.generations) in
-    let after : with_change (changed_key s change) (record { version = row.version; generations = with_open (sub_last_closed s + 1) (generations_at s (changed_key s change)) }) held (later now s.latest) s ≡ made =
+    let kept : (let r : SubscriberRow = record { version = row.version; generations = with_open (subscriber_last_closed s + 1) (generations_at s (changed_key s change)) } in r) ≡ row = ap (λ (g : List ℕ). (let r : SubscriberRow = record { version = row.version; generations = g } in r)) (sym changed.generations) in
+    let after : with_change (changed_key s change) (record { version = row.version; generations = with_open (subscriber_last_closed s + 1) (generations_at s (changed_key s change)) }) held (later now s.latest) s ≡ made =
     rw (is, late, changed.at) (ap (λ (r : SubscriberRow). with_change (changed_key s change) r held (later now s.latest) s) kept) in
-    rw (sub_local, passes, drawn, changed.version, changed.at) (ap (λ (t : SubscriberTables). (let done : Result (SubscriberTables × RowId) Refusal = Ok (t, (changed_key s change).row) in done)) after)
+    rw (subscriber_local, passes, drawn, changed.version, changed.at) (ap (λ (t : SubscriberTables). (let done : Result (SubscriberTables × RowId) Refusal = Ok (t, (changed_key s change).row) in done)) after)
 
 -- a change that is refused by the row
-pub change-refused : (publication : Publication) (change : Change) (s : SubscriberTables) (result : Result (Unit {0}) Refusal) → s.is_joined ≡ true → counter_end (sub_counters s) ≡ None
-    → (held : Option Version) → held ≡ sub_version_at s (changed_key s change) → (rows : ℕ) → rows ≡ length s.rows → IfErr result (λ refusal. (dot : Dot) → change_refusal publication dot change held rows ≡ Some refusal)
-    → IfErr result (λ refusal. sub_local_refusal publication change s ≡ Some refusal)
+pub change-refused : (publication : Publication) (change : Change) (s : SubscriberTables) (result : Result (Unit {0}) Refusal) → s.is_joined ≡ true → counter_end (subscriber_counters s) ≡ None
+    → (held : Option Version) → held ≡ subscriber_version_at s (changed_key s change) → (rows : ℕ) → rows ≡ length s.rows → IfErr result (λ refusal. (dot : Dot) → change_refusal publication dot change held rows ≡ Some refusal)
+    → IfErr result (λ refusal. subscriber_local_refusal publication change s ≡ Some refusal)
 change-refused publication change s (Ok done) joined below held is rows all refused = tt
 change-refused publication change s (Err refusal) joined below held is rows all refused =
-    let why : change_refusal publication (sub_next_dot s) change (sub_version_at s (changed_key s change)) (length s.rows) ≡ Some refusal = rw (sym is, sym all) (refused (sub_next_dot s)) in
+    let why : change_refusal publication (subscriber_next_dot s) change (subscriber_version_at s (changed_key s change)) (length s.rows) ≡ Some refusal = rw (sym is, sym all) (refused (subscriber_next_dot s)) in
     rw (joined, below, why) refl
 
 -- The same for what is held.
 
-pub draw-identity : (h now : Held) → h ≡ now → IsSound h.publication (tables_of h) h.unsent.entries → (change : Change) (drawn : Value × List (ℕ × Holder)) → sub_drawn (tables_of now) change ≡ Ok drawn → HasIdentity now.publication change drawn.0
+pub draw-identity : (h now : Held) → h ≡ now → IsSound h.publication (tables_of h) h.unsent.entries → (change : Change) (drawn : Value × List (ℕ × Holder)) → subscriber_drawn (tables_of now) change ≡ Ok drawn → HasIdentity now.publication change drawn.0
 draw-identity h now view sound change drawn done =
     let there : IsSound now.publication (tables_of now) now.unsent.entries = subst (λ (x : Held). IsSound x.publication (tables_of x) x.unsent.entries) view sound in
     drawn-identity now.publication (tables_of now) there.ranged change drawn done
 
-pub draw-ranged : (h now : Held) → h ≡ now → IsSound h.publication (tables_of h) h.unsent.entries → (change : Change) (drawn : Value × List (ℕ × Holder)) → sub_drawn (tables_of now) change ≡ Ok drawn → AreRanged now.publication drawn.1
+pub draw-ranged : (h now : Held) → h ≡ now → IsSound h.publication (tables_of h) h.unsent.entries → (change : Change) (drawn : Value × List (ℕ × Holder)) → subscriber_drawn (tables_of now) change ≡ Ok drawn → AreRanged now.publication drawn.1
 draw-ranged h now view sound change drawn done =
     let there : IsSound now.publication (tables_of now) now.unsent.entries = subst (λ (x : Held). IsSound x.publication (tables_of x) x.unsent.entries) view sound in
     drawn-ranged now.publication (tables_of now) there.ranged change drawn done
 
 pub version-asked : (h now : Held) → h ≡ now → IsSound h.publication (tables_of h) h.unsent.entries → (change : Change) → has_article now.publication (article_of change) ≡ true → ColumnsAscend (settings_of change)
-    → CanBeAsked now.publication change (sub_version_at (tables_of now) (changed_key (tables_of now) change))
+    → CanBeAsked now.publication change (subscriber_version_at (tables_of now) (changed_key (tables_of now) change))
 version-asked h now view sound change place ascend =
     let there : IsSound now.publication (tables_of now) now.unsent.entries = subst (λ (x : Held). IsSound x.publication (tables_of x) x.unsent.entries) view sound in
     can-be-asked now.publication (tables_of now) now.unsent.entries there change place ascend
 
-pub version-new : (h now : Held) → h ≡ now → IsSound h.publication (tables_of h) h.unsent.entries → (change : Change) → IsNewAt (sub_next_dot (tables_of now)) (sub_version_at (tables_of now) (changed_key (tables_of now) change))
+pub version-new : (h now : Held) → h ≡ now → IsSound h.publication (tables_of h) h.unsent.entries → (change : Change) → IsNewAt (subscriber_next_dot (tables_of now)) (subscriber_version_at (tables_of now) (changed_key (tables_of now) change))
 version-new h now view sound change =
     let there : IsSound now.publication (tables_of now) now.unsent.entries = subst (λ (x : Held). IsSound x.publication (tables_of x) x.unsent.entries) view sound in
     is-new now.publication (tables_of now) now.unsent.entries there (changed_key (tables_of now) change)
@@ -250,9 +250,9 @@ change-sound h now view sound change identity whole held ranged key row index ch
     let there : IsSound now.publication (tables_of now) now.unsent.entries = subst (λ (x : Held). IsSound x.publication (tables_of x) x.unsent.entries) view sound in
     local-sound now.publication (tables_of now) now.unsent.entries there change identity whole held ranged key row index changed latest closed filled
 
-pub check-refused : (h now : Held) → h ≡ now → (change : Change) (result : Result (Unit {0}) Refusal) → now.state.is_joined ≡ true → counter_end (sub_counters (tables_of now)) ≡ None
-    → (held : Option Version) → held ≡ sub_version_at (tables_of now) (changed_key (tables_of now) change) → (rows : ℕ) → rows ≡ length now.rows.rows → IfErr result (λ refusal. (dot : Dot) → change_refusal h.publication dot change held rows ≡ Some refusal)
-    → IfErr result (λ refusal. sub_local_refusal now.publication change (tables_of now) ≡ Some refusal)
+pub check-refused : (h now : Held) → h ≡ now → (change : Change) (result : Result (Unit {0}) Refusal) → now.state.is_joined ≡ true → counter_end (subscriber_counters (tables_of now)) ≡ None
+    → (held : Option Version) → held ≡ subscriber_version_at (tables_of now) (changed_key (tables_of now) change) → (rows : ℕ) → rows ≡ length now.rows.rows → IfErr result (λ refusal. (dot : Dot) → change_refusal h.publication dot change held rows ≡ Some refusal)
+    → IfErr result (λ refusal. subscriber_local_refusal now.publication change (tables_of now) ≡ Some refusal)
 check-refused h now view change result joined below held is rows all refused =
     change-refused now.publication change (tables_of now) result joined below held is rows all
     (subst (λ (x : Held). IfErr result (λ refusal. (dot : Dot) → change_refusal x.publication dot change held rows ≡ Some refusal)) view refused)

@@ -4,7 +4,7 @@ use Rattle.std.proofs.Common.{ap, sym, subst, arith, rules}
 use Rattle.merge_table.specs.Edits.{IsReady}
 use Rattle.merge_gens.specs.Index.{entries_after_all}
 use Rattle.merge_gens.specs.Plan.{IsPrepared}
-use Rattle.merge_gens.specs.declared.plan.GenPlan.{GenPlan}
+use Rattle.merge_gens.specs.declared.plan.GenerationPlan.{GenerationPlan}
 use Rattle.merge_conflict.specs.declared.row.ConflictRow.{ConflictRow}
 use Rattle.std.proofs.lemmas.List.{append-nil}
 use Rattle.merge_conflict.specs.Rising.{AreRising}
@@ -16,11 +16,11 @@ use Rattle.merge_sub.specs.declared.state.State.{State}
 use Rattle.merge_sub.specs.declared.changes.Changes.{Changes}
 use Rattle.merge_sub.specs.declared.changes.Draft.{Draft}
 
-abbrev pub still_changes : State → GenPlan → Changes
+abbrev pub still_changes : State → GenerationPlan → Changes
 still_changes state gens = record { state = state; gens = gens; done = None; rows = []; held = []; conflicts = record { rows = [] } }
 
 -- no list changes, and the site makes no change
-pub still-ready : (h : Held) (before : SubscriberTables) → tables_of h ≡ before → (d : Draft) (state : State) (gens : GenPlan) → d.changes ≡ still_changes state gens → d.index.changes ≡ []
+pub still-ready : (h : Held) (before : SubscriberTables) → tables_of h ≡ before → (d : Draft) (state : State) (gens : GenerationPlan) → d.changes ≡ still_changes state gens → d.index.changes ≡ []
     → state.changes ≡ h.state.changes → state.conflict_count ≡ h.state.conflict_count → state.received ≡ h.state.received → GoesOn before.gens.filling.last_closed gens.filling.last_closed → IsPrepared h.gens gens → AreRising h.conflicts.rows → IsSound h.publication before h.unsent.entries → IsDrafted h d
 unfolding IsReady
 still-ready h before same d state gens changes index numbers counts received closes prepared rising old =

@@ -15,13 +15,13 @@ use Rattle.merge_batch.specs.Articles.{fits_article}
 use Rattle.merge_batch.specs.LocalChanges.{key_of, version_after}
 use Rattle.merge_change.specs.Allowed.{HasIdentity}
 use Rattle.merge_model.specs.Tables.Keys.{put_row}
-use Rattle.merge_model.specs.Subscriber.{generations_at, sub_last_closed, sub_next_dot, sub_version_at, with_open}
+use Rattle.merge_model.specs.Subscriber.{generations_at, subscriber_last_closed, subscriber_next_dot, subscriber_version_at, with_open}
 use Rattle.merge_model.specs.Tables.{SubscriberTables}
 use Rattle.merge_sub.specs.Held.{entry_behind}
 
 -- the key of the row that a change of the site is about
 abbrev pub changed_key : SubscriberTables → Change → RowKey
-changed_key s change = key_of (sub_next_dot s) change
+changed_key s change = key_of (subscriber_next_dot s) change
 
 -- the tables after a change of one row
 abbrev pub with_change : RowKey → SubscriberRow → List (ℕ × Holder) → Moment → SubscriberTables → SubscriberTables
@@ -47,7 +47,7 @@ reindexing key before generations = map (take_entry key) before ++ map (put_entr
 -- the row after a change, and the changes of the index for it
 pub record IsChanged (publication : Publication) (s : SubscriberTables) (change : Change) (identity : Value) (key : RowKey) (row : SubscriberRow) (edits : List (Edit IndexEntry (Unit {0}))) : Type 0 where
   pub at : key ≡ changed_key s change
-  pub version : version_after publication (sub_next_dot s) identity change (sub_version_at s (changed_key s change)) ≡ Some row.version
-  pub generations : row.generations ≡ with_open (sub_last_closed s + 1) (generations_at s (changed_key s change))
+  pub version : version_after publication (subscriber_next_dot s) identity change (subscriber_version_at s (changed_key s change)) ≡ Some row.version
+  pub generations : row.generations ≡ with_open (subscriber_last_closed s + 1) (generations_at s (changed_key s change))
   pub index : edits ≡ reindexing (changed_key s change) (generations_at s (changed_key s change)) row.generations
   pub fits : HasIdentity publication change identity → fits_article publication key.article row.version.body ≡ true

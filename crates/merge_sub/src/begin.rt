@@ -7,7 +7,7 @@ ghost use Rattle.merge_sub.specs.Held.{tables_of};
 
 use crate::{State, Subscriber};
 use merge_conflict::ConflictTable;
-use merge_gens::{GenBook, GenIndex};
+use merge_gens::{GenerationBook, GenerationIndex};
 use merge_ident::Ranges;
 use merge_schema::{Article, Identity, Publication};
 use merge_table::Table;
@@ -31,9 +31,9 @@ impl Subscriber {
             publication,
             site,
             state: State::new(),
-            gens: GenBook::new(alloc),
+            gens: GenerationBook::new(alloc),
             rows: Table::new(alloc),
-            unsent: GenIndex::new(alloc),
+            unsent: GenerationIndex::new(alloc),
             conflicts: ConflictTable::new(alloc),
             held,
         })

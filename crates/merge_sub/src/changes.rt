@@ -1,7 +1,7 @@
 //! The changes of a step.
 use crate::State;
 use merge_conflict::ConflictPlan;
-use merge_gens::{GenPlan, IndexPlan};
+use merge_gens::{GenerationPlan, IndexPlan};
 use merge_ident::Ranges;
 use merge_table::Edit;
 use merge_types::{Listing, RowKey};
@@ -17,7 +17,7 @@ pub type RangesEdit = Edit<u8, Ranges>;
 #[derive(Drop)]
 pub struct Changes {
     pub state: State,
-    pub gens: GenPlan,
+    pub gens: GenerationPlan,
     /// The kept generations up to this one are forgotten.
     pub done: Option<u64>,
     pub rows: Listing<RowEdit>,

@@ -2,7 +2,7 @@
 ghost use Rattle.std.specs.Prelude.{◌≡◌, ◌⊎◌, Err, IfOk, Ok};
 ghost use Rattle.merge_batch.specs.declared.refusal.Refusal.{Refusal as OneRefusal};
 ghost use Rattle.merge_batch.specs.declared.refusal.Refusal.TheVariants.{NoMemory as no_memory};
-ghost use Rattle.merge_model.specs.Subscriber.{close_sub_generation};
+ghost use Rattle.merge_model.specs.Subscriber.{close_subscriber_generation};
 ghost use Rattle.merge_sub.specs.Drafts.{IsDrafted, drafted};
 ghost use Rattle.merge_sub.specs.Held.{tables_of};
 
@@ -15,9 +15,9 @@ impl Subscriber {
     /// Works out a closing of the open generation, and gives the last closed one afterwards.
     #[tactic(auto, unfolding(merge_table::specs::Edits::IsReady))]
     pub fn draft_close(&mut self, now: Moment) -> Result<(Draft, u64), Refusal>
-        ensures made { IfOk result (λ made. close_sub_generation now (tables_of self.old) ≡ Ok (drafted (tables_of self.old) made)) }
+        ensures made { IfOk result (λ made. close_subscriber_generation now (tables_of self.old) ≡ Ok (drafted (tables_of self.old) made)) }
         ensures ready { IfOk result (λ made. IsDrafted self.new made.0) }
-        ensures refused { (refusal : OneRefusal) → result ≡ Err refusal → (refusal ≡ no_memory) ⊎ (close_sub_generation now (tables_of self.old) ≡ Err refusal) }
+        ensures refused { (refusal : OneRefusal) → result ≡ Err refusal → (refusal ≡ no_memory) ⊎ (close_subscriber_generation now (tables_of self.old) ≡ Err refusal) }
         ensures same { tables_of self.new ≡ tables_of self.old }
         ensures publication { self.new.publication ≡ self.old.publication }
     {

@@ -12,7 +12,7 @@ ghost use Rattle.merge_batch.specs.LocalChanges.{article_of, settings_of, versio
 ghost use Rattle.merge_batch.specs.declared.refusal.Refusal.{Refusal as OneRefusal};
 ghost use Rattle.merge_batch.specs.declared.refusal.Refusal.TheVariants.{NoMemory as no_memory};
 ghost use Rattle.merge_change.specs.Allowed.{CanBeAsked, FitsHeld, HasIdentity, IsAllowed, IsNewAt};
-ghost use Rattle.merge_model.specs.Subscriber.{sub_drawn, sub_local, sub_local_refusal, sub_next_dot, sub_version_at};
+ghost use Rattle.merge_model.specs.Subscriber.{subscriber_drawn, subscriber_local, subscriber_local_refusal, subscriber_next_dot, subscriber_version_at};
 ghost use Rattle.merge_sub.specs.Drafts.{IsDrafted, after, drafted};
 ghost use Rattle.merge_sub.specs.Held.{AreRanged, IsSound, tables_of};
 ghost use Rattle.merge_sub.specs.Local.{IsChanged, changed_key, with_change};
@@ -33,9 +33,9 @@ impl Subscriber {
     pub fn draft_local(&mut self, change: &Change, now: Moment) -> Result<(Draft, RowId), Refusal>
         requires place { has_article self.old.publication (article_of change.now) ≡ true }
         requires ascend { ColumnsAscend (settings_of change.now) }
-        ensures made { IfOk result (λ made. sub_local self.old.publication now change.now (tables_of self.old) ≡ Ok (drafted (tables_of self.old) made)) }
+        ensures made { IfOk result (λ made. subscriber_local self.old.publication now change.now (tables_of self.old) ≡ Ok (drafted (tables_of self.old) made)) }
         ensures ready { IfOk result (λ made. IsDrafted self.new made.0) }
-        ensures refused { (refusal : OneRefusal) → result ≡ Err refusal → (refusal ≡ no_memory) ⊎ (sub_local self.old.publication now change.now (tables_of self.old) ≡ Err refusal) }
+        ensures refused { (refusal : OneRefusal) → result ≡ Err refusal → (refusal ≡ no_memory) ⊎ (subscriber_local self.old.publication now change.now (tables_of self.old) ≡ Err refusal) }
         ensures same { tables_of self.new ≡ tables_of self.old }
         ensures publication { self.new.publication ≡ self.old.publication }
     {
@@ -51,9 +51,9 @@ impl Subscriber {
     fn check_local(&self, change: &Change) -> Result<(), Refusal>
         requires place { has_article self.now.publication (article_of change.now) ≡ true }
         requires ascend { ColumnsAscend (settings_of change.now) }
-        ensures ok { OnOk result (sub_local_refusal self.now.publication change.now (tables_of self.now) ≡ None) }
-        ensures err { IfErr result (λ refusal. sub_local_refusal self.now.publication change.now (tables_of self.now) ≡ Some refusal) }
-        ensures allowed { OnOk result (IsAllowed self.now.publication change.now (sub_version_at (tables_of self.now) (changed_key (tables_of self.now) change.now))) }
+        ensures ok { OnOk result (subscriber_local_refusal self.now.publication change.now (tables_of self.now) ≡ None) }
+        ensures err { IfErr result (λ refusal. subscriber_local_refusal self.now.publication change.now (tables_of self.now) ≡ Some refusal) }
+        ensures allowed { OnOk result (IsAllowed self.now.publication change.now (subscriber_version_at (tables_of self.now) (changed_key (tables_of self.now) change.now))) }
         ensures changes { OnOk result (self.now.state.changes < counter_limit) }
         ensures closed { OnOk result (self.now.gens.book.filling.last_closed < counter_limit) }
         ensures unfilled { OnOk result (self.now.gens.book.filling.filled < entry_limit) }
@@ -71,7 +71,7 @@ impl Subscriber {
     // The dot of the next change.
     fn next_dot(&self) -> Dot
         requires { self.now.state.changes < counter_limit }
-        ensures { result ≡ sub_next_dot (tables_of self.now) }
+        ensures { result ≡ subscriber_next_dot (tables_of self.now) }
     {
         Dot {
             site: self.site,
@@ -84,9 +84,9 @@ impl Subscriber {
         requires changes { self.now.state.changes < counter_limit }
         requires place { has_article self.now.publication (article_of change.now) ≡ true }
         requires ascend { ColumnsAscend (settings_of change.now) }
-        ensures version { option_copied result ≡ sub_version_at (tables_of self.now) (changed_key (tables_of self.now) change.now) }
+        ensures version { option_copied result ≡ subscriber_version_at (tables_of self.now) (changed_key (tables_of self.now) change.now) }
         ensures asked { CanBeAsked self.now.publication change.now (option_copied result) }
-        ensures new { IsNewAt (sub_next_dot (tables_of self.now)) (option_copied result) }
+        ensures new { IsNewAt (subscriber_next_dot (tables_of self.now)) (option_copied result) }
     {
         let _ = &self.publication;
         self.version_held(change)
@@ -95,7 +95,7 @@ impl Subscriber {
     // The same, without what it says of the version.
     fn version_held(&self, change: &Change) -> Option<&Version>
         requires { self.now.state.changes < counter_limit }
-        ensures { option_copied result ≡ sub_version_at (tables_of self.now) (changed_key (tables_of self.now) change.now) }
+        ensures { option_copied result ≡ subscriber_version_at (tables_of self.now) (changed_key (tables_of self.now) change.now) }
     {
         match self.rows.get(&key_of(self.next_dot(), change)) {
             Some(row) => Some(&row.version),
@@ -106,8 +106,8 @@ impl Subscriber {
     // The identity value of a new row, which is Null where its article has no identity column, and
     // the change of the ranges that it is taken from.
     fn draw(&self, change: &Change) -> Result<(Value, Listing<RangesEdit>), Refusal>
-        ensures drawn { IfOk result (λ drawn. sub_drawn (tables_of self.now) change.now ≡ Ok (drawn.0, rows_after_all nat_cmp self.now.held.rows drawn.1)) }
-        ensures refused { (refusal : OneRefusal) → result ≡ Err refusal → (refusal ≡ no_memory) ⊎ (sub_drawn (tables_of self.now) change.now ≡ Err refusal) }
+        ensures drawn { IfOk result (λ drawn. subscriber_drawn (tables_of self.now) change.now ≡ Ok (drawn.0, rows_after_all nat_cmp self.now.held.rows drawn.1)) }
+        ensures refused { (refusal : OneRefusal) → result ≡ Err refusal → (refusal ≡ no_memory) ⊎ (subscriber_drawn (tables_of self.now) change.now ≡ Err refusal) }
         ensures identity { IfOk result (λ drawn. HasIdentity self.now.publication change.now drawn.0) }
         ensures ranged { IfOk result (λ drawn. AreRanged self.now.publication (rows_after_all nat_cmp self.now.held.rows drawn.1)) }
     {
@@ -118,8 +118,8 @@ impl Subscriber {
 
     // The same, without what it says of the articles.
     fn draw_for(&self, change: &Change) -> Result<(Value, Listing<RangesEdit>), Refusal>
-        ensures drawn { IfOk result (λ drawn. sub_drawn (tables_of self.now) change.now ≡ Ok (drawn.0, rows_after_all nat_cmp self.now.held.rows drawn.1)) }
-        ensures refused { (refusal : OneRefusal) → result ≡ Err refusal → (refusal ≡ no_memory) ⊎ (sub_drawn (tables_of self.now) change.now ≡ Err refusal) }
+        ensures drawn { IfOk result (λ drawn. subscriber_drawn (tables_of self.now) change.now ≡ Ok (drawn.0, rows_after_all nat_cmp self.now.held.rows drawn.1)) }
+        ensures refused { (refusal : OneRefusal) → result ≡ Err refusal → (refusal ≡ no_memory) ⊎ (subscriber_drawn (tables_of self.now) change.now ≡ Err refusal) }
     {
         match change {
             Change::Insert { article, .. } => self.draw_value(*article),
@@ -129,8 +129,8 @@ impl Subscriber {
 
     // The same, for a new row of an article, whatever it sets.
     fn draw_value(&self, article: u8) -> Result<(Value, Listing<RangesEdit>), Refusal>
-        ensures drawn { IfOk result (λ drawn. sub_drawn (tables_of self.now) (AnInsert article []) ≡ Ok (drawn.0, rows_after_all nat_cmp self.now.held.rows drawn.1)) }
-        ensures refused { (refusal : OneRefusal) → result ≡ Err refusal → (refusal ≡ no_memory) ⊎ (sub_drawn (tables_of self.now) (AnInsert article []) ≡ Err refusal) }
+        ensures drawn { IfOk result (λ drawn. subscriber_drawn (tables_of self.now) (AnInsert article []) ≡ Ok (drawn.0, rows_after_all nat_cmp self.now.held.rows drawn.1)) }
+        ensures refused { (refusal : OneRefusal) → result ≡ Err refusal → (refusal ≡ no_memory) ⊎ (subscriber_drawn (tables_of self.now) (AnInsert article []) ≡ Err refusal) }
     {
         let mut edits = Listing::empty(self.alloc);
         let Some(ranges) = self.held.get(&article) else {
@@ -156,7 +156,7 @@ impl Subscriber {
         requires closed { self.now.gens.book.filling.last_closed < counter_limit }
         requires place { has_article self.now.publication (article_of change.now) ≡ true }
         requires ascend { ColumnsAscend (settings_of change.now) }
-        requires allowed { IsAllowed self.now.publication change.now (sub_version_at (tables_of self.now) (changed_key (tables_of self.now) change.now)) }
+        requires allowed { IsAllowed self.now.publication change.now (subscriber_version_at (tables_of self.now) (changed_key (tables_of self.now) change.now)) }
         ensures row { IfOk result (λ row. IsChanged self.now.publication (tables_of self.now) change.now identity row.0 row.1 row.2) }
         ensures refused { (refusal : OneRefusal) → result ≡ Err refusal → refusal ≡ no_memory }
     {
@@ -181,8 +181,8 @@ impl Subscriber {
         requires changes { self.now.state.changes < counter_limit }
         requires place { has_article self.now.publication (article_of change.now) ≡ true }
         requires ascend { ColumnsAscend (settings_of change.now) }
-        requires allowed { IsAllowed self.now.publication change.now (sub_version_at (tables_of self.now) (changed_key (tables_of self.now) change.now)) }
-        ensures version { IfOk result (λ version. version_after self.now.publication (sub_next_dot (tables_of self.now)) identity change.now (sub_version_at (tables_of self.now) (changed_key (tables_of self.now) change.now)) ≡ Some version) }
+        requires allowed { IsAllowed self.now.publication change.now (subscriber_version_at (tables_of self.now) (changed_key (tables_of self.now) change.now)) }
+        ensures version { IfOk result (λ version. version_after self.now.publication (subscriber_next_dot (tables_of self.now)) identity change.now (subscriber_version_at (tables_of self.now) (changed_key (tables_of self.now) change.now)) ≡ Some version) }
         ensures fits { IfOk result (λ version. HasIdentity self.now.publication change.now identity → FitsHeld self.now.publication (article_of change.now) (Some version)) }
         ensures refused { (refusal : OneRefusal) → result ≡ Err refusal → refusal ≡ no_memory }
     {

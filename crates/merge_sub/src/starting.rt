@@ -11,7 +11,7 @@ use crate::generations::behind;
 use crate::{State, Subscriber};
 use merge_change::table_of;
 use merge_conflict::{ConflictRows, ConflictTable};
-use merge_gens::{Closing, Closings, Filling, GenBook, GenIndex};
+use merge_gens::{Closing, Closings, Filling, GenerationBook, GenerationIndex};
 use merge_ident::Ranges;
 use merge_schema::Publication;
 use merge_types::{Listing, Moment, NoMemory, RowKey, SiteId};
@@ -64,7 +64,7 @@ impl Subscriber {
             publication,
             site,
             state,
-            gens: GenBook::restore(filling, closings),
+            gens: GenerationBook::restore(filling, closings),
             rows,
             unsent,
             conflicts: ConflictTable::restore(conflicts),
@@ -100,10 +100,10 @@ impl Subscriber {
 }
 
 // The rows by the generations that they keep.
-fn index_of(alloc: Global, rows: &[(RowKey, SubscriberRow)]) -> Result<GenIndex, NoMemory>
+fn index_of(alloc: Global, rows: &[(RowKey, SubscriberRow)]) -> Result<GenerationIndex, NoMemory>
     ensures { IfOk result (λ index. index.entries ≡ entries_after_all set.empty (rows_puts rows.now)) }
 {
-    let mut index = GenIndex::new(alloc);
+    let mut index = GenerationIndex::new(alloc);
     for (key, row) in rows {
         add_row(&mut index, *key, row.generations.as_slice())?;
     }
@@ -111,7 +111,7 @@ fn index_of(alloc: Global, rows: &[(RowKey, SubscriberRow)]) -> Result<GenIndex,
 }
 
 // The row is found by these generations.
-fn add_row(index: &mut GenIndex, key: RowKey, generations: &[u64]) -> Result<(), NoMemory>
+fn add_row(index: &mut GenerationIndex, key: RowKey, generations: &[u64]) -> Result<(), NoMemory>
     ensures { OnOk result (index.new.entries ≡ entries_after_all index.old.entries (map (put_entry key) generations.now)) }
 {
     for generation in generations {

@@ -4,14 +4,14 @@ ghost use Rattle.merge_types.specs.Limits.{counter_limit};
 ghost use Rattle.merge_model.specs.Publisher as tables;
 ghost use Rattle.merge_model.specs.Tables.Refusals.{counter_end};
 ghost use Rattle.merge_model.specs.Subscriber.Sending.{sending_refusal};
-ghost use Rattle.merge_model.specs.Subscriber.{sub_counters};
+ghost use Rattle.merge_model.specs.Subscriber.{subscriber_counters};
 ghost use Rattle.merge_sub.specs.Held.{tables_of};
 
 use crate::{Changes, Draft, State, Subscriber};
 use merge_batch::Refusal;
 use merge_change::check_counters;
 use merge_conflict::ConflictPlan;
-use merge_gens::{GenPlan, IndexPlan};
+use merge_gens::{GenerationPlan, IndexPlan};
 use merge_types::{Listing, Moment};
 use std::alloc::Global;
 
@@ -23,7 +23,7 @@ pub(crate) fn later(one: Moment, other: Moment) -> Moment
 }
 
 // The draft of a step that changes no row, no range and no conflict.
-pub(crate) fn still(alloc: Global, state: State, gens: GenPlan) -> Draft
+pub(crate) fn still(alloc: Global, state: State, gens: GenerationPlan) -> Draft
     ensures changes { result.changes ≡ record { state = state; gens = gens; done = None; rows = []; held = []; conflicts = record { rows = [] } } }
     ensures index { result.index.changes ≡ [] }
 {
@@ -47,8 +47,8 @@ pub(crate) fn still(alloc: Global, state: State, gens: GenPlan) -> Draft
 impl Subscriber {
     // A counter stands at its limit.
     pub(crate) fn check_counters(&self) -> Result<(), Refusal>
-        ensures ok { OnOk result (counter_end (sub_counters (tables_of self.now)) ≡ None) }
-        ensures err { IfErr result (λ refusal. counter_end (sub_counters (tables_of self.now)) ≡ Some refusal) }
+        ensures ok { OnOk result (counter_end (subscriber_counters (tables_of self.now)) ≡ None) }
+        ensures err { IfErr result (λ refusal. counter_end (subscriber_counters (tables_of self.now)) ≡ Some refusal) }
         ensures changes { OnOk result (self.now.state.changes < counter_limit) }
         ensures closed { OnOk result (self.now.gens.book.filling.last_closed < counter_limit) }
         ensures seq { OnOk result (self.now.state.seq < counter_limit) }

@@ -6,7 +6,7 @@ ghost use Rattle.merge_sub.specs.Held.{tables_of};
 
 use crate::{Changes, Draft, State};
 use merge_conflict::ConflictTable;
-use merge_gens::{GenBook, GenIndex};
+use merge_gens::{GenerationBook, GenerationIndex};
 use merge_ident::Ranges;
 use merge_schema::Publication;
 use merge_table::Table;
@@ -24,10 +24,10 @@ pub struct Subscriber {
     pub(crate) publication: Publication,
     pub(crate) site: SiteId,
     pub(crate) state: State,
-    pub(crate) gens: GenBook,
+    pub(crate) gens: GenerationBook,
     pub(crate) rows: Table<RowKey, SubscriberRow>,
     // The rows by the generations that they keep.
-    pub(crate) unsent: GenIndex,
+    pub(crate) unsent: GenerationIndex,
     pub(crate) conflicts: ConflictTable,
     pub(crate) held: Table<u8, Ranges>,
 }
@@ -75,7 +75,7 @@ impl Subscriber {
 }
 
 // Forgets the kept generations up to one, where there is one.
-fn forget(gens: &mut GenBook, up_to: Option<u64>)
+fn forget(gens: &mut GenerationBook, up_to: Option<u64>)
     ensures { gens.new.book ≡ forgotten_if_any gens.old.book up_to }
 {
     if let Some(up_to) = up_to {

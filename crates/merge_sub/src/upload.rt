@@ -8,7 +8,7 @@ ghost use Rattle.merge_gens.specs.Book.{closed_now, moment_of};
 ghost use Rattle.merge_model.specs.Judge.ByNumbers.{by_rows, last_between};
 ghost use Rattle.merge_model.specs.Publisher.PublisherDownload.{batch_end};
 ghost use Rattle.merge_model.specs.Subscriber.Sending.{make_upload, upload_sent};
-ghost use Rattle.merge_model.specs.Subscriber.{sub_at_moment, sub_closed};
+ghost use Rattle.merge_model.specs.Subscriber.{subscriber_at_moment, subscriber_closed};
 ghost use Rattle.merge_sub.specs.Drafts.{IsDrafted, IsDraftedIfAny, drafted, drafted_if_any};
 ghost use Rattle.merge_sub.specs.Held.{AreIndexed, tables_of};
 ghost use Rattle.merge_sub.specs.Sent.{AreChanged, AreKeeping, changed_count, item_at};
@@ -17,7 +17,7 @@ use crate::generations::behind;
 use crate::still::{later, still};
 use crate::{Draft, State, Subscriber};
 use merge_batch::{Outstanding, Refusal, Upload, UploadItem, UploadItems};
-use merge_gens::{GenBook, GenIndex, sort_rows};
+use merge_gens::{GenerationBook, GenerationIndex, sort_rows};
 use merge_table::Table;
 use merge_types::limits::{GENERATION_LIMIT, ITEM_LIMIT};
 use merge_types::{Listing, Moment, NoMemory, RowKey};
@@ -55,7 +55,7 @@ impl Subscriber {
     fn draft_batch(&mut self, now: Moment) -> Result<(Draft, Upload), NoMemory>
         requires seq { self.old.state.seq < counter_limit }
         requires closed { self.old.gens.book.filling.last_closed < counter_limit }
-        ensures made { IfOk result (λ made. drafted (tables_of self.old) made ≡ upload_sent (by_rows (tables_of self.old)) (sub_closed (sub_at_moment now (tables_of self.old)))) }
+        ensures made { IfOk result (λ made. drafted (tables_of self.old) made ≡ upload_sent (by_rows (tables_of self.old)) (subscriber_closed (subscriber_at_moment now (tables_of self.old)))) }
         ensures ready { IfOk result (λ made. IsDrafted self.new made.0) }
         ensures same { tables_of self.new ≡ tables_of self.old }
         ensures publication { self.new.publication ≡ self.old.publication }
@@ -89,7 +89,7 @@ impl Subscriber {
 // has a generation at the number behind it.
 fn keeping(
     alloc: Global,
-    index: &GenIndex,
+    index: &GenerationIndex,
     rows: &Table<RowKey, SubscriberRow>,
     first: u64,
     end: u64,
@@ -107,7 +107,7 @@ fn keeping(
 // The rows that keep a generation behind one, up to another.
 pub(crate) fn changed_between(
     alloc: Global,
-    index: &GenIndex,
+    index: &GenerationIndex,
     rows: &Table<RowKey, SubscriberRow>,
     from: u64,
     to: u64,
@@ -121,7 +121,7 @@ pub(crate) fn changed_between(
 // The rows that keep a generation up to one.
 pub(crate) fn changed_up_to(
     alloc: Global,
-    index: &GenIndex,
+    index: &GenerationIndex,
     rows: &Table<RowKey, SubscriberRow>,
     to: u64,
 ) -> Result<Vec<RowKey>, NoMemory>
@@ -135,7 +135,7 @@ pub(crate) fn changed_up_to(
 #[tactic(auto, using(crate::proofs::Batches::batch_begins, crate::proofs::Batches::batch_goes_on, crate::proofs::Batches::batch_stops, crate::proofs::Batches::batch_ends))]
 fn batch(
     alloc: Global,
-    index: &GenIndex,
+    index: &GenerationIndex,
     rows: &Table<RowKey, SubscriberRow>,
     from: u64,
     last: u64,
@@ -161,7 +161,7 @@ fn batch(
 
 // The number of the last change in a generation, once the open one has closed.
 #[tactic(auto, using(crate::proofs::Closed::through_closed, crate::proofs::Closed::through_open))]
-fn through(gens: &GenBook, changes: u64, to: u64) -> u64
+fn through(gens: &GenerationBook, changes: u64, to: u64) -> u64
     requires { gens.now.book.filling.last_closed < counter_limit }
     ensures { result ≡ unwrap_or (moment_of (closed_now gens.now.book (record { 0 = changes })).closings to) 0 }
 {

@@ -33,7 +33,7 @@ use Rattle.merge_model.specs.Subscriber.Reinit.{reinitialise}
 use Rattle.merge_model.specs.Failing.Runs.{model_behind}
 use Rattle.merge_model.specs.World.Steps.{Action, Pass, kept_decisions, upload_questions}
 use Rattle.merge_model.specs.Subscriber.Sending.{make_ask, make_join, make_ranges, make_upload}
-use Rattle.merge_model.specs.Subscriber.{close_sub_generation, empty_subscriber, sub_drawn, sub_local}
+use Rattle.merge_model.specs.Subscriber.{close_subscriber_generation, empty_subscriber, subscriber_drawn, subscriber_local}
 use Rattle.merge_model.specs.Tables.{PublisherTables, SubscriberTables}
 use Rattle.merge_model.specs.Subscriber.Taking.{take_reply}
 use Rattle.merge_model.specs.World.{Saying, World, empty_subscribers, empty_world}
@@ -54,8 +54,8 @@ use Rattle.merge_typed.proofs.Moments.{OwnMoments, moments-asked, moments-closed
 use Rattle.merge_typed.proofs.OwnRanges.{Drew, OwnFits, OwnRanges, draws, ranges-asked, ranges-closed, ranges-joined, ranges-local, ranges-purged, ranges-ranged, ranges-uploaded}
 use Rattle.merge_typed.proofs.OwnValues.{OwnValues, values-asked, values-closed, values-joined, values-local, values-purged, values-ranged, values-uploaded}
 use Rattle.merge_typed.proofs.Runs.{runs-keep}
-use Rattle.merge_typed.proofs.SubRanges.{HeldFits, ReplyRanges, SubDrew, SubRanges, ranges-anew, ranges-ask, ranges-join, ranges-ranges, ranges-reply, ranges-sub-closed, ranges-sub-local, ranges-upload, sub-draws}
-use Rattle.merge_typed.proofs.SubValues.{ReplyOrders, SubValues, values-anew, values-ask, values-join, values-ranges, values-reply, values-sub-closed, values-sub-local, values-upload}
+use Rattle.merge_typed.proofs.SubscriberRanges.{HeldFits, ReplyRanges, SubscriberDrew, SubscriberRanges, ranges-anew, ranges-ask, ranges-join, ranges-ranges, ranges-reply, ranges-sub-closed, ranges-sub-local, ranges-upload, sub-draws}
+use Rattle.merge_typed.proofs.SubscriberValues.{ReplyOrders, SubscriberValues, values-anew, values-ask, values-join, values-ranges, values-reply, values-sub-closed, values-sub-local, values-upload}
 use Rattle.merge_typed.proofs.Walk.{ActionIsTyped, CallsKeep, Fits, OfLetter, OfMessage, act-fits, pass-fits}
 
 -- nothing is asked
@@ -93,7 +93,7 @@ module _ (publication : Publication) (rules : All IsRule (rules_of publication))
   Ranges p = OwnRanges publication typed p
 
   -- what each call keeps
-  ranges-keep : CallsKeep publication says OfOwn Ranges OfSub SubRanges OfRequest ReplyRanges
+  ranges-keep : CallsKeep publication says OfOwn Ranges OfSub SubscriberRanges OfRequest ReplyRanges
   ranges-keep = record {
     of_local = λ judge now change p low is known r. ranges-local publication typed now p r judge change;
     of_close = λ now p low r. ranges-closed publication typed now p r;
@@ -102,8 +102,8 @@ module _ (publication : Publication) (rules : All IsRule (rules_of publication))
     of_upload = λ judge now m tallies p low is r. ranges-uploaded publication typed now p r judge m (kept_decisions says tallies (upload_questions publication judge now m p));
     of_ranges = λ judge now m p low r. ranges-ranged publication typed now p r judge m;
     of_ask = λ judge now m p low r. ranges-asked publication typed now p r judge m;
-    of_sub_local = λ now change s low is known r. ranges-sub-local s r publication now change;
-    of_sub_close = λ now s low r. ranges-sub-closed s r now;
+    of_subscriber_local = λ now change s low is known r. ranges-sub-local s r publication now change;
+    of_subscriber_close = λ now s low r. ranges-sub-closed s r now;
     of_make_join = λ s r. ranges-join s r;
     of_make_upload = λ judge now s low r. ranges-upload s r judge now;
     of_make_ranges = λ s r. ranges-ranges s r;
@@ -115,10 +115,10 @@ module _ (publication : Publication) (rules : All IsRule (rules_of publication))
   own-value : (p : PublisherTables) (change : Change) → Ranges p → IfOk (drawn publication p change) (λ d. IsValue d.value)
   own-value p change r = ok-weaker (Drew publication typed) (λ (d : Drawn). IsValue d.value) (λ d drew. drew.value) (drawn publication p change) (draws publication typed p change r)
 
-  sub-value : (s : SubscriberTables) (change : Change) → SubRanges s → IfOk (sub_drawn s change) (λ d. IsValue d.0)
-  sub-value s change r = ok-weaker SubDrew (λ (d : Value × List (ℕ × Holder)). IsValue d.0) (λ d drew. drew.value) (sub_drawn s change) (sub-draws s change r)
+  sub-value : (s : SubscriberTables) (change : Change) → SubscriberRanges s → IfOk (subscriber_drawn s change) (λ d. IsValue d.0)
+  sub-value s change r = ok-weaker SubscriberDrew (λ (d : Value × List (ℕ × Holder)). IsValue d.0) (λ d drew. drew.value) (subscriber_drawn s change) (sub-draws s change r)
 
-  values-keep : CallsKeep publication says Ranges OwnValues SubRanges SubValues RequestIsTyped ReplyOrders
+  values-keep : CallsKeep publication says Ranges OwnValues SubscriberRanges SubscriberValues RequestIsTyped ReplyOrders
   values-keep = record {
     of_local = λ judge now change p low is r v. values-local publication now p low v judge change is (own-value p change r);
     of_close = λ now p low v. values-closed publication now p low v;
@@ -127,8 +127,8 @@ module _ (publication : Publication) (rules : All IsRule (rules_of publication))
     of_upload = λ judge now m tallies p low is v. values-uploaded publication now p low v says said judge m tallies is;
     of_ranges = λ judge now m p low v. values-ranged publication now p low v judge m;
     of_ask = λ judge now m p low v. values-asked publication now p low v judge m;
-    of_sub_local = λ now change s low is r v. values-sub-local s v publication now change low is (sub-value s change r);
-    of_sub_close = λ now s low v. values-sub-closed s v now low;
+    of_subscriber_local = λ now change s low is r v. values-sub-local s v publication now change low is (sub-value s change r);
+    of_subscriber_close = λ now s low v. values-sub-closed s v now low;
     of_make_join = λ s v. values-join s v;
     of_make_upload = λ judge now s low v. values-upload s v judge now low;
     of_make_ranges = λ s v. values-ranges s v;
@@ -146,8 +146,8 @@ module _ (publication : Publication) (rules : All IsRule (rules_of publication))
     of_upload = λ judge now m tallies p low is f. moments-uploaded publication now p low f judge m (kept_decisions says tallies (upload_questions publication judge now m p));
     of_ranges = λ judge now m p low f. moments-ranged publication now p low f judge m;
     of_ask = λ judge now m p low f. moments-asked publication now p low f judge m;
-    of_sub_local = λ now change s low is known f. any-ok (λ (done : SubscriberTables × RowId). OfSub done.0) (λ done. tt) (sub_local publication now change s);
-    of_sub_close = λ now s low f. any-ok (λ (done : SubscriberTables × ℕ). OfSub done.0) (λ done. tt) (close_sub_generation now s);
+    of_subscriber_local = λ now change s low is known f. any-ok (λ (done : SubscriberTables × RowId). OfSub done.0) (λ done. tt) (subscriber_local publication now change s);
+    of_subscriber_close = λ now s low f. any-ok (λ (done : SubscriberTables × ℕ). OfSub done.0) (λ done. tt) (close_subscriber_generation now s);
     of_make_join = λ s f. any-ok (Nothing Join) (any-some (None-of Join) (λ x. (tt, tt))) (make_join s);
     of_make_upload = λ judge now s low f. any-ok (Nothing Upload) (any-some (None-of Upload) (λ x. (tt, tt))) (make_upload judge now s);
     of_make_ranges = λ s f. any-ok (Nothing RangeAsk) (any-some (None-of RangeAsk) (λ x. (tt, tt))) (make_ranges s);
@@ -159,13 +159,13 @@ module _ (publication : Publication) (rules : All IsRule (rules_of publication))
   -- All three, in each step.
 
   abbrev RangesFitIn : ℕ → World → Type 0
-  RangesFitIn latest w = Fits publication says OfOwn Ranges OfSub SubRanges OfRequest ReplyRanges latest w
+  RangesFitIn latest w = Fits publication says OfOwn Ranges OfSub SubscriberRanges OfRequest ReplyRanges latest w
 
   abbrev MomentsFitIn : ℕ → World → Type 0
   MomentsFitIn latest w = Fits publication says OfOwn OwnMoments OfSub OfSub OfRequest OfReply latest w
 
   abbrev ValuesFitIn : ℕ → World → Type 0
-  ValuesFitIn latest w = Fits publication says Ranges OwnValues SubRanges SubValues RequestIsTyped ReplyOrders latest w
+  ValuesFitIn latest w = Fits publication says Ranges OwnValues SubscriberRanges SubscriberValues RequestIsTyped ReplyOrders latest w
 
   record AllFit (latest : ℕ) (w : World) : Type 0 where
     ranges : RangesFitIn latest w
@@ -174,16 +174,16 @@ module _ (publication : Publication) (rules : All IsRule (rules_of publication))
 
   acts : (latest : ℕ) (m : Model) (action : Action) → latest < 2 ^ 64 → ActionIsTyped action → AllFit latest m.world → AllFit latest (model_step publication says m action).0.world
   acts latest m action low is f = record {
-    ranges = act-fits publication says OfOwn Ranges OfSub SubRanges OfRequest ReplyRanges latest low m.world f.ranges tt (λ n s at. tt) ranges-keep (by_history m.history) action is;
+    ranges = act-fits publication says OfOwn Ranges OfSub SubscriberRanges OfRequest ReplyRanges latest low m.world f.ranges tt (λ n s at. tt) ranges-keep (by_history m.history) action is;
     moments = act-fits publication says OfOwn OwnMoments OfSub OfSub OfRequest OfReply latest low m.world f.moments tt (λ n s at. tt) moments-keep (by_history m.history) action is;
-    values = act-fits publication says Ranges OwnValues SubRanges SubValues RequestIsTyped ReplyOrders latest low m.world f.values f.ranges.publisher f.ranges.subscribers values-keep (by_history m.history) action is;
+    values = act-fits publication says Ranges OwnValues SubscriberRanges SubscriberValues RequestIsTyped ReplyOrders latest low m.world f.values f.ranges.publisher f.ranges.subscribers values-keep (by_history m.history) action is;
   }
 
   passes : (latest seconds : ℕ) (m : Model) → AllFit latest m.world → AllFit (latest + seconds) (model_step publication says m (Pass seconds)).0.world
   passes latest seconds m f = record {
-    ranges = pass-fits publication says OfOwn Ranges OfSub SubRanges OfRequest ReplyRanges latest seconds m.world f.ranges;
+    ranges = pass-fits publication says OfOwn Ranges OfSub SubscriberRanges OfRequest ReplyRanges latest seconds m.world f.ranges;
     moments = pass-fits publication says OfOwn OwnMoments OfSub OfSub OfRequest OfReply latest seconds m.world f.moments;
-    values = pass-fits publication says Ranges OwnValues SubRanges SubValues RequestIsTyped ReplyOrders latest seconds m.world f.values;
+    values = pass-fits publication says Ranges OwnValues SubscriberRanges SubscriberValues RequestIsTyped ReplyOrders latest seconds m.world f.values;
   }
 
   tallied : (latest : ℕ) (w : World) (tallies : List ℕ) → AllFit latest w → AllFit latest (record w { tallies = tallies })
@@ -197,14 +197,14 @@ module _ (publication : Publication) (rules : All IsRule (rules_of publication))
   begin tallies = record {
     ranges = record {
       publisher = record { book = record { book = record { rules_fit = rules; grants_fit = no_grants; in_order = tt }; typed = tt; room = λ article site. (let none : granted_to article site [] ≡ 0 = refl in omega (arith, none)) }; held = new-own publication };
-      subscribers = begins publication SubRanges (λ s. new-held publication);
+      subscribers = begins publication SubscriberRanges (λ s. new-held publication);
       letters = tt;
       moment = omega arith;
     };
     moments = record { publisher = record { closings = tt; sites = tt; latest = omega arith }; subscribers = λ n s at. tt; letters = tt; moment = omega arith };
     values = record {
       publisher = record { rows = tt; conflicts = tt; latest = omega arith };
-      subscribers = begins publication SubValues (λ s. record { rows = tt; conflicts = tt; latest = omega arith });
+      subscribers = begins publication SubscriberValues (λ s. record { rows = tt; conflicts = tt; latest = omega arith });
       letters = tt;
       moment = omega arith;
     };
@@ -228,7 +228,7 @@ module _ (publication : Publication) (rules : All IsRule (rules_of publication))
       held = all-weaker (OwnFits m.world.publisher.grants) HolderIsTyped (λ entry own. holder-typed entry own.fits) m.world.publisher.held f.ranges.publisher.held;
       latest = f.values.publisher.latest;
     };
-    subscribers = λ n s at. (let v : SubValues s = f.values.subscribers n s at in record {
+    subscribers = λ n s at. (let v : SubscriberValues s = f.values.subscribers n s at in record {
       rows = v.rows;
       conflicts = v.conflicts;
       held = all-weaker (λ (entry : ℕ × Holder). HolderFits entry.1) HolderIsTyped holder-typed s.held (f.ranges.subscribers n s at);
@@ -236,7 +236,7 @@ module _ (publication : Publication) (rules : All IsRule (rules_of publication))
     });
   }
 
-  message-typed : (message : Message) → OfMessage publication says OfOwn Ranges OfSub SubRanges OfRequest ReplyRanges message → OfMessage publication says Ranges OwnValues SubRanges SubValues RequestIsTyped ReplyOrders message → MessageIsTyped message
+  message-typed : (message : Message) → OfMessage publication says OfOwn Ranges OfSub SubscriberRanges OfRequest ReplyRanges message → OfMessage publication says Ranges OwnValues SubscriberRanges SubscriberValues RequestIsTyped ReplyOrders message → MessageIsTyped message
   message-typed (Asks m) ranges values = values
   message-typed (Replies (reply.Ranged m)) ranges values = ranges
   message-typed (Replies (reply.Downloaded m)) ranges values = values
@@ -245,7 +245,7 @@ module _ (publication : Publication) (rules : All IsRule (rules_of publication))
   message-typed (Replies (reply.Refused number codes)) ranges values = tt
 
   messages-typed : (last : ℕ) (m : Model) → AllFit last m.world → MessagesAreTyped m
-  messages-typed last m f = all-both (OfLetter publication says OfOwn Ranges OfSub SubRanges OfRequest ReplyRanges) (OfLetter publication says Ranges OwnValues SubRanges SubValues RequestIsTyped ReplyOrders) LetterIsTyped
+  messages-typed last m f = all-both (OfLetter publication says OfOwn Ranges OfSub SubscriberRanges OfRequest ReplyRanges) (OfLetter publication says Ranges OwnValues SubscriberRanges SubscriberValues RequestIsTyped ReplyOrders) LetterIsTyped
       (λ letter ranges values. message-typed letter.message ranges values) m.world.pool f.ranges.letters f.values.letters
 
 pub tables-are-typed : OfEveryTypedRun TablesAreTyped

@@ -16,7 +16,7 @@ use Rattle.merge_model.specs.Judge.{PublisherJudge, SubscriberJudge}
 use Rattle.merge_model.specs.Publisher.{at_moment}
 use Rattle.merge_model.specs.Publisher.PublisherLocal.{Drawn, drawn, local, local_refusal, made_locally}
 use Rattle.merge_model.specs.Tables.Refusals.{unless}
-use Rattle.merge_model.specs.Subscriber.{sub_at_moment, sub_drawn, sub_local, sub_local_refusal, sub_made_locally}
+use Rattle.merge_model.specs.Subscriber.{subscriber_at_moment, subscriber_drawn, subscriber_local, subscriber_local_refusal, subscriber_made_locally}
 use Rattle.merge_model.specs.Tables.{PublisherTables, SubscriberTables}
 use Rattle.merge_model.specs.Subscriber.Taking.{met_by, seq_of, take_reply, taken}
 use Rattle.merge_model.specs.declared.outcome.Taken.{Taken}
@@ -57,18 +57,18 @@ module _ (publication : Publication) (judge : PublisherJudge) (now : Moment) (ch
   local-ok each = refused-ok (local_refusal publication change p) each
 
 module _ (publication : Publication) (now : Moment) (change : Change) (s : SubscriberTables) (S : SubscriberTables → Type 0) where
-  sub-drawn-ok : (draw : Result (Value × List (ℕ × Holder)) Refusal) → ((d : Value × List (ℕ × Holder)) → draw ≡ Ok d → S (sub_made_locally publication change d (sub_at_moment now s)).0)
-      → (let done : Result (SubscriberTables × RowId) Refusal = elim draw [ Err refusal ↦ Err refusal | Ok d ↦ Ok (sub_made_locally publication change d (sub_at_moment now s)) ] in IfOk done (λ x. S x.0))
+  sub-drawn-ok : (draw : Result (Value × List (ℕ × Holder)) Refusal) → ((d : Value × List (ℕ × Holder)) → draw ≡ Ok d → S (subscriber_made_locally publication change d (subscriber_at_moment now s)).0)
+      → (let done : Result (SubscriberTables × RowId) Refusal = elim draw [ Err refusal ↦ Err refusal | Ok d ↦ Ok (subscriber_made_locally publication change d (subscriber_at_moment now s)) ] in IfOk done (λ x. S x.0))
   sub-drawn-ok (Err refusal) each = tt
   sub-drawn-ok (Ok d) each = each d refl
 
-  sub-refused-ok : (found : Option Refusal) → (found ≡ None → (d : Value × List (ℕ × Holder)) → sub_drawn s change ≡ Ok d → S (sub_made_locally publication change d (sub_at_moment now s)).0)
-      → (let done : Result (SubscriberTables × RowId) Refusal = elim found [ Some refusal ↦ Err refusal | None ↦ elim (sub_drawn s change) [ Err refusal ↦ Err refusal | Ok d ↦ Ok (sub_made_locally publication change d (sub_at_moment now s)) ] ] in IfOk done (λ x. S x.0))
+  sub-refused-ok : (found : Option Refusal) → (found ≡ None → (d : Value × List (ℕ × Holder)) → subscriber_drawn s change ≡ Ok d → S (subscriber_made_locally publication change d (subscriber_at_moment now s)).0)
+      → (let done : Result (SubscriberTables × RowId) Refusal = elim found [ Some refusal ↦ Err refusal | None ↦ elim (subscriber_drawn s change) [ Err refusal ↦ Err refusal | Ok d ↦ Ok (subscriber_made_locally publication change d (subscriber_at_moment now s)) ] ] in IfOk done (λ x. S x.0))
   sub-refused-ok (Some refusal) each = tt
-  sub-refused-ok None each = sub-drawn-ok (sub_drawn s change) (each refl)
+  sub-refused-ok None each = sub-drawn-ok (subscriber_drawn s change) (each refl)
 
-  pub sub-local-ok : (sub_local_refusal publication change s ≡ None → (d : Value × List (ℕ × Holder)) → sub_drawn s change ≡ Ok d → S (sub_made_locally publication change d (sub_at_moment now s)).0) → IfOk (sub_local publication now change s) (λ x. S x.0)
-  sub-local-ok each = sub-refused-ok (sub_local_refusal publication change s) each
+  pub sub-local-ok : (subscriber_local_refusal publication change s ≡ None → (d : Value × List (ℕ × Holder)) → subscriber_drawn s change ≡ Ok d → S (subscriber_made_locally publication change d (subscriber_at_moment now s)).0) → IfOk (subscriber_local publication now change s) (λ x. S x.0)
+  sub-local-ok each = sub-refused-ok (subscriber_local_refusal publication change s) each
 
 -- a reply acts where it answers what is outstanding and fits it
 module _ (publication : Publication) (judge : SubscriberJudge) (now : Moment) (s : SubscriberTables) (S : SubscriberTables → Type 0) (stays : S s) where

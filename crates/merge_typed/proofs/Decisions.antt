@@ -2,7 +2,7 @@
 use Rattle.std.specs.List.{AllByRecursion}
 use Rattle.std.specs.Prelude.{Bool, IfSome, List, None, Option, Some, [], false, if◌then◌else◌, refl, slice_get, slice_index, slice_set, true, ℕ, ◌&&◌, ◌==◌, ◌≡◌, ◌∷◌}
 use Rattle.merge_types.specs.Fitting.{fits_column, has_type, is_proper, is_short}
-use Rattle.merge_types.specs.declared.values.ColType.{ColType}
+use Rattle.merge_types.specs.declared.values.ColumnType.{ColumnType}
 use Rattle.merge_types.specs.declared.values.Value.{Value}
 use Rattle.merge_units.specs.declared.case.Side.{Side}
 use Rattle.merge_units.specs.declared.result.Decision.{Decision}
@@ -35,10 +35,10 @@ both-true true true is = (refl, refl)
 both-true true false is = absurd cc
 both-true false b is = absurd cc
 
-column-is : (ty : ColType) (value : Value) → fits_column ty value ≡ true → ValueIsTyped value → IsValue value
+column-is : (ty : ColumnType) (value : Value) → fits_column ty value ≡ true → ValueIsTyped value → IsValue value
 column-is ty value fits typed = (let rest = both-true (is_short value) (is_proper value) (both-true (has_type ty value) (is_short value && is_proper value) fits).1 in value-is value typed rest.0 rest.1)
 
-some-is : (found : Option ColType) (value : Value) → fits_some found value ≡ true → ValueIsTyped value → IsValue value
+some-is : (found : Option ColumnType) (value : Value) → fits_some found value ≡ true → ValueIsTyped value → IsValue value
 some-is None value fits typed = absurd cc
 some-is (Some ty) value fits typed = column-is ty value fits typed
 
@@ -48,7 +48,7 @@ all-fit fits each [] (value ∷ values) fit typed = absurd cc
 all-fit fits each (x ∷ xs) [] fit typed = tt
 all-fit fits each (x ∷ xs) (value ∷ values) fit typed = (let both = both-true (fits x value) (fit_all fits xs values) fit in (each x value both.0 typed.0, all-fit fits each xs values both.1 typed.1))
 
-columns-are : (k : CaseKind) (types : List ColType) (cells : List ℕ) (values : List Value) → fit_columns k types cells values ≡ true → AllByRecursion ValueIsTyped values → AllByRecursion IsValue values
+columns-are : (k : CaseKind) (types : List ColumnType) (cells : List ℕ) (values : List Value) → fit_columns k types cells values ≡ true → AllByRecursion ValueIsTyped values → AllByRecursion IsValue values
 columns-are k types cells values fit typed = by (is_by_row k) fit
   where
     by : (b : Bool) → (if b then fit_all fits_column types values else fit_all (fits_place types) cells values) ≡ true → AllByRecursion IsValue values
@@ -97,7 +97,7 @@ if-fits : (b : Bool) (one : Decision) → (b ≡ true → DecisionFits one) → 
 if-fits true one is = is refl
 if-fits false one is = tt
 
-list-fits : (types : List ColType) (identity : Option ℕ) (sides : List Side) (c : ConflictCase) (ours theirs : Body) (values : List Value) → BodyIsTyped c.publisher → AllByRecursion ValueIsTyped values → DecisionFits (counted_list types identity sides c ours theirs values)
+list-fits : (types : List ColumnType) (identity : Option ℕ) (sides : List Side) (c : ConflictCase) (ours theirs : Body) (values : List Value) → BodyIsTyped c.publisher → AllByRecursion ValueIsTyped values → DecisionFits (counted_list types identity sides c ours theirs values)
 list-fits types identity sides c (Live ours) (Live theirs) values typed all =
     let kept : List Value = with_own c identity (body_value c.kind c.publisher identity) values in
     if-fits (fit_columns c.kind types c.cells values) (within_or_kept (is_within sides ours theirs kept) kept)

@@ -15,8 +15,8 @@ use Rattle.merge_ident.specs.declared.grants.Ask.{Ask}
 use Rattle.merge_ident.specs.declared.grants.Grant.{Grant}
 use Rattle.merge_ident.specs.declared.grants.GrantAnswer.TheVariants.{Granted, Kept, NotDue}
 use Rattle.merge_ident.specs.declared.grants.GrantPlan.{GrantPlan}
-use Rattle.merge_ident.specs.declared.grants.IdentFault.TheVariants.{NoRange, TooMany}
-use Rattle.merge_ident.specs.declared.grants.IdentFault.{IdentFault}
+use Rattle.merge_ident.specs.declared.grants.IdentityFault.TheVariants.{NoRange, TooMany}
+use Rattle.merge_ident.specs.declared.grants.IdentityFault.{IdentityFault}
 use Rattle.merge_ident.specs.declared.grants.Range.{Range}
 use Rattle.merge_ident.specs.declared.grants.Rule.{Rule}
 use Rattle.merge_ident.proofs.Added.{count_by-with_grant, greatest_end-with_grant}
@@ -36,7 +36,7 @@ AnswerEnds (Ok (Granted number range)) = FitsSigned w64 range.end
 AnswerEnds (Ok (Kept number range)) = IsRange range × (number < 2 ^ 64)
 AnswerEnds answer = Unit {0}
 
-if-ends : (b : Bool) (number : ℕ) (range : Range) (fault : IdentFault) → (b ≡ true → FitsSigned w64 range.end) → AnswerEnds (if b then Ok (Granted number range) else Err fault)
+if-ends : (b : Bool) (number : ℕ) (range : Range) (fault : IdentityFault) → (b ≡ true → FitsSigned w64 range.end) → AnswerEnds (if b then Ok (Granted number range) else Err fault)
 if-ends true number range fault ends = ends refl
 if-ends false number range fault ends = tt
 

@@ -8,12 +8,12 @@ pub mod Results
 pub mod Decisions
 pub mod Acts
 pub mod OwnValues
-pub mod SubValues
+pub mod SubscriberValues
 pub mod Moments
 pub mod Holders
 pub mod Grants
 pub mod OwnRanges
-pub mod SubRanges
+pub mod SubscriberRanges
 pub mod Always
 pub mod Rules
 pub mod ValidRanges

@@ -12,7 +12,7 @@ use Rattle.merge_types.specs.declared.changes.Setting.{Setting}
 use Rattle.merge_types.specs.declared.changes.Tracking.{Tracking}
 use Rattle.merge_types.specs.declared.changes.Tracking.TheVariants as tracking
 use Rattle.merge_types.specs.declared.identifiers.Dot.{Dot}
-use Rattle.merge_types.specs.declared.values.ColType.{ColType}
+use Rattle.merge_types.specs.declared.values.ColumnType.{ColumnType}
 use Rattle.merge_types.specs.declared.values.Value.{Value}
 use Rattle.merge_types.specs.declared.values.Value.TheVariants.{Bit, Bytes, Day, Guid, Int, Null, Text}
 use Rattle.merge_units.specs.Changes.{cell_after, cells_after, changed, new_cell, new_cells, removed, set_value, value_after, whole_row_after}
@@ -53,7 +53,7 @@ second-true true true is = refl
 second-true true false is = absurd cc
 second-true false b is = absurd cc
 
-proper-of : (found : Option ColType) (value : Value) → not (option_map_or (is_of_type value) found false) ≡ false → is_proper value ≡ true
+proper-of : (found : Option ColumnType) (value : Value) → not (option_map_or (is_of_type value) found false) ≡ false → is_proper value ≡ true
 proper-of None value is = absurd cc
 proper-of (Some ty) value is = second-true (has_type ty value) (is_proper value) is
 
@@ -67,7 +67,7 @@ not-mapped f (Some x) is = absurd cc
 pub settings-are : (publication : Publication) (dot : Dot) (change : Change) (held : Option Version) (rows : ℕ) → change_refusal publication dot change held rows ≡ None → ChangeIsTyped change → AllByRecursion IsSet (settings_of change)
 settings-are publication dot change held rows fine typed =
     let settings : List Setting = settings_of change in
-    let types : List ColType = types_at publication (article_of change) in
+    let types : List ColumnType = types_at publication (article_of change) in
     let a = first-none (no_row change held) _ fine in
     let b = first-none (sets_identity settings (identity_column publication (article_of change))) _ a.1 in
     let c = first-none (wrong_type types settings) _ b.1 in
@@ -99,7 +99,7 @@ new-value (Some column) identity settings place own all = if-is (place == column
 
 new-values : (publication : Publication) (article : ℕ) (identity : Value) (settings : List Setting) → IsValue identity → AllByRecursion IsSet settings → AllByRecursion IsValue (new_values publication article identity settings)
 new-values publication article identity settings own all =
-    all-map (λ (place : ℕ × ColType). Unit {0}) IsValue (λ (place : ℕ × ColType). new_value (identity_column publication article) identity settings place.0) (λ place none. new-value (identity_column publication article) identity settings place.0 own all)
+    all-map (λ (place : ℕ × ColumnType). Unit {0}) IsValue (λ (place : ℕ × ColumnType). new_value (identity_column publication article) identity settings place.0) (λ place none. new-value (identity_column publication article) identity settings place.0 own all)
     (enumerate_from 0 (types_at publication article)) (all-unit (enumerate_from 0 (types_at publication article)))
 
 abbrev one-value : Dot → Value → Cell

@@ -36,7 +36,7 @@ use Rattle.merge_model.specs.Publisher.PublisherUpload.{upload}
 use Rattle.merge_model.specs.Subscriber.Reinit.{reinitialise}
 use Rattle.merge_model.specs.Subscriber.Sending.{make_ask, make_join, make_ranges, make_upload}
 use Rattle.merge_model.specs.World.Steps.{Action, CloseAt, Deliver, Forget, Look, Make, MakeAnew, Pass, Send, SendDownload, SendJoin, SendRanges, SendUpload, Sending, after_upload, answered, at_subscriber, close_at, close_publisher, close_subscriber, deliver_letter, deliver_reply, deliver_request, kept_decisions, make_anew, make_at, make_at_publisher, make_at_subscriber, post, posted, send_from, step_by, unless_refused, upload_questions}
-use Rattle.merge_model.specs.Subscriber.{close_sub_generation, sub_local}
+use Rattle.merge_model.specs.Subscriber.{close_subscriber_generation, subscriber_local}
 use Rattle.merge_model.specs.Tables.{PublisherTables, SubscriberTables}
 use Rattle.merge_model.specs.Subscriber.Taking.{take_reply}
 use Rattle.merge_model.specs.World.{Judges, Saying, World, letter_at, subscriber_at, with_publisher, with_subscriber}
@@ -77,8 +77,8 @@ module _ (publication : Publication) (says : Saying) (A P : PublisherTables → 
     pub of_ranges : (judge : PublisherJudge) (now : Moment) (m : RangeAsk) (p : PublisherTables) → MomentFits now → P p → IfOk (ranges publication judge now m p) (λ done. P done.0 × R (reply.Ranged done.1))
     pub of_ask : (judge : PublisherJudge) (now : Moment) (m : Download) (p : PublisherTables) → MomentFits now → P p → IfOk (download publication judge now m p) (λ done. P done.0 × R (reply.Downloaded done.1))
     -- a subscriber's, with what they ask
-    pub of_sub_local : (now : Moment) (change : Change) (s : SubscriberTables) → MomentFits now → ChangeIsTyped change → B s → S s → IfOk (sub_local publication now change s) (λ done. S done.0)
-    pub of_sub_close : (now : Moment) (s : SubscriberTables) → MomentFits now → S s → IfOk (close_sub_generation now s) (λ done. S done.0)
+    pub of_subscriber_local : (now : Moment) (change : Change) (s : SubscriberTables) → MomentFits now → ChangeIsTyped change → B s → S s → IfOk (subscriber_local publication now change s) (λ done. S done.0)
+    pub of_subscriber_close : (now : Moment) (s : SubscriberTables) → MomentFits now → S s → IfOk (close_subscriber_generation now s) (λ done. S done.0)
     pub of_make_join : (s : SubscriberTables) → S s → IfOk (make_join s) (λ made. IfSome made (λ x. S x.0 × Q (request.Join x.1)))
     pub of_make_upload : (judge : SubscriberJudge) (now : Moment) (s : SubscriberTables) → MomentFits now → S s → IfOk (make_upload judge now s) (λ made. IfSome made (λ x. S x.0 × Q (request.Upload x.1)))
     pub of_make_ranges : (s : SubscriberTables) → S s → IfOk (make_ranges s) (λ made. IfSome made (λ x. S x.0 × Q (request.Ranges x.1)))
@@ -155,13 +155,13 @@ module _ (publication : Publication) (says : Saying) (A P : PublisherTables → 
             (call-fits (λ (done : PublisherTables × RowId). P done.0) (local publication (judges.publisher 0) w.moment change w.publisher) (λ (done : PublisherTables × RowId). (with_publisher done.0 w, Made done.1)) (keeps.of_local (judges.publisher 0) w.moment change w.publisher now-fits typed own f.publisher)
             (λ a is. publisher-goes w a.0 is f))
             (there-fits site (make_at_subscriber publication change w)
-            (λ s known is. call-fits (λ (done : SubscriberTables × RowId). S done.0) (sub_local publication w.moment change s) (λ (done : SubscriberTables × RowId). (with_subscriber done.0 w, Made done.1)) (keeps.of_sub_local w.moment change s now-fits typed known is) (λ a new. subscriber-goes w a.0 new f)))
+            (λ s known is. call-fits (λ (done : SubscriberTables × RowId). S done.0) (subscriber_local publication w.moment change s) (λ (done : SubscriberTables × RowId). (with_subscriber done.0 w, Made done.1)) (keeps.of_subscriber_local w.moment change s now-fits typed known is) (λ a new. subscriber-goes w a.0 new f)))
 
         close-fits : (site : SiteId) → Fits latest (close_at site w).0
         close-fits site = if-fits (site.0 == 0) (close_publisher w) (at_subscriber site w (close_subscriber w))
             (call-fits (λ (done : PublisherTables × ℕ). P done.0) (close_generation w.moment w.publisher) (λ (done : PublisherTables × ℕ). (with_publisher done.0 w, Closes done.1)) (keeps.of_close w.moment w.publisher now-fits f.publisher) (λ a is. publisher-goes w a.0 is f))
             (there-fits site (close_subscriber w)
-            (λ s known is. call-fits (λ (done : SubscriberTables × ℕ). S done.0) (close_sub_generation w.moment s) (λ (done : SubscriberTables × ℕ). (with_subscriber done.0 w, Closes done.1)) (keeps.of_sub_close w.moment s now-fits is) (λ a new. subscriber-goes w a.0 new f)))
+            (λ s known is. call-fits (λ (done : SubscriberTables × ℕ). S done.0) (close_subscriber_generation w.moment s) (λ (done : SubscriberTables × ℕ). (with_subscriber done.0 w, Closes done.1)) (keeps.of_subscriber_close w.moment s now-fits is) (λ a new. subscriber-goes w a.0 new f)))
 
         send-fits : (sending : Sending) (s : SubscriberTables) → S s → Fits latest (send_from judges sending w s).0
         send-fits SendJoin s is = sent-fits s.site (λ (m : Join). request.Join m) (make_join s) (keeps.of_make_join s is)

@@ -1,14 +1,14 @@
 -- Whether values fit columns.
 use Rattle.std.specs.Prelude.{ℕ, nat_le, ◌&&◌, Bool, true, false, length}
-use Rattle.merge_types.specs.declared.values.ColType.{ColType}
-use Rattle.merge_types.specs.declared.values.ColType.TheVariants as column
+use Rattle.merge_types.specs.declared.values.ColumnType.{ColumnType}
+use Rattle.merge_types.specs.declared.values.ColumnType.TheVariants as column
 use Rattle.merge_types.specs.declared.values.Value.{Value}
 use Rattle.merge_types.specs.declared.values.Value.TheVariants.{Null, Int, Bit, Text, Day, Guid, Bytes}
 use Rattle.merge_types.specs.Day.{is_day}
 use Rattle.merge_types.specs.Limits.{value_limit}
 
 -- a Null, or a value of the column's type
-unfoldable pub has_type : ColType → Value → Bool
+unfoldable pub has_type : ColumnType → Value → Bool
 has_type ty Null = true
 has_type column.Int (Int number) = true
 has_type column.Bit (Bit bit) = true
@@ -33,5 +33,5 @@ is_proper (Day day) = is_day day
 is_proper value = true
 
 -- a column of the type may hold the value
-abbrev pub fits_column : ColType → Value → Bool
+abbrev pub fits_column : ColumnType → Value → Bool
 fits_column ty value = has_type ty value && (is_short value && is_proper value)

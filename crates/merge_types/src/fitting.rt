@@ -5,23 +5,23 @@ ghost use Rattle.merge_types.specs.Literal.{IsProper};
 ghost use Rattle.merge_types.specs.Fitting.{has_type, content_length, is_short, is_proper, fits_column};
 
 use crate::limits::{FIRST_DAY, LAST_DAY, VALUE_LIMIT};
-use crate::{ColType, Value};
+use crate::{ColumnType, Value};
 
 impl Value {
     /// Whether a column of the type may hold the value, as far as types go: a Null fits each.
     #[tactic(auto, unfolding(crate::specs::Fitting::has_type))]
-    pub fn has_type(&self, ty: ColType) -> bool
+    pub fn has_type(&self, ty: ColumnType) -> bool
         ensures { result ≡ has_type ty self.now }
     {
         matches!(
             (ty, self),
             (_, Value::Null)
-                | (ColType::Int, Value::Int(_))
-                | (ColType::Bit, Value::Bit(_))
-                | (ColType::Text, Value::Text(_))
-                | (ColType::Day, Value::Day(_))
-                | (ColType::Guid, Value::Guid(_))
-                | (ColType::Bytes, Value::Bytes(_))
+                | (ColumnType::Int, Value::Int(_))
+                | (ColumnType::Bit, Value::Bit(_))
+                | (ColumnType::Text, Value::Text(_))
+                | (ColumnType::Day, Value::Day(_))
+                | (ColumnType::Guid, Value::Guid(_))
+                | (ColumnType::Bytes, Value::Bytes(_))
         )
     }
 
@@ -55,7 +55,7 @@ impl Value {
     }
 
     /// Whether a column of the type may hold the value: it has the type, is short and is proper.
-    pub fn fits(&self, ty: ColType) -> bool
+    pub fn fits(&self, ty: ColumnType) -> bool
         ensures value { result ≡ fits_column ty self.now }
         ensures proper { IsTrue result → IsProper self.now }
     {

@@ -22,5 +22,5 @@ pub use literal::{read_day, read_decimal, read_guid, read_int};
 pub use names::{Shown, begins_name, continues_name, is_name};
 pub use row_key::RowKey;
 pub use steps::Steps;
-pub use values::{ColType, Column, Value, Values};
+pub use values::{Column, ColumnType, Value, Values};
 pub use words::{Words, words_are_utf8};

@@ -7,7 +7,7 @@ use std::alloc::AllocError;
 
 /// The type of a column.
 #[derive(Clone, Copy, Debug, PartialEq, Eq, PartialOrd, Ord)]
-pub enum ColType {
+pub enum ColumnType {
     Int,
     Bit,
     Text,
@@ -20,7 +20,7 @@ pub enum ColType {
 #[derive(Debug, Drop, PartialEq, Eq)]
 pub struct Column {
     pub name: Words,
-    pub ty: ColType,
+    pub ty: ColumnType,
 }
 
 /// A value of a column. A day counts from 1970-01-01 and lies in the years 0001 to 9999.
@@ -131,7 +131,7 @@ impl Exact for Column {
     ghost exact = { λ value copy same. same };
 }
 
-impl Exact for ColType {
+impl Exact for ColumnType {
     ghost use Rattle.std.proofs.Common.{rules};
 
     ghost exact = { Prim.search rules };

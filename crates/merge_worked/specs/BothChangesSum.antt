@@ -1,9 +1,9 @@
 -- A resolver decides the sum of both values.
 use Rattle.std.specs.Prelude.{[], ◌∷◌, codes, Some, None}
-use Rattle.merge_types.specs.declared.values.ColType.TheVariants as ty
+use Rattle.merge_types.specs.declared.values.ColumnType.TheVariants as ty
 use Rattle.merge_types.specs.declared.changes.Tracking.TheVariants as tracking
 use Rattle.merge_schema.specs.declared.publication.Publication.{Publication}
-use Rattle.merge_schema.specs.declared.publication.SubKind.TheVariants as kind
+use Rattle.merge_schema.specs.declared.publication.SubscriptionKind.TheVariants as kind
 use Rattle.merge_worked.specs.Worked.{Worked}
 
 abbrev publication : Publication

@@ -1,13 +1,13 @@
 -- Everything happens in one run, so that each promise speaks of something.
 use Rattle.std.specs.Prelude.{List, [], ◌∷◌, ◌++◌, ℕ, codes, flat_map, pos, Some, None}
-use Rattle.merge_types.specs.declared.values.ColType.TheVariants as ty
+use Rattle.merge_types.specs.declared.values.ColumnType.TheVariants as ty
 use Rattle.merge_types.specs.declared.changes.Tracking.TheVariants as tracking
 use Rattle.merge_filter.specs.Syntax.{Compare}
 use Rattle.merge_filter.specs.declared.tree.Operand.TheVariants as operand
 use Rattle.merge_filter.specs.declared.word.Sign.TheVariants as sign
 use Rattle.merge_schema.specs.declared.publication.Article.{Article}
 use Rattle.merge_schema.specs.declared.publication.Publication.{Publication}
-use Rattle.merge_schema.specs.declared.publication.SubKind.TheVariants as kind
+use Rattle.merge_schema.specs.declared.publication.SubscriptionKind.TheVariants as kind
 use Rattle.merge_model.specs.History.Model.{Model}
 use Rattle.merge_worked.specs.Happened.{model_after}
 use Rattle.merge_worked.specs.Worked.{Worked}

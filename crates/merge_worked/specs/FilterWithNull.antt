@@ -1,12 +1,12 @@
 -- A Null passes no comparison of a filter.
 use Rattle.std.specs.Prelude.{[], ◌∷◌, codes, Some, None}
-use Rattle.merge_types.specs.declared.values.ColType.TheVariants as ty
+use Rattle.merge_types.specs.declared.values.ColumnType.TheVariants as ty
 use Rattle.merge_types.specs.declared.changes.Tracking.TheVariants as tracking
 use Rattle.merge_filter.specs.Syntax.{Compare}
 use Rattle.merge_filter.specs.declared.tree.Operand.TheVariants as operand
 use Rattle.merge_filter.specs.declared.word.Sign.TheVariants as sign
 use Rattle.merge_schema.specs.declared.publication.Publication.{Publication}
-use Rattle.merge_schema.specs.declared.publication.SubKind.TheVariants as kind
+use Rattle.merge_schema.specs.declared.publication.SubscriptionKind.TheVariants as kind
 use Rattle.merge_worked.specs.Worked.{Worked}
 
 abbrev publication : Publication

@@ -1,9 +1,9 @@
 -- A subscriber is made anew. What it had not sent is in its conflict table, and old messages are stale.
 use Rattle.std.specs.Prelude.{[], ◌∷◌, codes, None}
-use Rattle.merge_types.specs.declared.values.ColType.TheVariants as ty
+use Rattle.merge_types.specs.declared.values.ColumnType.TheVariants as ty
 use Rattle.merge_types.specs.declared.changes.Tracking.TheVariants as tracking
 use Rattle.merge_schema.specs.declared.publication.Publication.{Publication}
-use Rattle.merge_schema.specs.declared.publication.SubKind.TheVariants as kind
+use Rattle.merge_schema.specs.declared.publication.SubscriptionKind.TheVariants as kind
 use Rattle.merge_worked.specs.Worked.{Worked}
 
 abbrev publication : Publication

@@ -1,10 +1,10 @@
 -- Steps fail in a run: at the publisher and at a subscriber, by a fault of the store and by want of memory, and inside sessions.
 use Rattle.std.specs.Prelude.{◌≡◌, ◌∷◌, ◌++◌, [], Option, Some, None, true, false, codes}
 use Rattle.merge_types.specs.declared.changes.Tracking.TheVariants as tracking
-use Rattle.merge_types.specs.declared.values.ColType.TheVariants as ty
+use Rattle.merge_types.specs.declared.values.ColumnType.TheVariants as ty
 use Rattle.merge_schema.specs.declared.publication.Article.{Article}
 use Rattle.merge_schema.specs.declared.publication.Publication.{Publication}
-use Rattle.merge_schema.specs.declared.publication.SubKind.TheVariants as kind
+use Rattle.merge_schema.specs.declared.publication.SubscriptionKind.TheVariants as kind
 use Rattle.merge_script.specs.Input.{script_of}
 use Rattle.merge_script.specs.Lines.{lines_of}
 use Rattle.merge_model.specs.Failing.{Slip, Slips}

@@ -18,7 +18,7 @@ use Rattle.merge_model.specs.Publisher.PublisherLocal.{local}
 use Rattle.merge_model.specs.Publisher.PublisherPurge.{purge}
 use Rattle.merge_model.specs.Subscriber.Reinit.{reinitialise}
 use Rattle.merge_model.specs.World.Steps.{Action, CloseAt, Forget, Make, MakeAnew, at_subscriber, close_publisher, close_subscriber, make_anew, make_at_publisher, make_at_subscriber, step, unless_refused}
-use Rattle.merge_model.specs.Subscriber.{close_sub_generation, sub_local}
+use Rattle.merge_model.specs.Subscriber.{close_subscriber_generation, subscriber_local}
 use Rattle.merge_model.specs.Tables.{SubscriberTables}
 use Rattle.merge_model.specs.World.{Saying, World, by_tables, subscriber_at, with_subscriber}
 use Rattle.merge_model.specs.declared.letter.Letter.{Letter}
@@ -120,7 +120,7 @@ module _ {S : Type 0} (f : S → SubscriberView) (p : PublisherView) (pool : Lis
   ]
 
   closing-step : (w : World) (site : SiteId) (t : SubscriberTables) (says : Saying) → (site.0 == 0) ≡ false → subscriber_at w site ≡ Some t
-      → step p.publication says w (CloseAt site) ≡ unless_refused w (close_sub_generation w.moment t) (λ (done : SubscriberTables × ℕ). (with_subscriber done.0 w, Closes done.1))
+      → step p.publication says w (CloseAt site) ≡ unless_refused w (close_subscriber_generation w.moment t) (λ (done : SubscriberTables × ℕ). (with_subscriber done.0 w, Closes done.1))
   closing-step w site t says off found = ap (closed-if w site) off ∙ ap (closed-found w site) found
 
   closing-commit : (w : World) (site : SiteId) (t : SubscriberTables) (generation : ℕ) → (site.0 == 0) ≡ false → subscriber_at w site ≡ Some t → closing_commits w.moment t.latest t.gens generation ≡ true
@@ -130,27 +130,27 @@ module _ {S : Type 0} (f : S → SubscriberView) (p : PublisherView) (pool : Lis
 
   pub closes-subscriber : (i : ℕ) (s s' : S) (site : SiteId) → IsOrdered here → (site.0 ≡ 0 → ⊥) → Some i ≡ position (is_of f site.0) items → s ≡ get_or items i s
       → (f s').tables.site ≡ (f s).tables.site → (f s').publication ≡ (f s).publication
-      → (r : Result ℕ Refusal) → SubscriberCall (close_sub_generation moment (f s).tables) (closing_commits moment (f s).tables.latest (f s).tables.gens) (f s) (f s') r
+      → (r : Result ℕ Refusal) → SubscriberCall (close_subscriber_generation moment (f s).tables) (closing_commits moment (f s).tables.latest (f s).tables.gens) (f s) (f s') r
       → Does (CloseAt site) here (sites_view p (map f (set items i s')) pool moment) (outcome_by Closes r)
   closes-subscriber i s s' site ordered off found at same_site same_publication r called =
-      does-at (CloseAt site) refl i s s' site ordered found at same_site same_publication (close_sub_generation moment (f s).tables) Closes (closing_commits moment (f s).tables.latest (f s).tables.gens)
+      does-at (CloseAt site) refl i s s' site ordered found at same_site same_publication (close_subscriber_generation moment (f s).tables) Closes (closing_commits moment (f s).tables.latest (f s).tables.gens)
       (λ tallies x commit. closing-commit (world_of here tallies) site (f s).tables x (not-zero site.0 off) (found-place f p pool moment items i s site tallies ordered found at) commit)
       (λ says tallies. closing-step (world_of here tallies) site (f s).tables says (not-zero site.0 off) (found-place f p pool moment items i s site tallies ordered found at)) r called
 
   making-step : (w : World) (site : SiteId) (change : Change) (t : SubscriberTables) (says : Saying) → (site.0 == 0) ≡ false → subscriber_at w site ≡ Some t
-      → step p.publication says w (Make site change) ≡ unless_refused w (sub_local p.publication w.moment change t) (λ (done : SubscriberTables × RowId). (with_subscriber done.0 w, Made done.1))
+      → step p.publication says w (Make site change) ≡ unless_refused w (subscriber_local p.publication w.moment change t) (λ (done : SubscriberTables × RowId). (with_subscriber done.0 w, Made done.1))
   making-step w site change t says off found = ap (made-if w site change) off ∙ ap (made-found w site change) found
 
   pub makes-subscriber : (i : ℕ) (s s' : S) (site : SiteId) (change : Change) → IsOrdered here → (site.0 ≡ 0 → ⊥) → Some i ≡ position (is_of f site.0) items → s ≡ get_or items i s
       → (f s').tables.site ≡ (f s).tables.site → (f s').publication ≡ (f s).publication
-      → (r : Result RowId Refusal) → SubscriberCall (sub_local (f s).publication moment change (f s).tables) always_commits (f s) (f s') r
+      → (r : Result RowId Refusal) → SubscriberCall (subscriber_local (f s).publication moment change (f s).tables) always_commits (f s) (f s') r
       → Does (Make site change) here (sites_view p (map f (set items i s')) pool moment) (outcome_by Made r)
   makes-subscriber i s s' site change ordered off found at same_site same_publication r called =
       let place = placed f items i s site.0 found at in
-      does-at (Make site change) refl i s s' site ordered found at same_site same_publication (sub_local p.publication moment change (f s).tables) Made always_commits
+      does-at (Make site change) refl i s s' site ordered found at same_site same_publication (subscriber_local p.publication moment change (f s).tables) Made always_commits
       (λ tallies x commit. refl)
       (λ says tallies. making-step (world_of here tallies) site change (f s).tables says (not-zero site.0 off) (found-place f p pool moment items i s site tallies ordered found at)) r
-      (subst (λ (q : Publication). SubscriberCall (sub_local q moment change (f s).tables) always_commits (f s) (f s') r) (publication-place f p pool moment items i s ordered place.0 at) called)
+      (subst (λ (q : Publication). SubscriberCall (subscriber_local q moment change (f s).tables) always_commits (f s) (f s') r) (publication-place f p pool moment items i s ordered place.0 at) called)
 
   anew-step : (w : World) (site : SiteId) (t : SubscriberTables) (says : Saying) → subscriber_at w site ≡ Some t
       → step p.publication says w (MakeAnew site) ≡ unless_refused w (reinitialise (by_rows t) w.moment t) (λ (done : SubscriberTables × ℕ). (with_subscriber done.0 w, Discards done.1))

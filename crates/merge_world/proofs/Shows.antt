@@ -13,7 +13,7 @@ use Rattle.merge_model.specs.World.Events.{acting, answered_by, change_answer, c
 use Rattle.merge_model.specs.Failing.{Faulty, faulty}
 use Rattle.merge_model.specs.Failing.Reach.{stepping}
 use Rattle.merge_model.specs.Publisher.Entries.{live_rows}
-use Rattle.merge_model.specs.World.Reports.{counts_of, held_report, partition_report, publisher_generations, sub_live_rows, subscriber_generations}
+use Rattle.merge_model.specs.World.Reports.{counts_of, held_report, partition_report, publisher_generations, subscriber_live_rows, subscriber_generations}
 use Rattle.merge_model.specs.World.Session.{Session, session}
 use Rattle.merge_model.specs.World.Steps.{Look}
 use Rattle.merge_model.specs.Tables.{PublisherTables, SubscriberTables}
@@ -154,7 +154,7 @@ module _ (p : Publication) (says : Saying) where
   answer-proper (event.Conflicts site) plain f = absurd cc
   answer-proper (event.Ranges site) plain f = either (is_site p site) _ _ (report-proper site (λ (t : PublisherTables). Grants t.grants) (λ (t : SubscriberTables). Held (held_report t)) f (λ t. tt) (λ t. tt)) (refusing (UnknownSite site) f)
   answer-proper (event.Generations site) plain f = either (is_site p site) _ _ (report-proper site (publisher_generations p) (subscriber_generations) f (λ t. tt) (λ t. tt)) (refusing (UnknownSite site) f)
-  answer-proper (event.Count site) plain f = either (is_site p site) _ _ (report-proper site (λ (t : PublisherTables). Counts (counts_of p (live_rows t.rows))) (λ (t : SubscriberTables). Counts (counts_of p (sub_live_rows t))) f (λ t. tt) (λ t. tt)) (refusing (UnknownSite site) f)
+  answer-proper (event.Count site) plain f = either (is_site p site) _ _ (report-proper site (λ (t : PublisherTables). Counts (counts_of p (live_rows t.rows))) (λ (t : SubscriberTables). Counts (counts_of p (subscriber_live_rows t))) f (λ t. tt) (λ t. tt)) (refusing (UnknownSite site) f)
 
   comes-proper : (e : Event) → shows_values e ≡ false → (w v : World) (answer : Answer) (a b : ℕ) → Comes p says w e v answer a b → IsProperAnswer answer
   unfolding Comes

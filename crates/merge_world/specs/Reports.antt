@@ -11,7 +11,7 @@ use Rattle.merge_batch.specs.declared.refusal.Refusal.TheVariants.{UnknownSite}
 use Rattle.merge_model.specs.Publisher.Entries.{live_row, live_rows}
 use Rattle.merge_model.specs.Tables.Keys.{at_number}
 use Rattle.merge_model.specs.World.Naming.{article_by}
-use Rattle.merge_model.specs.World.Reports.{counts_of, held_report, publisher_generations, shown_rows, sub_live_rows, subscriber_generations}
+use Rattle.merge_model.specs.World.Reports.{counts_of, held_report, publisher_generations, shown_rows, subscriber_live_rows, subscriber_generations}
 use Rattle.merge_model.specs.Tables.{PublisherTables, SubscriberTables}
 use Rattle.merge_model.specs.declared.answer.Answer.{Answer}
 use Rattle.merge_model.specs.declared.answer.Answer.TheVariants as answer
@@ -32,11 +32,11 @@ publisher_told publication Generations p = publisher_generations publication p
 publisher_told publication Counts p = answer.Counts (counts_of publication (live_rows p.rows))
 
 abbrev pub subscriber_told : Publication → Report → SubscriberTables → Answer
-subscriber_told publication (Rows article) s = answer.Rows (shown_rows article (sub_live_rows s))
+subscriber_told publication (Rows article) s = answer.Rows (shown_rows article (subscriber_live_rows s))
 subscriber_told publication Conflicts s = answer.Conflicts s.conflicts
 subscriber_told publication Ranges s = answer.Held (held_report s)
 subscriber_told publication Generations s = subscriber_generations s
-subscriber_told publication Counts s = answer.Counts (counts_of publication (sub_live_rows s))
+subscriber_told publication Counts s = answer.Counts (counts_of publication (subscriber_live_rows s))
 
 -- what is told at a site, of which 0 is the publisher
 abbrev pub told_at : SitesView → SiteId → Report → Answer

@@ -107,7 +107,7 @@ pub trait SubscriberSite: Drop {
     ghost use Rattle.merge_model.specs.Subscriber.Reinit.{reinitialise};
     ghost use Rattle.merge_model.specs.World.Reports.{marks_of, unsent_count};
     ghost use Rattle.merge_model.specs.Subscriber.Sending.{make_ask, make_join, make_ranges, make_upload};
-    ghost use Rattle.merge_model.specs.Subscriber.{close_sub_generation, sub_local};
+    ghost use Rattle.merge_model.specs.Subscriber.{close_subscriber_generation, subscriber_local};
     ghost use Rattle.merge_model.specs.Subscriber.Taking.{take_reply};
     ghost use Rattle.merge_units.specs.Changes.{ColumnsAscend};
     ghost use Rattle.merge_world.specs.Printable.{AreLostPrintable, ArePrintable};
@@ -120,13 +120,13 @@ pub trait SubscriberSite: Drop {
     fn local(&mut self, now: Moment, change: &Change) -> Result<RowId, Refusal>
         requires place { has_article (view self.old).publication (article_of change.now) ≡ true }
         requires ascend { ColumnsAscend (settings_of change.now) }
-        ensures called { SubscriberCall (sub_local (view self.old).publication now change.now (view self.old).tables) always_commits (view self.old) (view self.new) result }
+        ensures called { SubscriberCall (subscriber_local (view self.old).publication now change.now (view self.old).tables) always_commits (view self.old) (view self.new) result }
         ensures publication { (view self.new).publication ≡ (view self.old).publication }
         ensures site { (view self.new).tables.site ≡ (view self.old).tables.site };
 
     /// Closes the open generation, and gives the last closed one.
     fn close_generation(&mut self, now: Moment) -> Result<u64, Refusal>
-        ensures called { SubscriberCall (close_sub_generation now (view self.old).tables) (closing_commits now (view self.old).tables.latest (view self.old).tables.gens) (view self.old) (view self.new) result }
+        ensures called { SubscriberCall (close_subscriber_generation now (view self.old).tables) (closing_commits now (view self.old).tables.latest (view self.old).tables.gens) (view self.old) (view self.new) result }
         ensures publication { (view self.new).publication ≡ (view self.old).publication }
         ensures site { (view self.new).tables.site ≡ (view self.old).tables.site };
 

@@ -27,7 +27,7 @@ use Rattle.merge_model.specs.Publisher.{last_closed}
 use Rattle.merge_model.specs.Publisher.PublisherLocal.{Drawn, local_refusal, made_locally, next_dot}
 use Rattle.merge_model.specs.Publisher.PublisherPurge.{purge}
 use Rattle.merge_model.specs.Subscriber.Reinit.{discarded, reinitialised}
-use Rattle.merge_model.specs.Subscriber.{is_joining, sub_at_moment, sub_last_closed, sub_local_refusal, sub_made_locally, sub_next_dot, sub_version_at, with_version_if}
+use Rattle.merge_model.specs.Subscriber.{is_joining, subscriber_at_moment, subscriber_last_closed, subscriber_local_refusal, subscriber_made_locally, subscriber_next_dot, subscriber_version_at, with_version_if}
 use Rattle.merge_types.specs.declared.row_key.RowKey.{RowKey as Key}
 use Rattle.merge_model.specs.Tables.{PublisherTables, SubscriberTables}
 use Rattle.merge_model.specs.World.{World, subscriber_at, with_publisher, with_subscriber}
@@ -153,10 +153,10 @@ own-accepts publication judge w h change d g makers i fine =
 -- A subscriber's.
 
 -- it is not received yet
-new-counts : (w : World) (h : History) (s : SubscriberTables) → Numbered w h → (s.site.0 ≡ 0 → ⊥) → at_number w.subscribers s.site.0 ≡ Some s → (other : Dot) → same_dot (sub_next_dot s) other ≡ true → is_given_up w.publisher h other ≡ false
+new-counts : (w : World) (h : History) (s : SubscriberTables) → Numbered w h → (s.site.0 ≡ 0 → ⊥) → at_number w.subscribers s.site.0 ≡ Some s → (other : Dot) → same_dot (subscriber_next_dot s) other ≡ true → is_given_up w.publisher h other ≡ false
 new-counts w h s i named at other same =
     let t = i.subscribers s.site.0 s at in
-    let within = order-within (received_by_number w.publisher s.site.0) s.changes (sub_last_closed s + 1) (made_at h s.site.0) (t.order named) in
+    let within = order-within (received_by_number w.publisher s.site.0) s.changes (subscriber_last_closed s + 1) (made_at h s.site.0) (t.order named) in
     let taken = i.taken s.site.0 in
     let site : s.site.0 ≡ other.site.0 = grind (arith, nat_tests, same) in
     let number : s.changes + 1 ≡ other.number = grind (arith, nat_tests, same) in
@@ -168,18 +168,18 @@ joined-version : (key : Key) (found : Option Version) (u : SubscriberTables) →
 joined-version key None u = refl
 joined-version key (Some version) u = refl
 
-pub sub-accepts : (publication : Publication) (w : World) (h : History) (s : SubscriberTables) (change : Change) (d : Value × List (ℕ × Holder)) → Ground publication w h → KnownMakers w h → Accepted w h → subscriber_at w s.site ≡ Some s → (s.site.0 ≡ 0 → ⊥) → sub_local_refusal publication change s ≡ None
-    → Accepted (with_subscriber (sub_made_locally publication change d (sub_at_moment w.moment s)).0 w) (Noting.with_change publication (sub_next_dot s) (sub_last_closed s + 1) change d.0 h)
+pub sub-accepts : (publication : Publication) (w : World) (h : History) (s : SubscriberTables) (change : Change) (d : Value × List (ℕ × Holder)) → Ground publication w h → KnownMakers w h → Accepted w h → subscriber_at w s.site ≡ Some s → (s.site.0 ≡ 0 → ⊥) → subscriber_local_refusal publication change s ≡ None
+    → Accepted (with_subscriber (subscriber_made_locally publication change d (subscriber_at_moment w.moment s)).0 w) (Noting.with_change publication (subscriber_next_dot s) (subscriber_last_closed s + 1) change d.0 h)
 sub-accepts publication w h s change d g makers i at named fine =
     let n : ℕ = s.site.0 in
-    let dot : Dot = sub_next_dot s in
+    let dot : Dot = subscriber_next_dot s in
     let key : Key = key_of dot change in
     let past : Past = past_after publication dot change (past_at h n key) in
-    let u : SubscriberTables = record (sub_at_moment w.moment s) { changes = s.changes + 1; held = d.1 } in
-    let found : Option Version = version_after publication dot d.0 change (sub_version_at s key) in
+    let u : SubscriberTables = record (subscriber_at_moment w.moment s) { changes = s.changes + 1; held = d.1 } in
+    let found : Option Version = version_after publication dot d.0 change (subscriber_version_at s key) in
     let t : SubscriberTables = with_version_if key found u in
-    let k : History = Noting.with_change publication dot (sub_last_closed s + 1) change d.0 h in
-    let c : MadeChange = Noting.made_change publication dot (sub_last_closed s + 1) change d.0 key past in
+    let k : History = Noting.with_change publication dot (subscriber_last_closed s + 1) change d.0 h in
+    let c : MadeChange = Noting.made_change publication dot (subscriber_last_closed s + 1) change d.0 key past in
     let v : World = record w { subscribers = put_number w.subscribers n t } in
     let rows : List (Key × Past) = put_row (pasts_at h n) key past in
     let next : dot.number ≡ changes_of w n + 1 = ap (λ (m : ℕ). m + 1) (own-count w s (s.site.0 == 0) refl named at) in
@@ -210,10 +210,10 @@ discards-accept w site [] h i = i
 discards-accept w site (row ∷ rows) h i = discards-accept w site rows (Noting.with_discarded site h row) (others-accepted w h h.lines (Noting.with_discarded site h row).lost h.purged h.bases i)
 
 pub anew-accepts : (w : World) (h : History) (s : SubscriberTables) → Accepted w h → subscriber_at w s.site ≡ Some s
-    → (let judge : SubscriberJudge = by_made h s.site in Accepted (with_subscriber (reinitialised judge (sub_at_moment w.moment s)).0 w) (Noting.noted_anew judge s h))
+    → (let judge : SubscriberJudge = by_made h s.site in Accepted (with_subscriber (reinitialised judge (subscriber_at_moment w.moment s)).0 w) (Noting.noted_anew judge s h))
 anew-accepts w before s old at =
     let judge : SubscriberJudge = by_made before s.site in
-    let t : SubscriberTables = (reinitialised judge (sub_at_moment w.moment s)).0 in
+    let t : SubscriberTables = (reinitialised judge (subscriber_at_moment w.moment s)).0 in
     let n : ℕ = s.site.0 in
     let h : History = fold (Noting.with_discarded s.site) before (discarded judge s) in
     let i : Accepted w h = discards-accept w s.site (discarded judge s) before old in

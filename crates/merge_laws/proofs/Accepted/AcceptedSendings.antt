@@ -23,7 +23,7 @@ use Rattle.merge_model.specs.Tables.Keys.{row_at, same_key}
 use Rattle.merge_model.specs.History.Model.{past_of_item, with_letter}
 use Rattle.merge_model.specs.Publisher.PublisherDownload.{asked, reply_to}
 use Rattle.merge_model.specs.Subscriber.Sending.{upload_item, upload_sent}
-use Rattle.merge_model.specs.Subscriber.{sub_at_moment, sub_closed}
+use Rattle.merge_model.specs.Subscriber.{subscriber_at_moment, subscriber_closed}
 use Rattle.merge_types.specs.declared.row_key.RowKey.{RowKey as Key}
 use Rattle.merge_units.specs.declared.site_row.SubscriberRow.{SubscriberRow}
 use Rattle.merge_model.specs.Tables.{PublisherTables, SubscriberTables}
@@ -107,11 +107,11 @@ up-to-each n from to key all after sites changed (c ∷ made) stands = (
 -- The messages.
 
 pub upload-posted : (publication : Publication) (w : World) (h : History) (s : SubscriberTables) → Ground publication w h → KnownMakers w h → Accepted w h → subscriber_at w s.site ≡ Some s
-    → (let made : SubscriberTables × Upload = upload_sent (by_made h s.site) (sub_closed (sub_at_moment w.moment s)) in let message : Message = Asks (request.Upload made.1) in
+    → (let made : SubscriberTables × Upload = upload_sent (by_made h s.site) (subscriber_closed (subscriber_at_moment w.moment s)) in let message : Message = Asks (request.Upload made.1) in
     Accepted (record (with_subscriber made.0 w) { pool = w.pool ++ record { site = s.site; message = message } ∷ [] }) (with_letter (record { site = s.site; message = message }) h))
 upload-posted publication w h s g makers i at =
     let n : ℕ = s.site.0 in
-    let c : SubscriberTables = sub_closed (sub_at_moment w.moment s) in
+    let c : SubscriberTables = subscriber_closed (subscriber_at_moment w.moment s) in
     let made : SubscriberTables × Upload = upload_sent (by_made h s.site) c in
     let m : Upload = made.1 in
     let v : World = with_subscriber made.0 w in

@@ -16,7 +16,7 @@ use Rattle.merge_model.specs.Publisher.PublisherRanges.{plans, ranged, with_gran
 use Rattle.merge_model.specs.Publisher.PublisherUpload.{taken_in}
 use Rattle.merge_model.specs.Subscriber.Sending.{join_of, want_of, with_message}
 use Rattle.merge_model.specs.World.Steps.{Action}
-use Rattle.merge_model.specs.Subscriber.{sub_at_moment, sub_closed}
+use Rattle.merge_model.specs.Subscriber.{subscriber_at_moment, subscriber_closed}
 use Rattle.merge_model.specs.Tables.{PublisherTables, SubscriberTables}
 use Rattle.merge_model.specs.World.{Saying, World, empty_world, subscriber_at, with_publisher, with_subscriber}
 use Rattle.merge_model.specs.declared.letter.Message.TheVariants.{Asks, Replies}
@@ -71,15 +71,15 @@ module _ (publication : Publication) (says : Saying) where
           accepted = purge-accepts publication (by_past h (pasts_with h 0)) w h b.0 a.makers a.accepted;
         };
         same = λ w h s b a at. record { order = order.same w h s b.0.received a.order at; makers = makers.same w h s b.0 a.makers at; accepted = stays w h s s a at refl (λ waits. (waits, λ bare. bare)) };
-        sub_change = λ w h s change d b a at named fine is. record {
-          order = order.sub_change w h s change d b.0.received a.order at named fine is;
-          makers = makers.sub_change w h s change d b.0 a.makers at named fine is;
+        subscriber_change = λ w h s change d b a at named fine is. record {
+          order = order.subscriber_change w h s change d b.0.received a.order at named fine is;
+          makers = makers.subscriber_change w h s change d b.0 a.makers at named fine is;
           accepted = sub-accepts publication w h s change d b.0 a.makers a.accepted at named fine;
         };
-        sub_closing = λ w h s b a at. record {
-          order = order.sub_closing w h s b.0.received a.order at;
-          makers = makers.sub_closing w h s b.0 a.makers at;
-          accepted = stays w h s (sub_closed (sub_at_moment w.moment s)) a at refl (λ waits. (waits, λ bare. bare));
+        subscriber_closing = λ w h s b a at. record {
+          order = order.subscriber_closing w h s b.0.received a.order at;
+          makers = makers.subscriber_closing w h s b.0 a.makers at;
+          accepted = stays w h s (subscriber_closed (subscriber_at_moment w.moment s)) a at refl (λ waits. (waits, λ bare. bare));
         };
         anew = λ w h s b a at. record { order = order.anew w h s b.0.received a.order at; makers = makers.anew w h s b.0 a.makers at; accepted = anew-accepts w h s a.accepted at };
         sends_join = λ w h s b a at joining. record {

@@ -17,7 +17,7 @@ use Rattle.merge_model.specs.History.Noting
 use Rattle.merge_model.specs.Laws.Promises.{Place, descends}
 use Rattle.merge_model.specs.Publisher.PublisherLocal.{version_at}
 use Rattle.merge_model.specs.Subscriber.Reinit.{discarded, reinitialised}
-use Rattle.merge_model.specs.Subscriber.{sub_at_moment, sub_closed, sub_last_closed}
+use Rattle.merge_model.specs.Subscriber.{subscriber_at_moment, subscriber_closed, subscriber_last_closed}
 use Rattle.merge_types.specs.declared.row_key.RowKey.{RowKey as Key}
 use Rattle.merge_units.specs.declared.site_row.SubscriberRow.{SubscriberRow}
 use Rattle.merge_model.specs.Tables.{SubscriberTables}
@@ -104,7 +104,7 @@ module _ (publication : Publication) (w : World) (h : History) (s : SubscriberTa
   judge = by_made h s.site
 
   abbrev t : SubscriberTables
-  t = (reinitialised judge (sub_at_moment w.moment s)).0
+  t = (reinitialised judge (subscriber_at_moment w.moment s)).0
 
   abbrev rows : List (Key × Version)
   rows = discarded judge s
@@ -121,11 +121,11 @@ module _ (publication : Publication) (w : World) (h : History) (s : SubscriberTa
   -- all its changes are in closed generations then
   none-above : (key : Key) → is_changed_above t.received key (made_at h s.site.0) ≡ false
   none-above key =
-      let c : SubscriberTables = sub_closed (sub_at_moment w.moment s) in
+      let c : SubscriberTables = subscriber_closed (subscriber_at_moment w.moment s) in
       let closing = closing-tells (made_at h s.site.0) s.site.0 w.moment s (g.numbered.subscribers s.site.0 s at) in
-      let tells : RowsTell (made_at h s.site.0) (sub_last_closed c) [] =
-      anew-rows c.changes (sub_last_closed c) (made_at h s.site.0) (order-closed c.changes (sub_last_closed c + 1) (sub_last_closed c) (made_at h s.site.0) (closing.order away) (closing.idle (filling-closed s.gens.filling))) in
-      sym (tells.unsent key (sub_last_closed c) (omega arith))
+      let tells : RowsTell (made_at h s.site.0) (subscriber_last_closed c) [] =
+      anew-rows c.changes (subscriber_last_closed c) (made_at h s.site.0) (order-closed c.changes (subscriber_last_closed c + 1) (subscriber_last_closed c) (made_at h s.site.0) (closing.order away) (closing.idle (filling-closed s.gens.filling))) in
+      sym (tells.unsent key (subscriber_last_closed c) (omega arith))
 
   above : (c : MadeChange) → IsIn c h.made → is_of s.site.0 c ≡ true → (n : ℕ) → n < c.generation → is_changed_above n c.key (made_at h s.site.0) ≡ true
   above c is own n low = any-in (λ (x : MadeChange). x.dot.site.0 == s.site.0) (λ (x : MadeChange). nat_lt n x.generation && same_key c.key x.key) h.made c is own (grind (arith, nat_tests, low, key-itself c.key))

@@ -8,7 +8,7 @@ use Rattle.merge_types.specs.declared.changes.Setting.{Setting}
 use Rattle.merge_types.specs.declared.changes.Tracking.{Tracking}
 use Rattle.merge_types.specs.declared.changes.Tracking.TheVariants as tracking
 use Rattle.merge_types.specs.declared.identifiers.Dot.{Dot}
-use Rattle.merge_types.specs.declared.values.ColType.{ColType}
+use Rattle.merge_types.specs.declared.values.ColumnType.{ColumnType}
 use Rattle.merge_types.specs.declared.values.Column.{Column}
 use Rattle.merge_types.specs.declared.values.Value.{Value}
 use Rattle.merge_units.specs.Changes.{cell_after, cells_after, new_cell, set_value, whole_row_after}
@@ -127,7 +127,7 @@ module _ (made : List MadeChange) (c : MadeChange) where
     new-grown : (cell : Cell) → cell.top ≡ c.dot → CellGrown (c ∷ made) cell (c.dot ∷ [])
     new-grown cell top = set-grown cell [] top live own (λ d inside. absurd cc) (λ d inside. absurd cc)
 
-    columns-grown : (f : ℕ × ColType → Value) (n from : ℕ) (columns : List Column)
+    columns-grown : (f : ℕ × ColumnType → Value) (n from : ℕ) (columns : List Column)
         → AllZip (CellGrown (c ∷ made)) (map (λ (value : Value). (let cell : Cell = record { top = c.dot; values = value ∷ [] } in cell)) (map f (enumerate_from n (map (λ (column : Column). column.ty) columns)))) (new_chains c.dot from (length columns))
     columns-grown f n from [] = tt
     columns-grown f n from (column ∷ columns) = (new-grown (record { top = c.dot; values = f (n, column.ty) ∷ [] }) refl, columns-grown f (n + 1) (from + 1) columns)
@@ -136,7 +136,7 @@ module _ (made : List MadeChange) (c : MadeChange) where
     new-length from zero = refl
     new-length from (suc count) = omega (arith, new-length (from + 1) count)
 
-    pub inserted-grown : (key : Key) (tr : Tracking) (f : ℕ × ColType → Value) (columns : List Column)
+    pub inserted-grown : (key : Key) (tr : Tracking) (f : ℕ × ColumnType → Value) (columns : List Column)
         → GrownAlone (count_by_tracking tr columns) (c ∷ made) key (Live (new_cells tr c.dot (map f (enumerate_from 0 (map (λ (column : Column). column.ty) columns))))) (OfCells (map (λ (place : ℕ). c.dot ∷ []) (range_with_len 0 (count_by_tracking tr columns))))
     inserted-grown key tracking.Row f columns = ((refl, (new-grown (record { top = c.dot; values = map f (enumerate_from 0 (map (λ (column : Column). column.ty) columns)) }) refl, tt)), tt)
     inserted-grown key tracking.ByColumn f columns = ((new-length 0 (length columns), columns-grown f 0 0 columns), tt)

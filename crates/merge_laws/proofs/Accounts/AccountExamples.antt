@@ -1,11 +1,11 @@
 -- Runs in which changes are kept, computed.
 use Rattle.std.specs.Prelude.{◌≡◌, Bool, List, None, [], codes, false, map, pos, refl, true, ℕ, ℤ, ◌∷◌}
 use Rattle.merge_types.specs.Rows.{row_number}
-use Rattle.merge_types.specs.declared.values.ColType.TheVariants as ty
+use Rattle.merge_types.specs.declared.values.ColumnType.TheVariants as ty
 use Rattle.merge_types.specs.declared.values.Value.TheVariants.{Int}
 use Rattle.merge_types.specs.declared.changes.Tracking.TheVariants as tracking
 use Rattle.merge_schema.specs.declared.publication.Publication.{Publication}
-use Rattle.merge_schema.specs.declared.publication.SubKind.TheVariants as kind
+use Rattle.merge_schema.specs.declared.publication.SubscriptionKind.TheVariants as kind
 use Rattle.merge_units.specs.Cases.{side_by}
 use Rattle.merge_types.specs.Fitting.{has_type}
 use Rattle.merge_batch.specs.Asks.{broken_by_join, broken_by_ranges}

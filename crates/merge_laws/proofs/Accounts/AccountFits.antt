@@ -11,7 +11,7 @@ use Rattle.merge_types.specs.declared.changes.Tracking.{Tracking}
 use Rattle.merge_types.specs.declared.changes.Tracking.TheVariants as tracking
 use Rattle.merge_types.specs.declared.identifiers.Dot.{Dot}
 use Rattle.merge_types.specs.declared.identifiers.RowId.{RowId}
-use Rattle.merge_types.specs.declared.values.ColType.{ColType}
+use Rattle.merge_types.specs.declared.values.ColumnType.{ColumnType}
 use Rattle.merge_types.specs.declared.values.Column.{Column}
 use Rattle.merge_types.specs.declared.values.Value.{Value}
 use Rattle.merge_lineage.specs.Lineage.{with_dot}
@@ -58,18 +58,18 @@ some-within test [] k fits = absurd cc
 some-within test (x ∷ xs) zero fits = omega arith
 some-within test (x ∷ xs) (suc k) fits = let rest = some-within test xs k fits in omega (arith, rest)
 
-head-fits : (types : List ColType) (edit : Setting) (rest : Option Setting) (b : Bool) → not (fits_type types edit) ≡ b → (let found : Option Setting = cond b (Some edit) rest in found ≡ None) → (fits_type types edit ≡ true) × (rest ≡ None)
+head-fits : (types : List ColumnType) (edit : Setting) (rest : Option Setting) (b : Bool) → not (fits_type types edit) ≡ b → (let found : Option Setting = cond b (Some edit) rest in found ≡ None) → (fits_type types edit ≡ true) × (rest ≡ None)
 head-fits types edit rest true is none = absurd cc
 head-fits types edit rest false is none = (grind (arith, is), none)
 
-column-within : (types : List ColType) (edit : Setting) (edits : List Setting) (k : ℕ) (b : Bool) → (edit.column == k) ≡ b → fits_type types edit ≡ true → (list_any (λ (cell : ℕ). cell == k) (map (λ (s : Setting). s.column) edits) ≡ true → k < length types)
+column-within : (types : List ColumnType) (edit : Setting) (edits : List Setting) (k : ℕ) (b : Bool) → (edit.column == k) ≡ b → fits_type types edit ≡ true → (list_any (λ (cell : ℕ). cell == k) (map (λ (s : Setting). s.column) edits) ≡ true → k < length types)
     → (b || list_any (λ (cell : ℕ). cell == k) (map (λ (s : Setting). s.column) edits)) ≡ true → k < length types
 column-within types edit edits k true e fits rest is =
     let same : edit.column ≡ k = grind (arith, nat_tests, e) in
     subst (λ (n : ℕ). n < length types) same (some-within _ types edit.column fits)
 column-within types edit edits k false e fits rest is = rest is
 
-columns-within : (types : List ColType) (edits : List Setting) (k : ℕ) → find (λ (s : Setting). not (fits_type types s)) edits ≡ None → list_any (λ (cell : ℕ). cell == k) (map (λ (s : Setting). s.column) edits) ≡ true → k < length types
+columns-within : (types : List ColumnType) (edits : List Setting) (k : ℕ) → find (λ (s : Setting). not (fits_type types s)) edits ≡ None → list_any (λ (cell : ℕ). cell == k) (map (λ (s : Setting). s.column) edits) ≡ true → k < length types
 columns-within types [] k none is = absurd cc
 columns-within types (edit ∷ edits) k none is =
     let both = head-fits types edit (find (λ (s : Setting). not (fits_type types s)) edits) (not (fits_type types edit)) refl none in
@@ -116,7 +116,7 @@ module _ (publication : Publication) (h : History) (dot : Dot) (generation : ℕ
       let c : MadeChange = made_of publication dot generation change identity past in
       let own : has c.past.known c.dot ≡ true = grind (arith, nat_tests) in
       record {
-        grown = inserted-grown h.made c refl own key (tracking_at publication article) (λ (place : ℕ × ColType). new_value (identity_column publication article) identity values place.0) (columns_at publication article);
+        grown = inserted-grown h.made c refl own key (tracking_at publication article) (λ (place : ℕ × ColumnType). new_value (identity_column publication article) identity values place.0) (columns_at publication article);
         holds = inserted-holds h.made c key fresh h.lost h.purged (cell_count publication article) refl refl;
         ends = inserted-ends h.made c key fresh h.lost h.purged (past_at h 0 key) (cell_count publication article) refl;
         knows = own;

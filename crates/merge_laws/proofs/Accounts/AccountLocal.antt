@@ -21,7 +21,7 @@ use Rattle.merge_model.specs.History.Noting
 use Rattle.merge_model.specs.History.Pasts.{cell_count}
 use Rattle.merge_model.specs.Publisher.PublisherLocal.{version_at}
 use Rattle.merge_model.specs.Tables.Refusals.{counter_end}
-use Rattle.merge_model.specs.Subscriber.{generations_at, is_joining, sub_at_moment, sub_counters, sub_last_closed, sub_local_refusal, sub_made_locally, sub_next_dot, sub_version_at, with_open, with_version, with_version_if}
+use Rattle.merge_model.specs.Subscriber.{generations_at, is_joining, subscriber_at_moment, subscriber_counters, subscriber_last_closed, subscriber_local_refusal, subscriber_made_locally, subscriber_next_dot, subscriber_version_at, with_open, with_version, with_version_if}
 use Rattle.merge_types.specs.declared.row_key.RowKey.{RowKey as Key}
 use Rattle.merge_units.specs.declared.site_row.SubscriberRow.{SubscriberRow}
 use Rattle.merge_model.specs.Tables.{SubscriberTables}
@@ -65,13 +65,13 @@ with-some P (Some x) there each = each x refl
 
 -- An upload that was made before has no change of an open generation.
 sends-later : (joined : ℕ) (site : SiteId) (found : Option SubscriberTables) (made : List MadeChange) (c : MadeChange) (pasts : List (Key × Past)) (message : Message)
-    → ((s : SubscriberTables) → found ≡ Some s → c.dot.site.0 ≡ site.0 → sub_last_closed s < c.generation) → MessageFits joined site found message → SendsAll made pasts message → SendsAll (c ∷ made) pasts message
+    → ((s : SubscriberTables) → found ≡ Some s → c.dot.site.0 ≡ site.0 → subscriber_last_closed s < c.generation) → MessageFits joined site found message → SendsAll made pasts message → SendsAll (c ∷ made) pasts message
 sends-later joined site None made c pasts (Asks (request.Upload m)) closed fits all = absurd fits
 sends-later joined site (Some s) made c pasts (Asks (request.Upload m)) closed fits all = (
   λ own low high. absurd (
       let same : c.dot.site.0 ≡ site.0 = (let mine : c.dot.site.0 ≡ m.site.0 = grind (arith, nat_tests, own) in mine ∙ ap (λ (x : SiteId). x.0) fits.0) in
       let above = closed s refl same in
-      let up : m.to ≤ sub_last_closed s = fits.1 in
+      let up : m.to ≤ subscriber_last_closed s = fits.1 in
       omega (arith, above, up, high)
       ),
   all,
@@ -83,7 +83,7 @@ sends-later joined site found made c pasts (Replies m) closed fits all = tt
 
 -- At a subscriber.
 module _ (publication : Publication) (w : World) (h : History) (s : SubscriberTables) (change : Change) (d : Value × List (ℕ × Holder)) (b : Base publication w h) (a : OfAccounts publication w h) (at : subscriber_at w s.site ≡ Some s)
-    (fine : sub_local_refusal publication change s ≡ None) where
+    (fine : subscriber_local_refusal publication change s ≡ None) where
   abbrev g : Ground publication w h
   g = b.0
 
@@ -91,7 +91,7 @@ module _ (publication : Publication) (w : World) (h : History) (s : SubscriberTa
   away = site-away publication w h s b a at
 
   abbrev dot : Dot
-  dot = sub_next_dot s
+  dot = subscriber_next_dot s
 
   abbrev key : Key
   key = key_of dot change
@@ -100,22 +100,22 @@ module _ (publication : Publication) (w : World) (h : History) (s : SubscriberTa
   past = past_at h s.site.0 key
 
   abbrev c : MadeChange
-  c = made_of publication dot (sub_last_closed s + 1) change d.0 past
+  c = made_of publication dot (subscriber_last_closed s + 1) change d.0 past
 
   abbrev after : History
-  after = Noting.with_change publication dot (sub_last_closed s + 1) change d.0 h
+  after = Noting.with_change publication dot (subscriber_last_closed s + 1) change d.0 h
 
   abbrev v : SubscriberTables
-  v = record (sub_at_moment w.moment s) { changes = s.changes + 1; held = d.1 }
+  v = record (subscriber_at_moment w.moment s) { changes = s.changes + 1; held = d.1 }
 
   fresh : IsFresh h.made dot
   fresh = sub-fresh publication w h s change g.known at away
 
-  refused : change_refusal publication dot change (sub_version_at s key) (length s.rows) ≡ None
+  refused : change_refusal publication dot change (subscriber_version_at s key) (length s.rows) ≡ None
   refused =
       let joins = first-none (is_joining s) _ fine in
-      let counted = first-none (counter_end (sub_counters s)) _ joins.1 in
-      (first-none (change_refusal publication dot change (sub_version_at s key) (length s.rows)) [] counted.1).0
+      let counted = first-none (counter_end (subscriber_counters s)) _ joins.1 in
+      (first-none (change_refusal publication dot change (subscriber_version_at s key) (length s.rows)) [] counted.1).0
 
   new-nothing : is_insert change ≡ true → (other : Dot) → has past.known other ≡ false
   new-nothing is other = nothing (has past.known other) refl
@@ -127,17 +127,17 @@ module _ (publication : Publication) (w : World) (h : History) (s : SubscriberTa
           absurd (grind (arith, there, none))
       nothing false e = refl
 
-  held : IsHeld publication h key past (sub_version_at s key)
+  held : IsHeld publication h key past (subscriber_version_at s key)
   held = record {
     grown = λ version is. (a.subscribers s.site.0 s key version at is).0;
-    tops = λ version is. (held-told (sub_version_at s key) version key past is (rows-found (λ (row : SubscriberRow). row.version) (λ (k : Key) (x : Version) (p : Past). Told x p.known) (past_at h s.site.0) s.rows (b.1.0.subscribers s.site.0 s at) key)).tops;
+    tops = λ version is. (held-told (subscriber_version_at s key) version key past is (rows-found (λ (row : SubscriberRow). row.version) (λ (k : Key) (x : Version) (p : Past). Told x p.known) (past_at h s.site.0) s.rows (b.1.0.subscribers s.site.0 s at) key)).tops;
     closed = (held-knows h s.site.0 key g.known.knowledge).closed;
     traced = a.held s.site.0 key;
   }
 
-  module _ (version : Version) (is : version_after publication dot d.0 change (sub_version_at s key) ≡ Some version) where
+  module _ (version : Version) (is : version_after publication dot d.0 change (subscriber_version_at s key) ≡ Some version) where
     fits : ChangeFits publication h key past c version
-    fits = change-fits publication h dot (sub_last_closed s + 1) d.0 fresh past change (sub_version_at s key) (length s.rows) refused new-nothing held version is
+    fits = change-fits publication h dot (subscriber_last_closed s + 1) d.0 fresh past change (subscriber_version_at s key) (length s.rows) refused new-nothing held version is
 
     abbrev t : SubscriberTables
     t = with_version key version v
@@ -151,11 +151,11 @@ module _ (publication : Publication) (w : World) (h : History) (s : SubscriberTa
     other-past : (q : Key) → same_key q key ≡ false → past_in rows q ≡ past_at h s.site.0 q
     other-past q differs = past-put (pasts_at h s.site.0) key c.past q ∙ ap (λ (x : Bool). if x then c.past else past_at h s.site.0 q) differs
 
-    found-is : (q : Key) (x : Bool) → same_key q key ≡ x → sub_version_at t q ≡ (let o : Option Version = if x then Some version else sub_version_at s q in o)
-    found-is q x same = found-put (λ (row : SubscriberRow). row.version) s.rows key (record { version = version; generations = with_open (sub_last_closed v + 1) (generations_at v key) }) q
-        ∙ ap (λ (y : Bool). (let o : Option Version = if y then Some version else sub_version_at s q in o)) same
+    found-is : (q : Key) (x : Bool) → same_key q key ≡ x → subscriber_version_at t q ≡ (let o : Option Version = if x then Some version else subscriber_version_at s q in o)
+    found-is q x same = found-put (λ (row : SubscriberRow). row.version) s.rows key (record { version = version; generations = with_open (subscriber_last_closed v + 1) (generations_at v key) }) q
+        ∙ ap (λ (y : Bool). (let o : Option Version = if y then Some version else subscriber_version_at s q in o)) same
 
-    grown-by : (q : Key) (x : Version) (y : Bool) → same_key q key ≡ y → sub_version_at t q ≡ Some x → GrownAlone (cell_count publication q.article) (c ∷ h.made) q x.body (past_in rows q).chains
+    grown-by : (q : Key) (x : Version) (y : Bool) → same_key q key ≡ y → subscriber_version_at t q ≡ Some x → GrownAlone (cell_count publication q.article) (c ∷ h.made) q x.body (past_in rows q).chains
     grown-by q x true same found =
         let one : version ≡ x = some_same version x (sym (found-is q true same) ∙ found) in
         subst (λ (p : Past). GrownAlone (cell_count publication q.article) (c ∷ h.made) q x.body p.chains) (sym (own-past q same))
@@ -181,16 +181,16 @@ module _ (publication : Publication) (w : World) (h : History) (s : SubscriberTa
     new-open : is_settled (put_number w.subscribers s.site.0 t) h c ≡ true → ⊥
     new-open settled =
         let fits_site = g.received.subscribers s.site.0 s at in
-        let taken : received_by_number w.publisher s.site.0 ≤ sub_last_closed s = fits_site.taken in
-        let own : s.received ≤ sub_last_closed s = fits_site.own in
-        let done = g.received.done s.site.0 (sub_last_closed s + 1) (omega arith) in
+        let taken : received_by_number w.publisher s.site.0 ≤ subscriber_last_closed s = fits_site.taken in
+        let own : s.received ≤ subscriber_last_closed s = fits_site.own in
+        let done = g.received.done s.site.0 (subscriber_last_closed s + 1) (omega arith) in
         let received = received-own w.subscribers s.site.0 t in
         absurd (grind (arith, nat_tests, settled, taken, own, done, received, away))
 
-    closed-before : (site : SiteId) (u : SubscriberTables) → at_number w.subscribers site.0 ≡ Some u → c.dot.site.0 ≡ site.0 → sub_last_closed u < c.generation
+    closed-before : (site : SiteId) (u : SubscriberTables) → at_number w.subscribers site.0 ≡ Some u → c.dot.site.0 ≡ site.0 → subscriber_last_closed u < c.generation
     closed-before site u there same =
         let one : s ≡ u = some_same s u (sym at ∙ ap (λ (n : ℕ). at_number w.subscribers n) same ∙ there) in
-        subst (λ (x : SubscriberTables). sub_last_closed x < sub_last_closed s + 1) one (omega arith)
+        subst (λ (x : SubscriberTables). subscriber_last_closed x < subscriber_last_closed s + 1) one (omega arith)
 
     sub-with : Accounts publication (version_at w.publisher) (put_number w.subscribers s.site.0 t) w.pool after
     sub-with = sub-accounts publication (version_at w.publisher) w.subscribers w.pool h a s.site.0 away s t at (Some c) rows h.lost (λ k place other kept. kept) (held-made h g.known.knowledge) (sent-made h g.known.knowledge) fresh refl
@@ -204,6 +204,6 @@ module _ (publication : Publication) (w : World) (h : History) (s : SubscriberTa
         (λ letter pasts known all. sends-later (joined_at w.publisher letter.site) letter.site (at_number w.subscribers letter.site.0) h.made c pasts letter.message (λ u there same. closed-before letter.site u there same) known all) w.pool h.letters g.received.letters a.uploads)
         (λ settled. absurd (new-open settled))
 
-  pub sub-change-accounts : OfAccounts publication (with_subscriber (sub_made_locally publication change d (sub_at_moment w.moment s)).0 w) after
+  pub sub-change-accounts : OfAccounts publication (with_subscriber (subscriber_made_locally publication change d (subscriber_at_moment w.moment s)).0 w) after
   sub-change-accounts = with-some (λ (found : Option Version). Accounts publication (version_at w.publisher) (put_number w.subscribers (with_version_if key found v).site.0 (with_version_if key found v)) w.pool after)
-      (version_after publication dot d.0 change (sub_version_at s key)) (version-there publication dot d.0 change (sub_version_at s key) (first-none (no_row change (sub_version_at s key)) _ refused).0) (λ version is. sub-with version is)
+      (version_after publication dot d.0 change (subscriber_version_at s key)) (version-there publication dot d.0 change (subscriber_version_at s key) (first-none (no_row change (subscriber_version_at s key)) _ refused).0) (λ version is. sub-with version is)

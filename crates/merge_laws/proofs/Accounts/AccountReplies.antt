@@ -20,7 +20,7 @@ use Rattle.merge_model.specs.Tables.Keys.{at_number, put_number}
 use Rattle.merge_model.specs.History.Noting
 use Rattle.merge_model.specs.History.Pasts.{cell_count}
 use Rattle.merge_model.specs.Publisher.PublisherLocal.{version_at}
-use Rattle.merge_model.specs.Subscriber.{sub_at_moment}
+use Rattle.merge_model.specs.Subscriber.{subscriber_at_moment}
 use Rattle.merge_types.specs.declared.row_key.RowKey.{RowKey as Key}
 use Rattle.merge_units.specs.declared.site_row.SubscriberRow.{SubscriberRow}
 use Rattle.merge_model.specs.Tables.{SubscriberTables}
@@ -121,7 +121,7 @@ module _ (publication : Publication) (w : World) (h : History) (s : SubscriberTa
       site-accounts publication found w.subscribers w.pool h a s.site.0 away s (taken (by_made h s.site) w.moment (reply.Uploaded m) s) at (λ key. versions-above m.received s.rows key)
       (uploaded-least publication sent m s (seq_of (reply.Uploaded m)) none out (g.numbered.subscribers s.site.0 s at).sent) (acted-safe m.received (tells (Replies (reply.Uploaded m)) there))
   reply-accounts (reply.Downloaded m) sent there out none =
-      let u : SubscriberTables = record (with_received m.received (record (sub_at_moment w.moment s) { outstanding = None })) { watermark = m.to } in
+      let u : SubscriberTables = record (with_received m.received (record (subscriber_at_moment w.moment s) { outstanding = None })) { watermark = m.to } in
       let last : SubscriberTables = taken (by_made h s.site) w.moment (reply.Downloaded m) s in
       let start : Accounts publication found (put_number w.subscribers s.site.0 u) w.pool h = site-accounts publication found w.subscribers w.pool h a s.site.0 away s u at (λ key. versions-above m.received s.rows key)
       (downloaded-least publication sent m s none) (acted-safe m.received (tells (Replies (reply.Downloaded m)) there)) in

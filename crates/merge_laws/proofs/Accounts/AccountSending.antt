@@ -16,7 +16,7 @@ use Rattle.merge_model.specs.History.Model.{past_of_item}
 use Rattle.merge_model.specs.History.Pasts.{cell_count}
 use Rattle.merge_model.specs.Publisher.PublisherLocal.{version_at}
 use Rattle.merge_model.specs.Subscriber.Sending.{upload_sent}
-use Rattle.merge_model.specs.Subscriber.{sub_at_moment, sub_closed, sub_version_at}
+use Rattle.merge_model.specs.Subscriber.{subscriber_at_moment, subscriber_closed, subscriber_version_at}
 use Rattle.merge_types.specs.declared.row_key.RowKey.{RowKey as Key}
 use Rattle.merge_model.specs.Tables.{SubscriberTables}
 use Rattle.merge_model.specs.World.{World, subscriber_at, with_subscriber}
@@ -60,15 +60,15 @@ module _ (publication : Publication) (w : World) (h : History) (s : SubscriberTa
       )) h.made a.settled
 
   -- the site's tables go on, its rows and what it takes for received stay
-  pub stays-accounts : (t : SubscriberTables) → ((key : Key) → sub_version_at t key ≡ sub_version_at s key) → t.received ≡ s.received → Accounts publication (version_at w.publisher) (put_number w.subscribers s.site.0 t) w.pool h
+  pub stays-accounts : (t : SubscriberTables) → ((key : Key) → subscriber_version_at t key ≡ subscriber_version_at s key) → t.received ≡ s.received → Accounts publication (version_at w.publisher) (put_number w.subscribers s.site.0 t) w.pool h
   stays-accounts t same received = site-accounts publication (version_at w.publisher) w.subscribers w.pool h a s.site.0 site-away s t at same (omega (arith, received))
       (subst (λ (n : ℕ). AllByRecursion (λ (c : MadeChange). is_of s.site.0 c ≡ true → nat_le c.generation n ≡ true → IsSafe h c) h.made) (sym received) received-safe)
 
-  pub own-fits : AllFit (λ (key : Key) (version : Version) (past : Past). GrownAlone (cell_count publication key.article) h.made key version.body past.chains) (sub_version_at s) (past_in (pasts_at h s.site.0))
-  own-fits key = fit-found (λ (k : Key) (version : Version) (past : Past). GrownAlone (cell_count publication k.article) h.made k version.body past.chains) key (past_at h s.site.0 key) (sub_version_at s key) (λ version is. a.subscribers s.site.0 s key version at is)
+  pub own-fits : AllFit (λ (key : Key) (version : Version) (past : Past). GrownAlone (cell_count publication key.article) h.made key version.body past.chains) (subscriber_version_at s) (past_in (pasts_at h s.site.0))
+  own-fits key = fit-found (λ (k : Key) (version : Version) (past : Past). GrownAlone (cell_count publication k.article) h.made k version.body past.chains) key (past_at h s.site.0 key) (subscriber_version_at s key) (λ version is. a.subscribers s.site.0 s key version at is)
 
   abbrev closed_now : SubscriberTables
-  closed_now = sub_closed (sub_at_moment w.moment s)
+  closed_now = subscriber_closed (subscriber_at_moment w.moment s)
 
   abbrev made : SubscriberTables × Upload
   made = upload_sent (by_made h s.site) closed_now

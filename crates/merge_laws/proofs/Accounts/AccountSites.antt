@@ -12,7 +12,7 @@ use Rattle.merge_model.specs.History.{History, MadeChange, Past, has, no_past, p
 use Rattle.merge_types.specs.RowKeys.{key_cmp}
 use Rattle.merge_model.specs.Tables.Keys.{at_number, put_number}
 use Rattle.merge_model.specs.History.Pasts.{cell_count}
-use Rattle.merge_model.specs.Subscriber.{sub_version_at}
+use Rattle.merge_model.specs.Subscriber.{subscriber_version_at}
 use Rattle.merge_types.specs.declared.row_key.RowKey.{RowKey as Key}
 use Rattle.merge_model.specs.Tables.{SubscriberTables}
 use Rattle.merge_model.specs.declared.letter.Letter.{Letter}
@@ -81,11 +81,11 @@ module _ (publication : Publication) (found : Key → Option Version) (sites : L
       (λ before. (let both = still-settled sites site t h c (c.dot.site.0 == site) refl settled before in new both.0 both.1))) h.made a.settled newly
 
   -- Its rows stay.
-  pub site-accounts : ((key : Key) → sub_version_at t key ≡ sub_version_at s key) → s.received ≤ t.received → AllByRecursion (λ (c : MadeChange). is_of site c ≡ true → nat_le c.generation t.received ≡ true → IsSafe h c) h.made
+  pub site-accounts : ((key : Key) → subscriber_version_at t key ≡ subscriber_version_at s key) → s.received ≤ t.received → AllByRecursion (λ (c : MadeChange). is_of site c ≡ true → nat_le c.generation t.received ≡ true → IsSafe h c) h.made
       → Accounts publication found (put_number sites site t) pool h
   site-accounts same rises newly = record {
     publisher = a.publisher;
-    subscribers = λ n u key version there. all-subscribers (λ (k : ℕ) (x : SubscriberTables). sub_version_at x key ≡ Some version → GrownAlone (cell_count publication key.article) h.made key version.body (past_at h k key).chains) sites site t
+    subscribers = λ n u key version there. all-subscribers (λ (k : ℕ) (x : SubscriberTables). subscriber_version_at x key ≡ Some version → GrownAlone (cell_count publication key.article) h.made key version.body (past_at h k key).chains) sites site t
         (λ here. a.subscribers site s key version at (sym (same key) ∙ here)) (λ k x differs was here. a.subscribers k x key version was here) n u there;
     letters = a.letters;
     absent = a.absent;
@@ -128,7 +128,7 @@ module _ (publication : Publication) (found : Key → Option Version) (sites : L
         old-traced : (q : Key) (other : Past) → ((dot : Dot) → has other.known dot ≡ true → is_made h.made q dot ≡ true) → IsTraced h q other → IsTraced after q other
         old-traced q other made traced = traced-new new h.made after.lost after.purged (past_at after 0 q) q other fresh made (goes-traced h after q other site-goes traced)
 
-        module _ (sorted : IsStrictlySortedBy key_cmp (keys_of rows)) (grown : (key : Key) (version : Version) → sub_version_at t key ≡ Some version → GrownAlone (cell_count publication key.article) (with_new new h.made) key version.body (past_in rows key).chains)
+        module _ (sorted : IsStrictlySortedBy key_cmp (keys_of rows)) (grown : (key : Key) (version : Version) → subscriber_version_at t key ≡ Some version → GrownAlone (cell_count publication key.article) (with_new new h.made) key version.body (past_in rows key).chains)
             (traced : (key : Key) → Traced (with_new new h.made) lost h.purged (past_at h 0 key) key (past_in rows key))
             (unsent : AllByRecursion (λ (c : MadeChange). is_of site c ≡ true → t.received < c.generation → has (past_in rows c.key).known c.dot ≡ true) (with_new new h.made))
             (newly : AllByRecursion (λ (c : MadeChange). is_of site c ≡ true → nat_le c.generation t.received ≡ true → IsSafe h c) h.made)
@@ -147,9 +147,9 @@ module _ (publication : Publication) (found : Key → Option Version) (sites : L
               (subst (λ (p : Past). IsTraced after q p) (sym (at-own q)) (subst (λ (p : Past). Traced after.made after.lost after.purged p q (past_in rows q)) (sym (at-publisher q)) (traced q)))
           held-put n q false is = subst (λ (p : Past). IsTraced after q p) (sym (at-there n q (λ same. grind (arith, nat_tests, is, same)))) (old-traced q (past_at h n q) (held_made n q) (a.held n q))
 
-          grown-put : (n : ℕ) (u : SubscriberTables) (key : Key) (version : Version) → at_number (put_number sites site t) n ≡ Some u → sub_version_at u key ≡ Some version
+          grown-put : (n : ℕ) (u : SubscriberTables) (key : Key) (version : Version) → at_number (put_number sites site t) n ≡ Some u → subscriber_version_at u key ≡ Some version
               → GrownAlone (cell_count publication key.article) (with_new new h.made) key version.body (past_at after n key).chains
-          grown-put n u key version there = all-subscribers (λ (k : ℕ) (x : SubscriberTables). sub_version_at x key ≡ Some version → GrownAlone (cell_count publication key.article) (with_new new h.made) key version.body (past_at after k key).chains) sites site t
+          grown-put n u key version there = all-subscribers (λ (k : ℕ) (x : SubscriberTables). subscriber_version_at x key ≡ Some version → GrownAlone (cell_count publication key.article) (with_new new h.made) key version.body (past_at after k key).chains) sites site t
               (λ here. subst (λ (p : Past). GrownAlone (cell_count publication key.article) (with_new new h.made) key version.body p.chains) (sym (at-own key)) (grown key version here))
               (λ k x differs was here. subst (λ (p : Past). GrownAlone (cell_count publication key.article) (with_new new h.made) key version.body p.chains) (sym (at-there k key differs))
               (alone-new new (cell_count publication key.article) h.made key version.body (past_at h k key).chains (a.subscribers k x key version was here))) n u there

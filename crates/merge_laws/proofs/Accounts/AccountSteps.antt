@@ -22,7 +22,7 @@ use Rattle.merge_model.specs.Publisher.PublisherLocal.{version_at}
 use Rattle.merge_model.specs.Publisher.PublisherPurge.{is_old_tombstone, purge}
 use Rattle.merge_model.specs.Publisher.PublisherRanges.{plans, ranged}
 use Rattle.merge_model.specs.Subscriber.Sending.{join_of, want_of, with_message}
-use Rattle.merge_model.specs.Subscriber.{sub_at_moment, sub_closed, sub_version_at}
+use Rattle.merge_model.specs.Subscriber.{subscriber_at_moment, subscriber_closed, subscriber_version_at}
 use Rattle.merge_types.specs.declared.row_key.RowKey.{RowKey as Key}
 use Rattle.merge_units.specs.declared.site_row.SubscriberRow.{SubscriberRow}
 use Rattle.merge_model.specs.Tables.{PublisherTables, SubscriberTables}
@@ -101,8 +101,8 @@ module _ (publication : Publication) where
     own_closing = λ w h b a. a;
     forgetting = λ w h b a. purge-accounts w h b a;
     same = λ w h s b a at. stays-accounts publication w h s b a at s (λ key. refl) refl;
-    sub_change = λ w h s change d b a at named fine is. sub-change-accounts publication w h s change d b a at fine;
-    sub_closing = λ w h s b a at. stays-accounts publication w h s b a at (sub_closed (sub_at_moment w.moment s)) (λ key. refl) refl;
+    subscriber_change = λ w h s change d b a at named fine is. sub-change-accounts publication w h s change d b a at fine;
+    subscriber_closing = λ w h s b a at. stays-accounts publication w h s b a at (subscriber_closed (subscriber_at_moment w.moment s)) (λ key. refl) refl;
     anew = λ w h s b a at. anew-accounts publication w h s b a at;
     sends_join = λ w h s b a at joining. (
         let t : SubscriberTables = with_message ask.Join s in
@@ -132,7 +132,7 @@ module _ (publication : Publication) where
   }
 
   -- How it begins.
-  none-held : (s : SubscriberTables) (key : Key) (version : Version) → s.rows ≡ [] → sub_version_at s key ≡ Some version → ⊥
+  none-held : (s : SubscriberTables) (key : Key) (version : Version) → s.rows ≡ [] → subscriber_version_at s key ≡ Some version → ⊥
   none-held s key version none at = absurd (let no : None ≡ Some version = sym (ap (λ (rows : List (Key × SubscriberRow)). option_map (λ (row : SubscriberRow). row.version) (row_at rows key)) none) ∙ at in cc)
 
   pub accounts-begin : (tallies : List ℕ) → (resolvers : ℕ) × IsValid resolvers publication → OfAccounts publication (empty_world publication tallies) no_history

@@ -104,8 +104,8 @@ module _ (before : Model) where
       own_closing = λ w h r p. p;
       forgetting = λ w h r p. (p.0, purge-keep Grows notes-grow publication (by_past h (pasts_with h 0)) (here w) h p.1);
       same = λ w h s r p at. p;
-      sub_change = λ w h s change d r p at named fine draws. p;
-      sub_closing = λ w h s r p at. p;
+      subscriber_change = λ w h s change d r p at named fine draws. p;
+      subscriber_closing = λ w h s r p at. p;
       anew = λ w h s r p at. (p.0, anew-keep Grows notes-grow (by_made h s.site) s h p.1);
       sends_join = λ w h s r p at waits. sent-stays s.site _ w h p.0 p.1;
       sends_upload = λ w h s r p at fine. sent-stays s.site _ w h p.0 p.1;

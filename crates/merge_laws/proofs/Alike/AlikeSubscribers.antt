@@ -20,7 +20,7 @@ use Rattle.merge_model.specs.Subscriber.Reinit.{reinitialised}
 use Rattle.merge_model.specs.Subscriber.Sending.{sending_refusal, upload_made}
 use Rattle.merge_model.specs.World.Steps.{SendDownload, SendJoin, SendRanges, SendUpload, Sending, deliver_reply, make_anew, posted, send_from, unless_refused}
 use Rattle.merge_model.specs.declared.outcome.Outcome.TheVariants.{Discards, Took}
-use Rattle.merge_model.specs.Subscriber.{sub_at_moment, sub_counters}
+use Rattle.merge_model.specs.Subscriber.{subscriber_at_moment, subscriber_counters}
 use Rattle.merge_types.specs.declared.row_key.RowKey.{RowKey as Key}
 use Rattle.merge_model.specs.Tables.{SubscriberTables}
 use Rattle.merge_model.specs.Subscriber.Taking.{met_by, seq_of, take_reply, taken}
@@ -50,8 +50,8 @@ module _ (m : Model) (s : SubscriberTables) (alike : SubscriberDecidesAlike m s)
   upload-same : (now : Moment) → upload_made (by_rows s) now s ≡ upload_made (by_made m.history s.site) now s
   upload-same now = ap (λ (changed : ℕ → List (Key × ℕ)). upload_made (by_both changed) now s) (λ i to. alike.changed_between s.received to (omega arith) i)
 
-  anew-same : (now : Moment) → reinitialised (by_rows s) (sub_at_moment now s) ≡ reinitialised (by_made m.history s.site) (sub_at_moment now s)
-  anew-same now = ap (λ (unsent : Key → Bool). reinitialised (by_unsent unsent) (sub_at_moment now s)) (λ i key. alike.is_unsent s.received key (omega arith) i)
+  anew-same : (now : Moment) → reinitialised (by_rows s) (subscriber_at_moment now s) ≡ reinitialised (by_made m.history s.site) (subscriber_at_moment now s)
+  anew-same now = ap (λ (unsent : Key → Bool). reinitialised (by_unsent unsent) (subscriber_at_moment now s)) (λ i key. alike.is_unsent s.received key (omega arith) i)
 
   taken-same : (publication : Publication) (now : Moment) (sent : Outstanding) (r : Reply) → reply_fault publication sent r s ≡ None → taken (by_rows s) now r s ≡ taken (by_made m.history s.site) now r s
   taken-same publication now sent (reply.Joined r) none = refl
@@ -83,4 +83,4 @@ module _ (m : Model) (s : SubscriberTables) (alike : SubscriberDecidesAlike m s)
   reply-alike publication w r = ap (λ (done : Result (SubscriberTables × Taken) Refusal). unless_refused w done (λ (d : SubscriberTables × Taken). (with_subscriber d.0 w, Took d.1))) (take-same publication w.moment r)
 
   pub anew-alike : (w : World) → make_anew (by_tables w) w s ≡ make_anew (by_history m.history) w s
-  anew-alike w = ap (λ (done : SubscriberTables × ℕ). unless_refused w (unless (counter_end (sub_counters s)) done) (λ (d : SubscriberTables × ℕ). (with_subscriber d.0 w, Discards d.1))) (anew-same w.moment)
+  anew-alike w = ap (λ (done : SubscriberTables × ℕ). unless_refused w (unless (counter_end (subscriber_counters s)) done) (λ (d : SubscriberTables × ℕ). (with_subscriber d.0 w, Discards d.1))) (anew-same w.moment)

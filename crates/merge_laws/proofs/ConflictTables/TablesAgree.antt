@@ -38,7 +38,7 @@ use Rattle.merge_model.specs.Publisher.PublisherUpload.{taken_in}
 use Rattle.merge_model.specs.Subscriber.Reinit.{discarded, numbered_from, reinitialised}
 use Rattle.merge_model.specs.Subscriber.Sending.{join_of, upload_sent, want_of, with_message}
 use Rattle.merge_model.specs.World.Steps.{Action}
-use Rattle.merge_model.specs.Subscriber.{sub_at_moment, sub_closed, sub_last_closed, sub_made_locally, sub_next_dot, sub_version_at, with_version_if}
+use Rattle.merge_model.specs.Subscriber.{subscriber_at_moment, subscriber_closed, subscriber_last_closed, subscriber_made_locally, subscriber_next_dot, subscriber_version_at, with_version_if}
 use Rattle.merge_types.specs.declared.row_key.RowKey.{RowKey as Key}
 use Rattle.merge_model.specs.Tables.{PublisherTables, SubscriberTables}
 use Rattle.merge_model.specs.Subscriber.Taking.{taken}
@@ -149,18 +149,18 @@ module _ (publication : Publication) (says : Saying) (w : World) (h : History) (
     stays : (v : SubscriberTables) → v.site.0 ≡ s.site.0 → v.conflicts ≡ s.conflicts → TablesAgree (with_subscriber v w) h
     stays v site same = subscriber-stays w h h s v at site same refl t
 
-    sub-change : (change : Change) (d : Value × List (ℕ × Holder)) → TablesAgree (with_subscriber (sub_made_locally publication change d (sub_at_moment w.moment s)).0 w) (Noting.with_change publication (sub_next_dot s) (sub_last_closed s + 1) change d.0 h)
+    sub-change : (change : Change) (d : Value × List (ℕ × Holder)) → TablesAgree (with_subscriber (subscriber_made_locally publication change d (subscriber_at_moment w.moment s)).0 w) (Noting.with_change publication (subscriber_next_dot s) (subscriber_last_closed s + 1) change d.0 h)
     sub-change change d =
-        let dot : Dot = sub_next_dot s in
+        let dot : Dot = subscriber_next_dot s in
         let key : Key = key_of dot change in
-        let u : SubscriberTables = record (sub_at_moment w.moment s) { changes = s.changes + 1; held = d.1 } in
-        let version : Option Version = version_after publication dot d.0 change (sub_version_at s key) in
-        subscriber-stays w h (Noting.with_change publication dot (sub_last_closed s + 1) change d.0 h) s (with_version_if key version u) at (version-site key version u) (version-conflicts key version u) refl t
+        let u : SubscriberTables = record (subscriber_at_moment w.moment s) { changes = s.changes + 1; held = d.1 } in
+        let version : Option Version = version_after publication dot d.0 change (subscriber_version_at s key) in
+        subscriber-stays w h (Noting.with_change publication dot (subscriber_last_closed s + 1) change d.0 h) s (with_version_if key version u) at (version-site key version u) (version-conflicts key version u) refl t
 
-    anew : (let judge : SubscriberJudge = by_made h s.site in TablesAgree (with_subscriber (reinitialised judge (sub_at_moment w.moment s)).0 w) (Noting.noted_anew judge s h))
+    anew : (let judge : SubscriberJudge = by_made h s.site in TablesAgree (with_subscriber (reinitialised judge (subscriber_at_moment w.moment s)).0 w) (Noting.noted_anew judge s h))
     anew =
         let judge : SubscriberJudge = by_made h s.site in
-        let c : SubscriberTables = sub_at_moment w.moment s in
+        let c : SubscriberTables = subscriber_at_moment w.moment s in
         let rows : List ConflictRow = numbered_from c (c.conflict_count + 1) (discarded judge c) in
         let loses = discarded-lose c s.site (c.conflict_count + 1) (discarded judge c) h in
         let after : History = fold (Noting.with_discarded s.site) h (discarded judge c) in
@@ -179,11 +179,11 @@ tables-keep publication says = record {
   own_closing = λ w h b t. publisher-stays w h h (closed (here w)) refl refl t;
   forgetting = λ w h b t. forgets publication says w h b t;
   same = λ w h s b t at. stays publication says w h b t s at s refl refl;
-  sub_change = λ w h s change d b t at named fine is. sub-change publication says w h b t s at change d;
-  sub_closing = λ w h s b t at. stays publication says w h b t s at (sub_closed (sub_at_moment w.moment s)) refl refl;
+  subscriber_change = λ w h s change d b t at named fine is. sub-change publication says w h b t s at change d;
+  subscriber_closing = λ w h s b t at. stays publication says w h b t s at (subscriber_closed (subscriber_at_moment w.moment s)) refl refl;
   anew = λ w h s b t at. anew publication says w h b t s at;
   sends_join = λ w h s b t at joining. letter-goes (with_subscriber (with_message ask.Join s) w) h s.site (Asks (request.Join (join_of s))) (stays publication says w h b t s at (with_message ask.Join s) refl refl);
-  sends_upload = λ w h s b t at fine. (let made : SubscriberTables × Upload = upload_sent (by_made h s.site) (sub_closed (sub_at_moment w.moment s)) in
+  sends_upload = λ w h s b t at fine. (let made : SubscriberTables × Upload = upload_sent (by_made h s.site) (subscriber_closed (subscriber_at_moment w.moment s)) in
       letter-goes (with_subscriber made.0 w) h s.site (Asks (request.Upload made.1)) (stays publication says w h b t s at made.0 refl refl));
   sends_ranges = λ w h s b t at fine. (let v : SubscriberTables = with_message ask.Ranges s in
       letter-goes (with_subscriber v w) h s.site (Asks (request.Ranges (record { site = s.site; seq = s.seq + 1; wants = map want_of s.held }))) (stays publication says w h b t s at v refl refl));

@@ -10,8 +10,8 @@ use Rattle.merge_types.specs.declared.identifiers.SiteId.{SiteId}
 use Rattle.merge_ident.specs.declared.grants.Ask.{Ask}
 use Rattle.merge_ident.specs.declared.grants.Grant.{Grant}
 use Rattle.merge_ident.specs.declared.grants.GrantAnswer.TheVariants.{Granted, Kept, NotDue}
-use Rattle.merge_ident.specs.declared.grants.IdentFault.{IdentFault}
-use Rattle.merge_ident.specs.declared.grants.IdentFault.TheVariants.{NoRange, TooMany}
+use Rattle.merge_ident.specs.declared.grants.IdentityFault.{IdentityFault}
+use Rattle.merge_ident.specs.declared.grants.IdentityFault.TheVariants.{NoRange, TooMany}
 use Rattle.merge_ident.specs.declared.grants.GrantPlan.{GrantPlan}
 use Rattle.merge_ident.specs.declared.grants.Range.{Range}
 use Rattle.merge_ident.specs.declared.grants.Rule.{Rule}
@@ -83,7 +83,7 @@ kept-found grants site article sought number range (Some grant) at is =
     let answer : Answer → Type 0 = λ (a : Answer). (let told : Answer → Type 0 = λ (x : Answer). elim x [ Ok (Kept k r) ↦ KeptTold grants site article k r | Ok (Granted k r) ↦ Unit {0} | Ok NotDue ↦ Unit {0} | Err fault ↦ Unit {0} ] in told a) in
     subst answer is (λ value within. found-told site article sought value grant grants at within)
 
-next-kept : (b : Bool) (k begin end number : ℕ) (fault : IdentFault) (made range : Range) → (let answer : Answer = if b then Ok (Granted k made) else Err fault in answer) ≡ Ok (Kept number range) → ⊥
+next-kept : (b : Bool) (k begin end number : ℕ) (fault : IdentityFault) (made range : Range) → (let answer : Answer = if b then Ok (Granted k made) else Err fault in answer) ≡ Ok (Kept number range) → ⊥
 next-kept true k begin end number fault made range is = cc
 next-kept false k begin end number fault made range is = cc
 

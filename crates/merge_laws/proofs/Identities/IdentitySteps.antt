@@ -57,7 +57,7 @@ use Rattle.merge_model.specs.World.Faults.{reply_fault}
 use Rattle.merge_model.specs.History.Pasts.{past_after}
 use Rattle.merge_model.specs.Subscriber.Reinit.{reinitialised}
 use Rattle.merge_model.specs.Subscriber.Sending.{join_of, upload_sent, want_of, with_message}
-use Rattle.merge_model.specs.Subscriber.{empty_subscriber, sub_at_moment, sub_closed, sub_drawn, sub_last_closed, sub_made_locally, sub_next_dot, sub_version_at, with_version, with_version_if}
+use Rattle.merge_model.specs.Subscriber.{empty_subscriber, subscriber_at_moment, subscriber_closed, subscriber_drawn, subscriber_last_closed, subscriber_made_locally, subscriber_next_dot, subscriber_version_at, with_version, with_version_if}
 use Rattle.merge_model.specs.Subscriber.Taking.{taken}
 use Rattle.merge_model.proofs.Runs.Actions.{failing-actions-keep}
 use Rattle.merge_laws.proofs.Runs.Tallied.{received-tallied}
@@ -187,17 +187,17 @@ module _ (publication : Publication) (w : World) (h : History) (i : Apart public
       is (draw-keeps publication w.publisher w.subscribers w.pool h.made i change) in
       subst (λ (made : List MadeChange). Identities publication d.grants d.held w.subscribers w.pool made) (sym (lines-made more k)) (fact c refl refl refl)
 
-  sub-change : (s : SubscriberTables) (change : Change) (d : Value × List (ℕ × Holder)) → subscriber_at w s.site ≡ Some s → 1 ≤ s.site.0 → sub_drawn s change ≡ Ok d
-      → Apart publication (with_subscriber (sub_made_locally publication change d (sub_at_moment w.moment s)).0 w) (Noting.with_change publication (sub_next_dot s) (sub_last_closed s + 1) change d.0 h).made
+  sub-change : (s : SubscriberTables) (change : Change) (d : Value × List (ℕ × Holder)) → subscriber_at w s.site ≡ Some s → 1 ≤ s.site.0 → subscriber_drawn s change ≡ Ok d
+      → Apart publication (with_subscriber (subscriber_made_locally publication change d (subscriber_at_moment w.moment s)).0 w) (Noting.with_change publication (subscriber_next_dot s) (subscriber_last_closed s + 1) change d.0 h).made
   sub-change s change d at low is =
-      let t : SubscriberTables = sub_at_moment w.moment s in
-      let key : Key = key_of (sub_next_dot s) change in
-      let c : MadeChange = Noting.made_change publication (sub_next_dot s) (sub_last_closed s + 1) change d.0 key (past_after publication (sub_next_dot s) change (past_at h s.site.0 key)) in
+      let t : SubscriberTables = subscriber_at_moment w.moment s in
+      let key : Key = key_of (subscriber_next_dot s) change in
+      let c : MadeChange = Noting.made_change publication (subscriber_next_dot s) (subscriber_last_closed s + 1) change d.0 key (past_after publication (subscriber_next_dot s) change (past_at h s.site.0 key)) in
       let u : SubscriberTables = record t { changes = t.changes + 1; held = d.1 } in
-      let fact = subst (λ (draw : Result (Value × List (ℕ × Holder)) Refusal). IfOk draw (λ x. (v : SubscriberTables) (y : MadeChange) → v.held ≡ x.1 → y.dot.site.0 ≡ s.site.0 → y.key.article ≡ (key_of (sub_next_dot s) change).article → y.identity ≡ whole_number (Some x.0)
+      let fact = subst (λ (draw : Result (Value × List (ℕ × Holder)) Refusal). IfOk draw (λ x. (v : SubscriberTables) (y : MadeChange) → v.held ≡ x.1 → y.dot.site.0 ≡ s.site.0 → y.key.article ≡ (key_of (subscriber_next_dot s) change).article → y.identity ≡ whole_number (Some x.0)
       → Identities publication w.publisher.grants w.publisher.held (put_number w.subscribers s.site.0 v) w.pool (y ∷ h.made)))
       is (draw-took publication w.publisher.grants w.publisher.held w.subscribers w.pool h.made i s at change low) in
-      version-placed publication w h.made i s at key (version_after publication (sub_next_dot s) d.0 change (sub_version_at s key)) u refl (c ∷ h.made) (λ v same. fact v c same refl refl refl)
+      version-placed publication w h.made i s at key (version_after publication (subscriber_next_dot s) d.0 change (subscriber_version_at s key)) u refl (c ∷ h.made) (λ v same. fact v c same refl refl refl)
 
   -- the publisher answers with the same ranges, where the same values were taken
   answers : (site : SiteId) (m : Reply) (after : List MadeChange) → SameTaken after h.made → MessageTells w.publisher.grants site (Replies m) → Identities publication w.publisher.grants w.publisher.held w.subscribers (w.pool ++ record { site = site; message = Replies m } ∷ []) after
@@ -253,12 +253,12 @@ module _ (publication : Publication) (says : Saying) where
     forgetting = λ w h b p none. (let judge : PublisherJudge = by_past h (pasts_with h 0) in let k : History = Noting.noted_purge publication judge (here w) h in
         taken-same publication w.publisher.grants w.publisher.held w.subscribers w.pool h.made k.made (same-made k.made h.made (purge-made publication judge (here w) h)) b.1.0);
     same = λ w h s b p at none. same-stays publication w h.made b.1.0 s at s refl refl;
-    sub_change = λ w h s change d b p at named fine is none. sub-change publication w h b.1.0 s change d at (above-zero s.site.0 named) is;
-    sub_closing = λ w h s b p at none. same-stays publication w h.made b.1.0 s at (sub_closed (sub_at_moment w.moment s)) refl refl;
-    anew = λ w h s b p at none. (let judge : SubscriberJudge = by_made h s.site in let t : SubscriberTables = (reinitialised judge (sub_at_moment w.moment s)).0 in
+    subscriber_change = λ w h s change d b p at named fine is none. sub-change publication w h b.1.0 s change d at (above-zero s.site.0 named) is;
+    subscriber_closing = λ w h s b p at none. same-stays publication w h.made b.1.0 s at (subscriber_closed (subscriber_at_moment w.moment s)) refl refl;
+    anew = λ w h s b p at none. (let judge : SubscriberJudge = by_made h s.site in let t : SubscriberTables = (reinitialised judge (subscriber_at_moment w.moment s)).0 in
         subst (λ (made : List MadeChange). Apart publication (with_subscriber t w) made) (sym (anew-made (by_history h) s.site (Some s) h)) (same-stays publication w h.made b.1.0 s at t refl refl));
     sends_join = λ w h s b p at joining none. sends publication w h.made b.1.0 s at (with_message ask.Join s) (Asks (request.Join (join_of s))) refl refl tt;
-    sends_upload = λ w h s b p at fine none. (let made : SubscriberTables × Upload = upload_sent (by_made h s.site) (sub_closed (sub_at_moment w.moment s)) in sends publication w h.made b.1.0 s at made.0 (Asks (request.Upload made.1)) refl refl tt);
+    sends_upload = λ w h s b p at fine none. (let made : SubscriberTables × Upload = upload_sent (by_made h s.site) (subscriber_closed (subscriber_at_moment w.moment s)) in sends publication w h.made b.1.0 s at made.0 (Asks (request.Upload made.1)) refl refl tt);
     sends_ranges = λ w h s b p at fine none. sends publication w h.made b.1.0 s at (with_message ask.Ranges s) (Asks (request.Ranges (record { site = s.site; seq = s.seq + 1; wants = map want_of s.held }))) refl refl refl;
     sends_ask = λ w h s b p at fine none. sends publication w h.made b.1.0 s at (with_message (ask.Download s.watermark) s) (Asks (request.Download (record { site = s.site; seq = s.seq + 1; from = s.watermark }))) refl refl tt;
     joins = λ w h number m b p at fine acts none. (let judge : PublisherJudge = by_past h (pasts_with h number) in

@@ -26,7 +26,7 @@ use Rattle.merge_model.specs.Tables.Changes.{key_of}
 use Rattle.merge_model.specs.World.Faults.{reply_fault}
 use Rattle.merge_model.specs.History.{MadeChange}
 use Rattle.merge_model.specs.Tables.Keys.{at_number, put_number}
-use Rattle.merge_model.specs.Subscriber.{sub_drawn, sub_next_dot, taken_value}
+use Rattle.merge_model.specs.Subscriber.{subscriber_drawn, subscriber_next_dot, taken_value}
 use Rattle.merge_model.specs.Tables.{SubscriberTables}
 use Rattle.merge_model.specs.Subscriber.Taking.{with_grant}
 use Rattle.merge_model.specs.declared.letter.Letter.{Letter}
@@ -169,7 +169,7 @@ module _ (publication : Publication) (grants : List Grant) (own : List (ℕ × H
   found-took article (Some holder) low at = value-took article holder (answer_to_take holder) low at refl
 
   pub draw-took : (change : Change) → 1 ≤ s.site.0
-      → IfOk (sub_drawn s change) (λ d. (t : SubscriberTables) (c : MadeChange) → t.held ≡ d.1 → c.dot.site.0 ≡ s.site.0 → c.key.article ≡ (key_of (sub_next_dot s) change).article → c.identity ≡ whole_number (Some d.0) → Gone t (c ∷ made))
+      → IfOk (subscriber_drawn s change) (λ d. (t : SubscriberTables) (c : MadeChange) → t.held ≡ d.1 → c.dot.site.0 ≡ s.site.0 → c.key.article ≡ (key_of (subscriber_next_dot s) change).article → c.identity ≡ whole_number (Some d.0) → Gone t (c ∷ made))
   draw-took (Insert article values) low = found-took article (at_number s.held article) low refl
   draw-took (Update article row values) low = λ t c same same_site same_article none. none-took t c same none
   draw-took (Delete article row) low = λ t c same same_site same_article none. none-took t c same none

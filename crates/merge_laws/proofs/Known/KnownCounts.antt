@@ -14,7 +14,7 @@ use Rattle.merge_schema.specs.declared.publication.Publication.{Publication}
 use Rattle.merge_model.specs.Tables.Changes.{key_of, version_after}
 use Rattle.merge_model.specs.Judge.{SubscriberJudge}
 use Rattle.merge_model.specs.Tables.Keys.{at_number, put_number}
-use Rattle.merge_model.specs.Subscriber.{sub_at_moment, sub_made_locally, sub_next_dot, sub_version_at, with_version_if}
+use Rattle.merge_model.specs.Subscriber.{subscriber_at_moment, subscriber_made_locally, subscriber_next_dot, subscriber_version_at, with_version_if}
 use Rattle.merge_types.specs.declared.row_key.RowKey.{RowKey as Key}
 use Rattle.merge_model.specs.Tables.{PublisherTables, SubscriberTables}
 use Rattle.merge_model.specs.Subscriber.Taking.{taken}
@@ -89,11 +89,11 @@ version-on : (key : Key) (version : Option Version) (s u : SubscriberTables) →
 version-on key None s u site changes = record { same_site = site; changes = changes }
 version-on key (Some version) s u site changes = record { same_site = site; changes = changes }
 
-pub made-on : (publication : Publication) (now : Moment) (change : Change) (s : SubscriberTables) (d : Value × List (ℕ × Holder)) → GoesOn 1 s (sub_made_locally publication change d (sub_at_moment now s)).0
+pub made-on : (publication : Publication) (now : Moment) (change : Change) (s : SubscriberTables) (d : Value × List (ℕ × Holder)) → GoesOn 1 s (subscriber_made_locally publication change d (subscriber_at_moment now s)).0
 made-on publication now change s d =
-    let t : SubscriberTables = sub_at_moment now s in
+    let t : SubscriberTables = subscriber_at_moment now s in
     let u : SubscriberTables = record t { changes = t.changes + 1; held = d.1 } in
-    version-on (key_of (sub_next_dot t) change) (version_after publication (sub_next_dot t) d.0 change (sub_version_at t (key_of (sub_next_dot t) change))) s u refl refl
+    version-on (key_of (subscriber_next_dot t) change) (version_after publication (subscriber_next_dot t) d.0 change (subscriber_version_at t (key_of (subscriber_next_dot t) change))) s u refl refl
 
 -- a site's own count is the one of its number
 pub own-count : (w : World) (s : SubscriberTables) (b : Bool) → (s.site.0 == 0) ≡ b → (s.site.0 ≡ 0 → ⊥) → at_number w.subscribers s.site.0 ≡ Some s → s.changes ≡ changes_of w s.site.0

@@ -31,7 +31,7 @@ use Rattle.merge_model.specs.Publisher.PublisherJoin.{join_taken}
 use Rattle.merge_model.specs.Publisher.PublisherUpload.{taken_in}
 use Rattle.merge_model.specs.Publisher.PublisherRanges.{plans, ranged, with_grants}
 use Rattle.merge_model.specs.Publisher.PublisherDownload.{asked, reply_to}
-use Rattle.merge_model.specs.Subscriber.{sub_at_moment, sub_last_closed, sub_made_locally, sub_next_dot, empty_subscriber, sub_closed}
+use Rattle.merge_model.specs.Subscriber.{subscriber_at_moment, subscriber_last_closed, subscriber_made_locally, subscriber_next_dot, empty_subscriber, subscriber_closed}
 use Rattle.merge_model.specs.World.{Saying, World, subscriber_at, with_publisher, with_subscriber, empty_subscribers, empty_world}
 use Rattle.merge_model.specs.declared.letter.Message.TheVariants.{Asks, Replies}
 use Rattle.merge_model.specs.declared.letter.Message.{Message}
@@ -81,11 +81,11 @@ module _ (publication : Publication) (says : Saying) where
       (lines-known (raised (changes_of w) 0 1) lines changed (change-known (changes_of w) publication (next_dot (here w)) (last_closed (here w) + 1) change d.value h refl k))
 
   sub-change : (w : World) (h : History) (s : SubscriberTables) (change : Change) (d : Value × List (ℕ × Holder)) → subscriber_at w s.site ≡ Some s → (s.site.0 ≡ 0 → ⊥) → OfChanges w h
-      → OfChanges (with_subscriber (sub_made_locally publication change d (sub_at_moment w.moment s)).0 w) (Noting.with_change publication (sub_next_dot s) (sub_last_closed s + 1) change d.0 h)
+      → OfChanges (with_subscriber (subscriber_made_locally publication change d (subscriber_at_moment w.moment s)).0 w) (Noting.with_change publication (subscriber_next_dot s) (subscriber_last_closed s + 1) change d.0 h)
   sub-change w h s change d at named k =
-      let t : SubscriberTables = (sub_made_locally publication change d (sub_at_moment w.moment s)).0 in
-      counted (raised (changes_of w) s.site.0 1) (changes_of (with_subscriber t w)) (Noting.with_change publication (sub_next_dot s) (sub_last_closed s + 1) change d.0 h) (λ n. on-counts w s t 1 n named at (made-on publication w.moment change s d))
-      (change-known (changes_of w) publication (sub_next_dot s) (sub_last_closed s + 1) change d.0 h (ap (λ (n : ℕ). n + 1) (own-count w s (s.site.0 == 0) refl named at)) k)
+      let t : SubscriberTables = (subscriber_made_locally publication change d (subscriber_at_moment w.moment s)).0 in
+      counted (raised (changes_of w) s.site.0 1) (changes_of (with_subscriber t w)) (Noting.with_change publication (subscriber_next_dot s) (subscriber_last_closed s + 1) change d.0 h) (λ n. on-counts w s t 1 n named at (made-on publication w.moment change s d))
+      (change-known (changes_of w) publication (subscriber_next_dot s) (subscriber_last_closed s + 1) change d.0 h (ap (λ (n : ℕ). n + 1) (own-count w s (s.site.0 == 0) refl named at)) k)
 
   uploads : (w : World) (h : History) (number : ℕ) (m : Upload) → OfChanges w h
       → (let judge : PublisherJudge = by_past h (pasts_with h number) in let acts : List Act = acts_in publication says judge m w in
@@ -112,12 +112,12 @@ module _ (publication : Publication) (says : Saying) where
     own_closing = λ w h r k. k;
     forgetting = λ w h r k. purge-known (changes_of w) publication (by_past h (pasts_with h 0)) (here w) h k;
     same = λ w h s r k at. goes-on w h s s at (record { same_site = refl; changes = omega arith }) k;
-    sub_change = λ w h s change d r k at named fine is. sub-change w h s change d at named k;
-    sub_closing = λ w h s r k at. goes-on w h s (sub_closed (sub_at_moment w.moment s)) at (record { same_site = refl; changes = omega arith }) k;
+    subscriber_change = λ w h s change d r k at named fine is. sub-change w h s change d at named k;
+    subscriber_closing = λ w h s r k at. goes-on w h s (subscriber_closed (subscriber_at_moment w.moment s)) at (record { same_site = refl; changes = omega arith }) k;
     anew = λ w h s r k at. (let judge : SubscriberJudge = by_made h s.site in
-        goes-on w (Noting.noted_anew judge s h) s (reinitialised judge (sub_at_moment w.moment s)).0 at (record { same_site = refl; changes = omega arith }) (anew-known (changes_of w) judge s h k));
+        goes-on w (Noting.noted_anew judge s h) s (reinitialised judge (subscriber_at_moment w.moment s)).0 at (record { same_site = refl; changes = omega arith }) (anew-known (changes_of w) judge s h k));
     sends_join = λ w h s r k at joining. sends w h s (with_message ask.Join s) (Asks (request.Join (join_of s))) at (record { same_site = refl; changes = omega arith }) k;
-    sends_upload = λ w h s r k at fine. (let made : SubscriberTables × Upload = upload_sent (by_made h s.site) (sub_closed (sub_at_moment w.moment s)) in
+    sends_upload = λ w h s r k at fine. (let made : SubscriberTables × Upload = upload_sent (by_made h s.site) (subscriber_closed (subscriber_at_moment w.moment s)) in
         sends w h s made.0 (Asks (request.Upload made.1)) at (record { same_site = refl; changes = omega arith }) k);
     sends_ranges = λ w h s r k at fine. sends w h s (with_message ask.Ranges s) (Asks (request.Ranges (record { site = s.site; seq = s.seq + 1; wants = map want_of s.held }))) at (record { same_site = refl; changes = omega arith }) k;
     sends_ask = λ w h s r k at fine. sends w h s (with_message (ask.Download s.watermark) s) (Asks (request.Download (record { site = s.site; seq = s.seq + 1; from = s.watermark }))) at (record { same_site = refl; changes = omega arith }) k;

@@ -122,8 +122,8 @@ module _ (publication : Publication) (says : Saying) where
     own_closing = λ w h b fits. fits;
     forgetting = λ w h b fits. purge-fits publication w h b.1 fits;
     same = λ w h s b fits at. fits;
-    sub_change = λ w h s change d b fits at named fine is. fits;
-    sub_closing = λ w h s b fits at. fits;
+    subscriber_change = λ w h s change d b fits at named fine is. fits;
+    subscriber_closing = λ w h s b fits at. fits;
     anew = λ w h s b fits at. same-lines publication w.publisher h (Noting.noted_anew (by_made h s.site) s h) (anew-lines (by_history h) s.site (Some s) h) fits;
     sends_join = λ w h s b fits at joining. fits;
     sends_upload = λ w h s b fits at fine. fits;

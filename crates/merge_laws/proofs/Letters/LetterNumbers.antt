@@ -15,7 +15,7 @@ use Rattle.merge_model.specs.Tables.Keys.{at_number, put_number}
 use Rattle.merge_model.specs.Tables.Publications.{by_site}
 use Rattle.merge_model.specs.Subscriber.Reinit.{reinitialised}
 use Rattle.merge_model.specs.Subscriber.Sending.{upload_sent, with_message}
-use Rattle.merge_model.specs.Subscriber.{empty_subscriber, sub_at_moment, sub_closed, sub_made_locally}
+use Rattle.merge_model.specs.Subscriber.{empty_subscriber, subscriber_at_moment, subscriber_closed, subscriber_made_locally}
 use Rattle.merge_model.specs.Tables.{SubscriberTables}
 use Rattle.merge_model.specs.Subscriber.Taking.{taken}
 use Rattle.merge_model.specs.World.{Saying, World, empty_world, letter_at, subscriber_at}
@@ -53,11 +53,11 @@ named-keeps publication says = record {
   own_closing = λ w h g p. p;
   forgetting = λ w h g p. p;
   same = λ w h s g p at. (named-put w s s at refl p.0, p.1);
-  sub_change = λ w h s change d g p at named fine is. (named-put w s (sub_made_locally publication change d (sub_at_moment w.moment s)).0 at (version-site _ _ _) p.0, p.1);
-  sub_closing = λ w h s g p at. (named-put w s (sub_closed (sub_at_moment w.moment s)) at refl p.0, p.1);
-  anew = λ w h s g p at. (named-put w s (reinitialised (by_made h s.site) (sub_at_moment w.moment s)).0 at refl p.0, p.1);
+  subscriber_change = λ w h s change d g p at named fine is. (named-put w s (subscriber_made_locally publication change d (subscriber_at_moment w.moment s)).0 at (version-site _ _ _) p.0, p.1);
+  subscriber_closing = λ w h s g p at. (named-put w s (subscriber_closed (subscriber_at_moment w.moment s)) at refl p.0, p.1);
+  anew = λ w h s g p at. (named-put w s (reinitialised (by_made h s.site) (subscriber_at_moment w.moment s)).0 at refl p.0, p.1);
   sends_join = λ w h s g p at joining. (named-put w s (with_message ask.Join s) at refl p.0, posted-named w.pool s.site _ tt p.1);
-  sends_upload = λ w h s g p at fine. (named-put w s (upload_sent (by_made h s.site) (sub_closed (sub_at_moment w.moment s))).0 at refl p.0, posted-named w.pool s.site _ tt p.1);
+  sends_upload = λ w h s g p at fine. (named-put w s (upload_sent (by_made h s.site) (subscriber_closed (subscriber_at_moment w.moment s))).0 at refl p.0, posted-named w.pool s.site _ tt p.1);
   sends_ranges = λ w h s g p at fine. (named-put w s (with_message ask.Ranges s) at refl p.0, posted-named w.pool s.site _ tt p.1);
   sends_ask = λ w h s g p at fine. (named-put w s (with_message (ask.Download s.watermark) s) at refl p.0, posted-named w.pool s.site _ (found-named w.subscribers s.site.0 s g.none at) p.1);
   joins = λ w h number m g p at fine acts. (p.0, posted-named w.pool m.site _ tt p.1);

@@ -26,7 +26,7 @@ use Rattle.merge_model.specs.Publisher.PublisherRanges.{plans, ranged, with_gran
 use Rattle.merge_model.specs.Publisher.PublisherUpload.{taken_in}
 use Rattle.merge_model.specs.Subscriber.Reinit.{reinitialised}
 use Rattle.merge_model.specs.Subscriber.Sending.{join_of, upload_sent, want_of, with_message}
-use Rattle.merge_model.specs.Subscriber.{is_joining, sub_at_moment, sub_closed, sub_next_dot, sub_version_at, with_version_if}
+use Rattle.merge_model.specs.Subscriber.{is_joining, subscriber_at_moment, subscriber_closed, subscriber_next_dot, subscriber_version_at, with_version_if}
 use Rattle.merge_types.specs.declared.row_key.RowKey.{RowKey as Key}
 use Rattle.merge_model.specs.Tables.{PublisherTables, SubscriberTables}
 use Rattle.merge_model.specs.Subscriber.Taking.{taken}
@@ -173,18 +173,18 @@ module _ (publication : Publication) (says : Saying) where
     own_closing = λ w h r i. publisher-same w (closed (here w)) (same-sites w.publisher (closed (here w)) refl) i;
     forgetting = λ w h r i. (let q : PublisherTables = (purge publication w.moment w.publisher).0 in publisher-same w q (same-sites w.publisher q refl) i);
     same = λ w h s r i at. subscriber-on w s s at refl (omega arith) i;
-    sub_change = λ w h s change d r i at named fine is. (
-        let key : Key = key_of (sub_next_dot s) change in
-        let u : SubscriberTables = record (sub_at_moment w.moment s) { changes = s.changes + 1; held = d.1 } in
-        let found : Option Version = version_after publication (sub_next_dot s) d.0 change (sub_version_at s key) in
+    subscriber_change = λ w h s change d r i at named fine is. (
+        let key : Key = key_of (subscriber_next_dot s) change in
+        let u : SubscriberTables = record (subscriber_at_moment w.moment s) { changes = s.changes + 1; held = d.1 } in
+        let found : Option Version = version_after publication (subscriber_next_dot s) d.0 change (subscriber_version_at s key) in
         subscriber-on w s (with_version_if key found u) at (version-site key found u) (let e = version-seq key found u in omega (arith, e)) i);
-    sub_closing = λ w h s r i at. subscriber-on w s (sub_closed (sub_at_moment w.moment s)) at refl (omega arith) i;
-    anew = λ w h s r i at. subscriber-on w s (reinitialised (by_made h s.site) (sub_at_moment w.moment s)).0 at refl (omega arith) i;
+    subscriber_closing = λ w h s r i at. subscriber-on w s (subscriber_closed (subscriber_at_moment w.moment s)) at refl (omega arith) i;
+    anew = λ w h s r i at. subscriber-on w s (reinitialised (by_made h s.site) (subscriber_at_moment w.moment s)).0 at refl (omega arith) i;
     sends_join = λ w h s r i at joining. (
         let t : SubscriberTables = with_message ask.Join s in
         post-other (with_subscriber t w) s.site (Asks (request.Join (join_of s))) refl (λ acts. (let was = i.sent s.site.0 s at in omega (arith, was))) (subscriber-on w s t at refl (omega arith) i));
     sends_upload = λ w h s r i at fine. (
-        let made = upload_sent (by_made h s.site) (sub_closed (sub_at_moment w.moment s)) in
+        let made = upload_sent (by_made h s.site) (subscriber_closed (subscriber_at_moment w.moment s)) in
         post-upload w h s made.0 (Asks (request.Upload made.1)) r at (joined-flag s (first-none (is_joining s) _ fine).0) refl refl refl (λ joined last. tt) i);
     sends_ranges = λ w h s r i at fine. post-other (with_subscriber (with_message ask.Ranges s) w) s.site (Asks (request.Ranges (record { site = s.site; seq = s.seq + 1; wants = map want_of s.held }))) refl tt (subscriber-on w s (with_message ask.Ranges s) at refl (omega arith) i);
     sends_ask = λ w h s r i at fine. post-other (with_subscriber (with_message (ask.Download s.watermark) s) w) s.site (Asks (request.Download (record { site = s.site; seq = s.seq + 1; from = s.watermark }))) refl tt (subscriber-on w s (with_message (ask.Download s.watermark) s) at refl (omega arith) i);

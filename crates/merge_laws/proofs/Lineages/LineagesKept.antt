@@ -44,7 +44,7 @@ use Rattle.merge_model.specs.Publisher.PublisherUpload.{taken_in}
 use Rattle.merge_model.specs.Subscriber.Reinit.{discarded, numbered_from, reinitialised}
 use Rattle.merge_model.specs.Subscriber.Sending.{join_of, upload_sent, want_of, with_message}
 use Rattle.merge_model.specs.World.Steps.{Action, kept_decisions, upload_questions}
-use Rattle.merge_model.specs.Subscriber.{sub_at_moment, sub_closed, sub_made_locally, sub_next_dot, sub_version_at, with_version_if}
+use Rattle.merge_model.specs.Subscriber.{subscriber_at_moment, subscriber_closed, subscriber_made_locally, subscriber_next_dot, subscriber_version_at, with_version_if}
 use Rattle.merge_types.specs.declared.row_key.RowKey.{RowKey as Key}
 use Rattle.merge_units.specs.declared.site_row.PublisherRow.{PublisherRow}
 use Rattle.merge_units.specs.declared.site_row.SubscriberRow.{SubscriberRow}
@@ -136,13 +136,13 @@ module _ (Q : List Dot → Type 0) where
     lost = all-append (λ (row : ConflictRow). Q row.losing.lineage) p.conflicts _ f.lost (all-lost Q publication m.site p.latest (p.conflict_count + 1) acts fits);
   }
 
-  change-made : (publication : Publication) (change : Change) (d : Value × List (ℕ × Holder)) (s : SubscriberTables) (w : World) → ((l : List Dot) → Q l → Q (with_dot (sub_next_dot s) l)) → Q [] → OfSubscriber Q s → OfSubscriber Q (sub_made_locally publication change d (sub_at_moment w.moment s)).0
+  change-made : (publication : Publication) (change : Change) (d : Value × List (ℕ × Holder)) (s : SubscriberTables) (w : World) → ((l : List Dot) → Q l → Q (with_dot (subscriber_next_dot s) l)) → Q [] → OfSubscriber Q s → OfSubscriber Q (subscriber_made_locally publication change d (subscriber_at_moment w.moment s)).0
   change-made publication change d s w knows none f =
-      let key : Key = key_of (sub_next_dot s) change in
-      let u : SubscriberTables = record (sub_at_moment w.moment s) { changes = s.changes + 1; held = d.1 } in
-      let found : Option Version = version_after publication (sub_next_dot s) d.0 change (sub_version_at s key) in
+      let key : Key = key_of (subscriber_next_dot s) change in
+      let u : SubscriberTables = record (subscriber_at_moment w.moment s) { changes = s.changes + 1; held = d.1 } in
+      let found : Option Version = version_after publication (subscriber_next_dot s) d.0 change (subscriber_version_at s key) in
       record {
-        rows = own-put Q key found u (after-fits Q publication (sub_next_dot s) d.0 change (sub_version_at s key) knows none (own-found Q s key f.rows)) f.rows;
+        rows = own-put Q key found u (after-fits Q publication (subscriber_next_dot s) d.0 change (subscriber_version_at s key) knows none (own-found Q s key f.rows)) f.rows;
         lost = subst (λ (es : List ConflictRow). OfLost Q es) (sym (version-conflicts key found u)) f.lost;
       }
 
@@ -153,9 +153,9 @@ module _ (Q : List Dot → Type 0) where
   reply-taken judge (reply.Downloaded m) s w new f = record { rows = own-items Q judge m.received m.items (map (row_above m.received) s.rows) new (own-above Q m.received s.rows f.rows); lost = f.lost }
   reply-taken judge (reply.Refused number values) s w new f = record { rows = f.rows; lost = f.lost }
 
-  anew-made : (judge : SubscriberJudge) (s : SubscriberTables) (w : World) → OfSubscriber Q s → OfSubscriber Q (reinitialised judge (sub_at_moment w.moment s)).0
+  anew-made : (judge : SubscriberJudge) (s : SubscriberTables) (w : World) → OfSubscriber Q s → OfSubscriber Q (reinitialised judge (subscriber_at_moment w.moment s)).0
   anew-made judge s w f =
-      let c : SubscriberTables = sub_at_moment w.moment s in
+      let c : SubscriberTables = subscriber_at_moment w.moment s in
       record { rows = tt; lost = all-append (λ (row : ConflictRow). Q row.losing.lineage) s.conflicts (numbered_from c (c.conflict_count + 1) (discarded judge c)) f.lost (anew-lost Q judge c (c.conflict_count + 1) f.rows) }
 
   -- a message of a subscriber
@@ -261,18 +261,18 @@ module _ (publication : Publication) (says : Saying) where
       (λ f. own-made Q publication judge change d (here w) (λ l fits. made-dot (changes_of (with_publisher q w)) (next_dot (here w)) l (omega arith) fits) (made-none (changes_of (with_publisher q w))) (publisher-same Q w.publisher (here w) refl refl f)) i
 
   change-kept : (w : World) (s : SubscriberTables) (change : Change) (d : Value × List (ℕ × Holder)) → subscriber_at w s.site ≡ Some s → (s.site.0 ≡ 0 → ⊥) → LineagesAreMade w
-      → LineagesAreMade (with_subscriber (sub_made_locally publication change d (sub_at_moment w.moment s)).0 w)
+      → LineagesAreMade (with_subscriber (subscriber_made_locally publication change d (subscriber_at_moment w.moment s)).0 w)
   change-kept w s change d at named i =
-      let key : Key = key_of (sub_next_dot s) change in
-      let u : SubscriberTables = record (sub_at_moment w.moment s) { changes = s.changes + 1; held = d.1 } in
-      let found : Option Version = version_after publication (sub_next_dot s) d.0 change (sub_version_at s key) in
+      let key : Key = key_of (subscriber_next_dot s) change in
+      let u : SubscriberTables = record (subscriber_at_moment w.moment s) { changes = s.changes + 1; held = d.1 } in
+      let found : Option Version = version_after publication (subscriber_next_dot s) d.0 change (subscriber_version_at s key) in
       let t : SubscriberTables = with_version_if key found u in
       let site : t.site.0 ≡ s.site.0 = version-site key found u in
       let more : t.changes ≡ s.changes + 1 = version-changes key found u in
       let Q : List Dot → Type 0 = Made (with_subscriber t w) in
       let counted : t.changes ≤ changes_of (with_subscriber t w) s.site.0 = changes-here w t s.site.0 (s.site.0 == 0) refl named (sym site) in
       on-subscriber w s t at site (omega (arith, more))
-      (λ f. change-made Q publication change d s w (λ l fits. made-dot (changes_of (with_subscriber t w)) (sub_next_dot s) l (omega (arith, counted, more)) fits) (made-none (changes_of (with_subscriber t w))) f) i
+      (λ f. change-made Q publication change d s w (λ l fits. made-dot (changes_of (with_subscriber t w)) (subscriber_next_dot s) l (omega (arith, counted, more)) fits) (made-none (changes_of (with_subscriber t w))) f) i
 
   upload-kept : (w : World) (judge : PublisherJudge) (number : ℕ) (m : Upload) → comes w number m.site (Asks (request.Upload m)) → LineagesAreMade w → LineagesAreMade (with_publisher (taken_in publication judge m (acts_in publication says judge m w) (here w)) w)
   upload-kept w judge number m at i =
@@ -290,9 +290,9 @@ module _ (publication : Publication) (says : Saying) where
       publisher-put (Made (with_publisher q w)) w q (upload-taken (Made (with_publisher q w)) publication judge m acts (here w) (made-joined made) fits (publisher-same (Made (with_publisher q w)) w.publisher (here w) refl refl j.publisher)) j
 
   upload-sends : (w : World) (h : History) (s : SubscriberTables) → subscriber_at w s.site ≡ Some s → LineagesAreMade w
-      → (let made : SubscriberTables × Upload = upload_sent (by_made h s.site) (sub_closed (sub_at_moment w.moment s)) in Sends OfWorlds s.site (Asks (request.Upload made.1)) (with_subscriber made.0 w) h)
+      → (let made : SubscriberTables × Upload = upload_sent (by_made h s.site) (subscriber_closed (subscriber_at_moment w.moment s)) in Sends OfWorlds s.site (Asks (request.Upload made.1)) (with_subscriber made.0 w) h)
   upload-sends w h s at i =
-      let c : SubscriberTables = sub_closed (sub_at_moment w.moment s) in
+      let c : SubscriberTables = subscriber_closed (subscriber_at_moment w.moment s) in
       let made : SubscriberTables × Upload = upload_sent (by_made h s.site) c in
       let v : World = with_subscriber made.0 w in
       let j : LineagesAreMade v = stays-here w s made.0 at refl refl refl refl i in
@@ -315,9 +315,9 @@ module _ (publication : Publication) (says : Saying) where
     own_closing = λ w h r i. stays-there w (closed (here w)) refl refl refl i;
     forgetting = λ w h r i. (let q : PublisherTables = (purge publication w.moment w.publisher).0 in on-publisher w q (omega arith) (λ f. purged (Made (with_publisher q w)) publication w.publisher w f) i);
     same = λ w h s r i at. stays-here w s s at refl refl refl refl i;
-    sub_change = λ w h s change d r i at named fine is. change-kept w s change d at named i;
-    sub_closing = λ w h s r i at. stays-here w s (sub_closed (sub_at_moment w.moment s)) at refl refl refl refl i;
-    anew = λ w h s r i at. (let judge : SubscriberJudge = by_made h s.site in let t : SubscriberTables = (reinitialised judge (sub_at_moment w.moment s)).0 in
+    subscriber_change = λ w h s change d r i at named fine is. change-kept w s change d at named i;
+    subscriber_closing = λ w h s r i at. stays-here w s (subscriber_closed (subscriber_at_moment w.moment s)) at refl refl refl refl i;
+    anew = λ w h s r i at. (let judge : SubscriberJudge = by_made h s.site in let t : SubscriberTables = (reinitialised judge (subscriber_at_moment w.moment s)).0 in
         on-subscriber w s t at refl (omega arith) (λ f. anew-made (Made (with_subscriber t w)) judge s w f) i);
     sends_join = λ w h s r i at joining. (let t : SubscriberTables = with_message ask.Join s in on-letter (with_subscriber t w) s.site (Asks (request.Join (join_of s))) tt (stays-here w s t at refl refl refl refl i));
     sends_upload = λ w h s r i at fine. upload-sends w h s at i;

@@ -23,7 +23,7 @@ use Rattle.merge_model.specs.Publisher.{last_closed}
 use Rattle.merge_model.specs.Publisher.PublisherLocal.{Drawn, changing_locally, local_refusal, made_locally, next_dot, version_at, with_draw}
 use Rattle.merge_model.specs.Publisher.PublisherPurge.{is_old_tombstone, purge}
 use Rattle.merge_model.specs.Subscriber.Reinit.{discarded, reinitialised}
-use Rattle.merge_model.specs.Subscriber.{generations_at, sub_at_moment, sub_last_closed, sub_local_refusal, sub_made_locally, sub_next_dot, sub_version_at, with_open, with_version_if}
+use Rattle.merge_model.specs.Subscriber.{generations_at, subscriber_at_moment, subscriber_last_closed, subscriber_local_refusal, subscriber_made_locally, subscriber_next_dot, subscriber_version_at, with_open, with_version_if}
 use Rattle.merge_types.specs.declared.row_key.RowKey.{RowKey as Key}
 use Rattle.merge_units.specs.declared.site_row.PublisherRow.{PublisherRow}
 use Rattle.merge_units.specs.declared.site_row.SubscriberRow.{SubscriberRow}
@@ -130,19 +130,19 @@ own-makers publication judge w h change d g i fine =
 
 sub-rows : (key : Key) (found : Option Version) (u : SubscriberTables) (q : Key) → is_some (row_at (with_version_if key found u).rows q) ≡ true → (is_some (row_at u.rows q) || same_key q key) ≡ true
 sub-rows key None u q is = grind (arith, is)
-sub-rows key (Some version) u q is = (let row : SubscriberRow = record { version = version; generations = with_open (sub_last_closed u + 1) (generations_at u key) } in let held = held-put u.rows key row q in grind (arith, held, is))
+sub-rows key (Some version) u q is = (let row : SubscriberRow = record { version = version; generations = with_open (subscriber_last_closed u + 1) (generations_at u key) } in let held = held-put u.rows key row q in grind (arith, held, is))
 
-pub sub-makers : (publication : Publication) (w : World) (h : History) (s : SubscriberTables) (change : Change) (d : Value × List (ℕ × Holder)) → Ground publication w h → KnownMakers w h → subscriber_at w s.site ≡ Some s → (s.site.0 ≡ 0 → ⊥) → sub_local_refusal publication change s ≡ None
-    → KnownMakers (with_subscriber (sub_made_locally publication change d (sub_at_moment w.moment s)).0 w) (Noting.with_change publication (sub_next_dot s) (sub_last_closed s + 1) change d.0 h)
+pub sub-makers : (publication : Publication) (w : World) (h : History) (s : SubscriberTables) (change : Change) (d : Value × List (ℕ × Holder)) → Ground publication w h → KnownMakers w h → subscriber_at w s.site ≡ Some s → (s.site.0 ≡ 0 → ⊥) → subscriber_local_refusal publication change s ≡ None
+    → KnownMakers (with_subscriber (subscriber_made_locally publication change d (subscriber_at_moment w.moment s)).0 w) (Noting.with_change publication (subscriber_next_dot s) (subscriber_last_closed s + 1) change d.0 h)
 sub-makers publication w h s change d g i at named fine =
     let n : ℕ = s.site.0 in
-    let dot : Dot = sub_next_dot s in
+    let dot : Dot = subscriber_next_dot s in
     let key : Key = key_of dot change in
     let past : Past = past_after publication dot change (past_at h n key) in
-    let u : SubscriberTables = record (sub_at_moment w.moment s) { changes = s.changes + 1; held = d.1 } in
-    let found : Option Version = version_after publication dot d.0 change (sub_version_at s key) in
+    let u : SubscriberTables = record (subscriber_at_moment w.moment s) { changes = s.changes + 1; held = d.1 } in
+    let found : Option Version = version_after publication dot d.0 change (subscriber_version_at s key) in
     let t : SubscriberTables = with_version_if key found u in
-    let k : History = Noting.with_change publication dot (sub_last_closed s + 1) change d.0 h in
+    let k : History = Noting.with_change publication dot (subscriber_last_closed s + 1) change d.0 h in
     let old : is_insert change ≡ false → KnowsMaker key (past_at h n key).known = λ is. i.there n s at key (sub-held publication change s fine is) in
     let knows : KnowsMaker key past.known = knows-after publication dot change (past_at h n key) (sub-small publication change s fine) old in
     let rows : List (Key × Past) = put_row (pasts_at h n) key past in
@@ -150,7 +150,7 @@ sub-makers publication w h s change d g i at named fine =
     subst (λ (m : ℕ). KnownMakers (record w { subscribers = put_number w.subscribers m t }) k) (sym (version-site key found u)) (record {
       sorted = all-sites (λ (m : ℕ) (x : List (Key × Past)). Ascend x) h.pasts n rows (put-ascends (pasts_at h n) key past (i.sorted n)) i.sorted;
       makers = (knows, i.makers);
-      firsts = (after-maker (changes_of w) publication dot (sub_last_closed s + 1) change d.0 (past_at h n key) h (sub-small publication change s fine) g.known.numbered next (held-knows h n key g.known.knowledge) old, i.firsts);
+      firsts = (after-maker (changes_of w) publication dot (subscriber_last_closed s + 1) change d.0 (past_at h n key) h (sub-small publication change s fine) g.known.numbered next (held-knows h n key g.known.knowledge) old, i.firsts);
       here = subst (λ (x : List (Key × Past)). HeldKnow w.publisher.rows x) (sym (put-there h.pasts n rows 0 (λ e. named (sym e)))) i.here;
       there = all-subscribers (λ (m : ℕ) (v : SubscriberTables). HeldKnow v.rows (rows_in k.pasts m)) w.subscribers n t
           (subst (λ (x : List (Key × Past)). HeldKnow t.rows x) (sym (put-here h.pasts n rows)) (know-more s.rows t.rows (pasts_at h n) key past knows (λ q is. sub-rows key found u q is) (i.there n s at)))
@@ -165,10 +165,10 @@ none-ascends = tt
 -- A site is made anew.
 
 pub anew-makers : (w : World) (h : History) (s : SubscriberTables) → (s.site.0 ≡ 0 → ⊥) → KnownMakers w h → subscriber_at w s.site ≡ Some s
-    → (let judge : SubscriberJudge = by_made h s.site in KnownMakers (with_subscriber (reinitialised judge (sub_at_moment w.moment s)).0 w) (Noting.noted_anew judge s h))
+    → (let judge : SubscriberJudge = by_made h s.site in KnownMakers (with_subscriber (reinitialised judge (subscriber_at_moment w.moment s)).0 w) (Noting.noted_anew judge s h))
 anew-makers w h s named i at =
     let judge : SubscriberJudge = by_made h s.site in
-    let t : SubscriberTables = (reinitialised judge (sub_at_moment w.moment s)).0 in
+    let t : SubscriberTables = (reinitialised judge (subscriber_at_moment w.moment s)).0 in
     let n : ℕ = s.site.0 in
     let lost : List (Key × Version) = discarded judge s in
     let k : History = record h { pasts = put_number h.pasts n [] } in

@@ -21,7 +21,7 @@ use Rattle.merge_model.specs.Publisher.{counters, last_closed}
 use Rattle.merge_model.specs.Publisher.PublisherLocal.{local_refusal, next_dot, version_at}
 use Rattle.merge_types.specs.Limits.{counter_limit}
 use Rattle.merge_model.specs.Tables.Refusals.{counter_end}
-use Rattle.merge_model.specs.Subscriber.{is_joining, sub_counters, sub_last_closed, sub_local_refusal, sub_next_dot, sub_version_at}
+use Rattle.merge_model.specs.Subscriber.{is_joining, subscriber_counters, subscriber_last_closed, subscriber_local_refusal, subscriber_next_dot, subscriber_version_at}
 use Rattle.merge_types.specs.declared.row_key.RowKey.{RowKey as Key}
 use Rattle.merge_units.specs.declared.site_row.PublisherRow.{PublisherRow}
 use Rattle.merge_units.specs.declared.site_row.SubscriberRow.{SubscriberRow}
@@ -119,18 +119,18 @@ own-held publication change p fine is =
     let refused = first-none (change_refusal publication dot change found (length p.rows)) _ first.1 in
     some-row (λ (row : PublisherRow). row.version) (row_at p.rows (key_of dot change)) (row-lives change found (first-none (no_row change found) _ refused.0).0 is)
 
-pub sub-small : (publication : Publication) (change : Change) (s : SubscriberTables) → sub_local_refusal publication change s ≡ None → s.changes + 1 < 2 ^ 62
+pub sub-small : (publication : Publication) (change : Change) (s : SubscriberTables) → subscriber_local_refusal publication change s ≡ None → s.changes + 1 < 2 ^ 62
 sub-small publication change s fine =
     let joins = first-none (is_joining s) _ fine in
-    let first = first-none (counter_end (sub_counters s)) _ joins.1 in
-    let greatest : ℕ = max (max (max (max 0 s.changes) (sub_last_closed s)) s.seq) s.conflict_count in
-    small-next s.changes (sub-counters-low counter_limit s.changes (sub_last_closed s) s.seq s.conflict_count (not-refused (nat_le counter_limit greatest) (CounterEnd greatest) first.0))
+    let first = first-none (counter_end (subscriber_counters s)) _ joins.1 in
+    let greatest : ℕ = max (max (max (max 0 s.changes) (subscriber_last_closed s)) s.seq) s.conflict_count in
+    small-next s.changes (sub-counters-low counter_limit s.changes (subscriber_last_closed s) s.seq s.conflict_count (not-refused (nat_le counter_limit greatest) (CounterEnd greatest) first.0))
 
-pub sub-held : (publication : Publication) (change : Change) (s : SubscriberTables) → sub_local_refusal publication change s ≡ None → is_insert change ≡ false → is_some (row_at s.rows (key_of (sub_next_dot s) change)) ≡ true
+pub sub-held : (publication : Publication) (change : Change) (s : SubscriberTables) → subscriber_local_refusal publication change s ≡ None → is_insert change ≡ false → is_some (row_at s.rows (key_of (subscriber_next_dot s) change)) ≡ true
 sub-held publication change s fine is =
     let joins = first-none (is_joining s) _ fine in
-    let first = first-none (counter_end (sub_counters s)) _ joins.1 in
-    let dot : Dot = sub_next_dot s in
-    let found : Option Version = sub_version_at s (key_of dot change) in
+    let first = first-none (counter_end (subscriber_counters s)) _ joins.1 in
+    let dot : Dot = subscriber_next_dot s in
+    let found : Option Version = subscriber_version_at s (key_of dot change) in
     let refused = first-none (change_refusal publication dot change found (length s.rows)) _ first.1 in
     some-row (λ (row : SubscriberRow). row.version) (row_at s.rows (key_of dot change)) (row-lives change found (first-none (no_row change found) _ refused.0).0 is)

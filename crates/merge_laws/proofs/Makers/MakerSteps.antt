@@ -24,7 +24,7 @@ use Rattle.merge_model.specs.Publisher.PublisherJoin.{join_taken}
 use Rattle.merge_model.specs.Publisher.PublisherRanges.{plans, ranged, with_grants}
 use Rattle.merge_model.specs.Publisher.PublisherUpload.{taken_in}
 use Rattle.merge_model.specs.Subscriber.Sending.{join_of, upload_sent, want_of, with_message}
-use Rattle.merge_model.specs.Subscriber.{sub_at_moment, sub_closed}
+use Rattle.merge_model.specs.Subscriber.{subscriber_at_moment, subscriber_closed}
 use Rattle.merge_types.specs.declared.row_key.RowKey.{RowKey as Key}
 use Rattle.merge_model.specs.Tables.{PublisherTables, SubscriberTables}
 use Rattle.merge_model.specs.Subscriber.Taking.{taken}
@@ -48,10 +48,10 @@ module _ (publication : Publication) (says : Saying) where
   stays w h s t i at site rows = subscriber-makers w h s t at site rows i
 
   upload-sends : (w : World) (h : History) (s : SubscriberTables) → KnownMakers w h → subscriber_at w s.site ≡ Some s
-      → (let made : SubscriberTables × Upload = upload_sent (by_made h s.site) (sub_closed (sub_at_moment w.moment s)) in
+      → (let made : SubscriberTables × Upload = upload_sent (by_made h s.site) (subscriber_closed (subscriber_at_moment w.moment s)) in
       KnownMakers (record (with_subscriber made.0 w) { pool = w.pool ++ record { site = s.site; message = Asks (request.Upload made.1) } ∷ [] }) (record h { letters = h.letters ++ map (past_of_item (pasts_at h s.site.0)) made.1.items ∷ [] }))
   upload-sends w h s i at =
-      let c : SubscriberTables = sub_closed (sub_at_moment w.moment s) in
+      let c : SubscriberTables = subscriber_closed (subscriber_at_moment w.moment s) in
       let made : SubscriberTables × Upload = upload_sent (by_made h s.site) c in
       post-makers (with_subscriber made.0 w) h s.site (Asks (request.Upload made.1))
       (items-sent (λ (item : UploadItem) (past : Past). KnowsMaker (key_of_item item) past.known) (pasts_at h s.site.0) made.1.items (items-know c (pasts_at h s.site.0) (changed_between_by_made h s.site c.received made.1.to) (i.there s.site.0 s at)))
@@ -83,8 +83,8 @@ module _ (publication : Publication) (says : Saying) where
     own_closing = λ w h g i. publisher-makers w h (closed (here w)) refl i;
     forgetting = λ w h g i. purge-makers publication (by_past h (pasts_with h 0)) w h g i;
     same = λ w h s g i at. stays w h s s i at refl (λ know. know);
-    sub_change = λ w h s change d g i at named fine is. sub-makers publication w h s change d g i at named fine;
-    sub_closing = λ w h s g i at. stays w h s (sub_closed (sub_at_moment w.moment s)) i at refl (λ know. know);
+    subscriber_change = λ w h s change d g i at named fine is. sub-makers publication w h s change d g i at named fine;
+    subscriber_closing = λ w h s g i at. stays w h s (subscriber_closed (subscriber_at_moment w.moment s)) i at refl (λ know. know);
     anew = λ w h s g i at. anew-makers w h s (found-named w.subscribers s.site.0 s g.none at) i at;
     sends_join = λ w h s g i at joining. post-makers (with_subscriber (with_message ask.Join s) w) h s.site (Asks (request.Join (join_of s))) tt (stays w h s (with_message ask.Join s) i at refl (λ know. know));
     sends_upload = λ w h s g i at fine. upload-sends w h s i at;

@@ -17,7 +17,7 @@ use Rattle.merge_model.specs.History.Model.{with_letter}
 use Rattle.merge_model.specs.History.Noting
 use Rattle.merge_model.specs.Publisher.{at_moment}
 use Rattle.merge_model.specs.Publisher.PublisherJoin.{join_taken}
-use Rattle.merge_model.specs.Subscriber.{sub_last_closed}
+use Rattle.merge_model.specs.Subscriber.{subscriber_last_closed}
 use Rattle.merge_model.specs.Tables.{PublisherTables, SubscriberTables}
 use Rattle.merge_model.specs.World.{World, letter_at, with_publisher, with_subscriber}
 use Rattle.merge_model.specs.declared.letter.Message.TheVariants.{Asks, Replies}
@@ -84,15 +84,15 @@ done-more h site from to up first n = grind (arith, nat_tests, done-joins h site
 tells-alike : (before after : List MadeChange) (n : ℕ) (s : SubscriberTables) → ((n ≡ 0 → ⊥) → after ≡ before) → ((to : ℕ) → (n ≡ 0 → to ≡ 0) → last_of to after ≡ last_of to before) → Tells before n s → Tells after n s
 tells-alike before after n s all same t = record {
   named = t.named;
-  order = λ differs. subst (λ (made : List MadeChange). InOrder s.changes (sub_last_closed s + 1) made) (sym (all differs)) (t.order differs);
-  entered = λ filled. t.entered filled ∙ sym (same (sub_last_closed s + 1) (λ own. absurd (filled (t.named own).1)));
-  idle = λ empty. t.idle empty ∙ sym (same (sub_last_closed s) (λ own. (t.named own).0));
+  order = λ differs. subst (λ (made : List MadeChange). InOrder s.changes (subscriber_last_closed s + 1) made) (sym (all differs)) (t.order differs);
+  entered = λ filled. t.entered filled ∙ sym (same (subscriber_last_closed s + 1) (λ own. absurd (filled (t.named own).1)));
+  idle = λ empty. t.idle empty ∙ sym (same (subscriber_last_closed s) (λ own. (t.named own).0));
   keeps = λ generation low up. t.keeps generation low up ∙ some-same (last_of generation before) (last_of generation after) (sym (same generation (λ own. (let none = (t.named own).0 in omega (arith, up, none)))));
   above = t.above;
   sent = t.sent;
 }
 
-message-on : (before after : List MadeChange) (s t : SubscriberTables) → sub_last_closed s ≤ sub_last_closed t → ((to : ℕ) → to ≤ sub_last_closed s → last_of to after ≡ last_of to before)
+message-on : (before after : List MadeChange) (s t : SubscriberTables) → subscriber_last_closed s ≤ subscriber_last_closed t → ((to : ℕ) → to ≤ subscriber_last_closed s → last_of to after ≡ last_of to before)
     → (message : Message) → MessageTells before (Some s) message → MessageTells after (Some t) message
 message-on before after s t rises same (Asks (request.Join m)) tells = (omega (arith, tells.0, rises), tells.1 ∙ sym (same m.generation tells.0))
 message-on before after s t rises same (Asks (request.Upload m)) tells = (omega (arith, tells.0, rises), λ goes. tells.1 goes ∙ sym (same m.to tells.0))
@@ -118,7 +118,7 @@ module _ (w : World) (h : History) (r : Received w h) (i : Numbered w h) where
 
   -- a change of a site has acted just where its number is no greater than the publisher's of the site
   there-by-number : (n asked : ℕ) (found : Option SubscriberTables) → at_number w.subscribers n ≡ found → (n ≡ 0 → ⊥) → 1 ≤ asked → list_any (is_there (received_by_number w.publisher n) asked) (made_at h n) ≡ nat_le asked (last_of (received_by_number w.publisher n) (made_at h n))
-  there-by-number n asked (Some s) is named from = order-there (received_by_number w.publisher n) asked s.changes (sub_last_closed s + 1) (made_at h n) from ((i.subscribers n s is).order named)
+  there-by-number n asked (Some s) is named from = order-there (received_by_number w.publisher n) asked s.changes (subscriber_last_closed s + 1) (made_at h n) from ((i.subscribers n s is).order named)
   there-by-number n asked None is named from = subst (λ (made : List MadeChange). list_any (is_there (received_by_number w.publisher n) asked) made ≡ nat_le asked (last_of (received_by_number w.publisher n) made)) (sym (i.strangers n named is)) (grind (arith, nat_tests, from))
 
   there-of : (n asked : ℕ) → 1 ≤ asked → list_any (is_there (received_by_number w.publisher n) asked) (made_at h n) ≡ nat_le asked (last_of (received_by_number w.publisher n) (made_at h n))
@@ -179,16 +179,16 @@ posted-on w h letter tells i = record {
 }
 
 -- A subscriber goes on, and the history with a change of it.
-module _ (w : World) (h k : History) (s t : SubscriberTables) (r : Received w h) (i : Numbered w h) (at : at_number w.subscribers s.site.0 ≡ Some s) (rises : sub_last_closed s ≤ sub_last_closed t)
-    (others : (n : ℕ) → (n ≡ s.site.0 → ⊥) → made_at k n ≡ made_at h n) (older : (to : ℕ) → to ≤ sub_last_closed s → last_of to (made_at k s.site.0) ≡ last_of to (made_at h s.site.0)) (tells : Tells (made_at k s.site.0) s.site.0 t) where
+module _ (w : World) (h k : History) (s t : SubscriberTables) (r : Received w h) (i : Numbered w h) (at : at_number w.subscribers s.site.0 ≡ Some s) (rises : subscriber_last_closed s ≤ subscriber_last_closed t)
+    (others : (n : ℕ) → (n ≡ s.site.0 → ⊥) → made_at k n ≡ made_at h n) (older : (to : ℕ) → to ≤ subscriber_last_closed s → last_of to (made_at k s.site.0) ≡ last_of to (made_at h s.site.0)) (tells : Tells (made_at k s.site.0) s.site.0 t) where
   abbrev put : List (ℕ × SubscriberTables)
   put = put_number w.subscribers s.site.0 t
 
   put-here : (n : ℕ) → n ≡ s.site.0 → at_number put n ≡ Some t
   put-here n same = ap (λ (m : ℕ). at_number put m) same ∙ at_put_same s.site.0 t w.subscribers
 
-  older-here : (n : ℕ) → n ≡ s.site.0 → (to : ℕ) → to ≤ sub_last_closed s → last_of to (made_at k n) ≡ last_of to (made_at h n)
-  older-here n same = subst (λ (m : ℕ). (to : ℕ) → to ≤ sub_last_closed s → last_of to (made_at k m) ≡ last_of to (made_at h m)) (sym same) older
+  older-here : (n : ℕ) → n ≡ s.site.0 → (to : ℕ) → to ≤ subscriber_last_closed s → last_of to (made_at k n) ≡ last_of to (made_at h n)
+  older-here n same = subst (λ (m : ℕ). (to : ℕ) → to ≤ subscriber_last_closed s → last_of to (made_at k m) ≡ last_of to (made_at h m)) (sym same) older
 
   tells-put : (n : ℕ) (u : SubscriberTables) (b : Bool) → same_number n s.site.0 b → at_number put n ≡ Some u → Tells (made_at k n) n u
   tells-put n u true same found =
@@ -234,7 +234,7 @@ module _ (w : World) (h k : History) (s t : SubscriberTables) (r : Received w h)
 -- what a step of a subscriber does that makes no change
 pub record Onward (made : List MadeChange) (s t : SubscriberTables) : Type 0 where
   pub site : t.site.0 ≡ s.site.0
-  pub rises : sub_last_closed s ≤ sub_last_closed t
+  pub rises : subscriber_last_closed s ≤ subscriber_last_closed t
   pub tells : Tells made s.site.0 t
 
 pub subscriber-on : (w : World) (h : History) (s t : SubscriberTables) → Received w h → Numbered w h → at_number w.subscribers s.site.0 ≡ Some s → Onward (made_at h s.site.0) s t → Numbered (with_subscriber t w) h

@@ -42,7 +42,7 @@ use Rattle.merge_model.specs.Publisher.PublisherUpload.{brings_news, taken_in, u
 use Rattle.merge_model.specs.Subscriber.Reinit.{reinitialised}
 use Rattle.merge_model.specs.Subscriber.Sending.{join_of, upload_end, upload_sent, upload_to, want_of, with_message}
 use Rattle.merge_model.specs.World.Steps.{Action, kept_decisions, upload_questions}
-use Rattle.merge_model.specs.Subscriber.{empty_subscriber, sub_at_moment, sub_closed, sub_last_closed, sub_local_refusal, sub_made_locally, sub_next_dot, sub_version_at, with_version_if}
+use Rattle.merge_model.specs.Subscriber.{empty_subscriber, subscriber_at_moment, subscriber_closed, subscriber_last_closed, subscriber_local_refusal, subscriber_made_locally, subscriber_next_dot, subscriber_version_at, with_version_if}
 use Rattle.merge_types.specs.declared.row_key.RowKey.{RowKey as Key}
 use Rattle.merge_model.specs.Tables.{PublisherTables, SubscriberTables}
 use Rattle.merge_model.specs.Subscriber.Taking.{seq_of, taken}
@@ -68,49 +68,49 @@ use Rattle.merge_laws.proofs.Runs.OfActions.{of-events}
 
 -- What a subscriber does.
 
-closed-onward : (made : List MadeChange) (now : Moment) (s : SubscriberTables) → Tells made s.site.0 s → Onward made s (sub_closed (sub_at_moment now s))
+closed-onward : (made : List MadeChange) (now : Moment) (s : SubscriberTables) → Tells made s.site.0 s → Onward made s (subscriber_closed (subscriber_at_moment now s))
 closed-onward made now s t = record { site = refl; rises = grind (arith, nat_tests); tells = closing-tells made s.site.0 now s t }
 
 -- a message that is no upload
 other-onward : (made : List MadeChange) (sent : Outstanding) (s : SubscriberTables) → ((from to : ℕ) → sent ≡ ask.Upload from to → ⊥) → Tells made s.site.0 s → Onward made s (with_message sent s)
 other-onward made sent s other t = record { site = refl; rises = omega arith; tells = message-tells made s.site.0 sent s (λ from to e. absurd (other from to e)) t }
 
-upload-onward : (made : List MadeChange) (now : Moment) (from to : ℕ) (s : SubscriberTables) → (sub_closed (sub_at_moment now s)).received ≤ to → Tells made s.site.0 s → Onward made s (with_message (ask.Upload from to) (sub_closed (sub_at_moment now s)))
+upload-onward : (made : List MadeChange) (now : Moment) (from to : ℕ) (s : SubscriberTables) → (subscriber_closed (subscriber_at_moment now s)).received ≤ to → Tells made s.site.0 s → Onward made s (with_message (ask.Upload from to) (subscriber_closed (subscriber_at_moment now s)))
 upload-onward made now from to s below t =
-    let c : SubscriberTables = sub_closed (sub_at_moment now s) in
+    let c : SubscriberTables = subscriber_closed (subscriber_at_moment now s) in
     record { site = refl; rises = grind (arith, nat_tests); tells = message-tells made s.site.0 (ask.Upload from to) c (λ f g e. grind (arith, e, below)) (closing-tells made s.site.0 now s t) }
 
 -- what an upload tells is kept of its last generation
-through-is : (made : List MadeChange) (n : ℕ) (c : SubscriberTables) (to : ℕ) → Tells made n c → to ≤ sub_last_closed c → c.received < to → unwrap_or (moment_of c.gens.closings to) 0 ≡ last_of to made
+through-is : (made : List MadeChange) (n : ℕ) (c : SubscriberTables) (to : ℕ) → Tells made n c → to ≤ subscriber_last_closed c → c.received < to → unwrap_or (moment_of c.gens.closings to) 0 ≡ last_of to made
 through-is made n c to t up low = ap (λ (found : Option ℕ). unwrap_or found 0) (t.keeps to low up)
 
 -- a reply
 reply-onward : (publication : Publication) (made : List MadeChange) (judge : SubscriberJudge) (now : Moment) (sent : Outstanding) (m : Reply) (s : SubscriberTables) → reply_fault publication sent m s ≡ None → s.outstanding ≡ Some (seq_of m, sent) → Tells made s.site.0 s
     → Onward made s (taken judge now m s)
 reply-onward publication made judge now sent (reply.Joined m) s none out t =
-    let a = answered-tells made s.site.0 (sub_at_moment now s) (moment-tells made s.site.0 now s t) in
+    let a = answered-tells made s.site.0 (subscriber_at_moment now s) (moment-tells made s.site.0 now s t) in
     record { site = refl; rises = omega arith; tells = record { named = a.named; order = a.order; entered = a.entered; idle = a.idle; keeps = a.keeps; above = a.above; sent = a.sent } }
 reply-onward publication made judge now sent (reply.Uploaded m) s none out t =
-    let u : SubscriberTables = record (sub_at_moment now s) { outstanding = None } in
+    let u : SubscriberTables = record (subscriber_at_moment now s) { outstanding = None } in
     record {
       site = refl;
       rises = omega arith;
       tells = received-tells made s.site.0 m.received u (uploaded-least publication sent m s (seq_of (reply.Uploaded m)) none out t.sent) (uploaded-bound publication sent m s none) refl
-          (answered-tells made s.site.0 (sub_at_moment now s) (moment-tells made s.site.0 now s t));
+          (answered-tells made s.site.0 (subscriber_at_moment now s) (moment-tells made s.site.0 now s t));
     }
 reply-onward publication made judge now sent (reply.Ranged m) s none out t =
-    let a = answered-tells made s.site.0 (sub_at_moment now s) (moment-tells made s.site.0 now s t) in
+    let a = answered-tells made s.site.0 (subscriber_at_moment now s) (moment-tells made s.site.0 now s t) in
     record { site = refl; rises = omega arith; tells = record { named = a.named; order = a.order; entered = a.entered; idle = a.idle; keeps = a.keeps; above = a.above; sent = a.sent } }
 reply-onward publication made judge now sent (reply.Downloaded m) s none out t =
-    let u : SubscriberTables = record (sub_at_moment now s) { outstanding = None } in
+    let u : SubscriberTables = record (subscriber_at_moment now s) { outstanding = None } in
     let a = received-tells made s.site.0 m.received u (downloaded-least publication sent m s none) (downloaded-bound publication sent m s none) refl
-    (answered-tells made s.site.0 (sub_at_moment now s) (moment-tells made s.site.0 now s t)) in
+    (answered-tells made s.site.0 (subscriber_at_moment now s) (moment-tells made s.site.0 now s t)) in
     record { site = refl; rises = omega arith; tells = record { named = a.named; order = a.order; entered = a.entered; idle = a.idle; keeps = a.keeps; above = a.above; sent = a.sent } }
 reply-onward publication made judge now sent (reply.Refused number values) s none out t =
-    record { site = refl; rises = omega arith; tells = answered-tells made s.site.0 (sub_at_moment now s) (moment-tells made s.site.0 now s t) }
+    record { site = refl; rises = omega arith; tells = answered-tells made s.site.0 (subscriber_at_moment now s) (moment-tells made s.site.0 now s t) }
 
 -- a local change
-version-onward : (key : Key) (found : Option Version) (u : SubscriberTables) → ((with_version_if key found u).site.0 ≡ u.site.0) × (sub_last_closed u ≤ sub_last_closed (with_version_if key found u))
+version-onward : (key : Key) (found : Option Version) (u : SubscriberTables) → ((with_version_if key found u).site.0 ≡ u.site.0) × (subscriber_last_closed u ≤ subscriber_last_closed (with_version_if key found u))
 version-onward key None u = (refl, omega arith)
 version-onward key (Some version) u = (refl, omega arith)
 
@@ -124,15 +124,15 @@ module _ (publication : Publication) (says : Saying) where
   subs : (w : World) (h : History) (s : SubscriberTables) → Numbered w h → subscriber_at w s.site ≡ Some s → Tells (made_at h s.site.0) s.site.0 s
   subs w h s i at = i.subscribers s.site.0 s at
 
-  change-kept : (w : World) (h : History) (s : SubscriberTables) (change : Change) (d : Value × List (ℕ × Holder)) → Received w h → Numbered w h → subscriber_at w s.site ≡ Some s → (s.site.0 ≡ 0 → ⊥) → sub_local_refusal publication change s ≡ None
-      → Numbered (with_subscriber (sub_made_locally publication change d (sub_at_moment w.moment s)).0 w) (Noting.with_change publication (sub_next_dot s) (sub_last_closed s + 1) change d.0 h)
+  change-kept : (w : World) (h : History) (s : SubscriberTables) (change : Change) (d : Value × List (ℕ × Holder)) → Received w h → Numbered w h → subscriber_at w s.site ≡ Some s → (s.site.0 ≡ 0 → ⊥) → subscriber_local_refusal publication change s ≡ None
+      → Numbered (with_subscriber (subscriber_made_locally publication change d (subscriber_at_moment w.moment s)).0 w) (Noting.with_change publication (subscriber_next_dot s) (subscriber_last_closed s + 1) change d.0 h)
   change-kept w h s change d r i at named fine =
-      let key : Key = key_of (sub_next_dot s) change in
-      let c : MadeChange = Noting.made_change publication (sub_next_dot s) (sub_last_closed s + 1) change d.0 key (past_after publication (sub_next_dot s) change (past_at h s.site.0 key)) in
-      let k : History = Noting.with_change publication (sub_next_dot s) (sub_last_closed s + 1) change d.0 h in
-      let u : SubscriberTables = record (sub_at_moment w.moment s) { changes = s.changes + 1; held = d.1 } in
-      let t : SubscriberTables = (sub_made_locally publication change d (sub_at_moment w.moment s)).0 in
-      let onward = version-onward key (version_after publication (sub_next_dot s) d.0 change (sub_version_at s key)) u in
+      let key : Key = key_of (subscriber_next_dot s) change in
+      let c : MadeChange = Noting.made_change publication (subscriber_next_dot s) (subscriber_last_closed s + 1) change d.0 key (past_after publication (subscriber_next_dot s) change (past_at h s.site.0 key)) in
+      let k : History = Noting.with_change publication (subscriber_next_dot s) (subscriber_last_closed s + 1) change d.0 h in
+      let u : SubscriberTables = record (subscriber_at_moment w.moment s) { changes = s.changes + 1; held = d.1 } in
+      let t : SubscriberTables = (subscriber_made_locally publication change d (subscriber_at_moment w.moment s)).0 in
+      let onward = version-onward key (version_after publication (subscriber_next_dot s) d.0 change (subscriber_version_at s key)) u in
       let same : made_at k s.site.0 ≡ c ∷ made_at h s.site.0 = made-same h c in
       change-on w h k s t r i at onward.1 (λ n differs. made-other h c n differs)
       (λ to up. ap (λ (made : List MadeChange). last_of to made) same ∙ change-older (made_at h s.site.0) c s refl refl to up)
@@ -146,16 +146,16 @@ module _ (publication : Publication) (says : Saying) where
       (omega arith, t.idle ((r.subscribers s.site.0 s at).idle joining))
 
   upload-sends : (w : World) (h : History) (s : SubscriberTables) → Received w h → Numbered w h → subscriber_at w s.site ≡ Some s
-      → (let made : SubscriberTables × Upload = upload_sent (by_made h s.site) (sub_closed (sub_at_moment w.moment s)) in Sends Numbered s.site (Asks (request.Upload made.1)) (with_subscriber made.0 w) h)
+      → (let made : SubscriberTables × Upload = upload_sent (by_made h s.site) (subscriber_closed (subscriber_at_moment w.moment s)) in Sends Numbered s.site (Asks (request.Upload made.1)) (with_subscriber made.0 w) h)
   upload-sends w h s r i at =
       let judge : SubscriberJudge = by_made h s.site in
-      let c : SubscriberTables = sub_closed (sub_at_moment w.moment s) in
+      let c : SubscriberTables = subscriber_closed (subscriber_at_moment w.moment s) in
       let to : ℕ = upload_end judge c in
       let t : Tells (made_at h s.site.0) s.site.0 s = subs w h s i at in
       let own = (r.subscribers s.site.0 s at).own in
-      let below : c.received ≤ sub_last_closed c = grind (arith, nat_tests, own) in
-      let up : to ≤ sub_last_closed c = batch-bound (λ (g : ℕ). length (judge.changed_between c.received g)) c.received (sub_last_closed c) below in
-      let low : c.received ≤ to = batch-begin (λ (g : ℕ). length (judge.changed_between c.received g)) c.received (sub_last_closed c) in
+      let below : c.received ≤ subscriber_last_closed c = grind (arith, nat_tests, own) in
+      let up : to ≤ subscriber_last_closed c = batch-bound (λ (g : ℕ). length (judge.changed_between c.received g)) c.received (subscriber_last_closed c) below in
+      let low : c.received ≤ to = batch-begin (λ (g : ℕ). length (judge.changed_between c.received g)) c.received (subscriber_last_closed c) in
       message-sent w h s (with_message (ask.Upload c.received to) c) (Asks (request.Upload (upload_to judge c to))) r i at
       (upload-onward (made_at h s.site.0) w.moment c.received to s low t) (up, λ goes. through-is (made_at h s.site.0) s.site.0 c to (closing-tells (made_at h s.site.0) s.site.0 w.moment s t) up goes)
 
@@ -221,10 +221,10 @@ module _ (publication : Publication) (says : Saying) where
     forgetting = λ w h r i. (let judge : PublisherJudge = by_past h (pasts_with h 0) in let q : PublisherTables = (purge publication w.moment w.publisher).0 in
         own-on w h (Noting.noted_purge publication judge (here w) h) q r i (purge-keep (λ (x : History). Alike h x) (alike-notes h) publication judge (here w) h (alike-itself h)) (same-sites w.publisher q refl));
     same = λ w h s r i at. subscriber-on w h s s r i at (record { site = refl; rises = omega arith; tells = subs w h s i at });
-    sub_change = λ w h s change d r i at named fine is. change-kept w h s change d r i at named fine;
-    sub_closing = λ w h s r i at. subscriber-on w h s (sub_closed (sub_at_moment w.moment s)) r i at (closed-onward (made_at h s.site.0) w.moment s (subs w h s i at));
+    subscriber_change = λ w h s change d r i at named fine is. change-kept w h s change d r i at named fine;
+    subscriber_closing = λ w h s r i at. subscriber-on w h s (subscriber_closed (subscriber_at_moment w.moment s)) r i at (closed-onward (made_at h s.site.0) w.moment s (subs w h s i at));
     anew = λ w h s r i at. (let judge : SubscriberJudge = by_made h s.site in let k : History = Noting.noted_anew judge s h in let j : Numbered w k = alike-on w h r i k (anew-keep (λ (x : History). Alike h x) (alike-notes h) judge s h (alike-itself h)) in
-        subscriber-on w k s (reinitialised judge (sub_at_moment w.moment s)).0 (history-same w h k (anew-keep (λ (x : History). Alike h x) (alike-notes h) judge s h (alike-itself h)).done r) j at
+        subscriber-on w k s (reinitialised judge (subscriber_at_moment w.moment s)).0 (history-same w h k (anew-keep (λ (x : History). Alike h x) (alike-notes h) judge s h (alike-itself h)).done r) j at
         (record { site = refl; rises = grind (arith, nat_tests); tells = anew-tells (made_at k s.site.0) s.site.0 judge w.moment s (subs w k s j at) }));
     sends_join = λ w h s r i at joining. join-sent w h s r i at joining;
     sends_upload = λ w h s r i at fine. upload-sends w h s r i at;

@@ -22,7 +22,7 @@ use Rattle.merge_model.specs.Publisher.{last_closed}
 use Rattle.merge_model.specs.Publisher.PublisherLocal.{Drawn, changing_locally, local_refusal, made_locally, next_dot, version_at, with_draw}
 use Rattle.merge_model.specs.Publisher.PublisherPurge.{is_old_tombstone, purge}
 use Rattle.merge_model.specs.Subscriber.Reinit.{discarded}
-use Rattle.merge_model.specs.Subscriber.{sub_last_closed, sub_next_dot}
+use Rattle.merge_model.specs.Subscriber.{subscriber_last_closed, subscriber_next_dot}
 use Rattle.merge_types.specs.declared.row_key.RowKey.{RowKey as Key}
 use Rattle.merge_units.specs.declared.site_row.PublisherRow.{PublisherRow}
 use Rattle.merge_model.specs.Tables.{PublisherTables, SubscriberTables}
@@ -121,39 +121,39 @@ module _ (publication : Publication) (w : World) (h : History) (change : Change)
 -- A local change of a subscriber.
 
 module _ (publication : Publication) (w : World) (h : History) (s : SubscriberTables) (change : Change) (value : Value) (b : Counted publication w h) (p : AcceptsWell w h) (at : subscriber_at w s.site ≡ Some s) (named : s.site.0 ≡ 0 → ⊥) where
-  abbrev pub sub_key : Key
-  sub_key = key_of (sub_next_dot s) change
+  abbrev pub subscriber_key : Key
+  subscriber_key = key_of (subscriber_next_dot s) change
 
-  abbrev pub sub_past : Past
-  sub_past = past_after publication (sub_next_dot s) change (past_at h s.site.0 sub_key)
+  abbrev pub subscriber_past : Past
+  subscriber_past = past_after publication (subscriber_next_dot s) change (past_at h s.site.0 subscriber_key)
 
-  abbrev pub sub_made : MadeChange
-  sub_made = Noting.made_change publication (sub_next_dot s) (sub_last_closed s + 1) change value sub_key sub_past
+  abbrev pub subscriber_made : MadeChange
+  subscriber_made = Noting.made_change publication (subscriber_next_dot s) (subscriber_last_closed s + 1) change value subscriber_key subscriber_past
 
-  not-accepted : (found : Bool) → has h.accepted (sub_next_dot s) ≡ found → found ≡ false
-  not-accepted true is = absurd (grind (arith, p.were_made (sub_next_dot s) is, fresh-anywhere h.made (sub_next_dot s) (sub-fresh publication w h s change b.0.known at named)))
+  not-accepted : (found : Bool) → has h.accepted (subscriber_next_dot s) ≡ found → found ≡ false
+  not-accepted true is = absurd (grind (arith, p.were_made (subscriber_next_dot s) is, fresh-anywhere h.made (subscriber_next_dot s) (sub-fresh publication w h s change b.0.known at named)))
   not-accepted false is = refl
 
-  pub sub-new : accepts h.accepted (sub_next_dot s) ≡ false
-  sub-new = let none = not-accepted (has h.accepted (sub_next_dot s)) refl in let other : (s.site.0 == 0) ≡ false = grind (arith, nat_tests, named) in grind (arith, none, other)
+  pub sub-new : accepts h.accepted (subscriber_next_dot s) ≡ false
+  sub-new = let none = not-accepted (has h.accepted (subscriber_next_dot s)) refl in let other : (s.site.0 == 0) ≡ false = grind (arith, nat_tests, named) in grind (arith, none, other)
 
-  sub-others : (dot : Dot) → has sub_past.known dot ≡ true → (dot.site.0 ≡ s.site.0 → ⊥) → accepts h.accepted dot ≡ true
+  sub-others : (dot : Dot) → has subscriber_past.known dot ≡ true → (dot.site.0 ≡ s.site.0 → ⊥) → accepts h.accepted dot ≡ true
   sub-others dot known differs =
-      let parts = after-known publication (sub_next_dot s) change (past_at h s.site.0 sub_key) dot known in
+      let parts = after-known publication (subscriber_next_dot s) change (past_at h s.site.0 subscriber_key) dot known in
       let low : 1 ≤ s.site.0 = grind (arith, nat_tests, named) in
-      let counts : has (past_at h s.site.0 sub_key).known dot ≡ true → accepts h.accepted dot ≡ true = λ is. b.1.there s.site.0 sub_key low dot is differs in
-      let other : same_dot (sub_next_dot s) dot ≡ false = (let apart : (s.site.0 == dot.site.0) ≡ false = grind (arith, nat_tests, differs) in grind (arith, apart)) in
+      let counts : has (past_at h s.site.0 subscriber_key).known dot ≡ true → accepts h.accepted dot ≡ true = λ is. b.1.there s.site.0 subscriber_key low dot is differs in
+      let other : same_dot (subscriber_next_dot s) dot ≡ false = (let apart : (s.site.0 == dot.site.0) ≡ false = grind (arith, nat_tests, differs) in grind (arith, apart)) in
       counts (grind (arith, parts, other))
 
-  pub sub-accepting : (rows : List (Key × PublisherRow)) → Accepting rows h.made h.accepted (pasts_at h 0) → Accepting rows (sub_made ∷ h.made) h.accepted (pasts_at h 0)
+  pub sub-accepting : (rows : List (Key × PublisherRow)) → Accepting rows h.made h.accepted (pasts_at h 0) → Accepting rows (subscriber_made ∷ h.made) h.accepted (pasts_at h 0)
   sub-accepting rows a = record {
     fine = (record { others = sub-others; closed = λ accept dot known. absurd (grind (arith, accept, sub-new)) }, a.fine);
-    were_made = λ dot is. any-more h.made sub_made dot (a.were_made dot is);
+    were_made = λ dot is. any-more h.made subscriber_made dot (a.were_made dot is);
     held = λ key there. (λ row accept. absurd (grind (arith, accept, sub-new)), a.held key there);
   }
 
-  pub sub-change : (t : SubscriberTables) → AcceptsWell (with_subscriber t w) (Noting.with_change publication (sub_next_dot s) (sub_last_closed s + 1) change value h)
-  sub-change t = subst (λ (pasts : List (Key × Past)). Accepting w.publisher.rows (sub_made ∷ h.made) h.accepted pasts)
+  pub sub-change : (t : SubscriberTables) → AcceptsWell (with_subscriber t w) (Noting.with_change publication (subscriber_next_dot s) (subscriber_last_closed s + 1) change value h)
+  sub-change t = subst (λ (pasts : List (Key × Past)). Accepting w.publisher.rows (subscriber_made ∷ h.made) h.accepted pasts)
       (sym (ap (λ (found : Option (List (Key × Past))). unwrap_or found []) (at_put_other s.site.0 0 _ h.pasts (λ zero. named (sym zero))))) (sub-accepting w.publisher.rows p)
 
 -- Pasts of others change.

@@ -6,7 +6,7 @@ use Rattle.merge_model.specs.History.{no_history, pasts_with}
 use Rattle.merge_model.specs.Publisher.PublisherJoin.{join_taken}
 use Rattle.merge_model.specs.Publisher.PublisherUpload.{taken_in}
 use Rattle.merge_model.specs.Subscriber.Reinit.{reinitialised}
-use Rattle.merge_model.specs.Subscriber.{sub_at_moment, sub_made_locally}
+use Rattle.merge_model.specs.Subscriber.{subscriber_at_moment, subscriber_made_locally}
 use Rattle.merge_model.specs.Subscriber.Taking.{taken}
 use Rattle.merge_model.specs.World.{Saying, empty_world, with_publisher, with_subscriber}
 use Rattle.merge_laws.specs.Invariants.Accepting.{AcceptsWell}
@@ -22,9 +22,9 @@ accepting-keeps publication says = record {
   own_closing = λ w h b p. p;
   forgetting = λ w h b p. purge-accepting publication w h (by_past h (pasts_with h 0)) b.0 p;
   same = λ w h s b p at. p;
-  sub_change = λ w h s change d b p at named fine is. sub-change publication w h s change d.0 b p at named (sub_made_locally publication change d (sub_at_moment w.moment s)).0;
-  sub_closing = λ w h s b p at. p;
-  anew = λ w h s b p at. anew-accepting w (with_subscriber (reinitialised (by_made h s.site) (sub_at_moment w.moment s)).0 w) h s refl (found-named w.subscribers s.site.0 s b.0.none at) p;
+  subscriber_change = λ w h s change d b p at named fine is. sub-change publication w h s change d.0 b p at named (subscriber_made_locally publication change d (subscriber_at_moment w.moment s)).0;
+  subscriber_closing = λ w h s b p at. p;
+  anew = λ w h s b p at. anew-accepting w (with_subscriber (reinitialised (by_made h s.site) (subscriber_at_moment w.moment s)).0 w) h s refl (found-named w.subscribers s.site.0 s b.0.none at) p;
   sends_join = λ w h s b p at joining. p;
   sends_upload = λ w h s b p at fine. p;
   sends_ranges = λ w h s b p at fine. p;

@@ -8,7 +8,7 @@ use Rattle.merge_batch.specs.declared.request.Upload.{Upload}
 use Rattle.merge_model.specs.Judge.ByNumbers.{received_by_number}
 use Rattle.merge_model.specs.History.{History, MadeChange}
 use Rattle.merge_model.specs.Tables.Keys.{at_number}
-use Rattle.merge_model.specs.Subscriber.{sub_last_closed}
+use Rattle.merge_model.specs.Subscriber.{subscriber_last_closed}
 use Rattle.merge_model.specs.Tables.{SubscriberTables}
 use Rattle.merge_model.specs.World.{World}
 use Rattle.merge_model.specs.declared.letter.Letter.{Letter}
@@ -36,16 +36,16 @@ letter-facts publication w h b =
     (all-both Tells Named (λ (letter : Letter). Tells letter × Named letter) (λ letter one other. (one, other)) w.pool b.0.0.behind.letters b.1.1.1)
 
 -- an upload ends at a generation that its site has closed
-upload-closed : (site : SiteId) (u : Upload) (found : Option SubscriberTables) (s : SubscriberTables) → UploadFits site u found → found ≡ Some s → u.to ≤ sub_last_closed s
+upload-closed : (site : SiteId) (u : Upload) (found : Option SubscriberTables) (s : SubscriberTables) → UploadFits site u found → found ≡ Some s → u.to ≤ subscriber_last_closed s
 upload-closed site u None s fits is = absurd fits
-upload-closed site u (Some t) s fits is = let same : t ≡ s = cc in subst (λ (x : SubscriberTables). u.to ≤ sub_last_closed x) same fits.1
+upload-closed site u (Some t) s fits is = let same : t ≡ s = cc in subst (λ (x : SubscriberTables). u.to ≤ subscriber_last_closed x) same fits.1
 
 module _ (w : World) (site : SiteId) where
   -- a change in the open generation is behind none of its site's uploads
-  pub open-behind : (u : Upload) (s : SubscriberTables) (c : MadeChange) → UploadFits site u (at_number w.subscribers site.0) → at_number w.subscribers s.site.0 ≡ Some s → c.dot.site.0 ≡ s.site.0 → sub_last_closed s < c.generation → is_of u.site.0 c ≡ true → c.generation ≤ u.to → ⊥
+  pub open-behind : (u : Upload) (s : SubscriberTables) (c : MadeChange) → UploadFits site u (at_number w.subscribers site.0) → at_number w.subscribers s.site.0 ≡ Some s → c.dot.site.0 ≡ s.site.0 → subscriber_last_closed s < c.generation → is_of u.site.0 c ≡ true → c.generation ≤ u.to → ⊥
   open-behind u s c fits at own above is up =
       let same : s.site.0 ≡ site.0 = sym own ∙ numbers-same c.dot.site.0 u.site.0 is ∙ ap (λ (x : SiteId). x.0) (upload-site u site (at_number w.subscribers site.0) fits) in
-      let closed : u.to ≤ sub_last_closed s = upload-closed site u (at_number w.subscribers site.0) s fits (ap (λ (n : ℕ). at_number w.subscribers n) (sym same) ∙ at) in
+      let closed : u.to ≤ subscriber_last_closed s = upload-closed site u (at_number w.subscribers site.0) s fits (ap (λ (n : ℕ). at_number w.subscribers n) (sym same) ∙ at) in
       absurd (omega (arith, closed, above, up))
 
   -- the publisher makes no upload

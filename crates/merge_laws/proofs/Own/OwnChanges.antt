@@ -19,7 +19,7 @@ use Rattle.merge_model.specs.History.Noting
 use Rattle.merge_model.specs.History.Pasts.{past_after}
 use Rattle.merge_model.specs.Publisher.{last_closed}
 use Rattle.merge_model.specs.Publisher.PublisherLocal.{Drawn, local_refusal, made_locally, next_dot}
-use Rattle.merge_model.specs.Subscriber.{generations_at, with_open, sub_at_moment, sub_last_closed, sub_local_refusal, sub_next_dot, sub_version_at, with_version_if}
+use Rattle.merge_model.specs.Subscriber.{generations_at, with_open, subscriber_at_moment, subscriber_last_closed, subscriber_local_refusal, subscriber_next_dot, subscriber_version_at, with_version_if}
 use Rattle.merge_types.specs.declared.row_key.RowKey.{RowKey as Key}
 use Rattle.merge_units.specs.declared.site_row.SubscriberRow.{SubscriberRow}
 use Rattle.merge_model.specs.Tables.{SubscriberTables}
@@ -46,27 +46,27 @@ use Rattle.merge_laws.proofs.Walking.{here, own_noted}
 version-held : (key q : Key) (found : Option Version) (u : SubscriberTables) → same_key q key ≡ false → is_some (row_at (with_version_if key found u).rows q) ≡ true → is_some (row_at u.rows q) ≡ true
 version-held key q None u differs is = is
 version-held key q (Some version) u differs is =
-    let row : SubscriberRow = record { version = version; generations = with_open (sub_last_closed u + 1) (generations_at u key) } in
+    let row : SubscriberRow = record { version = version; generations = with_open (subscriber_last_closed u + 1) (generations_at u key) } in
     let both : (same_key q key || is_some (row_at u.rows q)) ≡ true = sym (held-put u.rows key row q) ∙ is in
     grind (arith, both, differs)
 
 -- A change of a subscriber.
 
-module _ (publication : Publication) (w : World) (h : History) (s : SubscriberTables) (change : Change) (d : Value × List (ℕ × Holder)) (b : Base publication w h) (p : Rest w h) (at : subscriber_at w s.site ≡ Some s) (named : s.site.0 ≡ 0 → ⊥) (fine : sub_local_refusal publication change s ≡ None) where
+module _ (publication : Publication) (w : World) (h : History) (s : SubscriberTables) (change : Change) (d : Value × List (ℕ × Holder)) (b : Base publication w h) (p : Rest w h) (at : subscriber_at w s.site ≡ Some s) (named : s.site.0 ≡ 0 → ⊥) (fine : subscriber_local_refusal publication change s ≡ None) where
   abbrev key : Key
-  key = key_of (sub_next_dot s) change
+  key = key_of (subscriber_next_dot s) change
 
   abbrev past : Past
-  past = past_after publication (sub_next_dot s) change (past_at h s.site.0 key)
+  past = past_after publication (subscriber_next_dot s) change (past_at h s.site.0 key)
 
   abbrev new_change : MadeChange
-  new_change = Noting.made_change publication (sub_next_dot s) (sub_last_closed s + 1) change d.0 key past
+  new_change = Noting.made_change publication (subscriber_next_dot s) (subscriber_last_closed s + 1) change d.0 key past
 
   abbrev found : Option Version
-  found = version_after publication (sub_next_dot s) d.0 change (sub_version_at s key)
+  found = version_after publication (subscriber_next_dot s) d.0 change (subscriber_version_at s key)
 
   abbrev site_counted : SubscriberTables
-  site_counted = record (sub_at_moment w.moment s) { changes = s.changes + 1; held = d.1 }
+  site_counted = record (subscriber_at_moment w.moment s) { changes = s.changes + 1; held = d.1 }
 
   abbrev site_after : SubscriberTables
   site_after = with_version_if key found site_counted
@@ -75,17 +75,17 @@ module _ (publication : Publication) (w : World) (h : History) (s : SubscriberTa
   world_after = with_subscriber site_after w
 
   abbrev history_after : History
-  history_after = Noting.with_change publication (sub_next_dot s) (sub_last_closed s + 1) change d.0 h
+  history_after = Noting.with_change publication (subscriber_next_dot s) (subscriber_last_closed s + 1) change d.0 h
 
   low : 1 ≤ s.site.0
   low = grind (arith, nat_tests, named)
 
   knows : KnowsOf h.made (counts_in (at_model w h)) key (is_of s.site.0) past.known
-  knows = after-knows publication (sub_next_dot s) change (past_at h s.site.0 key) h.made (counts_in (at_model w h)) key (is_of s.site.0) (sub-none publication w h s change b.0.0.known at named b.1.1.0 b.0.1.makers fine)
+  knows = after-knows publication (subscriber_next_dot s) change (past_at h s.site.0 key) h.made (counts_in (at_model w h)) key (is_of s.site.0) (sub-none publication w h s change b.0.0.known at named b.1.1.0 b.0.1.makers fine)
       (λ other. p.own s.site.0 s key low at (sub-held publication w h s change b.0.0.known at named fine other))
 
   own-past : has past.known new_change.dot ≡ true
-  own-past = after-own publication (sub_next_dot s) change (past_at h s.site.0 key)
+  own-past = after-own publication (subscriber_next_dot s) change (past_at h s.site.0 key)
 
   below : AllByRecursion (IsBelow h.made (counts_in (at_model w h)) new_change) h.made
   below = all-weaker (λ (x : MadeChange). x.dot.site.0 ≡ s.site.0 → (1 ≤ x.dot.number) × (x.dot.number ≤ changes_of w s.site.0)) (IsBelow h.made (counts_in (at_model w h)) new_change)
@@ -105,8 +105,8 @@ module _ (publication : Publication) (w : World) (h : History) (s : SubscriberTa
   sub-later : (site received : ℕ) (x : MadeChange) → x ≡ new_change → is_of site x ≡ true → x.generation ≤ received → received ≤ received_by_number w.publisher site → ⊥
   sub-later site received x new own up tells =
       let same : s.site.0 ≡ site = (let is : x.dot.site.0 ≡ site = grind (arith, nat_tests, own) in sym (ap (λ (y : MadeChange). y.dot.site.0) new) ∙ is) in
-      let gen : x.generation ≡ sub_last_closed s + 1 = ap (λ (y : MadeChange). y.generation) new in
-      let taken : received_by_number w.publisher s.site.0 ≤ sub_last_closed s = (b.0.0.received.subscribers s.site.0 s at).taken in
+      let gen : x.generation ≡ subscriber_last_closed s + 1 = ap (λ (y : MadeChange). y.generation) new in
+      let taken : received_by_number w.publisher s.site.0 ≤ subscriber_last_closed s = (b.0.0.received.subscribers s.site.0 s at).taken in
       let told : received ≤ received_by_number w.publisher s.site.0 = subst (λ (n : ℕ). received ≤ received_by_number w.publisher n) (sym same) tells in
       absurd (omega (arith, gen, taken, told, up))
 

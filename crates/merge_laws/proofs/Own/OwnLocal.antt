@@ -16,7 +16,7 @@ use Rattle.merge_model.specs.Tables.Keys.{row_at, same_key}
 use Rattle.merge_model.specs.Publisher.{counters}
 use Rattle.merge_model.specs.Publisher.PublisherLocal.{local_refusal, next_dot, version_at}
 use Rattle.merge_model.specs.Tables.Refusals.{counter_end}
-use Rattle.merge_model.specs.Subscriber.{is_joining, sub_counters, sub_local_refusal, sub_next_dot, sub_version_at}
+use Rattle.merge_model.specs.Subscriber.{is_joining, subscriber_counters, subscriber_local_refusal, subscriber_next_dot, subscriber_version_at}
 use Rattle.merge_types.specs.declared.row_key.RowKey.{RowKey as Key}
 use Rattle.merge_units.specs.declared.site_row.PublisherRow.{PublisherRow}
 use Rattle.merge_units.specs.declared.site_row.SubscriberRow.{SubscriberRow}
@@ -56,7 +56,7 @@ insert-none h dot (Delete article row) by fresh makers k is = absurd (grind (ari
 
 -- a counter is within its bound where nothing is refused
 
-sub-counted : (s : SubscriberTables) → counter_end (sub_counters s) ≡ None → s.changes < 2 ^ 61
+sub-counted : (s : SubscriberTables) → counter_end (subscriber_counters s) ≡ None → s.changes < 2 ^ 61
 sub-counted s e = let low = not-refused _ _ e in grind (arith, nat_tests, low)
 
 own-counted : (p : PublisherTables) → counter_end (counters p) ≡ None → p.changes < 2 ^ 61
@@ -68,24 +68,24 @@ module _ (publication : Publication) (w : World) (h : History) (s : SubscriberTa
   pub sub-count : s.changes ≡ changes_of w s.site.0
   sub-count = own-count w s (s.site.0 == 0) refl named at
 
-  pub sub-fresh : IsFresh h.made (sub_next_dot s)
-  sub-fresh = fresh-above (changes_of w) h (sub_next_dot s) k.numbered (let count = sub-count in omega (arith, count))
+  pub sub-fresh : IsFresh h.made (subscriber_next_dot s)
+  sub-fresh = fresh-above (changes_of w) h (subscriber_next_dot s) k.numbered (let count = sub-count in omega (arith, count))
 
-  pub sub-none : AreNamed w.subscribers → AllByRecursion KnowsMaker h.made → sub_local_refusal publication change s ≡ None → is_insert change ≡ true → NoneOf h.made (key_of (sub_next_dot s) change)
+  pub sub-none : AreNamed w.subscribers → AllByRecursion KnowsMaker h.made → subscriber_local_refusal publication change s ≡ None → is_insert change ≡ true → NoneOf h.made (key_of (subscriber_next_dot s) change)
   sub-none names makers fine is =
       let joins = first-none (is_joining s) _ fine in
-      let counters = first-none (counter_end (sub_counters s)) _ joins.1 in
+      let counters = first-none (counter_end (subscriber_counters s)) _ joins.1 in
       let low : s.changes < 2 ^ 61 = sub-counted s counters.0 in
       let site : s.site.0 ≤ 63 = names s.site.0 s at in
-      insert-none h (sub_next_dot s) change (record { site_fits = grind (arith, nat_tests, site); from_one = omega arith; fits = grind (arith, nat_tests, low); same = refl }) sub-fresh makers k.knowledge is
+      insert-none h (subscriber_next_dot s) change (record { site_fits = grind (arith, nat_tests, site); from_one = omega arith; fits = grind (arith, nat_tests, low); same = refl }) sub-fresh makers k.knowledge is
 
-  pub sub-held : sub_local_refusal publication change s ≡ None → is_insert change ≡ false → is_some (row_at s.rows (key_of (sub_next_dot s) change)) ≡ true
+  pub sub-held : subscriber_local_refusal publication change s ≡ None → is_insert change ≡ false → is_some (row_at s.rows (key_of (subscriber_next_dot s) change)) ≡ true
   sub-held fine other =
       let joins = first-none (is_joining s) _ fine in
-      let counters = first-none (counter_end (sub_counters s)) _ joins.1 in
-      let found : Option SubscriberRow = row_at s.rows (key_of (sub_next_dot s) change) in
-      let refused = first-none (change_refusal publication (sub_next_dot s) change (sub_version_at s (key_of (sub_next_dot s) change)) (length s.rows)) _ counters.1 in
-      held-there (λ (row : SubscriberRow). row.version) change found other (first-none (no_row change (sub_version_at s (key_of (sub_next_dot s) change))) _ refused.0).0
+      let counters = first-none (counter_end (subscriber_counters s)) _ joins.1 in
+      let found : Option SubscriberRow = row_at s.rows (key_of (subscriber_next_dot s) change) in
+      let refused = first-none (change_refusal publication (subscriber_next_dot s) change (subscriber_version_at s (key_of (subscriber_next_dot s) change)) (length s.rows)) _ counters.1 in
+      held-there (λ (row : SubscriberRow). row.version) change found other (first-none (no_row change (subscriber_version_at s (key_of (subscriber_next_dot s) change))) _ refused.0).0
 
 -- A change of the publisher.
 

@@ -24,7 +24,7 @@ use Rattle.merge_model.specs.Laws.{AreSubSorted}
 use Rattle.merge_model.specs.History.Model.{Model}
 use Rattle.merge_model.specs.History.Noting
 use Rattle.merge_model.specs.Subscriber.Reinit.{discarded, reinitialised}
-use Rattle.merge_model.specs.Subscriber.{sub_at_moment}
+use Rattle.merge_model.specs.Subscriber.{subscriber_at_moment}
 use Rattle.merge_types.specs.declared.row_key.RowKey.{RowKey as Key}
 use Rattle.merge_units.specs.declared.site_row.SubscriberRow.{SubscriberRow}
 use Rattle.merge_model.specs.Tables.{SubscriberTables}
@@ -159,9 +159,9 @@ module _ (publication : Publication) (w : World) (h : History) (s : SubscriberTa
 
 -- A site that is made anew holds nothing.
 pub anew-kept : (w : World) (h : History) (s : SubscriberTables) → subscriber_at w s.site ≡ Some s → Rest w h
-    → (let judge : SubscriberJudge = by_made h s.site in Rest (with_subscriber (reinitialised judge (sub_at_moment w.moment s)).0 w) (Noting.noted_anew judge s h))
+    → (let judge : SubscriberJudge = by_made h s.site in Rest (with_subscriber (reinitialised judge (subscriber_at_moment w.moment s)).0 w) (Noting.noted_anew judge s h))
 anew-kept w h s at p =
     let judge : SubscriberJudge = by_made h s.site in
-    let t : SubscriberTables = (reinitialised judge (sub_at_moment w.moment s)).0 in
+    let t : SubscriberTables = (reinitialised judge (subscriber_at_moment w.moment s)).0 in
     lost-on (λ (k : History). Rest (with_subscriber t w) (record k { pasts = put_number k.pasts s.site.0 [] })) s.site (discarded judge s) h
     (λ lost. pasts-change w h s t (put_number h.pasts s.site.0 []) lost at refl (put-but s.site.0 [] h.pasts h.pasts (λ n apart. refl)) (λ key first there. absurd (grind (arith, there))) p)

@@ -28,7 +28,7 @@ use Rattle.merge_model.specs.History.Model.{past_of_item, put_past}
 use Rattle.merge_model.specs.Publisher.PublisherDownload.{asked, item_of, reply_to}
 use Rattle.merge_batch.specs.Orders.{order_by}
 use Rattle.merge_model.specs.Subscriber.Sending.{upload_item, upload_sent}
-use Rattle.merge_model.specs.Subscriber.{sub_at_moment, sub_closed, sub_version_at}
+use Rattle.merge_model.specs.Subscriber.{subscriber_at_moment, subscriber_closed, subscriber_version_at}
 use Rattle.merge_types.specs.declared.row_key.RowKey.{RowKey as Key}
 use Rattle.merge_units.specs.declared.site_row.PublisherRow.{PublisherRow}
 use Rattle.merge_units.specs.declared.site_row.SubscriberRow.{SubscriberRow}
@@ -98,21 +98,21 @@ rest-any : (test : UploadItem → Bool) (rest : List UploadItem) (found : Option
 rest-any test rest None is = is
 rest-any test rest (Some other) is = grind (arith, is)
 
-made-item : (s : SubscriberTables) (entry : Key × ℕ) (found : Option Version) → sub_version_at s entry.0 ≡ found → is_some found ≡ true → (test : UploadItem → Bool) → ((item : UploadItem) → key_of_item item ≡ entry.0 → item.generation ≡ entry.1 → test item ≡ true) → (rest : List UploadItem)
+made-item : (s : SubscriberTables) (entry : Key × ℕ) (found : Option Version) → subscriber_version_at s entry.0 ≡ found → is_some found ≡ true → (test : UploadItem → Bool) → ((item : UploadItem) → key_of_item item ≡ entry.0 → item.generation ≡ entry.1 → test item ≡ true) → (rest : List UploadItem)
     → list_any test (cons_option (upload_item s entry) rest) ≡ true
 made-item s entry None at there test passes rest = absurd (grind (arith, there))
 made-item s entry (Some version) at there test passes rest =
     let item : UploadItem = record { article = entry.0.article; row = entry.0.row; generation = entry.1; version = version } in
     item-any test item rest (upload_item s entry) (ap (λ (o : Option Version). option_map (λ (x : Version). (let one : UploadItem = record { article = entry.0.article; row = entry.0.row; generation = entry.1; version = x } in one)) o) at) (passes item refl refl)
 
-pub items-reach : (s : SubscriberTables) (key : Key) (generation : ℕ) (rows : List (Key × ℕ)) → is_some (sub_version_at s key) ≡ true → reaches key generation rows ≡ true
+pub items-reach : (s : SubscriberTables) (key : Key) (generation : ℕ) (rows : List (Key × ℕ)) → is_some (subscriber_version_at s key) ≡ true → reaches key generation rows ≡ true
     → list_any (λ (item : UploadItem). same_key (key_of_item item) key && nat_le generation item.generation) (filter_map (upload_item s) rows) ≡ true
 items-reach s key generation [] there is = absurd (grind (arith, is))
 items-reach s key generation (entry ∷ rows) there is =
     let test : UploadItem → Bool = λ item. same_key (key_of_item item) key && nat_le generation item.generation in
     elim (is_at (key_cmp key) entry.0) as (λ (b : Bool). is_at (key_cmp key) entry.0 ≡ b → option_map_or (λ (g : ℕ). nat_le generation g) (cond b (Some entry.1) (row_at rows key)) false ≡ true → list_any test (filter_map (upload_item s) (entry ∷ rows)) ≡ true) [
       | true ↦ (λ e up. (let keys : key ≡ entry.0 = keys-same key entry.0 (sym (key-test key entry.0) ∙ e) in
-          made-item s entry (sub_version_at s entry.0) refl (ap (λ (k : Key). is_some (sub_version_at s k)) (sym keys) ∙ there) test
+          made-item s entry (subscriber_version_at s entry.0) refl (ap (λ (k : Key). is_some (subscriber_version_at s k)) (sym keys) ∙ there) test
           (λ item same at. (let row : same_key (key_of_item item) key ≡ true = ap (λ (k : Key). same_key k key) (same ∙ sym keys) ∙ key-itself key in grind (arith, nat_tests, row, at, up))) (filter_map (upload_item s) rows)))
       | false ↦ (λ e rest. rest-any test (filter_map (upload_item s) rows) (upload_item s entry) (items-reach s key generation rows there rest))
     ] refl is
@@ -127,7 +127,7 @@ version-some (Some row) is = refl
 
 module _ (publication : Publication) (w : World) (h : History) (s : SubscriberTables) (b : Base publication w h) (p : Rest w h) (at : subscriber_at w s.site ≡ Some s) (named : s.site.0 ≡ 0 → ⊥) where
   abbrev closed_now : SubscriberTables
-  closed_now = sub_closed (sub_at_moment w.moment s)
+  closed_now = subscriber_closed (subscriber_at_moment w.moment s)
 
   abbrev made : SubscriberTables × Upload
   made = upload_sent (by_made h s.site) closed_now

@@ -14,7 +14,7 @@ use Rattle.merge_model.specs.Publisher.{closed}
 use Rattle.merge_model.specs.Publisher.PublisherRanges.{plans, with_grants}
 use Rattle.merge_model.specs.Subscriber.Sending.{join_of, want_of, with_message}
 use Rattle.merge_model.specs.World.Steps.{Action}
-use Rattle.merge_model.specs.Subscriber.{sub_at_moment, sub_closed}
+use Rattle.merge_model.specs.Subscriber.{subscriber_at_moment, subscriber_closed}
 use Rattle.merge_model.specs.Tables.{PublisherTables, SubscriberTables}
 use Rattle.merge_model.specs.World.{Saying, World, with_publisher, with_subscriber}
 use Rattle.merge_model.specs.declared.letter.Message.TheVariants.{Asks, Replies}
@@ -44,8 +44,8 @@ own-keeps publication says = record {
   own_closing = λ w h b p. quiet w h (closed (here w)) w.tallies w.moment h.done h.lines h.bases (λ c is. is) (λ site. omega arith) p;
   forgetting = λ w h b p. purge-kept publication w h (by_past h (pasts_with h 0)) p;
   same = λ w h s b p at. stays-here w h s s at refl refl p;
-  sub_change = λ w h s change d b p at named fine is. sub-kept publication w h s change d b p at named fine;
-  sub_closing = λ w h s b p at. stays-here w h s (sub_closed (sub_at_moment w.moment s)) at refl refl p;
+  subscriber_change = λ w h s change d b p at named fine is. sub-kept publication w h s change d b p at named fine;
+  subscriber_closing = λ w h s b p at. stays-here w h s (subscriber_closed (subscriber_at_moment w.moment s)) at refl refl p;
   anew = λ w h s b p at. anew-kept w h s at p;
   sends_join = λ w h s b p at joining. (let t : SubscriberTables = with_message ask.Join s in posted (with_subscriber t w) h s.site (Asks (request.Join (join_of s))) tt tt (stays-here w h s t at refl refl p));
   sends_upload = λ w h s b p at fine. upload-sent publication w h s b p at (found-named w.subscribers s.site.0 s b.0.0.none at);

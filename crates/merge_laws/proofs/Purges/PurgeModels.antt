@@ -63,8 +63,8 @@ in-step-keeps publication says now = record {
   forgetting = λ w h b p. (let judge : PublisherJudge = by_past h (pasts_with h 0) in
       same-bases now (purge publication w.moment w.publisher).0 h (Noting.noted_purge publication judge (here w) h) (purge-bases publication judge (here w) h) (purge-in-step now publication (here w) h.bases (moved now w h b.1 p)));
   same = λ w h s b p at. p;
-  sub_change = λ w h s change d b p at named fine is. p;
-  sub_closing = λ w h s b p at. p;
+  subscriber_change = λ w h s change d b p at named fine is. p;
+  subscriber_closing = λ w h s b p at. p;
   anew = λ w h s b p at. same-bases now w.publisher h (Noting.noted_anew (by_made h s.site) s h) (anew-bases (by_history h) s.site (Some s) h) p;
   sends_join = λ w h s b p at joining. p;
   sends_upload = λ w h s b p at fine. p;

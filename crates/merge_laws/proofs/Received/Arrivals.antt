@@ -21,7 +21,7 @@ use Rattle.merge_model.specs.Publisher.Acts.{Act}
 use Rattle.merge_model.specs.Publisher.{no_state, site_refusal, state_refusal, unknown_site, later}
 use Rattle.merge_model.specs.Publisher.PublisherJoin.{join_taken, join_acts}
 use Rattle.merge_model.specs.Publisher.PublisherUpload.{upload_refusal}
-use Rattle.merge_model.specs.Subscriber.{sub_last_closed}
+use Rattle.merge_model.specs.Subscriber.{subscriber_last_closed}
 use Rattle.merge_model.specs.World.{World, with_publisher}
 use Rattle.merge_model.specs.declared.letter.Message.{Message}
 use Rattle.merge_model.specs.declared.letter.Message.TheVariants.{Asks, Replies}
@@ -50,7 +50,7 @@ message-later joined after site found (Replies (reply.Refused number values)) up
 
 -- A join acts: of its site the generations that it tells have acted, and all that it closed.
 
-join-number : (m : Join) (p : PublisherTables) (n : ℕ) (s : SubscriberTables) (b : Bool) → same_number n m.site.0 b → (b ≡ true → m.generation ≡ sub_last_closed s) → SubscriberFits (received_by_number p n) n s
+join-number : (m : Join) (p : PublisherTables) (n : ℕ) (s : SubscriberTables) (b : Bool) → same_number n m.site.0 b → (b ≡ true → m.generation ≡ subscriber_last_closed s) → SubscriberFits (received_by_number p n) n s
     → SubscriberFits (received_by_number (join_taken m p) n) n s
 join-number m p n s true same tells f =
     let is : received_by_number (join_taken m p) n ≡ m.generation = joined-received m p n true same in
@@ -70,11 +70,11 @@ join-done m p h n generation false differs from below done =
 
 abbrev pub tells_all : Join → Option SubscriberTables → Type 0
 tells_all m None = ⊥
-tells_all m (Some s) = m.generation ≡ sub_last_closed s
+tells_all m (Some s) = m.generation ≡ subscriber_last_closed s
 
-found-tells : (m : Join) (found : Option SubscriberTables) (s : SubscriberTables) → found ≡ Some s → tells_all m found → m.generation ≡ sub_last_closed s
+found-tells : (m : Join) (found : Option SubscriberTables) (s : SubscriberTables) → found ≡ Some s → tells_all m found → m.generation ≡ subscriber_last_closed s
 found-tells m None s e tells = absurd tells
-found-tells m (Some t) s e tells = let same : t ≡ s = cc in tells ∙ ap sub_last_closed same
+found-tells m (Some t) s e tells = let same : t ≡ s = cc in tells ∙ ap subscriber_last_closed same
 
 closed-above : (m : Join) (p : PublisherTables) (found : Option SubscriberTables) → ((s : SubscriberTables) → found ≡ Some s → SubscriberFits (received_by_number p m.site.0) m.site.0 s) → tells_all m found → received_by_number p m.site.0 ≤ m.generation
 closed-above m p None all tells = absurd tells
@@ -128,17 +128,17 @@ upload-done m acts p q h n generation e known begins goes_on from done =
     (done-joins h m.site.0 m.from m.to n generation (omega (arith, begins, goes_on))) (done n generation from) is (number-decided n m.site.0) (numbers-turned m.site.0 n)
     (λ e. subst (λ (k : ℕ). m.from ≤ received_by_number p k) (sym (numbers-same n m.site.0 e)) begins) (λ e. subst (λ (k : ℕ). received_by_number p k < m.to) (sym (numbers-same n m.site.0 e)) goes_on)
 
-upload-subscriber : (m : Upload) (n r q : ℕ) (s : SubscriberTables) (b : Bool) → q ≡ (if b then m.to else r) → (b ≡ true → m.to ≤ sub_last_closed s) → SubscriberFits r n s → SubscriberFits q n s
+upload-subscriber : (m : Upload) (n r q : ℕ) (s : SubscriberTables) (b : Bool) → q ≡ (if b then m.to else r) → (b ≡ true → m.to ≤ subscriber_last_closed s) → SubscriberFits r n s → SubscriberFits q n s
 upload-subscriber m n r q s true is closed f = record { keyed = f.keyed; idle = f.idle; own = f.own; last = f.last; taken = omega (arith, is, closed refl) }
 upload-subscriber m n r q s false is closed f = subst (λ (k : ℕ). SubscriberFits k n s) (sym is) f
 
 abbrev pub has_closed : Upload → Option SubscriberTables → Type 0
 has_closed m None = ⊥
-has_closed m (Some s) = m.to ≤ sub_last_closed s
+has_closed m (Some s) = m.to ≤ subscriber_last_closed s
 
-found-closed : (m : Upload) (found : Option SubscriberTables) (s : SubscriberTables) → found ≡ Some s → has_closed m found → m.to ≤ sub_last_closed s
+found-closed : (m : Upload) (found : Option SubscriberTables) (s : SubscriberTables) → found ≡ Some s → has_closed m found → m.to ≤ subscriber_last_closed s
 found-closed m None s e closed = absurd closed
-found-closed m (Some t) s e closed = let same : t ≡ s = cc in subst (λ (x : SubscriberTables). m.to ≤ sub_last_closed x) same closed
+found-closed m (Some t) s e closed = let same : t ≡ s = cc in subst (λ (x : SubscriberTables). m.to ≤ subscriber_last_closed x) same closed
 
 pub upload-fits : (m : Upload) (acts : List Act) (w : World) (q : PublisherTables) (h : History) → upload_sites m acts w.publisher q → is_some (at_number w.publisher.sites m.site.0) ≡ true → m.from ≤ received_by_number w.publisher m.site.0
     → received_by_number w.publisher m.site.0 < m.to → has_closed m (at_number w.subscribers m.site.0) → Received w h → Received (with_publisher q w) (Noting.with_done m.site.0 m.from m.to h)

@@ -39,7 +39,7 @@ use Rattle.merge_model.specs.Publisher.PublisherRanges.{plans, ranged, with_gran
 use Rattle.merge_model.specs.Publisher.PublisherUpload.{brings_news, taken_in}
 use Rattle.merge_model.specs.Subscriber.Reinit.{reinitialised}
 use Rattle.merge_model.specs.Subscriber.Sending.{join_of, sending_refusal, upload_end, upload_sent, want_of, with_message}
-use Rattle.merge_model.specs.Subscriber.{is_joining, sub_at_moment, sub_closed, sub_last_closed, sub_local_refusal, sub_made_locally, sub_next_dot, sub_version_at, with_version_if}
+use Rattle.merge_model.specs.Subscriber.{is_joining, subscriber_at_moment, subscriber_closed, subscriber_last_closed, subscriber_local_refusal, subscriber_made_locally, subscriber_next_dot, subscriber_version_at, with_version_if}
 use Rattle.merge_types.specs.declared.row_key.RowKey.{RowKey as Key}
 use Rattle.merge_model.specs.Tables.{PublisherTables, SubscriberTables}
 use Rattle.merge_model.specs.Subscriber.Taking.{seq_of, taken}
@@ -80,7 +80,7 @@ joined-goes received joined s t joins below seq f answered = record {
   made = let m = f.made in omega (arith, m, seq);
 }
 
-closing-behind : (received joined : ℕ) (now : Moment) (s : SubscriberTables) → (s.is_joined ≡ false → s.gens.filling.filled ≡ 0) → StaysBehind received joined s → StaysBehind received joined (sub_closed (sub_at_moment now s))
+closing-behind : (received joined : ℕ) (now : Moment) (s : SubscriberTables) → (s.is_joined ≡ false → s.gens.filling.filled ≡ 0) → StaysBehind received joined s → StaysBehind received joined (subscriber_closed (subscriber_at_moment now s))
 closing-behind received joined now s idle f = record {
   behind = f.behind;
   waits = λ none. f.waits none ∙ sym (filling-stays s.gens.filling (idle none));
@@ -99,7 +99,7 @@ message-behind received joined sent s joins f = record {
   made = let m = f.made in omega (arith, m);
 }
 
-anew-behind : (received joined : ℕ) (judge : SubscriberJudge) (now : Moment) (s : SubscriberTables) → StaysBehind received joined s → StaysBehind received joined (reinitialised judge (sub_at_moment now s)).0
+anew-behind : (received joined : ℕ) (judge : SubscriberJudge) (now : Moment) (s : SubscriberTables) → StaysBehind received joined s → StaysBehind received joined (reinitialised judge (subscriber_at_moment now s)).0
 anew-behind received joined judge now s f = record {
   behind = λ is. absurd (grind (arith, is));
   waits = λ none. refl;
@@ -176,7 +176,7 @@ rises-behind received joined more later s up same f = record {
 }
 
 -- a join has all that its site closed
-join-behind : (received joined : ℕ) (m : Join) (s : SubscriberTables) → s.received ≤ sub_last_closed s → m.generation ≡ sub_last_closed s → m.seq ≤ s.seq → StaysBehind received joined s → StaysBehind m.generation m.seq s
+join-behind : (received joined : ℕ) (m : Join) (s : SubscriberTables) → s.received ≤ subscriber_last_closed s → m.generation ≡ subscriber_last_closed s → m.seq ≤ s.seq → StaysBehind received joined s → StaysBehind m.generation m.seq s
 join-behind received joined m s own tells seq f = record {
   behind = λ joins. omega (arith, own, tells);
   waits = f.waits;
@@ -235,9 +235,9 @@ subscriber-on w s t site new i = subst (λ (m : ℕ). Behind (record w { subscri
     (record { subscribers = λ n v found. subscriber-at w s t v n (n == s.site.0) (number-decided n s.site.0) new i found; letters = i.letters })
 
 -- a join acts
-join-found : (m : Join) (joined : ℕ) (site : SiteId) (found : Option SubscriberTables) (s : SubscriberTables) → found ≡ Some s → JoinFits joined site m found → joined < m.seq → (m.generation ≡ sub_last_closed s) × (m.seq ≤ s.seq)
+join-found : (m : Join) (joined : ℕ) (site : SiteId) (found : Option SubscriberTables) (s : SubscriberTables) → found ≡ Some s → JoinFits joined site m found → joined < m.seq → (m.generation ≡ subscriber_last_closed s) × (m.seq ≤ s.seq)
 join-found m joined site None s e fits later = absurd fits
-join-found m joined site (Some t) s e fits later = let same : t ≡ s = cc in subst (λ (x : SubscriberTables). (m.generation ≡ sub_last_closed x) × (m.seq ≤ x.seq)) same ((fits.2 later).1, fits.1)
+join-found m joined site (Some t) s e fits later = let same : t ≡ s = cc in subst (λ (x : SubscriberTables). (m.generation ≡ subscriber_last_closed x) × (m.seq ≤ x.seq)) same ((fits.2 later).1, fits.1)
 
 abbrev OfWorlds : World → History → Type 0
 OfWorlds w h = Behind w
@@ -301,11 +301,11 @@ module _ (publication : Publication) (says : Saying) where
   not-above judge m none = grind (arith, nat_tests, none)
 
   -- a local change
-  change-kept : (w : World) (s : SubscriberTables) (change : Change) (d : Value × List (ℕ × Holder)) → Behind w → subscriber_at w s.site ≡ Some s → sub_local_refusal publication change s ≡ None → Behind (with_subscriber (sub_made_locally publication change d (sub_at_moment w.moment s)).0 w)
+  change-kept : (w : World) (s : SubscriberTables) (change : Change) (d : Value × List (ℕ × Holder)) → Behind w → subscriber_at w s.site ≡ Some s → subscriber_local_refusal publication change s ≡ None → Behind (with_subscriber (subscriber_made_locally publication change d (subscriber_at_moment w.moment s)).0 w)
   change-kept w s change d i at fine =
-      let key : Key = key_of (sub_next_dot s) change in
-      let u : SubscriberTables = record (sub_at_moment w.moment s) { changes = s.changes + 1; held = d.1 } in
-      let found : Option Version = version_after publication (sub_next_dot s) d.0 change (sub_version_at s key) in
+      let key : Key = key_of (subscriber_next_dot s) change in
+      let u : SubscriberTables = record (subscriber_at_moment w.moment s) { changes = s.changes + 1; held = d.1 } in
+      let found : Option Version = version_after publication (subscriber_next_dot s) d.0 change (subscriber_version_at s key) in
       let joins : s.is_joined ≡ true = joined-flag s (first-none (is_joining s) _ fine).0 in
       let f = here-of w s i at in
       subscriber-on w s (with_version_if key found u) (version-site key found u) (version-goes (received_by_number w.publisher s.site.0) (joined_at w.publisher s.site) key found s u joins refl refl refl (f.behind joins) f) i
@@ -325,12 +325,12 @@ module _ (publication : Publication) (says : Saying) where
     own_closing = λ w h r i. publisher-same w (closed (here w)) (same-sites w.publisher (closed (here w)) refl) i;
     forgetting = λ w h r i. (let q : PublisherTables = (purge publication w.moment w.publisher).0 in publisher-same w q (same-sites w.publisher q refl) i);
     same = λ w h s r i at. subscriber-on w s s refl (here-of w s i at) i;
-    sub_change = λ w h s change d r i at named fine is. change-kept w s change d i at fine;
-    sub_closing = λ w h s r i at. subscriber-on w s (sub_closed (sub_at_moment w.moment s)) refl (closing-behind (received_by_number w.publisher s.site.0) (joined_at w.publisher s.site) w.moment s (r.subscribers s.site.0 s at).idle (here-of w s i at)) i;
+    subscriber_change = λ w h s change d r i at named fine is. change-kept w s change d i at fine;
+    subscriber_closing = λ w h s r i at. subscriber-on w s (subscriber_closed (subscriber_at_moment w.moment s)) refl (closing-behind (received_by_number w.publisher s.site.0) (joined_at w.publisher s.site) w.moment s (r.subscribers s.site.0 s at).idle (here-of w s i at)) i;
     anew = λ w h s r i at. (let judge : SubscriberJudge = by_made h s.site in
-        subscriber-on w s (reinitialised judge (sub_at_moment w.moment s)).0 refl (anew-behind (received_by_number w.publisher s.site.0) (joined_at w.publisher s.site) judge w.moment s (here-of w s i at)) i);
+        subscriber-on w s (reinitialised judge (subscriber_at_moment w.moment s)).0 refl (anew-behind (received_by_number w.publisher s.site.0) (joined_at w.publisher s.site) judge w.moment s (here-of w s i at)) i);
     sends_join = λ w h s r i at joining. message-kept w s (with_message ask.Join s) (Asks (request.Join (join_of s))) i refl (message-behind (received_by_number w.publisher s.site.0) (joined_at w.publisher s.site) ask.Join s (λ none. refl) (here-of w s i at)) tt;
-    sends_upload = λ w h s r i at fine. (let judge : SubscriberJudge = by_made h s.site in let c : SubscriberTables = sub_closed (sub_at_moment w.moment s) in let sent : Outstanding = ask.Upload c.received (upload_end judge c) in
+    sends_upload = λ w h s r i at fine. (let judge : SubscriberJudge = by_made h s.site in let c : SubscriberTables = subscriber_closed (subscriber_at_moment w.moment s) in let sent : Outstanding = ask.Upload c.received (upload_end judge c) in
         message-kept w s (upload_sent judge c).0 (Asks (request.Upload (upload_sent judge c).1)) i refl
         (message-behind (received_by_number w.publisher s.site.0) (joined_at w.publisher s.site) sent c (joined-now s fine sent) (closing-behind (received_by_number w.publisher s.site.0) (joined_at w.publisher s.site) w.moment s (r.subscribers s.site.0 s at).idle (here-of w s i at))) tt);
     sends_ranges = λ w h s r i at fine. message-kept w s (with_message ask.Ranges s) (Asks (request.Ranges (record { site = s.site; seq = s.seq + 1; wants = map want_of s.held }))) i refl

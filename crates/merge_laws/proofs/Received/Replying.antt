@@ -16,7 +16,7 @@ use Rattle.merge_model.specs.Tables.{SubscriberTables}
 use Rattle.merge_model.specs.Tables.Refusals.{unless}
 use Rattle.merge_model.specs.Judge.{SubscriberJudge}
 use Rattle.merge_model.specs.World.Faults.{reply_fault}
-use Rattle.merge_model.specs.Subscriber.{sub_last_closed}
+use Rattle.merge_model.specs.Subscriber.{subscriber_last_closed}
 use Rattle.merge_model.specs.Subscriber.Taking.{taken, take_reply, met_by, seq_of}
 use Rattle.merge_model.specs.declared.outcome.Taken.{Taken}
 use Rattle.merge_model.specs.declared.outcome.Taken.TheVariants.{Acted, Missed}
@@ -25,14 +25,14 @@ use Rattle.merge_laws.specs.Facts.Received.{MessageFits, SubscriberFits}
 use Rattle.merge_laws.proofs.Received.Subscribing.{Goes}
 
 -- a reply that fits tells of no generation that the site has not closed
-pub uploaded-bound : (publication : Publication) (sent : Outstanding) (m : Uploaded) (s : SubscriberTables) → reply_fault publication sent (reply.Uploaded m) s ≡ None → m.received ≤ sub_last_closed s
+pub uploaded-bound : (publication : Publication) (sent : Outstanding) (m : Uploaded) (s : SubscriberTables) → reply_fault publication sent (reply.Uploaded m) s ≡ None → m.received ≤ subscriber_last_closed s
 unfolding broken_by_reply
 uploaded-bound publication (ask.Upload from to) m s e = grind (arith, nat_tests, e)
 uploaded-bound publication ask.Join m s e = absurd (grind (arith, e))
 uploaded-bound publication ask.Ranges m s e = absurd (grind (arith, e))
 uploaded-bound publication (ask.Download from) m s e = absurd (grind (arith, e))
 
-pub downloaded-bound : (publication : Publication) (sent : Outstanding) (m : Downloaded) (s : SubscriberTables) → reply_fault publication sent (reply.Downloaded m) s ≡ None → m.received ≤ sub_last_closed s
+pub downloaded-bound : (publication : Publication) (sent : Outstanding) (m : Downloaded) (s : SubscriberTables) → reply_fault publication sent (reply.Downloaded m) s ≡ None → m.received ≤ subscriber_last_closed s
 unfolding broken_by_reply
 downloaded-bound publication (ask.Download from) m s e = grind (arith, nat_tests, e)
 downloaded-bound publication ask.Join m s e = absurd (grind (arith, e))

@@ -24,7 +24,7 @@ use Rattle.merge_model.specs.Judge.ByNumbers.{received_by_number}
 use Rattle.merge_model.specs.Publisher.PublisherJoin.{joined}
 use Rattle.merge_types.specs.Limits.{item_limit, generation_limit}
 use Rattle.merge_model.specs.Publisher.PublisherDownload.{batch_end}
-use Rattle.merge_model.specs.Subscriber.{sub_closed, sub_at_moment, sub_counters, sub_last_closed}
+use Rattle.merge_model.specs.Subscriber.{subscriber_closed, subscriber_at_moment, subscriber_counters, subscriber_last_closed}
 use Rattle.merge_model.specs.Subscriber.Sending.{join_made, join_of, upload_made, upload_sent, upload_to, upload_end, unsent_rows, ranges_made, want_of, sending_refusal, with_message}
 use Rattle.merge_model.specs.Subscriber.Taking.{take_reply}
 use Rattle.merge_model.specs.declared.outcome.Taken.{Taken}
@@ -90,14 +90,14 @@ module _ (w : World) (h : History) (r : Received w h) (site : SiteId) (s : Subsc
   refusal-fine (Some why) made message ok = r
   refusal-fine None made message ok = ok
 
-  upload-made-fine : (judge : SubscriberJudge) (rows : List (Key × ℕ)) → (let made : Option (SubscriberTables × Upload) = elim rows [ [] ↦ None | row ∷ rest ↦ Some (upload_sent judge (sub_closed (sub_at_moment w.moment s))) ] in Received (posted s.site (λ (m : Upload). request.Upload m) w made).0 h)
+  upload-made-fine : (judge : SubscriberJudge) (rows : List (Key × ℕ)) → (let made : Option (SubscriberTables × Upload) = elim rows [ [] ↦ None | row ∷ rest ↦ Some (upload_sent judge (subscriber_closed (subscriber_at_moment w.moment s))) ] in Received (posted s.site (λ (m : Upload). request.Upload m) w made).0 h)
   upload-made-fine judge [] = r
   upload-made-fine judge (row ∷ rest) =
-      let c : SubscriberTables = sub_closed (sub_at_moment w.moment s) in
+      let c : SubscriberTables = subscriber_closed (subscriber_at_moment w.moment s) in
       let to : ℕ = upload_end judge c in
       let g : Goes known waiting s c = closing-goes known waiting 0 w.moment s own in
       letter-fine w h r site s at (with_message (ask.Upload c.received to) c) (Asks (request.Upload (upload_to judge c to))) (then-message known waiting (ask.Upload c.received to) s c g)
-      (refl, batch-bound (λ (k : ℕ). length (judge.changed_between c.received k)) c.received (sub_last_closed c) g.fits.own)
+      (refl, batch-bound (λ (k : ℕ). length (judge.changed_between c.received k)) c.received (subscriber_last_closed c) g.fits.own)
 
   ranges-made-fine : (held : List (ℕ × Holder)) → (let made : Option (SubscriberTables × RangeAsk) = elim held [ [] ↦ None | entry ∷ entries ↦ Some (with_message ask.Ranges s, record { site = s.site; seq = s.seq + 1; wants = map want_of s.held }) ] in Received (posted s.site (λ (m : RangeAsk). request.Ranges m) w made).0 h)
   ranges-made-fine [] = r
@@ -110,7 +110,7 @@ module _ (w : World) (h : History) (r : Received w h) (site : SiteId) (s : Subsc
   ask-fine None = letter-fine w h r site s at (with_message (ask.Download s.watermark) s) (Asks (request.Download (record { site = s.site; seq = s.seq + 1; from = s.watermark }))) (message-goes-on known waiting (ask.Download s.watermark) s own) tt
 
   pub send-fine : (judges : Judges) (sending : Sending) → Received (send_from judges sending w s).0 h
-  send-fine judges SendJoin = refusal-fine (counter_end (sub_counters s)) (join_made s) (λ (m : Join). request.Join m) (join-made-fine s.is_joined refl)
+  send-fine judges SendJoin = refusal-fine (counter_end (subscriber_counters s)) (join_made s) (λ (m : Join). request.Join m) (join-made-fine s.is_joined refl)
   send-fine judges SendUpload = refusal-fine (sending_refusal s) (upload_made (judges.subscriber s.site s) w.moment s) (λ (m : Upload). request.Upload m) (upload-made-fine (judges.subscriber s.site s) (unsent_rows (judges.subscriber s.site s) s))
   send-fine judges SendRanges = refusal-fine (sending_refusal s) (ranges_made s) (λ (m : RangeAsk). request.Ranges m) (ranges-made-fine s.held)
   send-fine judges SendDownload = ask-fine (sending_refusal s)
@@ -122,6 +122,6 @@ module _ (w : World) (h : History) (r : Received w h) (site : SiteId) (s : Subsc
 
   pub anew-fine : (judges : Judges) → Received (make_anew judges w s).0 h
   anew-fine judges =
-      let made : SubscriberTables × ℕ = reinitialised (judges.subscriber s.site s) (sub_at_moment w.moment s) in
+      let made : SubscriberTables × ℕ = reinitialised (judges.subscriber s.site s) (subscriber_at_moment w.moment s) in
       sub-fine w h r site s at (reinitialise (judges.subscriber s.site s) w.moment s) (λ (done : SubscriberTables × ℕ). (with_subscriber done.0 w, Discards done.1))
-      (unless-goes known waiting s (counter_end (sub_counters s)) made.0 made.1 (anew-goes known waiting (judges.subscriber s.site s) w.moment s own)) (λ a g. goes-fine w h r site s at a.0 g)
+      (unless-goes known waiting s (counter_end (subscriber_counters s)) made.0 made.1 (anew-goes known waiting (judges.subscriber s.site s) w.moment s own)) (λ a g. goes-fine w h r site s at a.0 g)

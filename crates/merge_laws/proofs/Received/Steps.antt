@@ -18,7 +18,7 @@ use Rattle.merge_model.specs.Judge.ByNumbers.{received_by_number}
 use Rattle.merge_model.specs.Publisher.{at_moment, close_generation}
 use Rattle.merge_model.specs.Publisher.PublisherLocal.{local, drawn, Drawn, made_locally}
 use Rattle.merge_model.specs.Publisher.PublisherJoin.{joined}
-use Rattle.merge_model.specs.Subscriber.{sub_local, sub_local_refusal, sub_drawn, sub_made_locally, close_sub_generation, sub_closed, sub_at_moment, sub_counters, sub_last_closed, is_joining}
+use Rattle.merge_model.specs.Subscriber.{subscriber_local, subscriber_local_refusal, subscriber_drawn, subscriber_made_locally, close_subscriber_generation, subscriber_closed, subscriber_at_moment, subscriber_counters, subscriber_last_closed, is_joining}
 use Rattle.merge_model.specs.World.{World, Judges, subscriber_at, with_publisher, with_subscriber}
 use Rattle.merge_model.specs.declared.letter.Message.{Message}
 use Rattle.merge_model.specs.World.Steps.{post, unless_refused, at_subscriber, make_at, make_at_publisher, make_at_subscriber, close_at, close_publisher, close_subscriber}
@@ -85,20 +85,20 @@ pub joined-flag : (s : SubscriberTables) → is_joining s ≡ None → s.is_join
 joined-flag s none = grind (arith, none)
 
 drawn-goes : (publication : Publication) (received joined : ℕ) (now : Moment) (change : Change) (s : SubscriberTables) (draw : Result (Value × List (ℕ × Holder)) Refusal) → s.is_joined ≡ true → SubscriberFits received s.site.0 s
-    → (let done : Result (SubscriberTables × RowId) Refusal = elim draw [ Err refusal ↦ Err refusal | Ok d ↦ Ok (sub_made_locally publication change d (sub_at_moment now s)) ] in IfOk done (λ a. Goes received joined s a.0))
+    → (let done : Result (SubscriberTables × RowId) Refusal = elim draw [ Err refusal ↦ Err refusal | Ok d ↦ Ok (subscriber_made_locally publication change d (subscriber_at_moment now s)) ] in IfOk done (λ a. Goes received joined s a.0))
 drawn-goes publication received joined now change s (Err refusal) joins f = tt
 drawn-goes publication received joined now change s (Ok d) joins f = made-goes publication received joined now change s d joins f
 
-refused-goes : (publication : Publication) (received joined : ℕ) (now : Moment) (change : Change) (s : SubscriberTables) (refusal : Option Refusal) → sub_local_refusal publication change s ≡ refusal → SubscriberFits received s.site.0 s
+refused-goes : (publication : Publication) (received joined : ℕ) (now : Moment) (change : Change) (s : SubscriberTables) (refusal : Option Refusal) → subscriber_local_refusal publication change s ≡ refusal → SubscriberFits received s.site.0 s
     → (let done : Result (SubscriberTables × RowId) Refusal = elim refusal [
       | Some why ↦ Err why
-      | None ↦ elim (sub_drawn s change) [ Err why ↦ Err why | Ok d ↦ Ok (sub_made_locally publication change d (sub_at_moment now s)) ]
+      | None ↦ elim (subscriber_drawn s change) [ Err why ↦ Err why | Ok d ↦ Ok (subscriber_made_locally publication change d (subscriber_at_moment now s)) ]
     ] in IfOk done (λ a. Goes received joined s a.0))
 refused-goes publication received joined now change s (Some why) e f = tt
-refused-goes publication received joined now change s None e f = drawn-goes publication received joined now change s (sub_drawn s change) (joined-flag s (first-none (is_joining s) _ e).0) f
+refused-goes publication received joined now change s None e f = drawn-goes publication received joined now change s (subscriber_drawn s change) (joined-flag s (first-none (is_joining s) _ e).0) f
 
-local-goes : (publication : Publication) (received joined : ℕ) (now : Moment) (change : Change) (s : SubscriberTables) → SubscriberFits received s.site.0 s → IfOk (sub_local publication now change s) (λ a. Goes received joined s a.0)
-local-goes publication received joined now change s f = refused-goes publication received joined now change s (sub_local_refusal publication change s) refl f
+local-goes : (publication : Publication) (received joined : ℕ) (now : Moment) (change : Change) (s : SubscriberTables) → SubscriberFits received s.site.0 s → IfOk (subscriber_local publication now change s) (λ a. Goes received joined s a.0)
+local-goes publication received joined now change s f = refused-goes publication received joined now change s (subscriber_local_refusal publication change s) refl f
 
 pub unless-goes : {A : Type 0} (received joined : ℕ) (s : SubscriberTables) (refusal : Option Refusal) (t : SubscriberTables) (a : A) → Goes received joined s t → (let done : Result (SubscriberTables × A) Refusal = unless refusal (t, a) in IfOk done (λ x. Goes received joined s x.0))
 unless-goes received joined s (Some why) t a g = tt
@@ -111,7 +111,7 @@ make-fine publication judges site change w h r =
     (local-ok (λ (q : PublisherTables). q.sites ≡ w.publisher.sites) publication (judges.publisher 0) w.moment change w.publisher (local-sites publication (judges.publisher 0) w.moment change w.publisher (drawn publication w.publisher change)))
     (λ a e. sites-fine w h r a.0 e))
     (at-fine w h r site (make_at_subscriber publication change w)
-    (λ s at. sub-fine w h r site s at (sub_local publication w.moment change s) (λ (done : SubscriberTables × RowId). (with_subscriber done.0 w, Made done.1))
+    (λ s at. sub-fine w h r site s at (subscriber_local publication w.moment change s) (λ (done : SubscriberTables × RowId). (with_subscriber done.0 w, Made done.1))
     (local-goes publication (received_by_number w.publisher s.site.0) (joined_at w.publisher s.site) w.moment change s (fits-own w h r site s at))
     (λ a g. goes-fine w h r site s at a.0 g)))
 
@@ -121,9 +121,9 @@ close-fine site w h r =
     (pub-fine w h r (close_generation w.moment w.publisher) (λ (done : PublisherTables × ℕ). (with_publisher done.0 w, Closes done.1))
     (close-ok (λ (q : PublisherTables). q.sites ≡ w.publisher.sites) w.moment w.publisher refl) (λ a e. sites-fine w h r a.0 e))
     (at-fine w h r site (close_subscriber w)
-    (λ s at. (let t : SubscriberTables = sub_closed (sub_at_moment w.moment s) in
-    sub-fine w h r site s at (close_sub_generation w.moment s) (λ (done : SubscriberTables × ℕ). (with_subscriber done.0 w, Closes done.1))
-    (unless-goes (received_by_number w.publisher s.site.0) (joined_at w.publisher s.site) s (counter_end (sub_counters s)) t (sub_last_closed t)
+    (λ s at. (let t : SubscriberTables = subscriber_closed (subscriber_at_moment w.moment s) in
+    sub-fine w h r site s at (close_subscriber_generation w.moment s) (λ (done : SubscriberTables × ℕ). (with_subscriber done.0 w, Closes done.1))
+    (unless-goes (received_by_number w.publisher s.site.0) (joined_at w.publisher s.site) s (counter_end (subscriber_counters s)) t (subscriber_last_closed t)
     (closing-goes (received_by_number w.publisher s.site.0) (joined_at w.publisher s.site) 0 w.moment s (fits-own w h r site s at)))
     (λ a g. goes-fine w h r site s at a.0 g))))
 

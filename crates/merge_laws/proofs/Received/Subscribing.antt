@@ -22,7 +22,7 @@ use Rattle.merge_model.specs.Tables.Keys.{at_number, put_number}
 use Rattle.merge_model.specs.Judge.{SubscriberJudge}
 use Rattle.merge_model.specs.Tables.Changes.{key_of, version_after}
 use Rattle.merge_model.specs.Judge.ByNumbers.{received_by_number}
-use Rattle.merge_model.specs.Subscriber.{sub_last_closed, sub_closed, sub_at_moment, sub_made_locally, sub_next_dot, sub_version_at, with_version_if}
+use Rattle.merge_model.specs.Subscriber.{subscriber_last_closed, subscriber_closed, subscriber_at_moment, subscriber_made_locally, subscriber_next_dot, subscriber_version_at, with_version_if}
 use Rattle.merge_model.specs.Subscriber.Sending.{with_message}
 use Rattle.merge_model.specs.Subscriber.Reinit.{reinitialised}
 use Rattle.merge_model.specs.declared.letter.Letter.{Letter}
@@ -33,17 +33,17 @@ use Rattle.merge_model.proofs.Lists.Finding.{at_put_same, at_put_other, all-weak
 
 -- A join that can act still waits after a step of its site.
 abbrev pub StillWaits : ℕ → SiteId → SubscriberTables → SubscriberTables → Type 0
-StillWaits joined site s t = (m : Join) → JoinFits joined site m (Some s) → joined < m.seq → (t.is_joined ≡ false) × (m.generation ≡ sub_last_closed t)
+StillWaits joined site s t = (m : Join) → JoinFits joined site m (Some s) → joined < m.seq → (t.is_joined ≡ false) × (m.generation ≡ subscriber_last_closed t)
 
 -- what a step of a subscriber keeps
 pub record Goes (received joined : ℕ) (s t : SubscriberTables) : Type 0 where
   pub same_site : t.site ≡ s.site
   pub seq : s.seq ≤ t.seq
-  pub closed : sub_last_closed s ≤ sub_last_closed t
+  pub closed : subscriber_last_closed s ≤ subscriber_last_closed t
   pub fits : SubscriberFits received s.site.0 t
   pub waits : (site : SiteId) → StillWaits joined site s t
 
-message-goes : (joined : ℕ) (site : SiteId) (s t : SubscriberTables) → s.seq ≤ t.seq → sub_last_closed s ≤ sub_last_closed t → StillWaits joined site s t
+message-goes : (joined : ℕ) (site : SiteId) (s t : SubscriberTables) → s.seq ≤ t.seq → subscriber_last_closed s ≤ subscriber_last_closed t → StillWaits joined site s t
     → (message : Message) → MessageFits joined site (Some s) message → MessageFits joined site (Some t) message
 message-goes joined site s t seq closed waits (Asks (request.Join m)) fits = (fits.0, omega (arith, fits.1), λ later. waits m fits later)
 message-goes joined site s t seq closed waits (Asks (request.Upload m)) fits = (fits.0, omega (arith, fits.1))
@@ -67,7 +67,7 @@ number-decided a b = elim (a == b) as (λ (c : Bool). (a == b) ≡ c → same_nu
 ] refl
 
 letter-at : (subscribers : List (ℕ × SubscriberTables)) (p : PublisherTables) (s t : SubscriberTables) (letter : Letter) (b : Bool) → same_number letter.site.0 s.site.0 b
-    → at_number subscribers s.site.0 ≡ Some s → s.seq ≤ t.seq → sub_last_closed s ≤ sub_last_closed t → (letter.site.0 ≡ s.site.0 → StillWaits (joined_at p letter.site) letter.site s t)
+    → at_number subscribers s.site.0 ≡ Some s → s.seq ≤ t.seq → subscriber_last_closed s ≤ subscriber_last_closed t → (letter.site.0 ≡ s.site.0 → StillWaits (joined_at p letter.site) letter.site s t)
     → LetterFits subscribers p letter → LetterFits (put_number subscribers s.site.0 t) p letter
 letter-at subscribers p s t letter true same at seq closed waits fits =
     let found : at_number subscribers letter.site.0 ≡ Some s = ap (λ (n : ℕ). at_number subscribers n) same ∙ at in
@@ -77,7 +77,7 @@ letter-at subscribers p s t letter true same at seq closed waits fits =
 letter-at subscribers p s t letter false differs at seq closed waits fits =
     subst (λ (o : Option SubscriberTables). MessageFits (joined_at p letter.site) letter.site o letter.message) (sym (at_put_other s.site.0 letter.site.0 t subscribers differs)) fits
 
-pub letters-go : (subscribers : List (ℕ × SubscriberTables)) (p : PublisherTables) (s t : SubscriberTables) → at_number subscribers s.site.0 ≡ Some s → s.seq ≤ t.seq → sub_last_closed s ≤ sub_last_closed t
+pub letters-go : (subscribers : List (ℕ × SubscriberTables)) (p : PublisherTables) (s t : SubscriberTables) → at_number subscribers s.site.0 ≡ Some s → s.seq ≤ t.seq → subscriber_last_closed s ≤ subscriber_last_closed t
     → ((site : SiteId) → site.0 ≡ s.site.0 → StillWaits (joined_at p site) site s t) → (pool : List Letter) → AllByRecursion (LetterFits subscribers p) pool → AllByRecursion (LetterFits (put_number subscribers s.site.0 t) p) pool
 letters-go subscribers p s t at seq closed waits pool all =
     all-weaker (LetterFits subscribers p) (LetterFits (put_number subscribers s.site.0 t) p)
@@ -107,7 +107,7 @@ pub filling-stays : (filling : Filling) → filling.filled ≡ 0 → (fill.close
 filling-stays filling empty = grind (arith, nat_tests, empty)
 
 -- a closing
-pub closing-goes : (received joined n : ℕ) (now : Moment) (s : SubscriberTables) → SubscriberFits received s.site.0 s → Goes received joined s (sub_closed (sub_at_moment now s))
+pub closing-goes : (received joined n : ℕ) (now : Moment) (s : SubscriberTables) → SubscriberFits received s.site.0 s → Goes received joined s (subscriber_closed (subscriber_at_moment now s))
 closing-goes received joined n now s f = record {
   same_site = refl;
   seq = omega arith;
@@ -163,14 +163,14 @@ version-goes received joined key (Some version) s u joins site seq flag gens own
 }
 
 pub made-goes : (publication : Publication) (received joined : ℕ) (now : Moment) (change : Change) (s : SubscriberTables) (d : Value × List (ℕ × Holder)) → s.is_joined ≡ true → SubscriberFits received s.site.0 s
-    → Goes received joined s (sub_made_locally publication change d (sub_at_moment now s)).0
+    → Goes received joined s (subscriber_made_locally publication change d (subscriber_at_moment now s)).0
 made-goes publication received joined now change s d joins f =
-    let t : SubscriberTables = sub_at_moment now s in
+    let t : SubscriberTables = subscriber_at_moment now s in
     let u : SubscriberTables = record t { changes = t.changes + 1; held = d.1 } in
-    version-goes received joined (key_of (sub_next_dot t) change) (version_after publication (sub_next_dot t) d.0 change (sub_version_at t (key_of (sub_next_dot t) change))) s u joins refl refl refl refl refl refl f
+    version-goes received joined (key_of (subscriber_next_dot t) change) (version_after publication (subscriber_next_dot t) d.0 change (subscriber_version_at t (key_of (subscriber_next_dot t) change))) s u joins refl refl refl refl refl refl f
 
 -- making anew
-pub anew-goes : (received joined : ℕ) (judge : SubscriberJudge) (now : Moment) (s : SubscriberTables) → SubscriberFits received s.site.0 s → Goes received joined s (reinitialised judge (sub_at_moment now s)).0
+pub anew-goes : (received joined : ℕ) (judge : SubscriberJudge) (now : Moment) (s : SubscriberTables) → SubscriberFits received s.site.0 s → Goes received joined s (reinitialised judge (subscriber_at_moment now s)).0
 anew-goes received joined judge now s f = record {
   same_site = refl;
   seq = omega arith;

@@ -10,7 +10,7 @@ use Rattle.merge_model.specs.Tables.Keys.{at_number, put_number}
 use Rattle.merge_model.specs.Judge.ByNumbers.{received_by_number}
 use Rattle.merge_model.specs.Judge.ByHistory.{received_by_done, is_gap_by_done}
 use Rattle.merge_model.specs.Publisher.{no_state}
-use Rattle.merge_model.specs.Subscriber.{sub_last_closed}
+use Rattle.merge_model.specs.Subscriber.{subscriber_last_closed}
 use Rattle.merge_model.specs.World.{World, with_publisher, with_subscriber}
 use Rattle.merge_model.specs.declared.letter.Letter.{Letter}
 use Rattle.merge_model.specs.declared.letter.Message.{Message}
@@ -46,7 +46,7 @@ subscriber-goes w h s t at g r =
       subscribers = subst (λ (subs : List (ℕ × SubscriberTables)). AllFit subs w.publisher) (sym same) (all-fit w.subscribers w.publisher s t g.fits r.subscribers);
       letters = subst (λ (subs : List (ℕ × SubscriberTables)). AllByRecursion (LetterFits subs w.publisher) w.pool) (sym same)
           (letters-go w.subscribers w.publisher s t at g.seq g.closed
-          (λ site same_site. subst (λ (n : ℕ). (m : Join) → JoinFits n site m (Some s) → n < m.seq → (t.is_joined ≡ false) × (m.generation ≡ sub_last_closed t))
+          (λ site same_site. subst (λ (n : ℕ). (m : Join) → JoinFits n site m (Some s) → n < m.seq → (t.is_joined ≡ false) × (m.generation ≡ subscriber_last_closed t))
           (sym (ap (λ (k : ℕ). (unwrap_or (at_number w.publisher.sites k) no_state).joined_at) same_site)) (g.waits site)) w.pool r.letters);
       done = r.done;
     }

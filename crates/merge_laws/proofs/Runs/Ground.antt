@@ -37,7 +37,7 @@ use Rattle.merge_model.specs.Tables.Publications.{by_site}
 use Rattle.merge_model.specs.Subscriber.Reinit.{reinitialised}
 use Rattle.merge_model.specs.Subscriber.Sending.{upload_sent, with_message}
 use Rattle.merge_model.specs.World.Steps.{Action}
-use Rattle.merge_model.specs.Subscriber.{empty_subscriber, sub_at_moment, sub_closed, sub_made_locally}
+use Rattle.merge_model.specs.Subscriber.{empty_subscriber, subscriber_at_moment, subscriber_closed, subscriber_made_locally}
 use Rattle.merge_model.specs.Tables.{SubscriberTables}
 use Rattle.merge_model.specs.Subscriber.Taking.{taken}
 use Rattle.merge_model.specs.World.{Saying, World, empty_world, subscriber_at, with_subscriber}
@@ -86,11 +86,11 @@ none-keeps publication says = record {
   own_closing = λ w h r p. p;
   forgetting = λ w h r p. p;
   same = λ w h s r p at. still-none w s s p at refl;
-  sub_change = λ w h s change d r p at named fine is. still-none w s (sub_made_locally publication change d (sub_at_moment w.moment s)).0 p at (ap (λ (site : SiteId). site.0) (made-on publication w.moment change s d).same_site);
-  sub_closing = λ w h s r p at. still-none w s (sub_closed (sub_at_moment w.moment s)) p at refl;
-  anew = λ w h s r p at. still-none w s (reinitialised (by_made h s.site) (sub_at_moment w.moment s)).0 p at refl;
+  subscriber_change = λ w h s change d r p at named fine is. still-none w s (subscriber_made_locally publication change d (subscriber_at_moment w.moment s)).0 p at (ap (λ (site : SiteId). site.0) (made-on publication w.moment change s d).same_site);
+  subscriber_closing = λ w h s r p at. still-none w s (subscriber_closed (subscriber_at_moment w.moment s)) p at refl;
+  anew = λ w h s r p at. still-none w s (reinitialised (by_made h s.site) (subscriber_at_moment w.moment s)).0 p at refl;
   sends_join = λ w h s r p at joining. still-none w s (with_message ask.Join s) p at refl;
-  sends_upload = λ w h s r p at fine. still-none w s (upload_sent (by_made h s.site) (sub_closed (sub_at_moment w.moment s))).0 p at refl;
+  sends_upload = λ w h s r p at fine. still-none w s (upload_sent (by_made h s.site) (subscriber_closed (subscriber_at_moment w.moment s))).0 p at refl;
   sends_ranges = λ w h s r p at fine. still-none w s (with_message ask.Ranges s) p at refl;
   sends_ask = λ w h s r p at fine. still-none w s (with_message (ask.Download s.watermark) s) p at refl;
   joins = λ w h number m r p at fine acts. p;

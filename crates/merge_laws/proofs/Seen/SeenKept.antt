@@ -72,8 +72,8 @@ module _ (publication : Publication) (says : Saying) where
         let lines : List Line = map (Noting.gone_line (last_closed (here w) + 1)) (flat_map (Noting.old_left publication judge (here w)) (map Noting.site_of_subscription (by_site publication))) in
         seen-as w.publisher.sites h.accepted _ (lines-accepted lines (fold Noting.with_purged h keys) ∙ fold-leave (λ (x : History). x.accepted) Noting.with_purged (λ x key. refl) keys h) seen);
     same = λ w h s b seen at. seen;
-    sub_change = λ w h s change d b seen at named fine is. seen;
-    sub_closing = λ w h s b seen at. seen;
+    subscriber_change = λ w h s change d b seen at named fine is. seen;
+    subscriber_closing = λ w h s b seen at. seen;
     anew = λ w h s b seen at. seen-as w.publisher.sites h.accepted _ (discarded-leave (λ (x : History). x.accepted) (λ x lost. refl) s.site (discarded (by_made h s.site) s) h) seen;
     sends_join = λ w h s b seen at joining. seen;
     sends_upload = λ w h s b seen at fine. seen;

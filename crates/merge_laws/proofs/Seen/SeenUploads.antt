@@ -31,7 +31,7 @@ use Rattle.merge_model.specs.Publisher.{last_closed, state_of}
 use Rattle.merge_model.specs.Publisher.PublisherJoin.{join_acts, join_taken, joined_state}
 use Rattle.merge_model.specs.Publisher.PublisherUpload.{brings_news, taken_in, upload_refusal}
 use Rattle.merge_model.specs.World.Steps.{kept_decisions, upload_questions}
-use Rattle.merge_model.specs.Subscriber.{sub_last_closed}
+use Rattle.merge_model.specs.Subscriber.{subscriber_last_closed}
 use Rattle.merge_types.specs.declared.row_key.RowKey.{RowKey as Key}
 use Rattle.merge_model.specs.Tables.{SubscriberTables}
 use Rattle.merge_model.specs.World.{Saying, World, letter_at}
@@ -66,11 +66,11 @@ letter-in P w all (suc k) letter at = all-at P w.pool k letter at all
 
 -- A join.
 
-join-reached : (w : World) (h : History) (m : Join) (received : ℕ) (found : Option SubscriberTables) → ((s : SubscriberTables) → found ≡ Some s → received ≤ sub_last_closed s) → JoinFits (joined_at w.publisher m.site) m.site m found → joined_at w.publisher m.site < m.seq → received ≤ m.generation
+join-reached : (w : World) (h : History) (m : Join) (received : ℕ) (found : Option SubscriberTables) → ((s : SubscriberTables) → found ≡ Some s → received ≤ subscriber_last_closed s) → JoinFits (joined_at w.publisher m.site) m.site m found → joined_at w.publisher m.site < m.seq → received ≤ m.generation
 join-reached w h m received None each fits later = absurd fits
 join-reached w h m received (Some s) each fits later =
-    let closed : received ≤ sub_last_closed s = each s refl in
-    let is : m.generation ≡ sub_last_closed s = (fits.2 later).1 in
+    let closed : received ≤ subscriber_last_closed s = each s refl in
+    let is : m.generation ≡ subscriber_last_closed s = (fits.2 later).1 in
     omega (arith, closed, is)
 
 join-last : (made : List MadeChange) (m : Join) (found : Option SubscriberTables) → JoinTells made m found → (m.number ≡ last_of m.generation made) × (found ≡ None → ⊥)

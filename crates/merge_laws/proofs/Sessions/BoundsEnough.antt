@@ -17,7 +17,7 @@ use Rattle.merge_model.specs.Failing.Runs.{model_behind_actions}
 use Rattle.merge_model.specs.Subscriber.Sending.{sending_refusal, unsent_rows, upload_made, upload_sent}
 use Rattle.merge_model.specs.World.Session.{Session, after_download, all_downloads, all_uploads, answered_as, arrived, ask, downloaded_in, downloading, exchange, last_message, unsent_generations, uploading, with_answer, with_upload}
 use Rattle.merge_model.specs.World.Steps.{Deliver, Send, SendDownload, SendUpload, Sending, posted}
-use Rattle.merge_model.specs.Subscriber.{sub_at_moment, sub_closed, sub_last_closed}
+use Rattle.merge_model.specs.Subscriber.{subscriber_at_moment, subscriber_closed, subscriber_last_closed}
 use Rattle.merge_model.specs.Tables.{SubscriberTables}
 use Rattle.merge_model.specs.World.{Saying, World, subscriber_at}
 use Rattle.merge_model.specs.declared.letter.Message.{Message}
@@ -58,7 +58,7 @@ module _ (publication : Publication) (says : Saying) (site : SiteId) where
   -- Where nothing is unsent, no upload is made.
   nothing-sent : (k : Model) (s : SubscriberTables) → subscriber_at k.world s.site ≡ Some s → unsent_rows (by_made k.history s.site) s ≡ [] → Answered publication says (λ n. ⊥) (λ n. Unit {0}) s.site (ask (model publication says) s.site SendUpload k)
   nothing-sent k s at nothing =
-      let made : SubscriberTables × Upload = upload_sent (by_made k.history s.site) (sub_closed (sub_at_moment k.world.moment s)) in
+      let made : SubscriberTables × Upload = upload_sent (by_made k.history s.site) (subscriber_closed (subscriber_at_moment k.world.moment s)) in
       let act : Option (SubscriberTables × Upload) → World × Outcome = posted s.site (λ (y : Upload). request.Upload y) k.world in
       let rows : List (Key × ℕ) → Type 0 = λ (unsent : List (Key × ℕ)). (let sent : Option (SubscriberTables × Upload) = elim unsent [ [] ↦ None | row ∷ rest ↦ Some made ] in After (Sent publication says (λ n. ⊥) (λ n. Unit {0}) s.site) (act sent) k.history k.history) in
       send-step publication says (λ n. ⊥) (λ n. Unit {0}) s.site k s SendUpload at
@@ -79,7 +79,7 @@ module _ (publication : Publication) (says : Saying) (site : SiteId) where
         let a : At publication says site k = j.at in
         let s : SubscriberTables = a.tables in
         let up : bound ≤ s.received = grind (arith, nat_tests, is) in
-        let none : NoneBetween s.received (sub_last_closed s + 1) (made_at k.history s.site.0) = subst (λ (x : SiteId). NoneBetween s.received (sub_last_closed s + 1) (made_at k.history x.0)) (sym (same-site publication says site k a)) (up-none bound s.received (sub_last_closed s + 1) (made_at k.history site.0) up all) in
+        let none : NoneBetween s.received (subscriber_last_closed s + 1) (made_at k.history s.site.0) = subst (λ (x : SiteId). NoneBetween s.received (subscriber_last_closed s + 1) (made_at k.history x.0)) (sym (same-site publication says site k a)) (up-none bound s.received (subscriber_last_closed s + 1) (made_at k.history site.0) up all) in
         exchange-same (λ n. ⊥) (λ n. Unit {0}) SendUpload u (with_upload (model publication says) site) (uploading (model publication says) site (count + more)) (uploading (model publication says) site count)
         (ends-here publication says site (λ n. ⊥) (λ n. Unit {0}) SendUpload k a (nothing-sent k s (own publication says site k a) (none-nothing k.history s none)))
         a.known (λ x g never. absurd never)
@@ -173,10 +173,10 @@ module _ (publication : Publication) (says : Saying) (m : Model) (s : Subscriber
   unfolding here
   uploads-here joined named uploads downloads more =
       let u : Session Model = under_way m uploads downloads in
-      let bound : ℕ = sub_last_closed s + 1 in
+      let bound : ℕ = subscriber_last_closed s + 1 in
       let below = (known.0.subscribers s.site.0 s at).own in
       let all : UpTo bound (made_at m.history s.site.0) = order-up s.changes bound (made_at m.history s.site.0) ((known.1.subscribers s.site.0 s at).order named) in
-      let count : ℕ = sub_last_closed s + 2 - s.received in
+      let count : ℕ = subscriber_last_closed s + 2 - s.received in
       let is : unsent_generations (model publication says) s.site m ≡ count = ap (λ (found : Option SubscriberTables). unwrap_or (option_map (λ (x : SubscriberTables). x.gens.filling.last_closed + 2 - x.received) found) 0) at in
       ap (λ (n : ℕ). uploading (model publication says) s.site (n + more) u) is
       ∙ uploading-same publication says s.site bound count more u (record { at = here; joined = joined }) all (omega (arith, below)) (omega (arith, below))

@@ -15,7 +15,7 @@ use Rattle.merge_model.specs.Failing.Runs.{model_behind_actions}
 use Rattle.merge_model.specs.World.Session.{ask as asking}
 use Rattle.merge_model.specs.World.Session.{Session, after_download, downloading, exchange, unsent_generations, uploading, with_answer, with_upload}
 use Rattle.merge_model.specs.World.Steps.{SendDownload, SendUpload}
-use Rattle.merge_model.specs.Subscriber.{sub_last_closed}
+use Rattle.merge_model.specs.Subscriber.{subscriber_last_closed}
 use Rattle.merge_model.specs.Tables.{SubscriberTables}
 use Rattle.merge_model.specs.World.{Saying}
 use Rattle.merge_model.proofs.Lists.Finding.{found-named, some_same}
@@ -95,7 +95,7 @@ module _ (publication : Publication) (says : Saying) where
   carry-uploaded : (a b : SiteId) (k n : Model) → (a.0 ≡ b.0 → ⊥) → (a.0 ≡ 0 → ⊥) → Stays b k n → Known publication says b n → Uploaded publication says a k → Uploaded publication says a n
   carry-uploaded a b k n differs named s g up = record {
     joins = record { at = record { tables = up.joins.at.tables; known = g; here = s.others a.0 differs ∙ up.joins.at.here }; joined = up.joins.joined };
-    none = subst (λ (made : List MadeChange). NoneBetween up.joins.at.tables.received (sub_last_closed up.joins.at.tables + 1) made) (sym (s.made a.0 named)) up.none;
+    none = subst (λ (made : List MadeChange). NoneBetween up.joins.at.tables.received (subscriber_last_closed up.joins.at.tables + 1) made) (sym (s.made a.0 named)) up.none;
   }
 
   carry-fetched : (a b : SiteId) (k n : Model) → (a.0 ≡ b.0 → ⊥) → (a.0 ≡ 0 → ⊥) → AskStays b k n → Known publication says b n → Fetched publication says a k → Fetched publication says a n

@@ -29,7 +29,7 @@ use Rattle.merge_model.specs.World.Session.{ask as asking}
 use Rattle.merge_model.specs.World.Steps.{Deliver, SendDownload, SendUpload, kept_decisions, post, posted, upload_questions}
 use Rattle.merge_model.specs.declared.outcome.Outcome.{Outcome}
 use Rattle.merge_model.specs.declared.outcome.Outcome.TheVariants.{NoPost, Posted, Refuses, Took}
-use Rattle.merge_model.specs.Subscriber.{sub_at_moment, sub_closed}
+use Rattle.merge_model.specs.Subscriber.{subscriber_at_moment, subscriber_closed}
 use Rattle.merge_model.specs.Tables.{PublisherTables, SubscriberTables}
 use Rattle.merge_model.specs.Subscriber.Taking.{taken}
 use Rattle.merge_model.specs.World.{Saying, World, subscriber_at, with_publisher, with_subscriber}
@@ -125,7 +125,7 @@ module _ (publication : Publication) (says : Saying) (m : Model) (s : Subscriber
       let Acts : Model → Type 0 = Stays s.site m in
       let Rests : Model → Type 0 = Unmoved m in
       let made_by_site : SubscriberJudge = by_made h s.site in
-      let made : SubscriberTables × Upload = upload_sent made_by_site (sub_closed (sub_at_moment w.moment s)) in
+      let made : SubscriberTables × Upload = upload_sent made_by_site (subscriber_closed (subscriber_at_moment w.moment s)) in
       let u : SubscriberTables = made.0 in
       let a : Upload = made.1 in
       let v : World = with_subscriber u w in

@@ -11,7 +11,7 @@ use Rattle.merge_model.specs.History.{History, MadeChange, made_at}
 use Rattle.merge_types.specs.RowKeys.{key_cmp}
 use Rattle.merge_model.specs.Tables.Keys.{put_row}
 use Rattle.merge_model.specs.Subscriber.Sending.{unsent_rows}
-use Rattle.merge_model.specs.Subscriber.{sub_last_closed}
+use Rattle.merge_model.specs.Subscriber.{subscriber_last_closed}
 use Rattle.merge_types.specs.declared.row_key.RowKey.{RowKey as Key}
 use Rattle.merge_model.specs.Tables.{SubscriberTables}
 use Rattle.merge_laws.specs.Facts.Numbered.{InOrder}
@@ -78,8 +78,8 @@ none-filtered from to [] none = refl
 none-filtered from to (c ∷ made) none = none-kept (is_between_made from to c) c (filter (is_between_made from to) made) none.0 (none-filtered from to made none.1)
 
 -- of a site
-pub nothing-none : (h : History) (s : SubscriberTables) → unsent_rows (by_made h s.site) s ≡ [] → NoneBetween s.received (sub_last_closed s + 1) (made_at h s.site.0)
-nothing-none h s nothing = filtered-none s.received (sub_last_closed s + 1) (made_at h s.site.0) (none-changed (filter (is_between_made s.received (sub_last_closed s + 1)) (made_at h s.site.0)) nothing)
+pub nothing-none : (h : History) (s : SubscriberTables) → unsent_rows (by_made h s.site) s ≡ [] → NoneBetween s.received (subscriber_last_closed s + 1) (made_at h s.site.0)
+nothing-none h s nothing = filtered-none s.received (subscriber_last_closed s + 1) (made_at h s.site.0) (none-changed (filter (is_between_made s.received (subscriber_last_closed s + 1)) (made_at h s.site.0)) nothing)
 
-pub none-nothing : (h : History) (s : SubscriberTables) → NoneBetween s.received (sub_last_closed s + 1) (made_at h s.site.0) → unsent_rows (by_made h s.site) s ≡ []
-none-nothing h s none = ap (λ (changes : List MadeChange). fold with_change_of [] changes) (none-filtered s.received (sub_last_closed s + 1) (made_at h s.site.0) none)
+pub none-nothing : (h : History) (s : SubscriberTables) → NoneBetween s.received (subscriber_last_closed s + 1) (made_at h s.site.0) → unsent_rows (by_made h s.site) s ≡ []
+none-nothing h s none = ap (λ (changes : List MadeChange). fold with_change_of [] changes) (none-filtered s.received (subscriber_last_closed s + 1) (made_at h s.site.0) none)

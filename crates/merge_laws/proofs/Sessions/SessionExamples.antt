@@ -1,10 +1,10 @@
 -- Sessions that nothing refused, computed, and one in another order, which does not settle its site.
 use Rattle.std.specs.Prelude.{◌≡◌, List, [], ◌∷◌, ℕ, codes, None, refl}
 use Rattle.merge_types.specs.declared.identifiers.SiteId.{SiteId}
-use Rattle.merge_types.specs.declared.values.ColType.TheVariants as ty
+use Rattle.merge_types.specs.declared.values.ColumnType.TheVariants as ty
 use Rattle.merge_types.specs.declared.changes.Tracking.TheVariants as tracking
 use Rattle.merge_schema.specs.declared.publication.Publication.{Publication}
-use Rattle.merge_schema.specs.declared.publication.SubKind.TheVariants as kind
+use Rattle.merge_schema.specs.declared.publication.SubscriptionKind.TheVariants as kind
 use Rattle.merge_types.specs.Fitting.{has_type}
 use Rattle.merge_batch.specs.Asks.{broken_by_join, broken_by_ranges}
 use Rattle.merge_batch.specs.Makers.{maker_of}

@@ -45,7 +45,7 @@ use Rattle.merge_model.specs.Subscriber.Sending.{join_made, join_of, ranges_made
 use Rattle.merge_model.specs.World.Session.{ask as asking}
 use Rattle.merge_model.specs.World.Steps.{SendDownload, SendJoin, SendRanges, SendUpload, kept_decisions, post, posted, upload_questions}
 use Rattle.merge_model.specs.declared.outcome.Outcome.{Outcome}
-use Rattle.merge_model.specs.Subscriber.{sub_at_moment, sub_closed, sub_counters, sub_last_closed}
+use Rattle.merge_model.specs.Subscriber.{subscriber_at_moment, subscriber_closed, subscriber_counters, subscriber_last_closed}
 use Rattle.merge_types.specs.declared.row_key.RowKey.{RowKey as Key}
 use Rattle.merge_model.specs.Tables.{PublisherTables, SubscriberTables}
 use Rattle.merge_model.specs.Subscriber.Taking.{taken}
@@ -89,7 +89,7 @@ pub record RangesLeave (m : Model) (s : SubscriberTables) (k : Model) : Type 0 w
   pub here : subscriber_at k.world s.site ≡ Some tables
   pub joined : tables.is_joined ≡ s.is_joined
   pub received : tables.received ≡ s.received
-  pub closed : sub_last_closed tables ≡ sub_last_closed s
+  pub closed : subscriber_last_closed tables ≡ subscriber_last_closed s
   pub made : made_at k.history s.site.0 ≡ made_at m.history s.site.0
 
 -- The site holds the generations up to the end of the reply, which is behind its beginning where there are more. The publisher's open
@@ -100,7 +100,7 @@ pub record DownloadLeaves (publication : Publication) (m : Model) (s : Subscribe
   pub here : subscriber_at k.world s.site ≡ Some tables
   pub joined : tables.is_joined ≡ s.is_joined
   pub received : s.received ≤ tables.received
-  pub closed : sub_last_closed tables ≡ sub_last_closed s
+  pub closed : subscriber_last_closed tables ≡ subscriber_last_closed s
   pub made : made_at k.history s.site.0 ≡ made_at m.history s.site.0
   pub posted : last_or None (map (λ (letter : Letter). letter.message) k.world.pool) ≡ Some (Replies (reply.Downloaded told))
   pub from : told.from ≡ s.watermark
@@ -170,8 +170,8 @@ if-made false x y n same = refl
 closed-under : (filling : Filling) (received : ℕ) → received ≤ filling.last_closed → received ≤ (closed_filling filling).last_closed
 closed-under filling received below = grind (arith, nat_tests, below)
 
-end-under : (judge : SubscriberJudge) (s : SubscriberTables) → s.received ≤ sub_last_closed s → upload_end judge s ≤ sub_last_closed s
-end-under judge s below = batch-bound (λ (to : ℕ). length (judge.changed_between s.received to)) s.received (sub_last_closed s) below
+end-under : (judge : SubscriberJudge) (s : SubscriberTables) → s.received ≤ subscriber_last_closed s → upload_end judge s ≤ subscriber_last_closed s
+end-under judge s below = batch-bound (λ (to : ℕ). length (judge.changed_between s.received to)) s.received (subscriber_last_closed s) below
 
 most-left : (a b c : ℕ) → a < b → a < max b c
 most-left a b c low = grind (arith, nat_tests, low)
@@ -291,7 +291,7 @@ module _ (publication : Publication) (says : Saying) (m : Model) (s : Subscriber
       let there : subscriber_at v s.site ≡ Some u = at_put_same s.site.0 u w.subscribers in
       let act : Option (SubscriberTables × Join) → World × Outcome = posted s.site (λ (y : Join). request.Join y) w in
       send-step publication says Acts Rests s.site m s SendJoin at
-      (unless-step (Sent publication says Acts Rests s.site) w h (λ why. tt) (counter_end (sub_counters s)) (join_made s) act h (λ fine.
+      (unless-step (Sent publication says Acts Rests s.site) w h (λ why. tt) (counter_end (subscriber_counters s)) (join_made s) act h (λ fine.
       subst (λ (b : Bool). (let made : Option (SubscriberTables × Join) = if b then None else Some (u, a) in After (Sent publication says Acts Rests s.site) (act made) h h)) (sym joining)
       (post-step (Sent publication says Acts Rests s.site) s.site (Asks (request.Join a)) v h h
       (comes-step publication says Acts Rests s.site (Answered publication says Acts Rests s.site) s.site (Asks (request.Join a)) v h
@@ -305,12 +305,12 @@ module _ (publication : Publication) (says : Saying) (m : Model) (s : Subscriber
       })))))))))
 
   -- An upload.
-  pub upload-leaves : s.received ≤ sub_last_closed s → (s.site.0 ≡ 0 → (sub_last_closed s ≡ 0) × (s.gens.filling.filled ≡ 0)) → Answered publication says (UploadLeaves m s) (UploadRests s) s.site (asking (model publication says) s.site SendUpload m)
+  pub upload-leaves : s.received ≤ subscriber_last_closed s → (s.site.0 ≡ 0 → (subscriber_last_closed s ≡ 0) × (s.gens.filling.filled ≡ 0)) → Answered publication says (UploadLeaves m s) (UploadRests s) s.site (asking (model publication says) s.site SendUpload m)
   upload-leaves below idle =
       let Acts : Model → Type 0 = UploadLeaves m s in
       let Rests : Model → Type 0 = UploadRests s in
       let made_by_site : SubscriberJudge = by_made h s.site in
-      let made : SubscriberTables × Upload = upload_sent made_by_site (sub_closed (sub_at_moment w.moment s)) in
+      let made : SubscriberTables × Upload = upload_sent made_by_site (subscriber_closed (subscriber_at_moment w.moment s)) in
       let u : SubscriberTables = made.0 in
       let a : Upload = made.1 in
       let v : World = with_subscriber u w in
@@ -328,7 +328,7 @@ module _ (publication : Publication) (says : Saying) (m : Model) (s : Subscriber
       let none = idle is in
       let still = closed-still s.gens.filling none.1 in
       let goes = upload-goes publication judge w.moment a w.publisher taken_in in
-      let up = end-under made_by_site (sub_closed (sub_at_moment w.moment s)) (closed-under s.gens.filling s.received below) in
+      let up = end-under made_by_site (subscriber_closed (subscriber_at_moment w.moment s)) (closed-under s.gens.filling s.received below) in
       absurd (omega (arith, none.0, still, goes, up))) in
       let act : Option (SubscriberTables × Upload) → World × Outcome = posted s.site (λ (y : Upload). request.Upload y) w in
       let rows : List (Key × ℕ) → Type 0 = λ (unsent : List (Key × ℕ)). (let sent : Option (SubscriberTables × Upload) = elim unsent [ [] ↦ None | row ∷ rest ↦ Some made ] in After (Sent publication says Acts Rests s.site) (act sent) h h) in

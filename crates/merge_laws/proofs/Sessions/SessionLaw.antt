@@ -16,7 +16,7 @@ use Rattle.merge_model.specs.World.Session.{Session, after_download, all_downloa
 use Rattle.merge_model.specs.World.Steps.{Action, Deliver, Send, SendDownload, SendJoin, SendRanges, SendUpload, Sending}
 use Rattle.merge_model.specs.declared.outcome.Outcome.TheVariants.{NoPost, Posted, Refuses, Took}
 use Rattle.merge_model.specs.declared.outcome.Outcome.{Outcome}
-use Rattle.merge_model.specs.Subscriber.{sub_last_closed}
+use Rattle.merge_model.specs.Subscriber.{subscriber_last_closed}
 use Rattle.merge_model.specs.Tables.{SubscriberTables}
 use Rattle.merge_model.specs.World.{Saying, World, subscriber_at}
 use Rattle.merge_model.specs.declared.letter.Message.{Message}
@@ -52,7 +52,7 @@ module _ (publication : Publication) (says : Saying) (site : SiteId) where
   -- nothing of it is unsent
   pub record Uploaded (k : Model) : Type 0 where
     pub joins : Joins k
-    pub none : NoneBetween joins.at.tables.received (sub_last_closed joins.at.tables + 1) (made_at k.history site.0)
+    pub none : NoneBetween joins.at.tables.received (subscriber_last_closed joins.at.tables + 1) (made_at k.history site.0)
 
   -- the publisher's generations have closed up to this one, and the open one is empty. The site may still have to ask for some
   pub record Fetches (target : ℕ) (k : Model) : Type 0 where
@@ -155,13 +155,13 @@ module _ (publication : Publication) (says : Saying) (site : SiteId) where
       (λ v g l. more v (record { at = at_next k v.world a l.tables g l.here; joined = l.joined ∙ j.joined }) l refl)
       (λ n g r. record {
         joins = record { at = at_next k n a s g r.here; joined = j.joined };
-        none = subst (λ (x : SiteId). NoneBetween s.received (sub_last_closed s + 1) (made_at n.history x.0)) (same-site k a) (nothing-none n.history s r.nothing);
+        none = subst (λ (x : SiteId). NoneBetween s.received (subscriber_last_closed s + 1) (made_at n.history x.0)) (same-site k a) (nothing-none n.history s r.nothing);
       })
 
   uploading-settles : (count bound : ℕ) (u : Session Model) (j : Joins u.world) → UpTo bound (made_at u.world.history site.0) → bound ≤ j.at.tables.received + count → Settles Uploaded (uploading (model publication says) site count u)
   uploading-settles zero bound u j all enough = λ ended. record {
     joins = j;
-    none = up-none bound j.at.tables.received (sub_last_closed j.at.tables + 1) (made_at u.world.history site.0) (omega (arith, enough)) all;
+    none = up-none bound j.at.tables.received (subscriber_last_closed j.at.tables + 1) (made_at u.world.history site.0) (omega (arith, enough)) all;
   }
   uploading-settles (suc count) bound u j all enough =
       upload-settles u j (uploading (model publication says) site count) (λ v e l same. (
@@ -171,7 +171,7 @@ module _ (publication : Publication) (says : Saying) (site : SiteId) where
       (subst (λ (made : List MadeChange). UpTo bound made) (sym (made-here u.world v.world j.at l.made)) all) (omega (arith, up, enough, is))))
 
   -- where the first one acts, the site has another number than 0, and its changes stand in order
-  first-settles : (count : ℕ) (u : Session Model) (j : Joins u.world) → count ≡ sub_last_closed j.at.tables + 2 - j.at.tables.received → Settles Uploaded (uploading (model publication says) site count u)
+  first-settles : (count : ℕ) (u : Session Model) (j : Joins u.world) → count ≡ subscriber_last_closed j.at.tables + 2 - j.at.tables.received → Settles Uploaded (uploading (model publication says) site count u)
   first-settles zero u j is = (let below = (j.at.known.0.subscribers site.0 j.at.tables j.at.here).own in absurd (omega (arith, below, is)))
   first-settles (suc count) u j is =
       let s : SubscriberTables = j.at.tables in
@@ -179,9 +179,9 @@ module _ (publication : Publication) (says : Saying) (site : SiteId) where
       let up = l.received in
       let t : e.at.tables.received ≡ l.tables.received = ap (λ (x : SubscriberTables). x.received) same in
       let order = (j.at.known.1.subscribers s.site.0 s (own u.world j.at)).order l.named in
-      let all : UpTo (sub_last_closed s + 1) (made_at u.world.history s.site.0) = order-up s.changes (sub_last_closed s + 1) (made_at u.world.history s.site.0) order in
-      uploading-settles count (sub_last_closed s + 1) v e
-      (subst (λ (x : SiteId). UpTo (sub_last_closed s + 1) (made_at v.world.history x.0)) (same-site u.world j.at) (subst (λ (made : List MadeChange). UpTo (sub_last_closed s + 1) made) (sym l.made) all)) (omega (arith, up, is, t))))
+      let all : UpTo (subscriber_last_closed s + 1) (made_at u.world.history s.site.0) = order-up s.changes (subscriber_last_closed s + 1) (made_at u.world.history s.site.0) order in
+      uploading-settles count (subscriber_last_closed s + 1) v e
+      (subst (λ (x : SiteId). UpTo (subscriber_last_closed s + 1) (made_at v.world.history x.0)) (same-site u.world j.at) (subst (λ (made : List MadeChange). UpTo (subscriber_last_closed s + 1) made) (sym l.made) all)) (omega (arith, up, is, t))))
 
   pub uploads-settle : (u : Session Model) → Joins u.world → Settles Uploaded (all_uploads (model publication says) site u)
   uploads-settle u j = first-settles (unsent_generations (model publication says) site u.world) u j
@@ -201,13 +201,13 @@ module _ (publication : Publication) (says : Saying) (site : SiteId) where
       (λ v g l. (let n : Model = v.world in
       let e : Uploaded n = record {
         joins = record { at = at_next k n a l.tables g l.here; joined = l.joined ∙ f.joins.joined };
-        none = subst (λ (made : List MadeChange). NoneBetween l.tables.received (sub_last_closed l.tables + 1) made) (sym (made-here k n a l.made))
-            (subst (λ (closed : ℕ). NoneBetween l.tables.received (closed + 1) (made_at k.history site.0)) (sym l.closed) (subst (λ (received : ℕ). NoneBetween received (sub_last_closed a.tables + 1) (made_at k.history site.0)) (sym l.received) f.none));
+        none = subst (λ (made : List MadeChange). NoneBetween l.tables.received (subscriber_last_closed l.tables + 1) made) (sym (made-here k n a l.made))
+            (subst (λ (closed : ℕ). NoneBetween l.tables.received (closed + 1) (made_at k.history site.0)) (sym l.closed) (subst (λ (received : ℕ). NoneBetween received (subscriber_last_closed a.tables + 1) (made_at k.history site.0)) (sym l.received) f.none));
       } in
       if-settles Uploaded (has_grant (model publication says) site (last_message (model publication says) site n)) (asking_ranges (model publication says) site count v) v (λ is. asking-settles count v e) (λ is none. e)))
       (λ n g r. record {
         joins = record { at = record { tables = a.tables; known = g; here = ap (λ (x : World). subscriber_at x site) r.0 ∙ a.here }; joined = f.joins.joined };
-        none = subst (λ (h : History). NoneBetween a.tables.received (sub_last_closed a.tables + 1) (made_at h site.0)) (sym r.1) f.none;
+        none = subst (λ (h : History). NoneBetween a.tables.received (subscriber_last_closed a.tables + 1) (made_at h site.0)) (sym r.1) f.none;
       })
 
   -- It downloads. The first download closes the publisher's open generation, and nothing else happens behind it. Each one moves the
@@ -216,8 +216,8 @@ module _ (publication : Publication) (says : Saying) (site : SiteId) where
   fetches-after target k n f g l closed = record {
     uploaded = record {
       joins = record { at = at_next k n f.joins.at l.tables g l.here; joined = l.joined ∙ f.joins.joined };
-      none = subst (λ (made : List MadeChange). NoneBetween l.tables.received (sub_last_closed l.tables + 1) made) (sym (made-here k n f.joins.at l.made))
-          (subst (λ (end : ℕ). NoneBetween l.tables.received (end + 1) (made_at k.history site.0)) (sym l.closed) (none-later f.joins.at.tables.received l.tables.received (sub_last_closed f.joins.at.tables + 1) (made_at k.history site.0) l.received f.none));
+      none = subst (λ (made : List MadeChange). NoneBetween l.tables.received (subscriber_last_closed l.tables + 1) made) (sym (made-here k n f.joins.at l.made))
+          (subst (λ (end : ℕ). NoneBetween l.tables.received (end + 1) (made_at k.history site.0)) (sym l.closed) (none-later f.joins.at.tables.received l.tables.received (subscriber_last_closed f.joins.at.tables + 1) (made_at k.history site.0) l.received f.none));
     };
     closed = closed;
     empty = l.empty;
@@ -300,7 +300,7 @@ module _ (publication : Publication) (says : Saying) (site : SiteId) where
         is_here = own k a;
         joined = f.fetches.uploaded.joins.joined;
         in_time = subst (λ (x : SiteId). is_expired_at publication k.world x ≡ false) (sym (same-site k a)) f.fetches.in_time;
-        nothing_unsent = none-nothing k.history a.tables (subst (λ (x : SiteId). NoneBetween a.tables.received (sub_last_closed a.tables + 1) (made_at k.history x.0)) (sym (same-site k a)) f.fetches.uploaded.none);
+        nothing_unsent = none-nothing k.history a.tables (subst (λ (x : SiteId). NoneBetween a.tables.received (subscriber_last_closed a.tables + 1) (made_at k.history x.0)) (sym (same-site k a)) f.fetches.uploaded.none);
         all_held = f.held;
         none_open = f.fetches.empty;
       }

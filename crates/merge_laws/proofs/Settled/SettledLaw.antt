@@ -18,7 +18,7 @@ use Rattle.merge_model.specs.History.Model.{Model, model_step}
 use Rattle.merge_model.specs.Laws.Promises.{HoldsPartition, IsSettled, SettledHoldsPartition, base_of, live_version, version_if_in}
 use Rattle.merge_model.specs.Publisher.PublisherDownload.{inside_keys}
 use Rattle.merge_model.specs.World.Steps.{Action}
-use Rattle.merge_model.specs.Subscriber.{sub_last_closed}
+use Rattle.merge_model.specs.Subscriber.{subscriber_last_closed}
 use Rattle.merge_types.specs.declared.row_key.RowKey.{RowKey as Key}
 use Rattle.merge_units.specs.declared.site_row.PublisherRow.{PublisherRow}
 use Rattle.merge_units.specs.declared.site_row.SubscriberRow.{SubscriberRow}
@@ -95,9 +95,9 @@ module _ (publication : Publication) (m : Model) (g : Ground publication m.world
   acted : (q : Key) → changed_of made q ≤ received_by_number w.publisher n
   acted q =
       let order = (g.numbered.subscribers n s is.is_here).order named in
-      let none : last_made s.received (sub_last_closed s + 1) q made ≡ None =
-      sym (made-changed s.received (sub_last_closed s + 1) s.changes (sub_last_closed s + 1) q made order) ∙ ap (λ (rows : List (Key × ℕ)). row_at rows q) is.nothing_unsent in
-      let up = none-changed s.received (sub_last_closed s + 1) s.changes (sub_last_closed s + 1) q made order (omega arith) none in
+      let none : last_made s.received (subscriber_last_closed s + 1) q made ≡ None =
+      sym (made-changed s.received (subscriber_last_closed s + 1) s.changes (subscriber_last_closed s + 1) q made order) ∙ ap (λ (rows : List (Key × ℕ)). row_at rows q) is.nothing_unsent in
+      let up = none-changed s.received (subscriber_last_closed s + 1) s.changes (subscriber_last_closed s + 1) q made order (omega arith) none in
       let behind = (g.behind.subscribers n s is.is_here).behind is.joined in
       omega (arith, up, behind)
 

@@ -14,13 +14,13 @@ use Rattle.merge_model.specs.Judge.{SubscriberJudge}
 use Rattle.merge_types.specs.RowKeys.{key_cmp}
 use Rattle.merge_model.specs.Tables.Keys.{row_at, same_key}
 use Rattle.merge_model.specs.Subscriber.Sending.{upload_item, upload_to}
-use Rattle.merge_model.specs.Subscriber.{sub_version_at}
+use Rattle.merge_model.specs.Subscriber.{subscriber_version_at}
 use Rattle.merge_types.specs.declared.row_key.RowKey.{RowKey as Key}
 use Rattle.merge_units.specs.declared.site_row.SubscriberRow.{SubscriberRow}
 use Rattle.merge_model.specs.Tables.{SubscriberTables}
 use Rattle.merge_laws.specs.Facts.Numbered.{InOrder}
 use Rattle.merge_laws.specs.Facts.Settled.{SendsChanged, changed_of, has_item}
-use Rattle.merge_laws.specs.Invariants.Unsent.{RowsTell, gens_in, is_changed_above, last_made}
+use Rattle.merge_laws.specs.Invariants.Unsent.{RowsTell, generations_in, is_changed_above, last_made}
 use Rattle.merge_laws.proofs.Unsent.Changed.{changed_made, made-changed}
 use Rattle.merge_model.proofs.Lists.KeyLookUps.{keys-exact}
 
@@ -79,19 +79,19 @@ module _ (s : SubscriberTables) where
   still-there test None items there = there
   still-there test (Some item) items there = grind (arith, there)
 
-  item-first : (q : Key) (entry : Key × ℕ) (generation : ℕ) (version : Version) (items : List UploadItem) → q ≡ entry.0 → entry.1 ≡ generation → sub_version_at s q ≡ Some version → has_item (cons_option (upload_item s entry) items) q generation ≡ true
+  item-first : (q : Key) (entry : Key × ℕ) (generation : ℕ) (version : Version) (items : List UploadItem) → q ≡ entry.0 → entry.1 ≡ generation → subscriber_version_at s q ≡ Some version → has_item (cons_option (upload_item s entry) items) q generation ≡ true
   item-first q entry generation version items same is held =
-      let here : sub_version_at s entry.0 ≡ Some version = ap (λ (k : Key). sub_version_at s k) (sym same) ∙ held in
+      let here : subscriber_version_at s entry.0 ≡ Some version = ap (λ (k : Key). subscriber_version_at s k) (sym same) ∙ held in
       let first : upload_item s entry ≡ Some (record { article = entry.0.article; row = entry.0.row; generation = entry.1; version = version }) =
       ap (λ (found : Option Version). option_map (λ (v : Version). (let item : UploadItem = record { article = entry.0.article; row = entry.0.row; generation = entry.1; version = v } in item)) found) here in
       ap (λ (found : Option UploadItem). has_item (cons_option found items) q generation) first ∙ grind (arith, nat_tests, same, is)
 
   items-step : (q : Key) (entry : Key × ℕ) (entries : List (Key × ℕ)) (generation : ℕ) (version : Version) (here : Bool) → is_at (key_cmp q) entry.0 ≡ here → (row_at entries q ≡ Some generation → has_item (filter_map (upload_item s) entries) q generation ≡ true)
-      → (let found : Option ℕ = cond here (Some entry.1) (row_at entries q) in found ≡ Some generation) → sub_version_at s q ≡ Some version → has_item (filter_map (upload_item s) (entry ∷ entries)) q generation ≡ true
+      → (let found : Option ℕ = cond here (Some entry.1) (row_at entries q) in found ≡ Some generation) → subscriber_version_at s q ≡ Some version → has_item (filter_map (upload_item s) (entry ∷ entries)) q generation ≡ true
   items-step q entry entries generation version true at h is held = item-first q entry generation version (filter_map (upload_item s) entries) (keys-exact q entry.0 at) (let same : entry.1 ≡ generation = cc in same) held
   items-step q entry entries generation version false at h is held = still-there (λ (item : UploadItem). same_key q (key_of_item item) && (item.generation == generation)) (upload_item s entry) (filter_map (upload_item s) entries) (h is)
 
-  items-have : (q : Key) (entries : List (Key × ℕ)) (generation : ℕ) (version : Version) → row_at entries q ≡ Some generation → sub_version_at s q ≡ Some version → has_item (filter_map (upload_item s) entries) q generation ≡ true
+  items-have : (q : Key) (entries : List (Key × ℕ)) (generation : ℕ) (version : Version) → row_at entries q ≡ Some generation → subscriber_version_at s q ≡ Some version → has_item (filter_map (upload_item s) entries) q generation ≡ true
   items-have q [] generation version is held = absurd (grind (arith, is))
   items-have q (entry ∷ entries) generation version is held = items-step q entry entries generation version (is_at (key_cmp q) entry.0) refl (λ there. items-have q entries generation version there held) is held
 
@@ -99,7 +99,7 @@ module _ (s : SubscriberTables) where
   abbrev HasVersion : Option SubscriberRow → Type 0
   HasVersion found = (version : Version) × (option_map (λ (row : SubscriberRow). row.version) found ≡ Some version)
 
-  kept-held : (from to generation : ℕ) (q : Key) (found : Option SubscriberRow) → row_at s.rows q ≡ found → last_between from to (gens_in s.rows q) ≡ Some generation → HasVersion found
+  kept-held : (from to generation : ℕ) (q : Key) (found : Option SubscriberRow) → row_at s.rows q ≡ found → last_between from to (generations_in s.rows q) ≡ Some generation → HasVersion found
   kept-held from to generation q None at is = absurd (grind (arith, at, is))
   kept-held from to generation q (Some row) at is = (row.version, refl)
 

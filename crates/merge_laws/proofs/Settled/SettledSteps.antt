@@ -38,7 +38,7 @@ use Rattle.merge_model.specs.Publisher.PublisherUpload.{taken_in, upload_refusal
 use Rattle.merge_model.specs.Subscriber.Reinit.{reinitialised}
 use Rattle.merge_model.specs.Subscriber.Sending.{join_of, upload_end, upload_sent, want_of, with_message}
 use Rattle.merge_model.specs.World.Steps.{kept_decisions, upload_questions}
-use Rattle.merge_model.specs.Subscriber.{is_joining, sub_at_moment, sub_closed, sub_last_closed, sub_local_refusal, sub_made_locally, sub_next_dot, sub_version_at, with_version_if}
+use Rattle.merge_model.specs.Subscriber.{is_joining, subscriber_at_moment, subscriber_closed, subscriber_last_closed, subscriber_local_refusal, subscriber_made_locally, subscriber_next_dot, subscriber_version_at, with_version_if}
 use Rattle.merge_types.specs.declared.row_key.RowKey.{RowKey as Key}
 use Rattle.merge_units.specs.declared.site_row.SubscriberRow.{SubscriberRow}
 use Rattle.merge_model.specs.Tables.{PublisherTables, SubscriberTables}
@@ -129,15 +129,15 @@ module _ (publication : Publication) (says : Saying) where
         (if-any (λ s. MessageSettles (site_view publication p (made_in made site.0) site.0) s message) (at_number subscribers site.0) new) i
 
     -- A local change.
-    change-settles : (s : SubscriberTables) (change : Change) (d : Value × List (ℕ × Holder)) → subscriber_at w s.site ≡ Some s → sub_local_refusal publication change s ≡ None → OfSites publication w h
-        → OfSites publication (with_subscriber (sub_made_locally publication change d (sub_at_moment w.moment s)).0 w) (Noting.with_change publication (sub_next_dot s) (sub_last_closed s + 1) change d.0 h)
+    change-settles : (s : SubscriberTables) (change : Change) (d : Value × List (ℕ × Holder)) → subscriber_at w s.site ≡ Some s → subscriber_local_refusal publication change s ≡ None → OfSites publication w h
+        → OfSites publication (with_subscriber (subscriber_made_locally publication change d (subscriber_at_moment w.moment s)).0 w) (Noting.with_change publication (subscriber_next_dot s) (subscriber_last_closed s + 1) change d.0 h)
     change-settles s change d at fine i =
         let n : ℕ = s.site.0 in
-        let key : Key = key_of (sub_next_dot s) change in
-        let c : MadeChange = Noting.made_change publication (sub_next_dot s) (sub_last_closed s + 1) change d.0 key (past_after publication (sub_next_dot s) change (past_at h n key)) in
-        let k : History = Noting.with_change publication (sub_next_dot s) (sub_last_closed s + 1) change d.0 h in
-        let u : SubscriberTables = record (sub_at_moment w.moment s) { changes = s.changes + 1; held = d.1 } in
-        let found : Option Version = version_after publication (sub_next_dot s) d.0 change (sub_version_at s key) in
+        let key : Key = key_of (subscriber_next_dot s) change in
+        let c : MadeChange = Noting.made_change publication (subscriber_next_dot s) (subscriber_last_closed s + 1) change d.0 key (past_after publication (subscriber_next_dot s) change (past_at h n key)) in
+        let k : History = Noting.with_change publication (subscriber_next_dot s) (subscriber_last_closed s + 1) change d.0 h in
+        let u : SubscriberTables = record (subscriber_at_moment w.moment s) { changes = s.changes + 1; held = d.1 } in
+        let found : Option Version = version_after publication (subscriber_next_dot s) d.0 change (subscriber_version_at s key) in
         let t : SubscriberTables = with_version_if key found u in
         let f : Versioned key s t = versioned key found s u refl refl refl refl refl in
         let joined : s.is_joined ≡ true = joined-flag s (first-none (is_joining s) _ fine).0 in
@@ -148,19 +148,19 @@ module _ (publication : Publication) (says : Saying) where
         (subst (λ (made : List MadeChange). Keeps (site_view publication w.publisher (made_in h.made n) n) (site_view publication w.publisher made n) s t) (sym (made-same h c)) keeps) i (version-site key found u)
 
     -- An upload is made.
-    abbrev closed_sub : SubscriberTables → SubscriberTables
-    closed_sub s = sub_closed (sub_at_moment w.moment s)
+    abbrev closed_subscriber : SubscriberTables → SubscriberTables
+    closed_subscriber s = subscriber_closed (subscriber_at_moment w.moment s)
 
     upload-settles : (s : SubscriberTables) → subscriber_at w s.site ≡ Some s → OfSites publication w h
-        → (let made : SubscriberTables × Upload = upload_sent (by_made h s.site) (closed_sub s) in
+        → (let made : SubscriberTables × Upload = upload_sent (by_made h s.site) (closed_subscriber s) in
         SitesSettle publication w.publisher h.made (put_number w.subscribers s.site.0 made.0) (w.pool ++ record { site = s.site; message = Asks (request.Upload made.1) } ∷ []))
     upload-settles s at i =
         let judge : SubscriberJudge = by_made h s.site in
-        let c : SubscriberTables = closed_sub s in
+        let c : SubscriberTables = closed_subscriber s in
         let made : SubscriberTables × Upload = upload_sent judge c in
         let to : ℕ = upload_end judge c in
         let sends : SendsChanged (changed_of (made_at h s.site.0)) made.1 =
-        upload-sends c judge (made_at h s.site.0) s.changes (sub_last_closed s + 1) to refl ((g.numbered.subscribers s.site.0 s at).order (named s.site.0 s at)) (g.unsent s.site.0 s (named s.site.0 s at) at) in
+        upload-sends c judge (made_at h s.site.0) s.changes (subscriber_last_closed s + 1) to refl ((g.numbered.subscribers s.site.0 s at).order (named s.site.0 s at)) (g.unsent s.site.0 s (named s.site.0 s at) at) in
         posted w.publisher h.made (put_number w.subscribers s.site.0 made.0) s.site (Asks (request.Upload made.1)) (λ x there. sends)
         (goes s made.0 h (λ n other. refl) at refl (quiet-keeps (site_view publication w.publisher (made_in h.made s.site.0) s.site.0) s made.0 (message-quiets (ask.Upload c.received to) s c refl refl refl refl)) i)
 
@@ -277,10 +277,10 @@ module _ (publication : Publication) (says : Saying) where
         (λ n s at. onward-keeps (site_view publication w.publisher (made_in h.made n) n) (site_view publication (closed (here w)) (made_in h.made n) n) (closing-onward publication says w h b.0 (made_in h.made n) n) s) i;
     forgetting = λ w h b i. purge-settles w h b.0 b.1 i;
     same = λ w h s b i at. quietly w h b.0 s s at refl refl refl refl refl refl i;
-    sub_change = λ w h s change d b i at other fine is. change-settles w h b.0 s change d at fine i;
-    sub_closing = λ w h s b i at. quietly w h b.0 s (sub_closed (sub_at_moment w.moment s)) at refl refl refl refl refl refl i;
+    subscriber_change = λ w h s change d b i at other fine is. change-settles w h b.0 s change d at fine i;
+    subscriber_closing = λ w h s b i at. quietly w h b.0 s (subscriber_closed (subscriber_at_moment w.moment s)) at refl refl refl refl refl refl i;
     anew = λ w h s b i at. (let judge : SubscriberJudge = by_made h s.site in
-        goes w h b.0 s (reinitialised judge (sub_at_moment w.moment s)).0 (Noting.noted_anew judge s h) (anew-keep (λ (x : History). Alike h x) (alike-notes h) judge s h (alike-itself h)).made at refl
+        goes w h b.0 s (reinitialised judge (subscriber_at_moment w.moment s)).0 (Noting.noted_anew judge s h) (anew-keep (λ (x : History). Alike h x) (alike-notes h) judge s h (alike-itself h)).made at refl
         (anew-keeps (site_view publication w.publisher (made_in h.made s.site.0) s.site.0) judge w.moment s) i);
     sends_join = λ w h s b i at joining. message-settles w h b.0 ask.Join s (Asks (request.Join (join_of s))) at (λ x. tt) i;
     sends_upload = λ w h s b i at fine. upload-settles w h b.0 s at i;

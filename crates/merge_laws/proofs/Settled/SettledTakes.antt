@@ -15,7 +15,7 @@ use Rattle.merge_model.specs.Judge.{SubscriberJudge}
 use Rattle.merge_model.specs.Tables.Keys.{same_key}
 use Rattle.merge_model.specs.Subscriber.Reinit.{reinitialised}
 use Rattle.merge_model.specs.Subscriber.Sending.{with_message}
-use Rattle.merge_model.specs.Subscriber.{sub_at_moment, sub_last_closed}
+use Rattle.merge_model.specs.Subscriber.{subscriber_at_moment, subscriber_last_closed}
 use Rattle.merge_types.specs.declared.row_key.RowKey.{RowKey as Key}
 use Rattle.merge_units.specs.declared.site_row.SubscriberRow.{SubscriberRow}
 use Rattle.merge_model.specs.Tables.{PublisherTables, SubscriberTables}
@@ -91,7 +91,7 @@ message-quiets sent s c joined rows mark seq = record {
 -- The site is made anew.
 module _ (v : SiteView) (judge : SubscriberJudge) (now : Moment) (s : SubscriberTables) where
   abbrev anew : SubscriberTables
-  anew = (reinitialised judge (sub_at_moment now s)).0
+  anew = (reinitialised judge (subscriber_at_moment now s)).0
 
   message-anew : (message : Message) → MessageSettles v s message → MessageSettles v anew message
   message-anew (Asks (request.Join m)) f = tt
@@ -111,7 +111,7 @@ module _ (v : SiteView) (judge : SubscriberJudge) (now : Moment) (s : Subscriber
   }
 
 -- A local change: its row has not acted, and stands in no upload.
-module _ (publication : Publication) (p : PublisherTables) (made : List MadeChange) (n : ℕ) (c : MadeChange) (s t : SubscriberTables) (opens : received_by_number p n < c.generation) (above : sub_last_closed s < c.generation)
+module _ (publication : Publication) (p : PublisherTables) (made : List MadeChange) (n : ℕ) (c : MadeChange) (s t : SubscriberTables) (opens : received_by_number p n < c.generation) (above : subscriber_last_closed s < c.generation)
     (joined : s.is_joined ≡ true) (held : (key : Key) → same_key key c.key ≡ false → held_at t key ≡ held_at s key) (flag : t.is_joined ≡ true) (mark : t.watermark ≡ s.watermark) (seq : t.seq ≡ s.seq) (sent : t.outstanding ≡ s.outstanding) where
   abbrev v : SiteView
   v = site_view publication p made n
@@ -131,7 +131,7 @@ module _ (publication : Publication) (p : PublisherTables) (made : List MadeChan
     marks = let below = f.marks in omega (arith, mark, below);
   }
 
-  sends-changed : (m : Upload) → m.to ≤ sub_last_closed s → SendsChanged v.changed m → SendsChanged u.changed m
+  sends-changed : (m : Upload) → m.to ≤ subscriber_last_closed s → SendsChanged v.changed m → SendsChanged u.changed m
   sends-changed m to f = record {
     items = λ key low up. other-row key (has_item m.items key (u.changed key) ≡ true) m.to up (omega (arith, to, above)) (λ differs same.
         ap (λ (generation : ℕ). has_item m.items key generation) same ∙ f.items key (omega (arith, low, same)) (omega (arith, up, same)));

@@ -13,7 +13,7 @@ use Rattle.merge_model.specs.Publisher.PublisherDownload.{TouchedRow, item_of}
 use Rattle.merge_batch.specs.Orders.{order_by}
 use Rattle.merge_model.specs.Publisher.PublisherLocal.{version_at}
 use Rattle.merge_model.specs.Subscriber.Sending.{upload_item}
-use Rattle.merge_model.specs.Subscriber.{sub_version_at}
+use Rattle.merge_model.specs.Subscriber.{subscriber_version_at}
 use Rattle.merge_types.specs.declared.row_key.RowKey.{RowKey as Key}
 use Rattle.merge_model.specs.Tables.{PublisherTables, SubscriberTables}
 use Rattle.merge_model.specs.Subscriber.Taking.{key_of_download}
@@ -37,11 +37,11 @@ module _ (P : Key → Version → Past → Type 0) where
   item-made s pasts entry (Some version) fits = fits
 
   -- the items that a site makes of its rows
-  pub sent-fit : (s : SubscriberTables) (pasts : List (Key × Past)) (rows : List (Key × ℕ)) → AllFit P (sub_version_at s) (past_in pasts)
+  pub sent-fit : (s : SubscriberTables) (pasts : List (Key × Past)) (rows : List (Key × ℕ)) → AllFit P (subscriber_version_at s) (past_in pasts)
       → (let items : List UploadItem = filter_map (upload_item s) rows in AllByRecursion (ItemFits (map (past_of_item pasts) items)) items)
   sent-fit s pasts rows fits =
       items-sent (λ (item : UploadItem) (past : Past). P (key_of_item item) item.version past) pasts (filter_map (upload_item s) rows)
-      (all-filter_map (λ (row : Key × ℕ). Unit {0}) (ItemFits pasts) (upload_item s) (λ row unit. item-made s pasts row (sub_version_at s row.0) (fits row.0)) rows (all-unit rows))
+      (all-filter_map (λ (row : Key × ℕ). Unit {0}) (ItemFits pasts) (upload_item s) (λ row unit. item-made s pasts row (subscriber_version_at s row.0) (fits row.0)) rows (all-unit rows))
 
   -- Replies.
 

@@ -13,7 +13,7 @@ use Rattle.merge_types.specs.RowKeys.{key_cmp}
 use Rattle.merge_model.specs.Tables.Keys.{at_number, put_number}
 use Rattle.merge_model.specs.History.Model.{pasts_in, with_letter}
 use Rattle.merge_model.specs.Publisher.PublisherLocal.{version_at}
-use Rattle.merge_model.specs.Subscriber.{sub_version_at}
+use Rattle.merge_model.specs.Subscriber.{subscriber_version_at}
 use Rattle.merge_types.specs.declared.row_key.RowKey.{RowKey as Key}
 use Rattle.merge_units.specs.declared.site_row.PublisherRow.{PublisherRow}
 use Rattle.merge_units.specs.declared.site_row.SubscriberRow.{SubscriberRow}
@@ -71,8 +71,8 @@ module _ (P : Key → Version → Past → Type 0) where
 
   -- A subscriber.
 
-  pub subscriber-begins : (w : World) (h : History) (s : SubscriberTables) → subscriber_at w s.site ≡ Some s → Every w h → Goes P s.site.0 h (sub_version_at s) s.conflicts h
-  subscriber-begins w h s at e = goes-begins P s.site.0 (sub_version_at s) s.conflicts h (rows-found own_version P (past_at h s.site.0) s.rows (e.subscribers s.site.0 s at)) (e.discards s.site.0 s at)
+  pub subscriber-begins : (w : World) (h : History) (s : SubscriberTables) → subscriber_at w s.site ≡ Some s → Every w h → Goes P s.site.0 h (subscriber_version_at s) s.conflicts h
+  subscriber-begins w h s at e = goes-begins P s.site.0 (subscriber_version_at s) s.conflicts h (rows-found own_version P (past_at h s.site.0) s.rows (e.subscribers s.site.0 s at)) (e.discards s.site.0 s at)
 
   module _ (w : World) (n : ℕ) (t : SubscriberTables) where
     pub put-here : (Q : ℕ → SubscriberTables → Type 0) (m : ℕ) (v : SubscriberTables) (b : Bool) → same_number m n b → Q n t → ((m ≡ n → ⊥) → at_number w.subscribers m ≡ Some v → Q m v) → at_number (put_number w.subscribers n t) m ≡ Some v → Q m v
@@ -82,7 +82,7 @@ module _ (P : Key → Version → Past → Type 0) where
         subst (λ (x : SubscriberTables). Q m x) both (subst (λ (k : ℕ). Q k t) (sym same) new)
     put-here Q m v false differs new old found = old differs (sym (at_put_other n m t w.subscribers differs) ∙ found)
 
-  pub subscriber-goes : (w : World) (h k : History) (n : ℕ) (t : SubscriberTables) → (n ≡ 0 → ⊥) → IsStrictlySortedBy key_cmp (keys_of t.rows) → Goes P n h (sub_version_at t) t.conflicts k → Every w h → Every (record w { subscribers = put_number w.subscribers n t }) k
+  pub subscriber-goes : (w : World) (h k : History) (n : ℕ) (t : SubscriberTables) → (n ≡ 0 → ⊥) → IsStrictlySortedBy key_cmp (keys_of t.rows) → Goes P n h (subscriber_version_at t) t.conflicts k → Every w h → Every (record w { subscribers = put_number w.subscribers n t }) k
   subscriber-goes w h k n t named sorted g e =
       let zero : 0 ≡ n → ⊥ = λ is. named (sym is) in record {
         publisher = subst (λ (pasts : List (Key × Past)). RowsFit row_version P (past_in pasts) w.publisher.rows) (sym (g.pasts 0 zero)) e.publisher;

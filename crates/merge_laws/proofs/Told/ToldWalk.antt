@@ -47,7 +47,7 @@ use Rattle.merge_model.specs.Tables.Refusals.{counter_end}
 use Rattle.merge_model.specs.Subscriber.Reinit.{reinitialised}
 use Rattle.merge_model.specs.Subscriber.Sending.{join_of, upload_sent, want_of, with_message}
 use Rattle.merge_model.specs.World.Steps.{Forget, kept_decisions, upload_questions}
-use Rattle.merge_model.specs.Subscriber.{is_joining, sub_at_moment, sub_closed, sub_counters, sub_last_closed, sub_local_refusal, sub_made_locally, sub_next_dot, sub_version_at, with_version_if}
+use Rattle.merge_model.specs.Subscriber.{is_joining, subscriber_at_moment, subscriber_closed, subscriber_counters, subscriber_last_closed, subscriber_local_refusal, subscriber_made_locally, subscriber_next_dot, subscriber_version_at, with_version_if}
 use Rattle.merge_types.specs.declared.row_key.RowKey.{RowKey as Key}
 use Rattle.merge_units.specs.declared.site_row.SubscriberRow.{SubscriberRow}
 use Rattle.merge_model.specs.Tables.{PublisherTables, SubscriberTables}
@@ -92,10 +92,10 @@ changed-sorted key None u sorted = sorted
 changed-sorted key (Some version) u sorted = sorted_put key_cmp key_total key _ u.rows sorted
 
 module _ (P : Key → Version → Past → Type 0) where
-  changed-goes : (n : ℕ) (before h : History) (key : Key) (found : Option Version) (u : SubscriberTables) → Goes P n before (put_if (sub_version_at u) (keyed key found)) u.conflicts h
-      → Goes P n before (sub_version_at (with_version_if key found u)) (with_version_if key found u).conflicts h
+  changed-goes : (n : ℕ) (before h : History) (key : Key) (found : Option Version) (u : SubscriberTables) → Goes P n before (put_if (subscriber_version_at u) (keyed key found)) u.conflicts h
+      → Goes P n before (subscriber_version_at (with_version_if key found u)) (with_version_if key found u).conflicts h
   changed-goes n before h key None u g = g
-  changed-goes n before h key (Some version) u g = goes-same P n before u.conflicts (put_version (sub_version_at u) (key, version)) (sub_version_at (with_version_if key (Some version) u)) h (λ q. found-put own_version u.rows key _ q) g
+  changed-goes n before h key (Some version) u g = goes-same P n before u.conflicts (put_version (subscriber_version_at u) (key, version)) (subscriber_version_at (with_version_if key (Some version) u)) h (λ q. found-put own_version u.rows key _ q) g
 
   purged-goes : (before : History) (conflicts : List ConflictRow) (keys : List Key) (found : Key → Option Version) (h : History) → Goes P 0 before found conflicts h → Goes P 0 before (fold drop_version found keys) conflicts (fold Noting.with_purged h keys)
   purged-goes before conflicts [] found h g = g
@@ -186,7 +186,7 @@ module _ (publication : Publication) (says : Saying) (P : Key → Version → Pa
 
   -- A subscriber.
   module _ (s : SubscriberTables) (at : subscriber_at w s.site ≡ Some s) where
-    abbrev own : Goes P s.site.0 h (sub_version_at s) s.conflicts h
+    abbrev own : Goes P s.site.0 h (subscriber_version_at s) s.conflicts h
     own = subscriber-begins P w h s at e
 
     abbrev named : s.site.0 ≡ 0 → ⊥
@@ -195,52 +195,52 @@ module _ (publication : Publication) (says : Saying) (P : Key → Version → Pa
     abbrev ordered : IsStrictlySortedBy key_cmp (keys_of s.rows)
     ordered = (all-found AreSubSorted w.subscribers s.site.0 s b.rows at).rows_ascend
 
-    on-subscriber : (t : SubscriberTables) (k : History) → t.site.0 ≡ s.site.0 → IsStrictlySortedBy key_cmp (keys_of t.rows) → Goes P s.site.0 h (sub_version_at t) t.conflicts k → Every P (with_subscriber t w) k
+    on-subscriber : (t : SubscriberTables) (k : History) → t.site.0 ≡ s.site.0 → IsStrictlySortedBy key_cmp (keys_of t.rows) → Goes P s.site.0 h (subscriber_version_at t) t.conflicts k → Every P (with_subscriber t w) k
     on-subscriber t k site sorted g = subst (λ (n : ℕ). Every P (record w { subscribers = put_number w.subscribers n t }) k) (sym site) (subscriber-goes P w h k s.site.0 t named sorted g e)
 
     stays : (t : SubscriberTables) → t.site.0 ≡ s.site.0 → t.rows ≡ s.rows → t.conflicts ≡ s.conflicts → Every P (with_subscriber t w) h
     stays t site rows lost = subscriber-stays P w h s t at site rows lost e
 
-    sub-change : (change : Change) (d : Value × List (ℕ × Holder)) → sub_local_refusal publication change s ≡ None
-        → Every P (with_subscriber (sub_made_locally publication change d (sub_at_moment w.moment s)).0 w) (Noting.with_change publication (sub_next_dot s) (sub_last_closed s + 1) change d.0 h)
+    sub-change : (change : Change) (d : Value × List (ℕ × Holder)) → subscriber_local_refusal publication change s ≡ None
+        → Every P (with_subscriber (subscriber_made_locally publication change d (subscriber_at_moment w.moment s)).0 w) (Noting.with_change publication (subscriber_next_dot s) (subscriber_last_closed s + 1) change d.0 h)
     sub-change change d fine =
-        let dot : Dot = sub_next_dot s in
+        let dot : Dot = subscriber_next_dot s in
         let key : Key = key_of dot change in
-        let u : SubscriberTables = record (sub_at_moment w.moment s) { changes = s.changes + 1; held = d.1 } in
-        let version : Option Version = version_after publication dot d.0 change (sub_version_at s key) in
+        let u : SubscriberTables = record (subscriber_at_moment w.moment s) { changes = s.changes + 1; held = d.1 } in
+        let version : Option Version = version_after publication dot d.0 change (subscriber_version_at s key) in
         let past : Past = past_after publication dot change (past_at h s.site.0 key) in
-        let c : MadeChange = Noting.made_change publication dot (sub_last_closed s + 1) change d.0 key past in
+        let c : MadeChange = Noting.made_change publication dot (subscriber_last_closed s + 1) change d.0 key past in
         let made : History = record h { made = c ∷ h.made } in
         let joins = first-none (is_joining s) _ fine in
-        let counters = first-none (counter_end (sub_counters s)) _ joins.1 in
-        let refused = first-none (change_refusal publication dot change (sub_version_at s key) (length s.rows)) _ counters.1 in
-        let put : Goes P s.site.0 h (put_if (sub_version_at s) (keyed key version)) s.conflicts (Noting.with_past s.site.0 key past made) =
-        goes-put_if P s.site.0 h s.conflicts (sub_version_at s) made (goes-others P s.site.0 h s.conflicts (sub_version_at s) h own (c ∷ h.made) h.lines h.done h.accepted h.purged h.bases) key version past
-        (none-held publication dot d.0 change (sub_version_at s key)) (on.changed dot d.0 change (sub_version_at s key) (length s.rows) (past_at h s.site.0 key) refused.0 (own.held key)) in
+        let counters = first-none (counter_end (subscriber_counters s)) _ joins.1 in
+        let refused = first-none (change_refusal publication dot change (subscriber_version_at s key) (length s.rows)) _ counters.1 in
+        let put : Goes P s.site.0 h (put_if (subscriber_version_at s) (keyed key version)) s.conflicts (Noting.with_past s.site.0 key past made) =
+        goes-put_if P s.site.0 h s.conflicts (subscriber_version_at s) made (goes-others P s.site.0 h s.conflicts (subscriber_version_at s) h own (c ∷ h.made) h.lines h.done h.accepted h.purged h.bases) key version past
+        (none-held publication dot d.0 change (subscriber_version_at s key)) (on.changed dot d.0 change (subscriber_version_at s key) (length s.rows) (past_at h s.site.0 key) refused.0 (own.held key)) in
         on-subscriber (with_version_if key version u) (Noting.with_past s.site.0 key past made) (version-site key version u) (changed-sorted key version u ordered) (changed-goes P s.site.0 h (Noting.with_past s.site.0 key past made) key version u put)
 
-    anew : (let judge : SubscriberJudge = by_made h s.site in Every P (with_subscriber (reinitialised judge (sub_at_moment w.moment s)).0 w) (Noting.noted_anew judge s h))
+    anew : (let judge : SubscriberJudge = by_made h s.site in Every P (with_subscriber (reinitialised judge (subscriber_at_moment w.moment s)).0 w) (Noting.noted_anew judge s h))
     anew =
         let judge : SubscriberJudge = by_made h s.site in
-        let c : SubscriberTables = sub_at_moment w.moment s in
-        on-subscriber (reinitialised judge c).0 (Noting.noted_anew judge s h) refl none-ascends (anew-goes P s h c judge (c.conflict_count + 1) (sub_version_at s) (e.subscribers s.site.0 s at) own)
+        let c : SubscriberTables = subscriber_at_moment w.moment s in
+        on-subscriber (reinitialised judge c).0 (Noting.noted_anew judge s h) refl none-ascends (anew-goes P s h c judge (c.conflict_count + 1) (subscriber_version_at s) (e.subscribers s.site.0 s at) own)
 
     replies : (judge : SubscriberJudge) (number : ℕ) (m : Reply) → comes w number s.site (Replies m) → Every P (with_subscriber (taken judge w.moment m s) w) (Noting.noted_reply judge s.site (pasts_with h number) m h)
     replies judge number (reply.Joined m) there = stays (taken judge w.moment (reply.Joined m) s) refl refl refl
     replies judge number (reply.Uploaded m) there = on-subscriber (taken judge w.moment (reply.Uploaded m) s) h refl (received-sorted m.received s.rows ordered)
-        (goes-same P s.site.0 h s.conflicts (sub_version_at s) (sub_version_at (taken judge w.moment (reply.Uploaded m) s)) h (λ q. versions-above m.received s.rows q) own)
+        (goes-same P s.site.0 h s.conflicts (subscriber_version_at s) (subscriber_version_at (taken judge w.moment (reply.Uploaded m) s)) h (λ q. versions-above m.received s.rows q) own)
     replies judge number (reply.Ranged m) there = stays (taken judge w.moment (reply.Ranged m) s) refl refl refl
     replies judge number (reply.Downloaded m) there =
         let incoming : List (Key × Past) = pasts_with h number in
         let rows : List (Key × SubscriberRow) = map (row_above m.received) s.rows in
         let gone = items-go P s.site.0 h s.conflicts incoming judge m.received m.items rows h (letter-fits P w h number (record { site = s.site; message = Replies (reply.Downloaded m) }) there e.letters)
-        (received-sorted m.received s.rows ordered, goes-same P s.site.0 h s.conflicts (sub_version_at s) (found_in own_version rows) h (λ q. versions-above m.received s.rows q) own) in
+        (received-sorted m.received s.rows ordered, goes-same P s.site.0 h s.conflicts (subscriber_version_at s) (found_in own_version rows) h (λ q. versions-above m.received s.rows q) own) in
         on-subscriber (taken judge w.moment (reply.Downloaded m) s) (Noting.noted_reply judge s.site incoming (reply.Downloaded m) h) refl gone.0 gone.1
     replies judge number (reply.Refused code values) there = stays (taken judge w.moment (reply.Refused code values) s) refl refl refl
 
-    sends-upload : (let made : SubscriberTables × Upload = upload_sent (by_made h s.site) (sub_closed (sub_at_moment w.moment s)) in Sends (Every P) s.site (Asks (request.Upload made.1)) (with_subscriber made.0 w) h)
+    sends-upload : (let made : SubscriberTables × Upload = upload_sent (by_made h s.site) (subscriber_closed (subscriber_at_moment w.moment s)) in Sends (Every P) s.site (Asks (request.Upload made.1)) (with_subscriber made.0 w) h)
     sends-upload =
-        let c : SubscriberTables = sub_closed (sub_at_moment w.moment s) in
+        let c : SubscriberTables = subscriber_closed (subscriber_at_moment w.moment s) in
         let made : SubscriberTables × Upload = upload_sent (by_made h s.site) c in
         letter-goes P (with_subscriber made.0 w) h s.site (Asks (request.Upload made.1)) (sent-fit P c (pasts_at h s.site.0) _ own.held) (stays made.0 refl refl refl)
 
@@ -258,8 +258,8 @@ module _ (publication : Publication) (says : Saying) (P : Key → Version → Pa
     own_closing = λ w h b e. publisher-stays P w h (closed (here w)) refl refl e;
     forgetting = λ w h b e. forgets publication says P on w h b e;
     same = λ w h s b e at. stays publication says P on w h b e s at s refl refl refl;
-    sub_change = λ w h s change d b e at named fine is. sub-change publication says P on w h b e s at change d fine;
-    sub_closing = λ w h s b e at. stays publication says P on w h b e s at (sub_closed (sub_at_moment w.moment s)) refl refl refl;
+    subscriber_change = λ w h s change d b e at named fine is. sub-change publication says P on w h b e s at change d fine;
+    subscriber_closing = λ w h s b e at. stays publication says P on w h b e s at (subscriber_closed (subscriber_at_moment w.moment s)) refl refl refl;
     anew = λ w h s b e at. anew publication says P on w h b e s at;
     sends_join = λ w h s b e at joining. (let t : SubscriberTables = with_message ask.Join s in letter-goes P (with_subscriber t w) h s.site (Asks (request.Join (join_of s))) tt (stays publication says P on w h b e s at t refl refl refl));
     sends_upload = λ w h s b e at fine. sends-upload publication says P on w h b e s at;

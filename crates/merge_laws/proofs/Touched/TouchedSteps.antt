@@ -35,7 +35,7 @@ use Rattle.merge_model.specs.Publisher.PublisherRanges.{plans, with_grants}
 use Rattle.merge_model.specs.Publisher.PublisherUpload.{changing_by, with_acts}
 use Rattle.merge_model.specs.Subscriber.Reinit.{reinitialised}
 use Rattle.merge_model.specs.Subscriber.Sending.{upload_sent, with_message}
-use Rattle.merge_model.specs.Subscriber.{sub_at_moment, sub_closed, sub_last_closed, sub_made_locally, sub_next_dot, sub_version_at, with_version_if}
+use Rattle.merge_model.specs.Subscriber.{subscriber_at_moment, subscriber_closed, subscriber_last_closed, subscriber_made_locally, subscriber_next_dot, subscriber_version_at, with_version_if}
 use Rattle.merge_types.specs.declared.row_key.RowKey.{RowKey as Key}
 use Rattle.merge_gens.specs.declared.moves.Mapping.{Mapping}
 use Rattle.merge_units.specs.declared.site_row.PublisherRow.{PublisherRow}
@@ -257,12 +257,12 @@ module _ (publication : Publication) where
 
   -- a local change of a subscriber
   change-on : (w : World) (h : History) (s : SubscriberTables) (change : Change) (d : Value × List (ℕ × Holder)) → subscriber_at w s.site ≡ Some s → OfPublisher publication w h
-      → OfPublisher publication (with_subscriber (sub_made_locally publication change d (sub_at_moment w.moment s)).0 w) (Noting.with_change publication (sub_next_dot s) (sub_last_closed s + 1) change d.0 h)
+      → OfPublisher publication (with_subscriber (subscriber_made_locally publication change d (subscriber_at_moment w.moment s)).0 w) (Noting.with_change publication (subscriber_next_dot s) (subscriber_last_closed s + 1) change d.0 h)
   change-on w h s change d at o =
-      let key : Key = key_of (sub_next_dot s) change in
-      let u : SubscriberTables = record (sub_at_moment w.moment s) { changes = s.changes + 1; held = d.1 } in
-      let found : Option Version = version_after publication (sub_next_dot s) d.0 change (sub_version_at s key) in
-      subscriber-on w h (Noting.with_change publication (sub_next_dot s) (sub_last_closed s + 1) change d.0 h) s (with_version_if key found u) refl (version-site key found u) at o
+      let key : Key = key_of (subscriber_next_dot s) change in
+      let u : SubscriberTables = record (subscriber_at_moment w.moment s) { changes = s.changes + 1; held = d.1 } in
+      let found : Option Version = version_after publication (subscriber_next_dot s) d.0 change (subscriber_version_at s key) in
+      subscriber-on w h (Noting.with_change publication (subscriber_next_dot s) (subscriber_last_closed s + 1) change d.0 h) s (with_version_if key found u) refl (version-site key found u) at o
 
   pub touched-keeps : (says : Saying) → StepsKeep publication says (Ground publication) (OfPublisher publication)
   touched-keeps says = record {
@@ -275,11 +275,11 @@ module _ (publication : Publication) where
     forgetting = λ w h g o. (let judge : PublisherJudge = by_past h (pasts_with h 0) in let q : PublisherTables = (purge publication w.moment w.publisher).0 in let k : History = Noting.noted_purge publication judge (here w) h in
         publisher-on w h k q (λ site f. same-bases q h k site (purge-bases publication judge (here w) h) (purged-order publication w.publisher (base_of h site) site g.sorted f w.moment)) o);
     same = λ w h s g o at. subscriber-on w h h s s refl refl at o;
-    sub_change = λ w h s change d g o at named fine is. change-on w h s change d at o;
-    sub_closing = λ w h s g o at. subscriber-on w h h s (sub_closed (sub_at_moment w.moment s)) refl refl at o;
-    anew = λ w h s g o at. subscriber-on w h (Noting.noted_anew (by_made h s.site) s h) s (reinitialised (by_made h s.site) (sub_at_moment w.moment s)).0 (anew-bases (by_history h) s.site (Some s) h) refl at o;
+    subscriber_change = λ w h s change d g o at named fine is. change-on w h s change d at o;
+    subscriber_closing = λ w h s g o at. subscriber-on w h h s (subscriber_closed (subscriber_at_moment w.moment s)) refl refl at o;
+    anew = λ w h s g o at. subscriber-on w h (Noting.noted_anew (by_made h s.site) s h) s (reinitialised (by_made h s.site) (subscriber_at_moment w.moment s)).0 (anew-bases (by_history h) s.site (Some s) h) refl at o;
     sends_join = λ w h s g o at joining. subscriber-on w h h s (with_message ask.Join s) refl refl at o;
-    sends_upload = λ w h s g o at fine. subscriber-on w h h s (upload_sent (by_made h s.site) (sub_closed (sub_at_moment w.moment s))).0 refl refl at o;
+    sends_upload = λ w h s g o at fine. subscriber-on w h h s (upload_sent (by_made h s.site) (subscriber_closed (subscriber_at_moment w.moment s))).0 refl refl at o;
     sends_ranges = λ w h s g o at fine. subscriber-on w h h s (with_message ask.Ranges s) refl refl at o;
     sends_ask = λ w h s g o at fine. subscriber-on w h h s (with_message (ask.Download s.watermark) s) refl refl at o;
     joins = λ w h number m g o at fine acts. (let judge : PublisherJudge = by_past h (pasts_with h number) in let k : History = join_noted judge m w.publisher h in

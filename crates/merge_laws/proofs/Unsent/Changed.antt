@@ -20,7 +20,7 @@ use Rattle.merge_types.specs.declared.row_key.RowKey.{RowKey as Key}
 use Rattle.merge_units.specs.declared.site_row.SubscriberRow.{SubscriberRow}
 use Rattle.merge_model.proofs.Publishers.Sorted.{key_total}
 use Rattle.merge_laws.specs.Facts.Numbered.{InOrder}
-use Rattle.merge_laws.specs.Invariants.Unsent.{RowsTell, gens_in, last_made}
+use Rattle.merge_laws.specs.Invariants.Unsent.{RowsTell, generations_in, last_made}
 use Rattle.merge_model.proofs.Lists.KeyLookUps.{keys-same, keys-tied, none-behind, row-put}
 
 -- By rows: what is found of a row is its last generation in the interval.
@@ -36,7 +36,7 @@ with_found key None rest = rest
 with_found key (Some generation) rest = (key, generation) ∷ rest
 
 rows-step : (from to : ℕ) (q : Key) (row : Key × SubscriberRow) (rows : List (Key × SubscriberRow)) (kept : List (Key × ℕ)) (last : Option ℕ) (here : Bool) → last_between from to row.1.generations ≡ last → is_at (key_cmp q) row.0 ≡ here → (here ≡ true → row_at rows q ≡ None)
-    → row_at kept q ≡ last_between from to (gens_in rows q) → row_at (with_found row.0 last kept) q ≡ last_between from to (gens_of (let found : Option SubscriberRow = cond here (Some row.1) (row_at rows q) in found))
+    → row_at kept q ≡ last_between from to (generations_in rows q) → row_at (with_found row.0 last kept) q ≡ last_between from to (gens_of (let found : Option SubscriberRow = cond here (Some row.1) (row_at rows q) in found))
 rows-step from to q row rows kept None true is at none h = h ∙ ap (λ (found : Option SubscriberRow). last_between from to (gens_of found)) (none refl) ∙ sym is
 rows-step from to q row rows kept None false is at none h = h
 rows-step from to q row rows kept (Some generation) true is at none h = ap (λ (b : Bool). (let found : Option ℕ = cond b (Some generation) (row_at kept q) in found)) at ∙ sym is
@@ -49,7 +49,7 @@ cons-found key (Some generation) rest = refl
 changed-cons : (from to : ℕ) (row : Key × SubscriberRow) (rows : List (Key × SubscriberRow)) → changed_rows from to (row ∷ rows) ≡ with_found row.0 (last_between from to row.1.generations) (changed_rows from to rows)
 changed-cons from to row rows = cons-found row.0 (last_between from to row.1.generations) (changed_rows from to rows)
 
-pub rows-changed : (from to : ℕ) (q : Key) (rows : List (Key × SubscriberRow)) → IsStrictlySortedBy key_cmp (keys_of rows) → row_at (changed_rows from to rows) q ≡ last_between from to (gens_in rows q)
+pub rows-changed : (from to : ℕ) (q : Key) (rows : List (Key × SubscriberRow)) → IsStrictlySortedBy key_cmp (keys_of rows) → row_at (changed_rows from to rows) q ≡ last_between from to (generations_in rows q)
 rows-changed from to q [] sorted = refl
 rows-changed from to q (row ∷ rows) sorted = ap (λ (kept : List (Key × ℕ)). row_at kept q) (changed-cons from to row rows)
     ∙ rows-step from to q row rows (changed_rows from to rows) (last_between from to row.1.generations) (is_at (key_cmp q) row.0) refl refl (λ here. none-behind q row rows sorted here) (rows-changed from to q rows (sorted_tail key_cmp row.0 (keys_of rows) sorted))

@@ -22,7 +22,7 @@ use Rattle.merge_units.specs.declared.site_row.SubscriberRow.{SubscriberRow}
 use Rattle.merge_model.specs.Subscriber.Taking.{key_of_download, row_above, with_item, with_order}
 use Rattle.merge_model.proofs.Publishers.Sorted.{key_total}
 use Rattle.merge_laws.specs.Facts.Numbered.{InOrder}
-use Rattle.merge_laws.specs.Invariants.Unsent.{RowsTell, gens_in, is_changed_above, last_made}
+use Rattle.merge_laws.specs.Invariants.Unsent.{RowsTell, generations_in, is_changed_above, last_made}
 use Rattle.merge_laws.proofs.Unsent.Changed.{gens_of}
 use Rattle.merge_laws.proofs.Unsent.Generations.{above-kept, between-kept, none-above, none-between, open-above, open-behind, open-beyond, open-between, order-above}
 use Rattle.merge_model.proofs.Lists.KeyLookUps.{keys-same, row-dropped, row-put}
@@ -38,10 +38,10 @@ gens-none-if : (b : Bool) (rest : Option SubscriberRow) → gens_of (if b then N
 gens-none-if true rest = refl
 gens-none-if false rest = refl
 
-gens-put : (rows : List (Key × SubscriberRow)) (key : Key) (row : SubscriberRow) (q : Key) → gens_in (put_row rows key row) q ≡ (if same_key q key then row.generations else gens_in rows q)
+gens-put : (rows : List (Key × SubscriberRow)) (key : Key) (row : SubscriberRow) (q : Key) → generations_in (put_row rows key row) q ≡ (if same_key q key then row.generations else generations_in rows q)
 gens-put rows key row q = ap (λ (found : Option SubscriberRow). gens_of found) (row-put rows key row q) ∙ gens-if (same_key q key) row (row_at rows q)
 
-gens-dropped : (rows : List (Key × SubscriberRow)) (key q : Key) → IsStrictlySortedBy key_cmp (keys_of rows) → gens_in (drop_row rows key) q ≡ (if same_key q key then [] else gens_in rows q)
+gens-dropped : (rows : List (Key × SubscriberRow)) (key q : Key) → IsStrictlySortedBy key_cmp (keys_of rows) → generations_in (drop_row rows key) q ≡ (if same_key q key then [] else generations_in rows q)
 gens-dropped rows key q sorted = ap (λ (found : Option SubscriberRow). gens_of found) (row-dropped rows key q sorted) ∙ gens-none-if (same_key q key) (row_at rows q)
 
 abbrev keeps_above : ℕ → List ℕ → List ℕ
@@ -52,7 +52,7 @@ above-step : (b : Bool) (received : ℕ) (row : SubscriberRow) (rest more : Opti
 above-step true received row rest more h = refl
 above-step false received row rest more h = h
 
-gens-above : (received : ℕ) (rows : List (Key × SubscriberRow)) (q : Key) → gens_in (map (row_above received) rows) q ≡ keeps_above received (gens_in rows q)
+gens-above : (received : ℕ) (rows : List (Key × SubscriberRow)) (q : Key) → generations_in (map (row_above received) rows) q ≡ keeps_above received (generations_in rows q)
 gens-above received [] q = refl
 gens-above received (row ∷ rows) q = above-step (is_at (key_cmp q) row.0) received row.1 (row_at rows q) (row_at (map (row_above received) rows) q) (gens-above received rows q)
 
@@ -76,8 +76,8 @@ if-between false made key from to gens other here there = there refl
 -- What is received: less is kept.
 pub received-rows : (made : List MadeChange) (before received : ℕ) (rows : List (Key × SubscriberRow)) → before ≤ received → RowsTell made before rows → RowsTell made received (map (row_above received) rows)
 received-rows made before received rows rises f = record {
-  unsent = λ key above up. ap (λ (gens : List ℕ). list_any (λ (generation : ℕ). nat_lt above generation) gens) (gens-above received rows key) ∙ above-kept received above (gens_in rows key) up ∙ f.unsent key above (omega (arith, rises, up));
-  between = λ key from to up. ap (λ (gens : List ℕ). last_between from to gens) (gens-above received rows key) ∙ between-kept received from to (gens_in rows key) up ∙ f.between key from to (omega (arith, rises, up));
+  unsent = λ key above up. ap (λ (gens : List ℕ). list_any (λ (generation : ℕ). nat_lt above generation) gens) (gens-above received rows key) ∙ above-kept received above (generations_in rows key) up ∙ f.unsent key above (omega (arith, rises, up));
+  between = λ key from to up. ap (λ (gens : List ℕ). last_between from to gens) (gens-above received rows key) ∙ between-kept received from to (generations_in rows key) up ∙ f.between key from to (omega (arith, rises, up));
 }
 
 keys-above : (received : ℕ) (rows : List (Key × SubscriberRow)) → keys_of (map (row_above received) rows) ≡ keys_of rows
@@ -94,13 +94,13 @@ emptied-above made received above key q same up none = sym (ap (λ (k : Key). is
 emptied-between : (made : List MadeChange) (received from to : ℕ) (key q : Key) → same_key q key ≡ true → received ≤ from → is_changed_above received key made ≡ false → tells_between made q from to []
 emptied-between made received from to key q same up none = sym (ap (λ (k : Key). last_made from to k made) (keys-same q key same) ∙ none-between received from to key made up none)
 
-emptied-rows : (made : List MadeChange) (received : ℕ) (rows after : List (Key × SubscriberRow)) (key : Key) → ((q : Key) → gens_in after q ≡ (if same_key q key then [] else gens_in rows q)) → is_changed_above received key made ≡ false
+emptied-rows : (made : List MadeChange) (received : ℕ) (rows after : List (Key × SubscriberRow)) (key : Key) → ((q : Key) → generations_in after q ≡ (if same_key q key then [] else generations_in rows q)) → is_changed_above received key made ≡ false
     → RowsTell made received rows → RowsTell made received after
 emptied-rows made received rows after key is none f = record {
   unsent = λ q above up. subst (λ (gens : List ℕ). tells_above made q above gens) (sym (is q))
-      (if-above (same_key q key) made q above [] (gens_in rows q) (λ same. emptied-above made received above key q same up none) (λ differs. f.unsent q above up));
+      (if-above (same_key q key) made q above [] (generations_in rows q) (λ same. emptied-above made received above key q same up none) (λ differs. f.unsent q above up));
   between = λ q from to up. subst (λ (gens : List ℕ). tells_between made q from to gens) (sym (is q))
-      (if-between (same_key q key) made q from to [] (gens_in rows q) (λ same. emptied-between made received from to key q same up none) (λ differs. f.between q from to up));
+      (if-between (same_key q key) made q from to [] (generations_in rows q) (λ same. emptied-between made received from to key q same up none) (λ differs. f.between q from to up));
 }
 
 order-rows : (made : List MadeChange) (received : ℕ) (rows : List (Key × SubscriberRow)) (key : Key) (o : Order) → IsStrictlySortedBy key_cmp (keys_of rows) → is_changed_above received key made ≡ false → RowsTell made received rows → RowsTell made received (with_order key o rows)
@@ -168,14 +168,14 @@ module _ (number current : ℕ) (made : List MadeChange) (c : MadeChange) (stand
   other-now-between q from to gens differs old = old ∙ sym (found-now from to q false (grind (arith, differs)))
 
   pub change-rows : (received : ℕ) (rows : List (Key × SubscriberRow)) (version : Version) → RowsTell made received rows
-      → RowsTell (c ∷ made) received (put_row rows c.key (record { version = version; generations = with_open current (gens_in rows c.key) }))
+      → RowsTell (c ∷ made) received (put_row rows c.key (record { version = version; generations = with_open current (generations_in rows c.key) }))
   change-rows received rows version f =
-      let row : SubscriberRow = record { version = version; generations = with_open current (gens_in rows c.key) } in
+      let row : SubscriberRow = record { version = version; generations = with_open current (generations_in rows c.key) } in
       record {
         unsent = λ q above up. subst (λ (gens : List ℕ). tells_above (c ∷ made) q above gens) (sym (gens-put rows c.key row q))
-            (if-above (same_key q c.key) (c ∷ made) q above row.generations (gens_in rows q) (λ same. open-now-above q above (gens_in rows c.key) same) (λ differs. other-now-above q above (gens_in rows q) differs (f.unsent q above up)));
+            (if-above (same_key q c.key) (c ∷ made) q above row.generations (generations_in rows q) (λ same. open-now-above q above (generations_in rows c.key) same) (λ differs. other-now-above q above (generations_in rows q) differs (f.unsent q above up)));
         between = λ q from to up. subst (λ (gens : List ℕ). tells_between (c ∷ made) q from to gens) (sym (gens-put rows c.key row q))
-            (if-between (same_key q c.key) (c ∷ made) q from to row.generations (gens_in rows q)
-            (λ same. open-now-between q from to (gens_in rows c.key) same (subst (λ (k : Key). tells_between made q from to (gens_in rows k)) (keys-same q c.key same) (f.between q from to up)))
-            (λ differs. other-now-between q from to (gens_in rows q) differs (f.between q from to up)));
+            (if-between (same_key q c.key) (c ∷ made) q from to row.generations (generations_in rows q)
+            (λ same. open-now-between q from to (generations_in rows c.key) same (subst (λ (k : Key). tells_between made q from to (generations_in rows k)) (keys-same q c.key same) (f.between q from to up)))
+            (λ differs. other-now-between q from to (generations_in rows q) differs (f.between q from to up)));
       }

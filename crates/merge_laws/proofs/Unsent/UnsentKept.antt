@@ -33,7 +33,7 @@ use Rattle.merge_model.specs.Subscriber.Reinit.{reinitialised}
 use Rattle.merge_model.specs.Tables.Publications.{by_site}
 use Rattle.merge_model.specs.Subscriber.Sending.{upload_sent, with_message}
 use Rattle.merge_model.specs.World.Steps.{Action}
-use Rattle.merge_model.specs.Subscriber.{empty_subscriber, sub_at_moment, sub_closed, sub_last_closed, sub_local_refusal, sub_made_locally, sub_next_dot, sub_version_at, with_version_if}
+use Rattle.merge_model.specs.Subscriber.{empty_subscriber, subscriber_at_moment, subscriber_closed, subscriber_last_closed, subscriber_local_refusal, subscriber_made_locally, subscriber_next_dot, subscriber_version_at, with_version_if}
 use Rattle.merge_types.specs.declared.row_key.RowKey.{RowKey as Key}
 use Rattle.merge_units.specs.declared.site_row.SubscriberRow.{SubscriberRow}
 use Rattle.merge_model.specs.Tables.{SubscriberTables}
@@ -117,10 +117,10 @@ reply-site judge now (reply.Ranged m) s = refl
 reply-site judge now (reply.Downloaded m) s = refl
 reply-site judge now (reply.Refused number values) s = refl
 
-version-rows : (made : List MadeChange) (c : MadeChange) (now : Moment) (held : List (ℕ × Holder)) (s : SubscriberTables) (found : Option Version) → is_some found ≡ true → c.generation ≡ sub_last_closed s + 1 → InOrder s.changes (sub_last_closed s + 1) made → RowsTell made s.received s.rows
-    → (let u : SubscriberTables = record (sub_at_moment now s) { changes = s.changes + 1; held = held } in RowsTell (c ∷ made) (with_version_if c.key found u).received (with_version_if c.key found u).rows)
+version-rows : (made : List MadeChange) (c : MadeChange) (now : Moment) (held : List (ℕ × Holder)) (s : SubscriberTables) (found : Option Version) → is_some found ≡ true → c.generation ≡ subscriber_last_closed s + 1 → InOrder s.changes (subscriber_last_closed s + 1) made → RowsTell made s.received s.rows
+    → (let u : SubscriberTables = record (subscriber_at_moment now s) { changes = s.changes + 1; held = held } in RowsTell (c ∷ made) (with_version_if c.key found u).received (with_version_if c.key found u).rows)
 version-rows made c now held s None there stands o f = absurd (grind (arith, there))
-version-rows made c now held s (Some version) there stands o f = change-rows s.changes (sub_last_closed s + 1) made c stands o s.received s.rows version f
+version-rows made c now held s (Some version) there stands o f = change-rows s.changes (subscriber_last_closed s + 1) made c stands o s.received s.rows version f
 
 pub version-site : (key : Key) (found : Option Version) (u : SubscriberTables) → (with_version_if key found u).site.0 ≡ u.site.0
 version-site key None u = refl
@@ -134,31 +134,31 @@ module _ (publication : Publication) (says : Saying) where
   stays w h s t u at site received rows = same-rows w h h s t u at (λ n named. refl) site
       (λ named f. subst (λ (k : ℕ). RowsTell (made_at h s.site.0) k t.rows) (sym received) (subst (λ (es : List (Key × SubscriberRow)). RowsTell (made_at h s.site.0) s.received es) (sym rows) f))
 
-  change-kept : (w : World) (h : History) (s : SubscriberTables) (change : Change) (d : Value × List (ℕ × Holder)) → Base w h → Unsent w h → subscriber_at w s.site ≡ Some s → (s.site.0 ≡ 0 → ⊥) → sub_local_refusal publication change s ≡ None
-      → Unsent (with_subscriber (sub_made_locally publication change d (sub_at_moment w.moment s)).0 w) (Noting.with_change publication (sub_next_dot s) (sub_last_closed s + 1) change d.0 h)
+  change-kept : (w : World) (h : History) (s : SubscriberTables) (change : Change) (d : Value × List (ℕ × Holder)) → Base w h → Unsent w h → subscriber_at w s.site ≡ Some s → (s.site.0 ≡ 0 → ⊥) → subscriber_local_refusal publication change s ≡ None
+      → Unsent (with_subscriber (subscriber_made_locally publication change d (subscriber_at_moment w.moment s)).0 w) (Noting.with_change publication (subscriber_next_dot s) (subscriber_last_closed s + 1) change d.0 h)
   change-kept w h s change d b u at named fine =
-      let key : Key = key_of (sub_next_dot s) change in
-      let c : MadeChange = Noting.made_change publication (sub_next_dot s) (sub_last_closed s + 1) change d.0 key (past_after publication (sub_next_dot s) change (past_at h s.site.0 key)) in
-      let k : History = Noting.with_change publication (sub_next_dot s) (sub_last_closed s + 1) change d.0 h in
-      let v : SubscriberTables = record (sub_at_moment w.moment s) { changes = s.changes + 1; held = d.1 } in
-      let found : Option Version = version_after publication (sub_next_dot s) d.0 change (sub_version_at s key) in
+      let key : Key = key_of (subscriber_next_dot s) change in
+      let c : MadeChange = Noting.made_change publication (subscriber_next_dot s) (subscriber_last_closed s + 1) change d.0 key (past_after publication (subscriber_next_dot s) change (past_at h s.site.0 key)) in
+      let k : History = Noting.with_change publication (subscriber_next_dot s) (subscriber_last_closed s + 1) change d.0 h in
+      let v : SubscriberTables = record (subscriber_at_moment w.moment s) { changes = s.changes + 1; held = d.1 } in
+      let found : Option Version = version_after publication (subscriber_next_dot s) d.0 change (subscriber_version_at s key) in
       let t : SubscriberTables = with_version_if key found v in
       let same : made_at k s.site.0 ≡ c ∷ made_at h s.site.0 = made-same h c in
-      let o : InOrder s.changes (sub_last_closed s + 1) (made_at h s.site.0) = (b.1.0.subscribers s.site.0 s at).order named in
+      let o : InOrder s.changes (subscriber_last_closed s + 1) (made_at h s.site.0) = (b.1.0.subscribers s.site.0 s at).order named in
       unsent-on w h k s t u (λ n other differs. made-other h c n differs)
       (λ other. subst (λ (made : List MadeChange). RowsTell made t.received t.rows) (sym same)
       (version-rows (made_at h s.site.0) c w.moment d.1 s found (row-there publication change d.0 s fine) refl o (u s.site.0 s named at))) (version-site key found v)
 
   anew-kept : (w : World) (h : History) (s : SubscriberTables) → Base w h → Unsent w h → subscriber_at w s.site ≡ Some s
-      → (let judge : SubscriberJudge = by_made h s.site in Unsent (with_subscriber (reinitialised judge (sub_at_moment w.moment s)).0 w) (Noting.noted_anew judge s h))
+      → (let judge : SubscriberJudge = by_made h s.site in Unsent (with_subscriber (reinitialised judge (subscriber_at_moment w.moment s)).0 w) (Noting.noted_anew judge s h))
   anew-kept w h s b u at =
       let judge : SubscriberJudge = by_made h s.site in
       let k : History = Noting.noted_anew judge s h in
       let a : Alike h k = anew-keep (λ (x : History). Alike h x) (alike-notes h) judge s h (alike-itself h) in
-      let c : SubscriberTables = sub_closed (sub_at_moment w.moment s) in
+      let c : SubscriberTables = subscriber_closed (subscriber_at_moment w.moment s) in
       let closing = closing-tells (made_at h s.site.0) s.site.0 w.moment s (b.1.0.subscribers s.site.0 s at) in
-      same-rows w h k s (reinitialised judge (sub_at_moment w.moment s)).0 u at a.made refl
-      (λ named f. anew-rows c.changes (sub_last_closed c) (made_at h s.site.0) (order-closed c.changes (sub_last_closed c + 1) (sub_last_closed c) (made_at h s.site.0) (closing.order named) (closing.idle (filling-closed s.gens.filling))))
+      same-rows w h k s (reinitialised judge (subscriber_at_moment w.moment s)).0 u at a.made refl
+      (λ named f. anew-rows c.changes (subscriber_last_closed c) (made_at h s.site.0) (order-closed c.changes (subscriber_last_closed c + 1) (subscriber_last_closed c) (made_at h s.site.0) (closing.order named) (closing.idle (filling-closed s.gens.filling))))
 
   reply-kept : (w : World) (h : History) (s : SubscriberTables) (number : ℕ) (m : Reply) (sent : Outstanding) → Base w h → Unsent w h → subscriber_at w s.site ≡ Some s → s.outstanding ≡ Some (seq_of m, sent) → reply_fault publication sent m s ≡ None
       → (let judge : SubscriberJudge = by_made h s.site in Unsent (with_subscriber (taken judge w.moment m s) w) (Noting.noted_reply judge s.site (pasts_with h number) m h))
@@ -179,11 +179,11 @@ module _ (publication : Publication) (says : Saying) where
     forgetting = λ w h b u. (let judge : PublisherJudge = by_past h (pasts_with h 0) in
         unsent-alike w h (Noting.noted_purge publication judge (here w) h) (purge-keep (λ (x : History). Alike h x) (alike-notes h) publication judge (here w) h (alike-itself h)).made u);
     same = λ w h s b u at. stays w h s s u at refl refl refl;
-    sub_change = λ w h s change d b u at named fine is. change-kept w h s change d b u at named fine;
-    sub_closing = λ w h s b u at. stays w h s (sub_closed (sub_at_moment w.moment s)) u at refl refl refl;
+    subscriber_change = λ w h s change d b u at named fine is. change-kept w h s change d b u at named fine;
+    subscriber_closing = λ w h s b u at. stays w h s (subscriber_closed (subscriber_at_moment w.moment s)) u at refl refl refl;
     anew = λ w h s b u at. anew-kept w h s b u at;
     sends_join = λ w h s b u at joining. stays w h s (with_message ask.Join s) u at refl refl refl;
-    sends_upload = λ w h s b u at fine. stays w h s (upload_sent (by_made h s.site) (sub_closed (sub_at_moment w.moment s))).0 u at refl refl refl;
+    sends_upload = λ w h s b u at fine. stays w h s (upload_sent (by_made h s.site) (subscriber_closed (subscriber_at_moment w.moment s))).0 u at refl refl refl;
     sends_ranges = λ w h s b u at fine. stays w h s (with_message ask.Ranges s) u at refl refl refl;
     sends_ask = λ w h s b u at fine. stays w h s (with_message (ask.Download s.watermark) s) u at refl refl refl;
     joins = λ w h number m b u at fine acts. unsent-alike w h (join_noted (by_past h (pasts_with h number)) m w.publisher h) (joined-alike publication says h (by_past h (pasts_with h number)) m w.publisher).made u;
@@ -233,9 +233,9 @@ unsent-always publication says tallies slips events = of-events publication says
 pub decides-alike : (m : Model) → Base m.world m.history → Unsent m.world m.history → (s : SubscriberTables) → (s.site.0 ≡ 0 → ⊥) → at_number m.world.subscribers s.site.0 ≡ Some s → SubscriberDecidesAlike m s
 decides-alike m b u s named at =
     let f : RowsTell (made_at m.history s.site.0) s.received s.rows = u s.site.0 s named at in
-    let o : InOrder s.changes (sub_last_closed s + 1) (made_at m.history s.site.0) = (b.1.0.subscribers s.site.0 s at).order named in
+    let o : InOrder s.changes (subscriber_last_closed s + 1) (made_at m.history s.site.0) = (b.1.0.subscribers s.site.0 s at).order named in
     let sorted : AreSubSorted s = all-found AreSubSorted m.world.subscribers s.site.0 s b.1.1 at in
     record {
-      changed_between = λ from to up. changed-same from to s.received s.changes (sub_last_closed s + 1) s.rows (made_at m.history s.site.0) up sorted.rows_ascend o f;
+      changed_between = λ from to up. changed-same from to s.received s.changes (subscriber_last_closed s + 1) s.rows (made_at m.history s.site.0) up sorted.rows_ascend o f;
       is_unsent = λ received key up. f.unsent key received up;
     }

@@ -30,7 +30,7 @@ use Rattle.merge_model.specs.Subscriber.Sending.{make_ask, make_join, make_range
 use Rattle.merge_model.specs.World.Steps.{Action, CloseAt, Deliver, Forget, Look, Make, MakeAnew, Pass, Send, SendDownload, SendJoin, SendRanges, SendUpload, Sending, answered, at_subscriber, close_publisher, close_subscriber, deliver_letter, deliver_reply, deliver_request, kept_decisions, make_anew, make_at_publisher, make_at_subscriber, post, posted, send_from, step_by, unless_refused, upload_questions}
 use Rattle.merge_model.specs.declared.outcome.Outcome.TheVariants.{NoLetter, Refuses}
 use Rattle.merge_model.specs.declared.outcome.Outcome.{Outcome}
-use Rattle.merge_model.specs.Subscriber.{close_sub_generation, sub_local}
+use Rattle.merge_model.specs.Subscriber.{close_subscriber_generation, subscriber_local}
 use Rattle.merge_model.specs.Tables.{PublisherTables, SubscriberTables}
 use Rattle.merge_model.specs.Subscriber.Taking.{take_reply}
 use Rattle.merge_model.specs.World.{Saying, World, letter_at, subscriber_at, with_publisher, with_subscriber}
@@ -118,10 +118,10 @@ module _ (publication : Publication) (says : Saying) (w : World) (h : History) (
   step-shaped (Pass seconds) = shapes.passes seconds _
   step-shaped (Make site change) = if-shaped (site.0 == 0) (make_at_publisher publication (by_history h) change w) (at_subscriber site w (make_at_subscriber publication change w)) _
       (unless-shaped (local publication ((by_history h).publisher 0) w.moment change w.publisher) _ _ (λ a. shapes.publisher a.0 _))
-      (found-shaped site (subscriber_at w site) (make_at_subscriber publication change w) _ (λ s. unless-shaped (sub_local publication w.moment change s) _ _ (λ a. shapes.subscriber a.0 _)))
+      (found-shaped site (subscriber_at w site) (make_at_subscriber publication change w) _ (λ s. unless-shaped (subscriber_local publication w.moment change s) _ _ (λ a. shapes.subscriber a.0 _)))
   step-shaped (CloseAt site) = if-shaped (site.0 == 0) (close_publisher w) (at_subscriber site w (close_subscriber w)) _
       (unless-shaped (close_generation w.moment w.publisher) _ _ (λ a. shapes.publisher a.0 _))
-      (found-shaped site (subscriber_at w site) (close_subscriber w) _ (λ s. unless-shaped (close_sub_generation w.moment s) _ _ (λ a. shapes.subscriber a.0 _)))
+      (found-shaped site (subscriber_at w site) (close_subscriber w) _ (λ s. unless-shaped (close_subscriber_generation w.moment s) _ _ (λ a. shapes.subscriber a.0 _)))
   step-shaped (Send site sending) = found-shaped site (subscriber_at w site) (send_from (by_history h) sending w) _ (λ s. send-shaped sending s _)
   step-shaped (Deliver number) = letter-shaped number (letter_at w number) refl
   step-shaped (MakeAnew site) = found-shaped site (subscriber_at w site) (make_anew (by_history h) w) _ (λ s. unless-shaped (reinitialise ((by_history h).subscriber s.site s) w.moment s) _ _ (λ a. shapes.subscriber a.0 _))

@@ -33,7 +33,7 @@ use Rattle.merge_model.specs.Publisher.{later, no_state, site_refusal, state_of,
 use Rattle.merge_model.specs.Publisher.PublisherJoin.{join_acts, join_taken, joined, joined_state}
 use Rattle.merge_model.specs.Publisher.PublisherUpload.{state_seeing, taken_in}
 use Rattle.merge_model.specs.Publisher.PublisherDownload.{asked, download_refusal, reply_to, synced}
-use Rattle.merge_model.specs.Subscriber.{empty_subscriber, sub_at_moment, sub_closed, sub_made_locally}
+use Rattle.merge_model.specs.Subscriber.{empty_subscriber, subscriber_at_moment, subscriber_closed, subscriber_made_locally}
 use Rattle.merge_model.specs.Subscriber.Sending.{join_of, upload_end, upload_to, want_of, with_message}
 use Rattle.merge_model.specs.Subscriber.Reinit.{reinitialised}
 use Rattle.merge_model.specs.World.{Saying, World, letter_at, subscriber_at, with_publisher, with_subscriber}
@@ -187,11 +187,11 @@ module _ (publication : Publication) (says : Saying) where
     own_closing = λ w h r k. k;
     forgetting = λ w h r k. k;
     same = λ w h s r k at. go w k s at s (quiet (state w k s at) s (holds-here w k s at) s refl refl refl refl refl);
-    sub_change = λ w h s change d r k at named fine is. go w k s at (sub_made_locally publication change d (sub_at_moment w.moment s)).0 (made-moves (state w k s at) s (holds-here w k s at) publication w.moment change d);
-    sub_closing = λ w h s r k at. (let t : SubscriberTables = sub_closed (sub_at_moment w.moment s) in go w k s at t (quiet (state w k s at) s (holds-here w k s at) t refl refl refl refl refl));
-    anew = λ w h s r k at. (let judge : SubscriberJudge = by_made h s.site in go w k s at (reinitialised judge (sub_at_moment w.moment s)).0 (anew-moves (state w k s at) s (holds-here w k s at) judge w.moment));
+    subscriber_change = λ w h s change d r k at named fine is. go w k s at (subscriber_made_locally publication change d (subscriber_at_moment w.moment s)).0 (made-moves (state w k s at) s (holds-here w k s at) publication w.moment change d);
+    subscriber_closing = λ w h s r k at. (let t : SubscriberTables = subscriber_closed (subscriber_at_moment w.moment s) in go w k s at t (quiet (state w k s at) s (holds-here w k s at) t refl refl refl refl refl));
+    anew = λ w h s r k at. (let judge : SubscriberJudge = by_made h s.site in go w k s at (reinitialised judge (subscriber_at_moment w.moment s)).0 (anew-moves (state w k s at) s (holds-here w k s at) judge w.moment));
     sends_join = λ w h s r k at joining. sends w k s at (with_message ask.Join s) (Asks (request.Join (join_of s))) (sent-moves (state w k s at) s (holds-here w k s at) ask.Join s refl refl refl refl tt) tt;
-    sends_upload = λ w h s r k at fine. (let c : SubscriberTables = sub_closed (sub_at_moment w.moment s) in let to : ℕ = upload_end (by_made h s.site) c in
+    sends_upload = λ w h s r k at fine. (let c : SubscriberTables = subscriber_closed (subscriber_at_moment w.moment s) in let to : ℕ = upload_end (by_made h s.site) c in
         sends w k s at (with_message (ask.Upload c.received to) c) (Asks (request.Upload (upload_to (by_made h s.site) c to))) (sent-moves (state w k s at) s (holds-here w k s at) (ask.Upload c.received to) c refl refl refl refl tt) tt);
     sends_ranges = λ w h s r k at fine.
         sends w k s at (with_message ask.Ranges s) (Asks (request.Ranges (record { site = s.site; seq = s.seq + 1; wants = map want_of s.held }))) (sent-moves (state w k s at) s (holds-here w k s at) ask.Ranges s refl refl refl refl tt) tt;

@@ -20,7 +20,7 @@ use Rattle.merge_model.specs.World.Faults.{reply_fault}
 use Rattle.merge_model.specs.Judge.{SubscriberJudge}
 use Rattle.merge_model.specs.Subscriber.Reinit.{reinitialised}
 use Rattle.merge_model.specs.Subscriber.Sending.{with_message}
-use Rattle.merge_model.specs.Subscriber.{sub_at_moment, sub_made_locally, sub_next_dot, sub_version_at, with_version_if}
+use Rattle.merge_model.specs.Subscriber.{subscriber_at_moment, subscriber_made_locally, subscriber_next_dot, subscriber_version_at, with_version_if}
 use Rattle.merge_types.specs.declared.row_key.RowKey.{RowKey as Key}
 use Rattle.merge_model.specs.Tables.{SubscriberTables}
 use Rattle.merge_model.specs.Subscriber.Taking.{seq_of, taken}
@@ -49,10 +49,10 @@ module _ (state : SiteState) (s : SubscriberTables) (f : StateHolds state s) whe
   version-moves key None u site seq mark flag out = quiet u site seq mark flag out
   version-moves key (Some version) u site seq mark flag out = quiet (with_version_if key (Some version) u) site seq mark flag out
 
-  pub made-moves : (publication : Publication) (now : Moment) (change : Change) (d : Value × List (ℕ × Holder)) → Moves state s (sub_made_locally publication change d (sub_at_moment now s)).0
+  pub made-moves : (publication : Publication) (now : Moment) (change : Change) (d : Value × List (ℕ × Holder)) → Moves state s (subscriber_made_locally publication change d (subscriber_at_moment now s)).0
   made-moves publication now change d =
-      let t : SubscriberTables = sub_at_moment now s in
-      version-moves (key_of (sub_next_dot t) change) (version_after publication (sub_next_dot t) d.0 change (sub_version_at t (key_of (sub_next_dot t) change))) (record t { changes = t.changes + 1; held = d.1 }) refl refl refl refl refl
+      let t : SubscriberTables = subscriber_at_moment now s in
+      version-moves (key_of (subscriber_next_dot t) change) (version_after publication (subscriber_next_dot t) d.0 change (subscriber_version_at t (key_of (subscriber_next_dot t) change))) (record t { changes = t.changes + 1; held = d.1 }) refl refl refl refl refl
 
   -- Messages.
 
@@ -85,7 +85,7 @@ module _ (state : SiteState) (s : SubscriberTables) (f : StateHolds state s) whe
 
   -- Making anew.
 
-  pub anew-moves : (judge : SubscriberJudge) (now : Moment) → Moves state s (reinitialised judge (sub_at_moment now s)).0
+  pub anew-moves : (judge : SubscriberJudge) (now : Moment) → Moves state s (reinitialised judge (subscriber_at_moment now s)).0
   anew-moves judge now = (
     refl,
     record { at = f.at; behind = λ joins. absurd (grind (arith, joins)); anew = f.anew; asked = λ q from e. absurd (grind (arith, e)) },

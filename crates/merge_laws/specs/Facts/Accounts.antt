@@ -16,7 +16,7 @@ use Rattle.merge_model.specs.Tables.Keys.{at_number, has_key, same_key}
 use Rattle.merge_model.specs.History.Pasts.{cell_count}
 use Rattle.merge_model.specs.Laws.Promises.{InCell, InRow, Place, descends}
 use Rattle.merge_model.specs.Publisher.PublisherLocal.{version_at}
-use Rattle.merge_model.specs.Subscriber.{sub_version_at}
+use Rattle.merge_model.specs.Subscriber.{subscriber_version_at}
 use Rattle.merge_types.specs.declared.row_key.RowKey.{RowKey as Key}
 use Rattle.merge_model.specs.Tables.{SubscriberTables}
 use Rattle.merge_model.specs.World.{World}
@@ -126,7 +126,7 @@ IsSafe h change = (place : Place) → makes change place ≡ true → (has (past
 pub record Accounts (publication : Publication) (found : Key → Option Version) (sites : List (ℕ × SubscriberTables)) (pool : List Letter) (h : History) : Type 0 where
   -- of each row that the publisher holds, and that a site holds
   pub publisher : (key : Key) (version : Version) → found key ≡ Some version → Grown (cell_count publication key.article) h.made key version.body (past_at h 0 key).chains
-  pub subscribers : (n : ℕ) (s : SubscriberTables) (key : Key) (version : Version) → at_number sites n ≡ Some s → sub_version_at s key ≡ Some version
+  pub subscribers : (n : ℕ) (s : SubscriberTables) (key : Key) (version : Version) → at_number sites n ≡ Some s → subscriber_version_at s key ≡ Some version
       → GrownAlone (cell_count publication key.article) h.made key version.body (past_at h n key).chains
   -- of each version in a letter
   pub letters : AllZip (λ (letter : Letter) (pasts : List (Key × Past)). OfMessage (λ (key : Key) (version : Version) (past : Past). GrownAlone (cell_count publication key.article) h.made key version.body past.chains) pasts letter.message) pool h.letters

@@ -8,7 +8,7 @@ use Rattle.merge_batch.specs.declared.request.Outstanding.TheVariants as ask
 use Rattle.merge_batch.specs.declared.request.Request.TheVariants as request
 use Rattle.merge_model.specs.Judge.ByNumbers.{received_by_number}
 use Rattle.merge_model.specs.Tables.Keys.{at_number}
-use Rattle.merge_model.specs.Subscriber.{sub_last_closed}
+use Rattle.merge_model.specs.Subscriber.{subscriber_last_closed}
 use Rattle.merge_model.specs.Tables.{SubscriberTables}
 use Rattle.merge_model.specs.World.{World}
 use Rattle.merge_model.specs.declared.letter.Message.TheVariants.{Asks, Replies}
@@ -20,7 +20,7 @@ use Rattle.merge_laws.specs.Facts.Received.{joined_at}
 pub record StaysBehind (received joined : ℕ) (s : SubscriberTables) : Type 0 where
   pub behind : s.is_joined ≡ true → s.received ≤ received
   -- a site that is joining takes all that it closed for received, and has nothing under way but a join
-  pub waits : s.is_joined ≡ false → s.received ≡ sub_last_closed s
+  pub waits : s.is_joined ≡ false → s.received ≡ subscriber_last_closed s
   pub only_joins : (seq : ℕ) (sent : Outstanding) → s.is_joined ≡ false → s.outstanding ≡ Some (seq, sent) → sent ≡ ask.Join
   -- where that has acted, or a later one, the publisher has these generations
   pub answered : (seq : ℕ) → s.outstanding ≡ Some (seq, ask.Join) → seq ≤ joined → s.received ≤ received

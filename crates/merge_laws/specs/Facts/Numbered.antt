@@ -9,7 +9,7 @@ use Rattle.merge_batch.specs.declared.request.Request.TheVariants as request
 use Rattle.merge_model.specs.Tables.{SubscriberTables}
 use Rattle.merge_model.specs.Tables.Keys.{at_number}
 use Rattle.merge_model.specs.Judge.ByNumbers.{received_by_number, received_number_by_number}
-use Rattle.merge_model.specs.Subscriber.{sub_last_closed}
+use Rattle.merge_model.specs.Subscriber.{subscriber_last_closed}
 use Rattle.merge_model.specs.World.{World}
 use Rattle.merge_model.specs.declared.letter.Letter.{Letter}
 use Rattle.merge_model.specs.declared.letter.Message.{Message}
@@ -36,26 +36,26 @@ InOrder number generation (change ∷ changes) = (change.dot.number ≡ number) 
 -- of each subscriber, with the changes that it made
 pub record Tells (made : List MadeChange) (n : ℕ) (s : SubscriberTables) : Type 0 where
   -- only an invalid publication has a subscriber 0. It makes no change
-  pub named : n ≡ 0 → (sub_last_closed s ≡ 0) × (s.gens.filling.filled ≡ 0)
-  pub order : (n ≡ 0 → ⊥) → InOrder s.changes (sub_last_closed s + 1) made
+  pub named : n ≡ 0 → (subscriber_last_closed s ≡ 0) × (s.gens.filling.filled ≡ 0)
+  pub order : (n ≡ 0 → ⊥) → InOrder s.changes (subscriber_last_closed s + 1) made
   -- the last change stands in the open generation, where that has an entry, else in a closed one
-  pub entered : (s.gens.filling.filled ≡ 0 → ⊥) → s.changes ≡ last_of (sub_last_closed s + 1) made
-  pub idle : s.gens.filling.filled ≡ 0 → s.changes ≡ last_of (sub_last_closed s) made
+  pub entered : (s.gens.filling.filled ≡ 0 → ⊥) → s.changes ≡ last_of (subscriber_last_closed s + 1) made
+  pub idle : s.gens.filling.filled ≡ 0 → s.changes ≡ last_of (subscriber_last_closed s) made
   -- a closed generation that is not received keeps the number of the last change in it, and no other is kept
-  pub keeps : (generation : ℕ) → s.received < generation → generation ≤ sub_last_closed s → moment_of s.gens.closings generation ≡ Some (last_of generation made)
-  pub above : (generation : ℕ) → sub_last_closed s < generation → moment_of s.gens.closings generation ≡ None
+  pub keeps : (generation : ℕ) → s.received < generation → generation ≤ subscriber_last_closed s → moment_of s.gens.closings generation ≡ Some (last_of generation made)
+  pub above : (generation : ℕ) → subscriber_last_closed s < generation → moment_of s.gens.closings generation ≡ None
   -- an upload that is under way ends no earlier than what is received
   pub sent : (seq from to : ℕ) → s.outstanding ≡ Some (seq, ask.Upload from to) → s.received ≤ to
 
 -- a join tells how far its site had closed, and the last change up to there
 abbrev pub JoinTells : List MadeChange → Join → Option SubscriberTables → Type 0
 JoinTells made m None = ⊥
-JoinTells made m (Some s) = (m.generation ≤ sub_last_closed s) × (m.number ≡ last_of m.generation made)
+JoinTells made m (Some s) = (m.generation ≤ subscriber_last_closed s) × (m.number ≡ last_of m.generation made)
 
 -- an upload of some generation tells the last change up to its last generation
 abbrev pub UploadTells : List MadeChange → Upload → Option SubscriberTables → Type 0
 UploadTells made m None = ⊥
-UploadTells made m (Some s) = (m.to ≤ sub_last_closed s) × (m.from < m.to → m.through ≡ last_of m.to made)
+UploadTells made m (Some s) = (m.to ≤ subscriber_last_closed s) × (m.from < m.to → m.through ≡ last_of m.to made)
 
 abbrev pub MessageTells : List MadeChange → Option SubscriberTables → Message → Type 0
 MessageTells made found (Asks (request.Join m)) = JoinTells made m found

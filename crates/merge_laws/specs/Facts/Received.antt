@@ -11,7 +11,7 @@ use Rattle.merge_model.specs.Tables.{PublisherTables, SubscriberTables}
 use Rattle.merge_model.specs.Tables.Keys.{at_number}
 use Rattle.merge_model.specs.Judge.ByNumbers.{received_by_number}
 use Rattle.merge_model.specs.Publisher.{state_of}
-use Rattle.merge_model.specs.Subscriber.{sub_last_closed}
+use Rattle.merge_model.specs.Subscriber.{subscriber_last_closed}
 use Rattle.merge_model.specs.World.{World}
 use Rattle.merge_model.specs.declared.letter.Letter.{Letter}
 use Rattle.merge_model.specs.declared.letter.Message.{Message}
@@ -25,12 +25,12 @@ joined_at p site = (state_of p site).joined_at
 -- A join that can still act was made by a site that is joining, which has closed no generation since.
 abbrev pub JoinFits : ℕ → SiteId → Join → Option SubscriberTables → Type 0
 JoinFits joined site m None = ⊥
-JoinFits joined site m (Some s) = (m.site ≡ site) × (m.seq ≤ s.seq) × (joined < m.seq → (s.is_joined ≡ false) × (m.generation ≡ sub_last_closed s))
+JoinFits joined site m (Some s) = (m.site ≡ site) × (m.seq ≤ s.seq) × (joined < m.seq → (s.is_joined ≡ false) × (m.generation ≡ subscriber_last_closed s))
 
 -- an upload has generations that the site has closed
 abbrev pub UploadFits : SiteId → Upload → Option SubscriberTables → Type 0
 UploadFits site m None = ⊥
-UploadFits site m (Some s) = (m.site ≡ site) × (m.to ≤ sub_last_closed s)
+UploadFits site m (Some s) = (m.site ≡ site) × (m.to ≤ subscriber_last_closed s)
 
 -- a join that was answered has acted, or a later one has
 abbrev pub MessageFits : ℕ → SiteId → Option SubscriberTables → Message → Type 0
@@ -48,11 +48,11 @@ pub record SubscriberFits (received n : ℕ) (s : SubscriberTables) : Type 0 whe
   pub keyed : s.site.0 ≡ n
   -- a site that is joining has made no change since
   pub idle : s.is_joined ≡ false → s.gens.filling.filled ≡ 0
-  pub own : s.received ≤ sub_last_closed s
+  pub own : s.received ≤ subscriber_last_closed s
   -- the outstanding message is the last one
   pub last : (seq : ℕ) (sent : Outstanding) → s.outstanding ≡ Some (seq, sent) → seq ≡ s.seq
   -- the publisher has taken no generation that is not closed
-  pub taken : received ≤ sub_last_closed s
+  pub taken : received ≤ subscriber_last_closed s
 
 abbrev pub AllFit : List (ℕ × SubscriberTables) → PublisherTables → Type 0
 AllFit subscribers p = (n : ℕ) (s : SubscriberTables) → at_number subscribers n ≡ Some s → SubscriberFits (received_by_number p n) n s

@@ -27,7 +27,7 @@ use Rattle.merge_model.specs.Laws.Promises.{base_of}
 use Rattle.merge_model.specs.Publisher.{last_closed}
 use Rattle.merge_model.specs.Publisher.PublisherDownload.{inside_keys}
 use Rattle.merge_model.specs.Publisher.PublisherLocal.{version_at}
-use Rattle.merge_model.specs.Subscriber.{sub_version_at}
+use Rattle.merge_model.specs.Subscriber.{subscriber_version_at}
 use Rattle.merge_types.specs.declared.row_key.RowKey.{RowKey as Key}
 use Rattle.merge_gens.specs.declared.moves.Mapping.{Mapping}
 use Rattle.merge_model.specs.Tables.{PublisherTables, SubscriberTables}
@@ -45,7 +45,7 @@ live_only (Some version) = if is_live version.body then Some version else None
 
 -- what a site holds of a row
 abbrev pub held_at : SubscriberTables → Key → Option Version
-held_at s key = live_only (sub_version_at s key)
+held_at s key = live_only (subscriber_version_at s key)
 
 -- what it is to hold
 abbrev pub owed_at : Publication → PublisherTables → SiteId → Key → Option Version

@@ -11,8 +11,8 @@ use Rattle.merge_model.specs.Tables.{SubscriberTables}
 use Rattle.merge_model.specs.World.{World}
 
 -- the generations that are kept with a row
-abbrev pub gens_in : List (Key × SubscriberRow) → Key → List ℕ
-gens_in rows key = unwrap_or (option_map (λ (row : SubscriberRow). row.generations) (row_at rows key)) []
+abbrev pub generations_in : List (Key × SubscriberRow) → Key → List ℕ
+generations_in rows key = unwrap_or (option_map (λ (row : SubscriberRow). row.generations) (row_at rows key)) []
 
 -- whether a row was changed in a generation above this one, and in which it was changed last, behind one and up to another
 abbrev pub is_changed_above : ℕ → Key → List MadeChange → Bool
@@ -23,8 +23,8 @@ last_made from to key made = option_map (λ (change : MadeChange). change.genera
 
 -- of the rows of a site, above its received generation
 pub record RowsTell (made : List MadeChange) (received : ℕ) (rows : List (Key × SubscriberRow)) : Type 0 where
-  pub unsent : (key : Key) (above : ℕ) → received ≤ above → list_any (λ (generation : ℕ). nat_lt above generation) (gens_in rows key) ≡ is_changed_above above key made
-  pub between : (key : Key) (from to : ℕ) → received ≤ from → last_between from to (gens_in rows key) ≡ last_made from to key made
+  pub unsent : (key : Key) (above : ℕ) → received ≤ above → list_any (λ (generation : ℕ). nat_lt above generation) (generations_in rows key) ≡ is_changed_above above key made
+  pub between : (key : Key) (from to : ℕ) → received ≤ from → last_between from to (generations_in rows key) ≡ last_made from to key made
 
 -- of each subscriber
 abbrev pub Unsent : World → History → Type 0

@@ -100,7 +100,7 @@ pub record Promised (publication : Publication) (says : Saying) (m : Model) : Ty
   pub held : HeldWereGranted m
   -- rows and closed generations ascend, at the publisher mappings and sites too
   pub sorted : AreSorted m.world.publisher
-  pub sub_sorted : AllByRecursion (λ (entry : ℕ × SubscriberTables). AreSubSorted entry.1) m.world.subscribers
+  pub subscriber_sorted : AllByRecursion (λ (entry : ℕ × SubscriberTables). AreSubSorted entry.1) m.world.subscribers
 
 -- Tables are those of a model of which all is promised.
 pub record HasPromises (publication : Publication) (says : Saying) (w : World) : Type 0 where

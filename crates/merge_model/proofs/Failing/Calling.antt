@@ -183,9 +183,9 @@ module _ (p : Publication) (says : Saying) where
           (faults p says (Deliver number) refl w (record w { publisher = new; tallies = tallies }) counted.0.0 a b fault.2 (commits-here fault.1.0 (is ∙ fault.1.1) fault.1.2) (asks-here fault.1.0 (is ∙ fault.1.1)))
 
 -- The same of the parts of a program's world.
-module _ {P S R : Type 0} (tables : P → PublisherTables) (sub_tables : S → SubscriberTables) (tally : R → ℕ) where
+module _ {P S R : Type 0} (tables : P → PublisherTables) (subscriber_tables : S → SubscriberTables) (tally : R → ℕ) where
   abbrev here : P → List S → List R → List Letter → Moment → World
-  here p ss rs pool moment = world_of tables sub_tables tally p ss rs pool moment
+  here p ss rs pool moment = world_of tables subscriber_tables tally p ss rs pool moment
 
   found-at : (p : P) (ss : List S) (rs : List R) (pool : List Letter) (moment : Moment) (number : ℕ) → letter_at (here p ss rs pool moment) number ≡ pooled pool number
   found-at p ss rs pool moment zero = refl
@@ -259,11 +259,11 @@ module _ (p : Publication) (says : Saying) where
   calls-plainly {T} {A} action is w put old new same by out is_commit commit step a b (Err why) called = calls-anyhow action is w (λ (t : T) (x : A). put t) put old new same by out is_commit commit step a b (Err why) called
 
 -- The publisher closes its generation.
-module _ {P S R : Type 0} (tables : P → PublisherTables) (sub_tables : S → SubscriberTables) (tally : R → ℕ) where
+module _ {P S R : Type 0} (tables : P → PublisherTables) (subscriber_tables : S → SubscriberTables) (tally : R → ℕ) where
   pub closes : (publication : Publication) (says : Saying) (p p' : P) (ss : List S) (rs : List R) (pool : List Letter) (moment : Moment) (a b : ℕ) (r : Result ℕ Refusal)
       → Called (close_generation moment (tables p)) (closing_commits moment (tables p).latest (tables p).gens) (tables p) (tables p') a b r
-      → Acts publication says (CloseAt (record { 0 = 0 })) (world_of tables sub_tables tally p ss rs pool moment) (world_of tables sub_tables tally p' ss rs pool moment) (outcome_by Closes r) a b
-  closes publication says p p' ss rs pool moment a b r called = let w = world_of tables sub_tables tally p ss rs pool moment in
+      → Acts publication says (CloseAt (record { 0 = 0 })) (world_of tables subscriber_tables tally p ss rs pool moment) (world_of tables subscriber_tables tally p' ss rs pool moment) (outcome_by Closes r) a b
+  closes publication says p p' ss rs pool moment a b r called = let w = world_of tables subscriber_tables tally p ss rs pool moment in
       calls-plainly publication says (CloseAt (record { 0 = 0 })) refl w (λ (t : PublisherTables). with_publisher t w) (tables p) (tables p') refl (close_generation moment (tables p)) Closes
       (closing_commits moment (tables p).latest (tables p).gens) (λ x commit. commit) refl a b r called
 

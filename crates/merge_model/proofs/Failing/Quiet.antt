@@ -44,7 +44,7 @@ use Rattle.merge_model.specs.Publisher.PublisherRanges.{plans, ranged, ranges_re
 use Rattle.merge_model.specs.Publisher.PublisherUpload.{brings_news, taken_in, upload_refusal, uploaded}
 use Rattle.merge_model.specs.Tables.Refusals.{counter_end, unless}
 use Rattle.merge_model.specs.Laws.Quiet.{QuietClosings, QuietReplies, QuietRequests, QuietSubClosings}
-use Rattle.merge_model.specs.Subscriber.{sub_at_moment, sub_closed, sub_counters, sub_last_closed}
+use Rattle.merge_model.specs.Subscriber.{subscriber_at_moment, subscriber_closed, subscriber_counters, subscriber_last_closed}
 use Rattle.merge_model.specs.World.Steps.{kept_decisions, upload_questions}
 use Rattle.merge_model.specs.Tables.{PublisherTables, SubscriberTables}
 use Rattle.merge_model.specs.Subscriber.Taking.{met_by, seq_of, taken}
@@ -87,7 +87,7 @@ lesser-stays a b still = grind (arith, nat_tests, still)
 pub moment-stays : (now : Moment) (p : PublisherTables) → is_later now p.latest ≡ false → at_moment now p ≡ p
 moment-stays now p still = ap (λ (n : ℕ). (let q : PublisherTables = record p { latest = record { 0 = n } } in q)) (greater-stays now.0 p.latest.0 still)
 
-pub sub-moment-stays : (now : Moment) (s : SubscriberTables) → is_later now s.latest ≡ false → sub_at_moment now s ≡ s
+pub sub-moment-stays : (now : Moment) (s : SubscriberTables) → is_later now s.latest ≡ false → subscriber_at_moment now s ≡ s
 sub-moment-stays now s still = ap (λ (n : ℕ). (let t : SubscriberTables = record s { latest = record { 0 = n } } in t)) (greater-stays now.0 s.latest.0 still)
 
 -- An open generation without entries.
@@ -111,7 +111,7 @@ book-stays book moment empty =
 closed-stays : (p : PublisherTables) → nat_lt 0 p.gens.filling.filled ≡ false → closed p ≡ p
 closed-stays p empty = ap (λ (gens : Book). (let q : PublisherTables = record p { gens = gens } in q)) (book-stays p.gens p.latest empty)
 
-sub-closed-stays : (s : SubscriberTables) → nat_lt 0 s.gens.filling.filled ≡ false → sub_closed s ≡ s
+sub-closed-stays : (s : SubscriberTables) → nat_lt 0 s.gens.filling.filled ≡ false → subscriber_closed s ≡ s
 sub-closed-stays s empty = ap (λ (gens : Book). (let t : SubscriberTables = record s { gens = gens } in t)) (book-stays s.gens (record { 0 = s.changes }) empty)
 
 pub closings-quiet : QuietClosings
@@ -123,8 +123,8 @@ closings-quiet now p done made quiet =
 pub sub-closings-quiet : QuietSubClosings
 sub-closings-quiet now s done made quiet =
     let both = neither (is_later now s.latest) (nat_lt 0 s.gens.filling.filled) quiet in
-    made-same (counter_end (sub_counters s)) (sub_closed (sub_at_moment now s)) s (sub_last_closed (sub_closed (sub_at_moment now s))) done
-    (λ fine. ap sub_closed (sub-moment-stays now s both.0) ∙ sub-closed-stays s both.1) made
+    made-same (counter_end (subscriber_counters s)) (subscriber_closed (subscriber_at_moment now s)) s (subscriber_last_closed (subscriber_closed (subscriber_at_moment now s))) done
+    (λ fine. ap subscriber_closed (sub-moment-stays now s both.0) ∙ sub-closed-stays s both.1) made
 
 -- Replies and messages.
 

@@ -34,7 +34,7 @@ use Rattle.merge_model.specs.Publisher.Entries.{Entries}
 use Rattle.merge_model.specs.Publisher.PublisherJoin.{join_acts}
 use Rattle.merge_model.specs.Publisher.PublisherLocal.{drawn, Drawn, next_dot}
 use Rattle.merge_model.specs.Publisher.PublisherUpload.{brings_news}
-use Rattle.merge_model.specs.Subscriber.{sub_drawn, sub_next_dot, sub_last_closed}
+use Rattle.merge_model.specs.Subscriber.{subscriber_drawn, subscriber_next_dot, subscriber_last_closed}
 use Rattle.merge_model.specs.Publisher.{at_moment, last_closed}
 use Rattle.merge_model.specs.Tables.Publications.{by_site}
 use Rattle.merge_model.specs.Tables.Keys.{put_number}
@@ -214,7 +214,7 @@ publisher-done publication judge change p (Ok d) h =
 subscriber-done : (publication : Publication) (change : Change) (s : SubscriberTables) (draw : Result (Value × List (ℕ × Holder)) Refusal) (h : History)
     → (let k : History = elim draw [
       | Err refusal ↦ h
-      | Ok d ↦ Noting.with_change publication (sub_next_dot s) (sub_last_closed s + 1) change d.0 h
+      | Ok d ↦ Noting.with_change publication (subscriber_next_dot s) (subscriber_last_closed s + 1) change d.0 h
     ] in k.done ≡ h.done)
 subscriber-done publication change s (Err refusal) h = refl
 subscriber-done publication change s (Ok d) h = refl
@@ -222,7 +222,7 @@ subscriber-done publication change s (Ok d) h = refl
 made-done : (publication : Publication) (change : Change) (found : Option SubscriberTables) (h : History)
     → (let k : History = elim found [ None ↦ h | Some s ↦ Noting.noted_at_subscriber publication change s h ] in k.done ≡ h.done)
 made-done publication change None h = refl
-made-done publication change (Some s) h = subscriber-done publication change s (sub_drawn s change) h
+made-done publication change (Some s) h = subscriber-done publication change s (subscriber_drawn s change) h
 
 pub make-done : (publication : Publication) (judges : Judges) (site : SiteId) (change : Change) (w : World) (h : History) → (noted_make publication judges site change w h).done ≡ h.done
 make-done publication judges site change w h =

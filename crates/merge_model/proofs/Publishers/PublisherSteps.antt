@@ -29,7 +29,7 @@ use Rattle.merge_model.specs.Publisher.PublisherUpload.{upload}
 use Rattle.merge_model.specs.Publisher.PublisherRanges.{ranges}
 use Rattle.merge_model.specs.Publisher.PublisherDownload.{download}
 use Rattle.merge_model.specs.Publisher.PublisherPurge.{purge}
-use Rattle.merge_model.specs.Subscriber.{sub_local, close_sub_generation}
+use Rattle.merge_model.specs.Subscriber.{subscriber_local, close_subscriber_generation}
 use Rattle.merge_model.specs.Subscriber.Sending.{make_join, make_upload, make_ranges, make_ask}
 use Rattle.merge_model.specs.Subscriber.Taking.{take_reply}
 use Rattle.merge_model.specs.declared.outcome.Taken.{Taken}
@@ -82,14 +82,14 @@ module _ (publication : Publication) (Q : PublisherTables → Type 0)
       (pub-holds w (local publication (judges.publisher 0) w.moment change w.publisher) (λ (done : PublisherTables × RowId). (with_publisher done.0 w, Made done.1)) h
       (of_local (judges.publisher 0) w.moment change w.publisher h) (λ a k. k))
       (at_subscriber-holds site w (make_at_subscriber publication change w) h
-      (λ s. sub-holds w (sub_local publication w.moment change s) (λ (done : SubscriberTables × RowId). (with_subscriber done.0 w, Made done.1)) h (λ a. h)))
+      (λ s. sub-holds w (subscriber_local publication w.moment change s) (λ (done : SubscriberTables × RowId). (with_subscriber done.0 w, Made done.1)) h (λ a. h)))
 
   close-holds : (site : SiteId) (w : World) → Holds w → Holds (close_at site w).0
   close-holds site w h =
       if-holds (site.0 == 0) (close_publisher w) (at_subscriber site w (close_subscriber w))
       (pub-holds w (close_generation w.moment w.publisher) (λ (done : PublisherTables × ℕ). (with_publisher done.0 w, Closes done.1)) h (of_close w.moment w.publisher h) (λ a k. k))
       (at_subscriber-holds site w (close_subscriber w) h
-      (λ s. sub-holds w (close_sub_generation w.moment s) (λ (done : SubscriberTables × ℕ). (with_subscriber done.0 w, Closes done.1)) h (λ a. h)))
+      (λ s. sub-holds w (close_subscriber_generation w.moment s) (λ (done : SubscriberTables × ℕ). (with_subscriber done.0 w, Closes done.1)) h (λ a. h)))
 
   posted-holds : {A : Type 0} (site : SiteId) (message : A → Request) (w : World) (made : Option (SubscriberTables × A)) → Holds w → Holds (posted site message w made).0
   posted-holds site message w None h = h

@@ -14,7 +14,7 @@ use Rattle.merge_model.specs.declared.answer.Answer.TheVariants.{Conflicts, Coun
 use Rattle.merge_model.specs.World.Events.{after, answers as answers_to, acting, refused_change, answered_by, change_answer, changing, looked, looking, is_site, where_site, where_subscriber, syncing, session_answer, outcome_answer, happens, reported, reporting, showing, watermark_in}
 use Rattle.merge_model.specs.Publisher.Entries.{live_rows}
 use Rattle.merge_model.specs.World.Naming.{article_by, delete_by, insert_by, update_by}
-use Rattle.merge_model.specs.World.Reports.{counts_of, held_report, partition_report, publisher_generations, shown_rows, sub_live_rows, subscriber_generations}
+use Rattle.merge_model.specs.World.Reports.{counts_of, held_report, partition_report, publisher_generations, shown_rows, subscriber_live_rows, subscriber_generations}
 use Rattle.merge_model.specs.Tables.{PublisherTables, SubscriberTables}
 use Rattle.merge_model.specs.declared.event.Event.{Event}
 use Rattle.merge_model.specs.declared.event.Event.TheVariants as event
@@ -290,7 +290,7 @@ module _ {V W : Type 0} (one : Stepping V) (other : Stepping W) (R : V → W →
 
     shows : (site : SiteId) (named : Result ℕ (List ℕ)) (v : V) (w : W) → R v w → Told (showing publication one site v named) (showing publication other site w named)
     shows site (Err name) v w r = looking-alike (λ (u : V). Refused (UnknownName name)) (λ (u : W). Refused (UnknownName name)) (λ u x b. refl) v w r
-    shows site (Ok article) v w r = report-alike site (λ (p : PublisherTables). Rows (shown_rows article (live_rows p.rows))) (λ (s : SubscriberTables). Rows (shown_rows article (sub_live_rows s))) v w r
+    shows site (Ok article) v w r = report-alike site (λ (p : PublisherTables). Rows (shown_rows article (live_rows p.rows))) (λ (s : SubscriberTables). Rows (shown_rows article (subscriber_live_rows s))) v w r
 
     pub happens-or : (v : V) (w : W) (e : Event) → R v w → Told (happens publication one v e) (happens publication other w e)
     happens-or v w (event.Wait seconds) r = (let a = passes v w seconds r in inl (by-look (λ (x : World). Now x.moment.0) (one.act v (Pass seconds)).0 (other.act w (Pass seconds)).0 a.1, a.1))
@@ -313,7 +313,7 @@ module _ {V W : Type 0} (one : Stepping V) (other : Stepping W) (R : V → W →
     happens-or v w (event.Conflicts site) r = reports-alike site (λ (p : PublisherTables). Conflicts p.conflicts) (λ (s : SubscriberTables). Conflicts s.conflicts) v w r
     happens-or v w (event.Ranges site) r = reports-alike site (λ (p : PublisherTables). Grants p.grants) (λ (s : SubscriberTables). Held (held_report s)) v w r
     happens-or v w (event.Generations site) r = reports-alike site (publisher_generations publication) subscriber_generations v w r
-    happens-or v w (event.Count site) r = reports-alike site (λ (p : PublisherTables). Counts (counts_of publication (live_rows p.rows))) (λ (s : SubscriberTables). Counts (counts_of publication (sub_live_rows s))) v w r
+    happens-or v w (event.Count site) r = reports-alike site (λ (p : PublisherTables). Counts (counts_of publication (live_rows p.rows))) (λ (s : SubscriberTables). Counts (counts_of publication (subscriber_live_rows s))) v w r
 
     -- lists of events of which no answer excuses
     either-none : (x y : Bool) → (x || y) ≡ false → (x ≡ false) × (y ≡ false)

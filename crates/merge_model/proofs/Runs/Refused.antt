@@ -25,7 +25,7 @@ use Rattle.merge_model.specs.declared.outcome.Taken.{Taken}
 use Rattle.merge_model.specs.Subscriber.Sending.{make_join, make_upload, make_ranges, make_ask}
 use Rattle.merge_model.specs.Tables.{PublisherTables, SubscriberTables}
 use Rattle.merge_model.specs.Publisher.PublisherLocal.{local}
-use Rattle.merge_model.specs.Subscriber.{sub_local}
+use Rattle.merge_model.specs.Subscriber.{subscriber_local}
 use Rattle.merge_model.specs.World.{World, Judges, Saying, letter_at, subscriber_at, with_publisher, with_subscriber}
 use Rattle.merge_model.specs.declared.letter.Message.{Message}
 use Rattle.merge_model.specs.declared.letter.Message.TheVariants.{Asks, Replies}
@@ -63,7 +63,7 @@ make-leaves : (publication : Publication) (judges : Judges) (site : SiteId) (cha
 make-leaves publication judges site change w =
     if-leaves w (site.0 == 0) (make_at_publisher publication judges change w) (at_subscriber site w (make_at_subscriber publication change w))
     (unless_refused-leaves w (local publication (judges.publisher 0) w.moment change w.publisher) (λ (done : PublisherTables × RowId). (with_publisher done.0 w, Made done.1)) (λ done refusal e. grind (arith)))
-    (at_subscriber-leaves site w (make_at_subscriber publication change w) (λ s. unless_refused-leaves w (sub_local publication w.moment change s) (λ (done : SubscriberTables × RowId). (with_subscriber done.0 w, Made done.1)) (λ done refusal e. grind (arith))))
+    (at_subscriber-leaves site w (make_at_subscriber publication change w) (λ s. unless_refused-leaves w (subscriber_local publication w.moment change s) (λ (done : SubscriberTables × RowId). (with_subscriber done.0 w, Made done.1)) (λ done refusal e. grind (arith))))
 
 posted-leaves : {A : Type 0} (site : SiteId) (message : A → Request) (w : World) (made : Option (SubscriberTables × A)) → LeavesIfRefused w (posted site message w made)
 posted-leaves site message w None refusal e = refl

@@ -11,7 +11,7 @@ use Rattle.merge_model.specs.Tables.{PublisherTables, SubscriberTables}
 use Rattle.merge_model.specs.declared.answer.Answer.{Answer}
 use Rattle.merge_model.specs.declared.answer.Answer.TheVariants.{Conflicts, Counts, Fine, Grants, Held, Refused, Rows}
 use Rattle.merge_model.specs.Publisher.Entries.{live_rows}
-use Rattle.merge_model.specs.World.Reports.{counts_of, held_report, partition_report, publisher_generations, shown_rows, sub_live_rows, subscriber_generations}
+use Rattle.merge_model.specs.World.Reports.{counts_of, held_report, partition_report, publisher_generations, shown_rows, subscriber_live_rows, subscriber_generations}
 use Rattle.merge_model.specs.World.{World, Judges, Saying}
 use Rattle.merge_model.specs.World.Steps.{Action, Look, step_by}
 use Rattle.merge_model.specs.declared.outcome.Outcome.{Outcome}
@@ -52,7 +52,7 @@ module _ {W : Type 0} (publication : Publication) (stepping : Stepping W) where
 
   showing-leaves : (site : SiteId) (w : W) (named : Result ℕ (List ℕ)) → (showing publication stepping site w named).0 ≡ behind w
   showing-leaves site w (Err name) = looking-leaves (λ (v : W). Refused (UnknownName name)) w
-  showing-leaves site w (Ok article) = looking-leaves (reported publication stepping site (λ (p : PublisherTables). Rows (shown_rows article (live_rows p.rows))) (λ (s : SubscriberTables). Rows (shown_rows article (sub_live_rows s)))) w
+  showing-leaves site w (Ok article) = looking-leaves (reported publication stepping site (λ (p : PublisherTables). Rows (shown_rows article (live_rows p.rows))) (λ (s : SubscriberTables). Rows (shown_rows article (subscriber_live_rows s)))) w
 
   -- a report looks, and does nothing else
   pub report-looks : (w : W) (e : Event) → is_report e ≡ true → (happens publication stepping w e).0 ≡ (stepping.act w Look).0
@@ -62,8 +62,8 @@ module _ {W : Type 0} (publication : Publication) (stepping : Stepping W) where
   report-looks w (event.Conflicts site) is = site-leaves site w (reporting publication stepping site (λ (p : PublisherTables). Conflicts p.conflicts) (λ (s : SubscriberTables). Conflicts s.conflicts)) (reporting-leaves site (λ (p : PublisherTables). Conflicts p.conflicts) (λ (s : SubscriberTables). Conflicts s.conflicts) w)
   report-looks w (event.Ranges site) is = site-leaves site w (reporting publication stepping site (λ (p : PublisherTables). Grants p.grants) (λ (s : SubscriberTables). Held (held_report s))) (reporting-leaves site (λ (p : PublisherTables). Grants p.grants) (λ (s : SubscriberTables). Held (held_report s)) w)
   report-looks w (event.Generations site) is = site-leaves site w (reporting publication stepping site (publisher_generations publication) subscriber_generations) (reporting-leaves site (publisher_generations publication) subscriber_generations w)
-  report-looks w (event.Count site) is = site-leaves site w (reporting publication stepping site (λ (p : PublisherTables). Counts (counts_of publication (live_rows p.rows))) (λ (s : SubscriberTables). Counts (counts_of publication (sub_live_rows s))))
-      (reporting-leaves site (λ (p : PublisherTables). Counts (counts_of publication (live_rows p.rows))) (λ (s : SubscriberTables). Counts (counts_of publication (sub_live_rows s))) w)
+  report-looks w (event.Count site) is = site-leaves site w (reporting publication stepping site (λ (p : PublisherTables). Counts (counts_of publication (live_rows p.rows))) (λ (s : SubscriberTables). Counts (counts_of publication (subscriber_live_rows s))))
+      (reporting-leaves site (λ (p : PublisherTables). Counts (counts_of publication (live_rows p.rows))) (λ (s : SubscriberTables). Counts (counts_of publication (subscriber_live_rows s))) w)
   report-looks w other is = absurd (grind (arith))
 
 abbrev with_world : Model → World → Model

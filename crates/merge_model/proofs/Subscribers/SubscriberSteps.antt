@@ -34,7 +34,7 @@ use Rattle.merge_model.specs.Publisher.PublisherJoin.{join}
 use Rattle.merge_model.specs.Publisher.PublisherUpload.{upload}
 use Rattle.merge_model.specs.Publisher.PublisherRanges.{ranges}
 use Rattle.merge_model.specs.Publisher.PublisherDownload.{download}
-use Rattle.merge_model.specs.Subscriber.{sub_local, close_sub_generation, sub_closed, sub_at_moment, sub_counters}
+use Rattle.merge_model.specs.Subscriber.{subscriber_local, close_subscriber_generation, subscriber_closed, subscriber_at_moment, subscriber_counters}
 use Rattle.merge_batch.specs.declared.request.Outstanding.{Outstanding}
 use Rattle.merge_batch.specs.declared.request.Outstanding.TheVariants as ask
 use Rattle.merge_ident.specs.Holders.{Holder}
@@ -81,10 +81,10 @@ module _ (S : SubscriberTables → Type 0) where
   put-holds site s (entry ∷ rest) new all = put-test (nat_cmp site entry.0) site s entry rest (insert_entry nat_cmp rest site s) new all.0 all.1 (put-holds site s rest new all.1)
 
 module _ (publication : Publication) (S : SubscriberTables → Type 0)
-    (of_local : (now : Moment) (change : Change) (s : SubscriberTables) → S s → IfOk (sub_local publication now change s) (λ done. S done.0))
-    (of_close : (now : Moment) (s : SubscriberTables) → S s → IfOk (close_sub_generation now s) (λ done. S done.0))
+    (of_local : (now : Moment) (change : Change) (s : SubscriberTables) → S s → IfOk (subscriber_local publication now change s) (λ done. S done.0))
+    (of_close : (now : Moment) (s : SubscriberTables) → S s → IfOk (close_subscriber_generation now s) (λ done. S done.0))
     (of_message : (sent : Outstanding) (s : SubscriberTables) → S s → S (with_message sent s))
-    (of_closing : (now : Moment) (s : SubscriberTables) → S s → S (sub_closed (sub_at_moment now s)))
+    (of_closing : (now : Moment) (s : SubscriberTables) → S s → S (subscriber_closed (subscriber_at_moment now s)))
     (of_reply : (judge : SubscriberJudge) (now : Moment) (m : Reply) (s : SubscriberTables) → S s → IfOk (take_reply publication judge now m s) (λ done. S done.0))
     (of_anew : (judge : SubscriberJudge) (now : Moment) (s : SubscriberTables) → S s → IfOk (reinitialise judge now s) (λ done. S done.0)) where
   abbrev Holds : World → Type 0
@@ -121,7 +121,7 @@ module _ (publication : Publication) (S : SubscriberTables → Type 0)
       if-holds (site.0 == 0) (make_at_publisher publication judges change w) (at_subscriber site w (make_at_subscriber publication change w))
       (pub-holds w (local publication (judges.publisher 0) w.moment change w.publisher) (λ (done : PublisherTables × RowId). (with_publisher done.0 w, Made done.1)) h (λ a. h))
       (at_subscriber-holds site w (make_at_subscriber publication change w) h
-      (λ s k. sub-holds w (sub_local publication w.moment change s) (λ (done : SubscriberTables × RowId). (with_subscriber done.0 w, Made done.1)) h
+      (λ s k. sub-holds w (subscriber_local publication w.moment change s) (λ (done : SubscriberTables × RowId). (with_subscriber done.0 w, Made done.1)) h
       (of_local w.moment change s k) (λ a new. with-holds a.0 w new h)))
 
   close-holds : (site : SiteId) (w : World) → Holds w → Holds (close_at site w).0
@@ -129,7 +129,7 @@ module _ (publication : Publication) (S : SubscriberTables → Type 0)
       if-holds (site.0 == 0) (close_publisher w) (at_subscriber site w (close_subscriber w))
       (pub-holds w (close_generation w.moment w.publisher) (λ (done : PublisherTables × ℕ). (with_publisher done.0 w, Closes done.1)) h (λ a. h))
       (at_subscriber-holds site w (close_subscriber w) h
-      (λ s k. sub-holds w (close_sub_generation w.moment s) (λ (done : SubscriberTables × ℕ). (with_subscriber done.0 w, Closes done.1)) h
+      (λ s k. sub-holds w (close_subscriber_generation w.moment s) (λ (done : SubscriberTables × ℕ). (with_subscriber done.0 w, Closes done.1)) h
       (of_close w.moment s k) (λ a new. with-holds a.0 w new h)))
 
   abbrev made-step : {A : Type 0} → Option (SubscriberTables × A) → Type 0
@@ -154,10 +154,10 @@ module _ (publication : Publication) (S : SubscriberTables → Type 0)
   upload-made : (judge : SubscriberJudge) (now : Moment) (s : SubscriberTables) → S s → made-step (upload_made judge now s)
   upload-made judge now s k = elim (unsent_rows judge s) as (λ (rows : List (Key × ℕ)). (let made : Option (SubscriberTables × Upload) = elim rows [
     | [] ↦ None
-    | row ∷ rest ↦ Some (upload_sent judge (sub_closed (sub_at_moment now s)))
+    | row ∷ rest ↦ Some (upload_sent judge (subscriber_closed (subscriber_at_moment now s)))
   ] in made-step made)) [
     | [] ↦ tt
-    | row ∷ rest ↦ (let c : SubscriberTables = sub_closed (sub_at_moment now s) in of_message (ask.Upload c.received (upload_end judge c)) c (of_closing now s k))
+    | row ∷ rest ↦ (let c : SubscriberTables = subscriber_closed (subscriber_at_moment now s) in of_message (ask.Upload c.received (upload_end judge c)) c (of_closing now s k))
   ]
 
   ranges-made : (s : SubscriberTables) → S s → made-step (ranges_made s)
@@ -174,7 +174,7 @@ module _ (publication : Publication) (S : SubscriberTables → Type 0)
   asked-ok None s m k = k
 
   send-holds : (judges : Judges) (sending : Sending) (w : World) (s : SubscriberTables) → Holds w → S s → Holds (send_from judges sending w s).0
-  send-holds judges SendJoin w s h k = sent-holds s.site (λ (m : Join). request.Join m) w (counter_end (sub_counters s)) (join_made s) h (join-made s k)
+  send-holds judges SendJoin w s h k = sent-holds s.site (λ (m : Join). request.Join m) w (counter_end (subscriber_counters s)) (join_made s) h (join-made s k)
   send-holds judges SendUpload w s h k = sent-holds s.site (λ (m : Upload). request.Upload m) w (sending_refusal s) (upload_made (judges.subscriber s.site s) w.moment s) h (upload-made (judges.subscriber s.site s) w.moment s k)
   send-holds judges SendRanges w s h k = sent-holds s.site (λ (m : RangeAsk). request.Ranges m) w (sending_refusal s) (ranges_made s) h (ranges-made s k)
   send-holds judges SendDownload w s h k =

@@ -34,7 +34,7 @@ use Rattle.merge_model.specs.Publisher.PublisherLocal.{Drawn, changing_locally, 
 use Rattle.merge_model.specs.Publisher.PublisherPurge.{is_old, is_old_tombstone}
 use Rattle.merge_model.specs.Publisher.PublisherUpload.{brings_news, changing_by, with_acts}
 use Rattle.merge_model.specs.Subscriber.Reinit.{discarded}
-use Rattle.merge_model.specs.Subscriber.{sub_drawn, sub_last_closed, sub_next_dot}
+use Rattle.merge_model.specs.Subscriber.{subscriber_drawn, subscriber_last_closed, subscriber_next_dot}
 use Rattle.merge_gens.specs.declared.moves.MoveKind.TheVariants.{Entered, Left}
 use Rattle.merge_types.specs.declared.row_key.RowKey.{RowKey as Key}
 use Rattle.merge_gens.specs.declared.moves.MoveKind.{MoveKind}
@@ -106,9 +106,9 @@ noted_at_publisher publication judge change p h = elim (drawn publication p chan
 ]
 
 abbrev pub noted_at_subscriber : Publication → Change → SubscriberTables → History → History
-noted_at_subscriber publication change s h = elim (sub_drawn s change) [
+noted_at_subscriber publication change s h = elim (subscriber_drawn s change) [
   | Err refusal ↦ h
-  | Ok draw ↦ with_change publication (sub_next_dot s) (sub_last_closed s + 1) change draw.0 h
+  | Ok draw ↦ with_change publication (subscriber_next_dot s) (subscriber_last_closed s + 1) change draw.0 h
 ]
 
 -- Joins: the generations up to the one that the site tells are covered.

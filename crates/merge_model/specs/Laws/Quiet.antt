@@ -8,7 +8,7 @@ use Rattle.merge_model.specs.World.Calls.{closing_commits, handled, reply_commit
 use Rattle.merge_model.specs.Judge.{SubscriberJudge}
 use Rattle.merge_model.specs.Laws.{AreSorted}
 use Rattle.merge_model.specs.Publisher.{close_generation}
-use Rattle.merge_model.specs.Subscriber.{close_sub_generation}
+use Rattle.merge_model.specs.Subscriber.{close_subscriber_generation}
 use Rattle.merge_model.specs.Tables.{PublisherTables, SubscriberTables}
 use Rattle.merge_model.specs.Subscriber.Taking.{take_reply}
 use Rattle.merge_model.specs.World.{Saying}
@@ -24,7 +24,7 @@ abbrev pub QuietClosings : Type 0
 QuietClosings = (now : Moment) (p : PublisherTables) (done : PublisherTables × ℕ) → close_generation now p ≡ Ok done → closing_commits now p.latest p.gens done.1 ≡ false → done.0 ≡ p
 
 abbrev pub QuietSubClosings : Type 0
-QuietSubClosings = (now : Moment) (s : SubscriberTables) (done : SubscriberTables × ℕ) → close_sub_generation now s ≡ Ok done → closing_commits now s.latest s.gens done.1 ≡ false → done.0 ≡ s
+QuietSubClosings = (now : Moment) (s : SubscriberTables) (done : SubscriberTables × ℕ) → close_subscriber_generation now s ≡ Ok done → closing_commits now s.latest s.gens done.1 ≡ false → done.0 ≡ s
 
 -- a reply
 abbrev pub QuietReplies : Type 0

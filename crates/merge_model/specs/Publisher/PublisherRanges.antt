@@ -5,7 +5,7 @@ use Rattle.merge_types.specs.declared.identifiers.SiteId.{SiteId}
 use Rattle.merge_ident.specs.Answers.{Answer, ask_of, grants_with_all, plans_of}
 use Rattle.merge_ident.specs.declared.grants.Ask.{Ask}
 use Rattle.merge_ident.specs.declared.grants.GrantAnswer.TheVariants.{Granted, Kept}
-use Rattle.merge_ident.specs.declared.grants.IdentFault.TheVariants.{NoRange}
+use Rattle.merge_ident.specs.declared.grants.IdentityFault.TheVariants.{NoRange}
 use Rattle.merge_ident.specs.declared.grants.GrantPlan.{GrantPlan}
 use Rattle.merge_ident.specs.declared.grants.Range.{Range}
 use Rattle.merge_schema.specs.declared.publication.Publication.{Publication}

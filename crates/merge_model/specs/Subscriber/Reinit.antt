@@ -7,7 +7,7 @@ use Rattle.merge_conflict.specs.declared.row.ConflictRow.{ConflictRow}
 use Rattle.merge_batch.specs.declared.refusal.Refusal.{Refusal}
 use Rattle.merge_model.specs.Judge.{SubscriberJudge}
 use Rattle.merge_model.specs.Tables.Refusals.{counter_end, unless}
-use Rattle.merge_model.specs.Subscriber.{sub_at_moment, sub_closed, sub_counters, sub_last_closed}
+use Rattle.merge_model.specs.Subscriber.{subscriber_at_moment, subscriber_closed, subscriber_counters, subscriber_last_closed}
 use Rattle.merge_types.specs.declared.row_key.RowKey.{RowKey as Key}
 use Rattle.merge_units.specs.declared.site_row.SubscriberRow.{SubscriberRow}
 use Rattle.merge_model.specs.Tables.{SubscriberTables}
@@ -39,14 +39,14 @@ made_anew lost s = record s {
   conflict_count = s.conflict_count + length lost;
   conflicts = s.conflicts ++ lost;
   outstanding = None;
-  received = sub_last_closed s;
+  received = subscriber_last_closed s;
   watermark = 0;
   is_joined = false;
   rows = [];
 }
 
 abbrev pub reinitialised : SubscriberJudge → SubscriberTables → SubscriberTables × ℕ
-reinitialised judge s = let lost = numbered_from s (s.conflict_count + 1) (discarded judge s) in (made_anew lost (sub_closed s), length lost)
+reinitialised judge s = let lost = numbered_from s (s.conflict_count + 1) (discarded judge s) in (made_anew lost (subscriber_closed s), length lost)
 
 abbrev pub reinitialise : SubscriberJudge → Moment → SubscriberTables → Result (SubscriberTables × ℕ) Refusal
-reinitialise judge now s = unless (counter_end (sub_counters s)) (reinitialised judge (sub_at_moment now s))
+reinitialise judge now s = unless (counter_end (subscriber_counters s)) (reinitialised judge (subscriber_at_moment now s))

@@ -15,7 +15,7 @@ use Rattle.merge_batch.specs.declared.request.Want.{Want}
 use Rattle.merge_model.specs.Judge.{SubscriberJudge}
 use Rattle.merge_model.specs.Publisher.PublisherDownload.{batch_end}
 use Rattle.merge_model.specs.Tables.Refusals.{counter_end, first_refusal, unless}
-use Rattle.merge_model.specs.Subscriber.{is_joining, sub_at_moment, sub_closed, sub_counters, sub_last_closed, sub_version_at}
+use Rattle.merge_model.specs.Subscriber.{is_joining, subscriber_at_moment, subscriber_closed, subscriber_counters, subscriber_last_closed, subscriber_version_at}
 use Rattle.merge_types.specs.declared.row_key.RowKey.{RowKey as Key}
 use Rattle.merge_model.specs.Tables.{SubscriberTables}
 use Rattle.merge_batch.specs.declared.request.Outstanding.TheVariants as ask
@@ -25,26 +25,26 @@ with_message sent s = record s { seq = s.seq + 1; outstanding = Some (s.seq + 1,
 
 -- what refuses each message but a join
 abbrev pub sending_refusal : SubscriberTables → Option Refusal
-sending_refusal s = first_refusal (is_joining s ∷ counter_end (sub_counters s) ∷ [])
+sending_refusal s = first_refusal (is_joining s ∷ counter_end (subscriber_counters s) ∷ [])
 
 -- A join says how far the site is.
 abbrev pub join_of : SubscriberTables → Join
-join_of s = record { site = s.site; seq = s.seq + 1; generation = sub_last_closed s; number = s.changes }
+join_of s = record { site = s.site; seq = s.seq + 1; generation = subscriber_last_closed s; number = s.changes }
 
 abbrev pub join_made : SubscriberTables → Option (SubscriberTables × Join)
 join_made s = if s.is_joined then None else Some (with_message ask.Join s, join_of s)
 
 abbrev pub make_join : SubscriberTables → Result (Option (SubscriberTables × Join)) Refusal
-make_join s = unless (counter_end (sub_counters s)) (join_made s)
+make_join s = unless (counter_end (subscriber_counters s)) (join_made s)
 
 -- An upload has the rows that were changed in the generations behind the received one, as they are now.
 
 -- the rows that the site changed in a generation that was not received
 abbrev pub unsent_rows : SubscriberJudge → SubscriberTables → List (Key × ℕ)
-unsent_rows judge s = judge.changed_between s.received (sub_last_closed s + 1)
+unsent_rows judge s = judge.changed_between s.received (subscriber_last_closed s + 1)
 
 abbrev pub upload_item : SubscriberTables → Key × ℕ → Option UploadItem
-upload_item s entry = option_map (λ (version : Version). record { article = entry.0.article; row = entry.0.row; generation = entry.1; version = version }) (sub_version_at s entry.0)
+upload_item s entry = option_map (λ (version : Version). record { article = entry.0.article; row = entry.0.row; generation = entry.1; version = version }) (subscriber_version_at s entry.0)
 
 -- the number of the last change in a generation
 abbrev pub through_of : SubscriberTables → ℕ → ℕ
@@ -61,7 +61,7 @@ upload_to judge s to = record {
 }
 
 abbrev pub upload_end : SubscriberJudge → SubscriberTables → ℕ
-upload_end judge s = batch_end (λ (to : ℕ). length (judge.changed_between s.received to)) s.received (sub_last_closed s)
+upload_end judge s = batch_end (λ (to : ℕ). length (judge.changed_between s.received to)) s.received (subscriber_last_closed s)
 
 abbrev pub upload_sent : SubscriberJudge → SubscriberTables → SubscriberTables × Upload
 upload_sent judge s = let to = upload_end judge s in (with_message (ask.Upload s.received to) s, upload_to judge s to)
@@ -69,7 +69,7 @@ upload_sent judge s = let to = upload_end judge s in (with_message (ask.Upload s
 abbrev pub upload_made : SubscriberJudge → Moment → SubscriberTables → Option (SubscriberTables × Upload)
 upload_made judge now s = elim (unsent_rows judge s) [
   | [] ↦ None
-  | row ∷ rows ↦ Some (upload_sent judge (sub_closed (sub_at_moment now s)))
+  | row ∷ rows ↦ Some (upload_sent judge (subscriber_closed (subscriber_at_moment now s)))
 ]
 
 abbrev pub make_upload : SubscriberJudge → Moment → SubscriberTables → Result (Option (SubscriberTables × Upload)) Refusal

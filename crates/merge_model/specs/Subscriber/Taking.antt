@@ -18,7 +18,7 @@ use Rattle.merge_model.specs.World.Faults.{reply_fault}
 use Rattle.merge_model.specs.Judge.{SubscriberJudge}
 use Rattle.merge_model.specs.Tables.Keys.{at_number, drop_row, put_number, put_row}
 use Rattle.merge_model.specs.Tables.Refusals.{unless}
-use Rattle.merge_model.specs.Subscriber.{sub_at_moment}
+use Rattle.merge_model.specs.Subscriber.{subscriber_at_moment}
 use Rattle.merge_types.specs.declared.row_key.RowKey.{RowKey as Key}
 use Rattle.merge_units.specs.declared.site_row.SubscriberRow.{SubscriberRow}
 use Rattle.merge_model.specs.Tables.{SubscriberTables}
@@ -85,7 +85,7 @@ seq_of (reply.Refused number values) = 0
 -- One that doesn't act is told with its number and that of the outstanding message, 0 where none is.
 
 abbrev pub taken : SubscriberJudge → Moment → Reply → SubscriberTables → SubscriberTables
-taken judge now m s = after_reply judge m (record (sub_at_moment now s) { outstanding = None })
+taken judge now m s = after_reply judge m (record (subscriber_at_moment now s) { outstanding = None })
 
 abbrev pub met_by : Publication → SubscriberJudge → Moment → Reply → SubscriberTables → Option (ℕ × Outstanding) → Result (SubscriberTables × Taken) Refusal
 met_by publication judge now m s None = Ok (s, Missed (seq_of m) 0)

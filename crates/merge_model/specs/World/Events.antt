@@ -11,7 +11,7 @@ use Rattle.merge_model.specs.declared.answer.Answer.TheVariants.{Applied, Closed
 use Rattle.merge_model.specs.Tables.Changes.{article_of, is_insert}
 use Rattle.merge_model.specs.Publisher.Entries.{live_rows}
 use Rattle.merge_model.specs.World.Naming.{article_by, delete_by, insert_by, update_by}
-use Rattle.merge_model.specs.World.Reports.{counts_of, held_report, partition_report, publisher_generations, shown_rows, sub_live_rows, subscriber_generations}
+use Rattle.merge_model.specs.World.Reports.{counts_of, held_report, partition_report, publisher_generations, shown_rows, subscriber_live_rows, subscriber_generations}
 use Rattle.merge_model.specs.World.Session.{Session, Stepping, session}
 use Rattle.merge_model.specs.World.Steps.{Action, CloseAt, Deliver, Forget, Look, Make, MakeAnew, Pass, Send, SendDownload, SendJoin, SendRanges, SendUpload, step}
 use Rattle.merge_model.specs.declared.outcome.Outcome.TheVariants.{Closes, Discards, Forgot, Made, NoLetter, NoPost, Passed, Posted, Refuses, Took}
@@ -112,7 +112,7 @@ module _ {W : Type 0} (publication : Publication) (stepping : Stepping W) where
   showing site w (Err name) = looking (λ (v : W). Refused (UnknownName name)) w
   showing site w (Ok article) = reporting site
       (λ (p : PublisherTables). Rows (shown_rows article (live_rows p.rows)))
-      (λ (s : SubscriberTables). Rows (shown_rows article (sub_live_rows s))) w
+      (λ (s : SubscriberTables). Rows (shown_rows article (subscriber_live_rows s))) w
 
   -- what an event does, and what is answered
   abbrev pub happens : W → Event → W × Answer
@@ -141,7 +141,7 @@ module _ {W : Type 0} (publication : Publication) (stepping : Stepping W) where
   happens w (event.Generations site) = where_site site w (reporting site (publisher_generations publication) subscriber_generations)
   happens w (event.Count site) = where_site site w (reporting site
       (λ (p : PublisherTables). Counts (counts_of publication (live_rows p.rows)))
-      (λ (s : SubscriberTables). Counts (counts_of publication (sub_live_rows s))))
+      (λ (s : SubscriberTables). Counts (counts_of publication (subscriber_live_rows s))))
 
   -- the answers to events, one after the other
   abbrev pub answers : W → List Event → List Answer

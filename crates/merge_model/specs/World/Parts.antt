@@ -13,9 +13,9 @@ use Rattle.merge_model.specs.declared.outcome.Outcome.TheVariants.{Posted, Refus
 
 -- the world of a publisher, its subscribers in the order of their sites, resolvers, messages and a moment
 abbrev pub world_of : {P S R : Type 0} → (P → PublisherTables) → (S → SubscriberTables) → (R → ℕ) → P → List S → List R → List Letter → Moment → World
-world_of tables sub_tables tally p ss rs pool moment = record {
+world_of tables subscriber_tables tally p ss rs pool moment = record {
   publisher = tables p;
-  subscribers = map (λ s. ((sub_tables s).site.0, sub_tables s)) ss;
+  subscribers = map (λ s. ((subscriber_tables s).site.0, subscriber_tables s)) ss;
   pool = pool;
   moment = moment;
   tallies = map tally rs;

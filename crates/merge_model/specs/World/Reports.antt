@@ -17,7 +17,7 @@ use Rattle.merge_model.specs.Judge.ByNumbers.{by_rows}
 use Rattle.merge_model.specs.Publisher.Entries.{key_of_live, live_row, live_rows}
 use Rattle.merge_model.specs.Tables.Keys.{at_number}
 use Rattle.merge_model.specs.Subscriber.Sending.{unsent_rows}
-use Rattle.merge_model.specs.Subscriber.{sub_last_closed}
+use Rattle.merge_model.specs.Subscriber.{subscriber_last_closed}
 use Rattle.merge_types.specs.declared.row_key.RowKey.{RowKey as Key}
 use Rattle.merge_units.specs.declared.site_row.SubscriberRow.{SubscriberRow}
 use Rattle.merge_model.specs.Tables.{PublisherTables, SubscriberTables}
@@ -29,8 +29,8 @@ is_of_article article row = row.article == article
 abbrev pub shown_rows : ℕ → List LiveRow → List ShownRow
 shown_rows article rows = map (λ (row : LiveRow). record { row = row.row; values = row.values }) (filter (is_of_article article) rows)
 
-abbrev pub sub_live_rows : SubscriberTables → List LiveRow
-sub_live_rows s = filter_map (λ (row : Key × SubscriberRow). live_row row.0 row.1.version.body) s.rows
+abbrev pub subscriber_live_rows : SubscriberTables → List LiveRow
+subscriber_live_rows s = filter_map (λ (row : Key × SubscriberRow). live_row row.0 row.1.version.body) s.rows
 
 -- how many live rows each article has
 abbrev pub counts_of : Publication → List LiveRow → List ℕ
@@ -54,7 +54,7 @@ outstanding_of s = unwrap_or (option_map (λ (sent : ℕ × Outstanding). sent.0
 
 abbrev pub marks_of : SubscriberTables → Marks
 marks_of s = record {
-  closed = sub_last_closed s;
+  closed = subscriber_last_closed s;
   filled = s.gens.filling.filled;
   received = s.received;
   watermark = s.watermark;

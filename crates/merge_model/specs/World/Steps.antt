@@ -34,7 +34,7 @@ use Rattle.merge_model.specs.Publisher.PublisherRanges.{ranges}
 use Rattle.merge_model.specs.Publisher.PublisherUpload.{upload}
 use Rattle.merge_model.specs.Subscriber.Reinit.{reinitialise}
 use Rattle.merge_model.specs.Subscriber.Sending.{make_ask, make_join, make_ranges, make_upload}
-use Rattle.merge_model.specs.Subscriber.{close_sub_generation, sub_local}
+use Rattle.merge_model.specs.Subscriber.{close_subscriber_generation, subscriber_local}
 use Rattle.merge_model.specs.Tables.{PublisherTables, SubscriberTables}
 use Rattle.merge_model.specs.Subscriber.Taking.{take_reply}
 use Rattle.merge_model.specs.declared.outcome.Taken.{Taken}
@@ -92,7 +92,7 @@ make_at_publisher publication judges change w = unless_refused w (local publicat
     (λ (done : PublisherTables × RowId). (with_publisher done.0 w, Made done.1))
 
 abbrev pub make_at_subscriber : Publication → Change → World → SubscriberTables → World × Outcome
-make_at_subscriber publication change w s = unless_refused w (sub_local publication w.moment change s)
+make_at_subscriber publication change w s = unless_refused w (subscriber_local publication w.moment change s)
     (λ (done : SubscriberTables × RowId). (with_subscriber done.0 w, Made done.1))
 
 abbrev pub make_at : Publication → Judges → SiteId → Change → World → World × Outcome
@@ -105,7 +105,7 @@ close_publisher w = unless_refused w (close_generation w.moment w.publisher)
     (λ (done : PublisherTables × ℕ). (with_publisher done.0 w, Closes done.1))
 
 abbrev pub close_subscriber : World → SubscriberTables → World × Outcome
-close_subscriber w s = unless_refused w (close_sub_generation w.moment s)
+close_subscriber w s = unless_refused w (close_subscriber_generation w.moment s)
     (λ (done : SubscriberTables × ℕ). (with_subscriber done.0 w, Closes done.1))
 
 abbrev pub close_at : SiteId → World → World × Outcome

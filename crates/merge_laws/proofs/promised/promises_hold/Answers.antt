@@ -66,7 +66,7 @@ returns-clause-model c resolvers publication valid says tallies slips events =
       in_step = c.runs_keep_what_laws_rest_on.ensures.received publication says tallies slips events;
       held = c.runs_keep_what_laws_rest_on.ensures.held resolvers publication valid says tallies slips events;
       sorted = subst (λ (w : World). AreSorted w.publisher) same (c.lists_stay_sorted.ensures.publisher publication says tallies slips events);
-      sub_sorted = subst (λ (w : World). AllByRecursion (λ (entry : ℕ × SubscriberTables). AreSubSorted entry.1) w.subscribers) same (c.lists_stay_sorted.ensures.subscribers publication says tallies slips events);
+      subscriber_sorted = subst (λ (w : World). AllByRecursion (λ (entry : ℕ × SubscriberTables). AreSubSorted entry.1) w.subscribers) same (c.lists_stay_sorted.ensures.subscribers publication says tallies slips events);
     }
 
 pub returns-clause-machine : goal.returns-clause-machine

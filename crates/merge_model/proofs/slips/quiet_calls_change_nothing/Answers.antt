@@ -5,6 +5,6 @@ pub returns : goal.returns
 returns c = record {
   requests = requests-quiet;
   closings = closings-quiet;
-  sub_closings = sub-closings-quiet;
+  subscriber_closings = sub-closings-quiet;
   replies = replies-quiet;
 }

@@ -2,7 +2,7 @@ use Rattle.std.proofs.Common.{sym, subst, arith}
 use Rattle.std.proofs.lemmas.Grind.{common_steps}
 use Rattle.merge_gens.specs.Book.{Book, IsSound}
 use Rattle.merge_gens.proofs.Plans.{settled_is, sound_changed}
-use Rattle.merge_gens.proofs.book.GenBook.prepare.Goals as goal
+use Rattle.merge_gens.proofs.book.GenerationBook.prepare.Goals as goal
 
 pub returns-clause-plan : goal.returns-clause-plan
 returns-clause-plan c =

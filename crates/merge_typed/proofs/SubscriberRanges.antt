@@ -39,7 +39,7 @@ use Rattle.merge_model.specs.Tables.Keys.{at_number, put_number}
 use Rattle.merge_model.specs.Tables.Refusals.{counter_end}
 use Rattle.merge_model.specs.Subscriber.Reinit.{reinitialise, reinitialised}
 use Rattle.merge_model.specs.Subscriber.Sending.{join_made, join_of, make_ask, make_join, make_ranges, make_upload, ranges_made, sending_refusal, unsent_rows, upload_made, upload_sent, want_of, with_message}
-use Rattle.merge_model.specs.Subscriber.{close_sub_generation, sub_at_moment, sub_closed, sub_counters, sub_drawn, sub_last_closed, sub_local, sub_next_dot, sub_version_at, taken_value, with_version_if}
+use Rattle.merge_model.specs.Subscriber.{close_subscriber_generation, subscriber_at_moment, subscriber_closed, subscriber_counters, subscriber_drawn, subscriber_last_closed, subscriber_local, subscriber_next_dot, subscriber_version_at, taken_value, with_version_if}
 use Rattle.merge_model.specs.Tables.{SubscriberTables}
 use Rattle.merge_model.specs.Subscriber.Taking.{after_reply, take_reply, with_grant}
 use Rattle.merge_model.proofs.Lists.Finding.{at_put_other}
@@ -52,25 +52,25 @@ use Rattle.merge_typed.proofs.Holders.{HolderFits, receive-fits, take-fits, valu
 abbrev pub HeldFits : List (ℕ × Holder) → Type 0
 HeldFits held = AllByRecursion (λ (entry : ℕ × Holder). HolderFits entry.1) held
 
-abbrev pub SubRanges : SubscriberTables → Type 0
-SubRanges s = HeldFits s.held
+abbrev pub SubscriberRanges : SubscriberTables → Type 0
+SubscriberRanges s = HeldFits s.held
 
 -- Identity values.
 
-pub record SubDrew (d : Value × List (ℕ × Holder)) : Type 0 where
+pub record SubscriberDrew (d : Value × List (ℕ × Holder)) : Type 0 where
   pub value : IsValue d.0
   pub held : HeldFits d.1
 
-value-taken : (s : SubscriberTables) (article : ℕ) (holder : Holder) (result : Result ℤ IdentityEnd) → IfOk result (λ value. FitsSigned w64 value) → HolderFits holder → SubRanges s → IfOk (taken_value s article holder result) SubDrew
+value-taken : (s : SubscriberTables) (article : ℕ) (holder : Holder) (result : Result ℤ IdentityEnd) → IfOk result (λ value. FitsSigned w64 value) → HolderFits holder → SubscriberRanges s → IfOk (taken_value s article holder result) SubscriberDrew
 value-taken s article holder (Ok value) fits own r = record { value = fits; held = values-put HolderFits nat_cmp article (after_take holder) s.held (take-fits holder own) r }
 value-taken s article holder (Err used_up) fits own r = tt
 
-found-drawn : (s : SubscriberTables) (article : ℕ) (found : Option Holder) → OfSome HolderFits found → SubRanges s
-    → (let draw : Result (Value × List (ℕ × Holder)) Refusal = elim found [ None ↦ Ok (Null, s.held) | Some holder ↦ taken_value s article holder (answer_to_take holder) ] in IfOk draw SubDrew)
+found-drawn : (s : SubscriberTables) (article : ℕ) (found : Option Holder) → OfSome HolderFits found → SubscriberRanges s
+    → (let draw : Result (Value × List (ℕ × Holder)) Refusal = elim found [ None ↦ Ok (Null, s.held) | Some holder ↦ taken_value s article holder (answer_to_take holder) ] in IfOk draw SubscriberDrew)
 found-drawn s article None own r = record { value = tt; held = r }
 found-drawn s article (Some holder) own r = value-taken s article holder (answer_to_take holder) (value-fits holder own) own r
 
-pub sub-draws : (s : SubscriberTables) (change : Change) → SubRanges s → IfOk (sub_drawn s change) SubDrew
+pub sub-draws : (s : SubscriberTables) (change : Change) → SubscriberRanges s → IfOk (subscriber_drawn s change) SubscriberDrew
 sub-draws s (Insert article settings) r = found-drawn s article (at_number s.held article) (values-found HolderFits (is_at (nat_cmp article)) s.held r) r
 sub-draws s (Update article row settings) r = record { value = tt; held = r }
 sub-draws s (Delete article row) r = record { value = tt; held = r }
@@ -139,7 +139,7 @@ abbrev pub ReplyRanges : Reply → Type 0
 ReplyRanges (reply.Ranged m) = AllByRecursion ToldIsTyped m.grants
 ReplyRanges m = Unit {0}
 
-after : (publication : Publication) (judge : SubscriberJudge) (sent : Outstanding) (m : Reply) (s t : SubscriberTables) → t.held ≡ s.held → reply_fault publication sent m s ≡ None → ReplyRanges m → SubRanges s → SubRanges (after_reply judge m t)
+after : (publication : Publication) (judge : SubscriberJudge) (sent : Outstanding) (m : Reply) (s t : SubscriberTables) → t.held ≡ s.held → reply_fault publication sent m s ≡ None → ReplyRanges m → SubscriberRanges s → SubscriberRanges (after_reply judge m t)
 after publication judge sent (reply.Ranged m) s t same fine is r = (let fits = ranged-fits publication sent m s fine in subst (λ (held : List (ℕ × Holder)). HeldFits (fold with_grant held m.grants)) (sym same) (all-received m.grants s.held fits.0 fits.1 is r))
 after publication judge sent (reply.Joined m) s t same fine is r = subst HeldFits (sym same) r
 after publication judge sent (reply.Uploaded m) s t same fine is r = subst HeldFits (sym same) r
@@ -149,49 +149,49 @@ after publication judge sent (reply.Refused number values) s t same fine is r = 
 -- The calls.
 
 abbrev Sent : {X : Type 0} → Option (SubscriberTables × X) → Type 0
-Sent made = IfSome made (λ x. SubRanges x.0 × Unit {0})
+Sent made = IfSome made (λ x. SubscriberRanges x.0 × Unit {0})
 
-version-if : (key : Key) (found : Option Version) (s : SubscriberTables) → SubRanges s → SubRanges (with_version_if key found s)
+version-if : (key : Key) (found : Option Version) (s : SubscriberTables) → SubscriberRanges s → SubscriberRanges (with_version_if key found s)
 version-if key None s r = r
 version-if key (Some version) s r = r
 
-joined-by : (s : SubscriberTables) (b : Bool) → SubRanges s → (let made : Option (SubscriberTables × Join) = if b then None else Some (with_message ask.Join s, join_of s) in Sent made)
+joined-by : (s : SubscriberTables) (b : Bool) → SubscriberRanges s → (let made : Option (SubscriberTables × Join) = if b then None else Some (with_message ask.Join s, join_of s) in Sent made)
 joined-by s true r = tt
 joined-by s false r = (r, tt)
 
-ranged-by : (s : SubscriberTables) (held : List (ℕ × Holder)) → SubRanges s
+ranged-by : (s : SubscriberTables) (held : List (ℕ × Holder)) → SubscriberRanges s
     → (let made : Option (SubscriberTables × RangeAsk) = elim held [ [] ↦ None | entry ∷ entries ↦ Some (with_message ask.Ranges s, record { site = s.site; seq = s.seq + 1; wants = map want_of s.held }) ] in Sent made)
 ranged-by s [] r = tt
 ranged-by s (entry ∷ entries) r = (r, tt)
 
-uploaded-by : (judge : SubscriberJudge) (now : Moment) (s : SubscriberTables) (unsent : List (Key × ℕ)) → SubRanges s
-    → (let made : Option (SubscriberTables × Upload) = elim unsent [ [] ↦ None | row ∷ rows ↦ Some (upload_sent judge (sub_closed (sub_at_moment now s))) ] in Sent made)
+uploaded-by : (judge : SubscriberJudge) (now : Moment) (s : SubscriberTables) (unsent : List (Key × ℕ)) → SubscriberRanges s
+    → (let made : Option (SubscriberTables × Upload) = elim unsent [ [] ↦ None | row ∷ rows ↦ Some (upload_sent judge (subscriber_closed (subscriber_at_moment now s))) ] in Sent made)
 uploaded-by judge now s [] r = tt
 uploaded-by judge now s (row ∷ rows) r = (r, tt)
 
-module _ (s : SubscriberTables) (r : SubRanges s) where
-  pub ranges-sub-local : (publication : Publication) (now : Moment) (change : Change) → IfOk (sub_local publication now change s) (λ done. SubRanges done.0)
-  ranges-sub-local publication now change = sub-local-ok publication now change s SubRanges
-      (λ fine d is. (let c : SubscriberTables = sub_at_moment now s in
-      version-if (key_of (sub_next_dot s) change) (version_after publication (sub_next_dot s) d.0 change (sub_version_at s (key_of (sub_next_dot s) change))) (record c { changes = c.changes + 1; held = d.1 }) (ok-of SubDrew (sub_drawn s change) d (sub-draws s change r) is).held))
+module _ (s : SubscriberTables) (r : SubscriberRanges s) where
+  pub ranges-sub-local : (publication : Publication) (now : Moment) (change : Change) → IfOk (subscriber_local publication now change s) (λ done. SubscriberRanges done.0)
+  ranges-sub-local publication now change = sub-local-ok publication now change s SubscriberRanges
+      (λ fine d is. (let c : SubscriberTables = subscriber_at_moment now s in
+      version-if (key_of (subscriber_next_dot s) change) (version_after publication (subscriber_next_dot s) d.0 change (subscriber_version_at s (key_of (subscriber_next_dot s) change))) (record c { changes = c.changes + 1; held = d.1 }) (ok-of SubscriberDrew (subscriber_drawn s change) d (sub-draws s change r) is).held))
 
-  pub ranges-sub-closed : (now : Moment) → IfOk (close_sub_generation now s) (λ done. SubRanges done.0)
-  ranges-sub-closed now = unless-ok (λ (done : SubscriberTables × ℕ). SubRanges done.0) (counter_end (sub_counters s)) (sub_closed (sub_at_moment now s), sub_last_closed (sub_closed (sub_at_moment now s))) (λ fine. r)
+  pub ranges-sub-closed : (now : Moment) → IfOk (close_subscriber_generation now s) (λ done. SubscriberRanges done.0)
+  ranges-sub-closed now = unless-ok (λ (done : SubscriberTables × ℕ). SubscriberRanges done.0) (counter_end (subscriber_counters s)) (subscriber_closed (subscriber_at_moment now s), subscriber_last_closed (subscriber_closed (subscriber_at_moment now s))) (λ fine. r)
 
-  pub ranges-join : IfOk (make_join s) (λ made. IfSome made (λ x. SubRanges x.0 × Unit {0}))
-  ranges-join = unless-ok (λ (made : Option (SubscriberTables × Join)). Sent made) (counter_end (sub_counters s)) (join_made s) (λ fine. joined-by s s.is_joined r)
+  pub ranges-join : IfOk (make_join s) (λ made. IfSome made (λ x. SubscriberRanges x.0 × Unit {0}))
+  ranges-join = unless-ok (λ (made : Option (SubscriberTables × Join)). Sent made) (counter_end (subscriber_counters s)) (join_made s) (λ fine. joined-by s s.is_joined r)
 
-  pub ranges-upload : (judge : SubscriberJudge) (now : Moment) → IfOk (make_upload judge now s) (λ made. IfSome made (λ x. SubRanges x.0 × Unit {0}))
+  pub ranges-upload : (judge : SubscriberJudge) (now : Moment) → IfOk (make_upload judge now s) (λ made. IfSome made (λ x. SubscriberRanges x.0 × Unit {0}))
   ranges-upload judge now = unless-ok (λ (made : Option (SubscriberTables × Upload)). Sent made) (sending_refusal s) (upload_made judge now s) (λ fine. uploaded-by judge now s (unsent_rows judge s) r)
 
-  pub ranges-ranges : IfOk (make_ranges s) (λ made. IfSome made (λ x. SubRanges x.0 × Unit {0}))
+  pub ranges-ranges : IfOk (make_ranges s) (λ made. IfSome made (λ x. SubscriberRanges x.0 × Unit {0}))
   ranges-ranges = unless-ok (λ (made : Option (SubscriberTables × RangeAsk)). Sent made) (sending_refusal s) (ranges_made s) (λ fine. ranged-by s s.held r)
 
-  pub ranges-ask : IfOk (make_ask s) (λ done. SubRanges done.0 × Unit {0})
-  ranges-ask = unless-ok (λ (done : SubscriberTables × Download). SubRanges done.0 × Unit {0}) (sending_refusal s) (with_message (ask.Download s.watermark) s, record { site = s.site; seq = s.seq + 1; from = s.watermark }) (λ fine. (r, tt))
+  pub ranges-ask : IfOk (make_ask s) (λ done. SubscriberRanges done.0 × Unit {0})
+  ranges-ask = unless-ok (λ (done : SubscriberTables × Download). SubscriberRanges done.0 × Unit {0}) (sending_refusal s) (with_message (ask.Download s.watermark) s, record { site = s.site; seq = s.seq + 1; from = s.watermark }) (λ fine. (r, tt))
 
-  pub ranges-reply : (publication : Publication) (judge : SubscriberJudge) (now : Moment) (m : Reply) → ReplyRanges m → IfOk (take_reply publication judge now m s) (λ done. SubRanges done.0)
-  ranges-reply publication judge now m is = reply-ok publication judge now s SubRanges r m (λ sent fine. after publication judge sent m s (record (sub_at_moment now s) { outstanding = None }) refl fine is r)
+  pub ranges-reply : (publication : Publication) (judge : SubscriberJudge) (now : Moment) (m : Reply) → ReplyRanges m → IfOk (take_reply publication judge now m s) (λ done. SubscriberRanges done.0)
+  ranges-reply publication judge now m is = reply-ok publication judge now s SubscriberRanges r m (λ sent fine. after publication judge sent m s (record (subscriber_at_moment now s) { outstanding = None }) refl fine is r)
 
-  pub ranges-anew : (judge : SubscriberJudge) (now : Moment) → IfOk (reinitialise judge now s) (λ done. SubRanges done.0)
-  ranges-anew judge now = unless-ok (λ (done : SubscriberTables × ℕ). SubRanges done.0) (counter_end (sub_counters s)) (reinitialised judge (sub_at_moment now s)) (λ fine. r)
+  pub ranges-anew : (judge : SubscriberJudge) (now : Moment) → IfOk (reinitialise judge now s) (λ done. SubscriberRanges done.0)
+  ranges-anew judge now = unless-ok (λ (done : SubscriberTables × ℕ). SubscriberRanges done.0) (counter_end (subscriber_counters s)) (reinitialised judge (subscriber_at_moment now s)) (λ fine. r)

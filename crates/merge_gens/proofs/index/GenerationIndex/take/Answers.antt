@@ -2,7 +2,7 @@ use Rattle.merge_gens.specs.Entries.{entry_cmp, entry_exact}
 use Rattle.merge_table.proofs.Sorted.{sorted_take}
 use Rattle.merge_gens.proofs.Sets.{set_take}
 use Rattle.merge_gens.proofs.EntryLists.{entry_total, compact_rows}
-use Rattle.merge_gens.proofs.index.GenIndex.take.Goals as goal
+use Rattle.merge_gens.proofs.index.GenerationIndex.take.Goals as goal
 
 pub invariant_of-self : goal.invariant_of-self
 invariant_of-self c = rw (c.sweep_if_due.ensures.rows, c.remove.ensures.rows) (sorted_take entry_cmp entry_total _ _ c.self.invariant)

@@ -1,7 +1,7 @@
 use Rattle.std.proofs.Common.{◌≡◌, ◌<◌, ◌++◌, [], drop}
 use Rattle.merge_types.specs.Limits.{entry_limit}
 use Rattle.merge_gens.specs.Plan.{answers_of, book_after_all, AreAllowed}
-use Rattle.merge_gens.proofs.plan.GenPlan.of_changes.Given as goal
+use Rattle.merge_gens.proofs.plan.GenerationPlan.of_changes.Given as goal
 
 abbrev pub invariant-loop-change : goal.invariant-loop-change
 invariant-loop-change l = record {

@@ -1,7 +1,7 @@
 use Rattle.std.proofs.Common.{refl, arith}
 use Rattle.std.proofs.lemmas.Grind.{common_steps}
 use Rattle.merge_gens.proofs.ClosedGenerations.{sound_moved}
-use Rattle.merge_gens.proofs.book.GenBook.prepare_to.Goals as goal
+use Rattle.merge_gens.proofs.book.GenerationBook.prepare_to.Goals as goal
 
 pub returns-clause-ready : goal.returns-clause-ready
 returns-clause-ready c = record {
