@@ -83,6 +83,14 @@ fn source_at(texts: &[MemoryText], path: &Words) -> Result<Option<MemorySource>,
 }
 
 impl<K: Keeper> Outside for MemoryCommands<K> {
+    ghost use Rattle.std.specs.Prelude.{IfErr, List, is_err, ℕ};
+    ghost use Rattle.std.specs.Map.{lookup};
+    ghost use Rattle.std.specs.BTreeMap.{insert_entry, is_at};
+    ghost use Rattle.std.specs.Ordering.{nat_cmp};
+    ghost use Rattle.merge_types.specs.declared.identifiers.SiteId.{SiteId as Site};
+    ghost use Rattle.merge_ports.specs.Opened.{HasStoreCause, SameElsewhere, with_faults};
+    ghost use Rattle.merge_ports.specs.Stores.{HasPlace, opening_fails, told_in};
+
     type Keep = K;
 
     ghost told = { λ o. ⟦<MemoryOutside<K> as Outside>⟧.told o.stores };
@@ -91,11 +99,30 @@ impl<K: Keeper> Outside for MemoryCommands<K> {
 
     ghost counts = { λ o. o.stores.counts };
 
-    fn keeper(&mut self, site: SiteId, path: &Words) -> Result<K, OpenFault> {
+    fn keeper(&mut self, site: SiteId, path: &Words) -> Result<K, OpenFault>
+        ensures map { IfOk result (λ keeper. K.told keeper ≡ told_in K.told self.old.stores.stores.rows site path.now) }
+        ensures fresh { IfOk result (λ keeper. K.count keeper ≡ 0) }
+        ensures open { OnOk result (HasPlace self.new.stores.stores.slots site path.now) }
+        ensures others { SameElsewhere site path.now (told_in K.told self.old.stores.stores.rows) (told_in K.told self.new.stores.stores.rows) }
+        ensures err { OnErr result (told_in K.told self.new.stores.stores.rows site path.now ≡ told_in K.told self.old.stores.stores.rows site path.now) }
+        ensures still { (s : Site) (p : List ℕ) → HasPlace self.old.stores.stores.slots s p → HasPlace self.new.stores.stores.slots s p }
+        ensures cause { HasStoreCause self.old.stores.counts self.new.stores.counts result }
+        ensures fails { is_err result ≡ opening_fails K.count self.old.stores.failing self.old.stores.calls path.now (lookup (is_at (nat_cmp site.0)) self.old.stores.stores.rows) }
+        ensures fault { IfErr result (λ fault. fault ≡ failed) }
+        ensures rest { self.new ≡ record self.old { stores = self.new.stores } }
+    {
         self.stores.keeper(site, path)
     }
 
-    fn keeper_back(&mut self, site: SiteId, path: &Words, keeper: K) {
+    fn keeper_back(&mut self, site: SiteId, path: &Words, keeper: K)
+        requires { HasPlace self.old.stores.stores.slots site path.now }
+        ensures map { told_in K.told self.new.stores.stores.rows site path.now ≡ K.told keeper }
+        ensures others { SameElsewhere site path.now (told_in K.told self.old.stores.stores.rows) (told_in K.told self.new.stores.stores.rows) }
+        ensures still { (s : Site) (p : List ℕ) → HasPlace self.old.stores.stores.slots s p → HasPlace self.new.stores.stores.slots s p }
+        ensures put { self.new.stores.stores.rows ≡ insert_entry nat_cmp self.old.stores.stores.rows site.0 keeper }
+        ensures counts { self.new.stores.counts ≡ with_faults (K.count keeper) self.old.stores.counts }
+        ensures rest { self.new ≡ record self.old { stores = self.new.stores } }
+    {
         self.stores.keeper_back(site, path, keeper);
     }
 

@@ -13,7 +13,7 @@ use Rattle.merge_table.proofs.LookUps.{lookup-insert_entry}
 use Rattle.merge_types.specs.declared.identifiers.SiteId.{SiteId}
 use Rattle.merge_ports.specs.Entries.{Map}
 use Rattle.merge_ports.specs.Opened.{SameElsewhere}
-use Rattle.merge_ports.specs.Stores.{told_by, told_in}
+use Rattle.merge_ports.specs.Stores.{has_no_path, told_by, told_in}
 
 abbrev site_of : ℕ → SiteId
 site_of n = record { 0 = n }
@@ -39,3 +39,7 @@ pub told_here : {K : Type 0} (told : K → Option Map) (rows new : List (ℕ × 
 told_here {K = K} told rows new site path keeper empty put =
     ap (told_in told new site) empty ∙ ap (λ (xs : List (ℕ × K)). told_by told (lookup (is_at (nat_cmp site.0)) xs)) put
     ∙ ap (told_by told) (lookup-insert_entry nat_cmp nat_cmp_total site.0 site.0 keeper rows ∙ ap (λ (b : Bool). cond b (Some keeper) (lookup (is_at (nat_cmp site.0)) rows)) (sym (unsigned_ties site.0 site.0) ∙ same_number site.0))
+
+pub no_path : (path : List ℕ) → has_no_path path ≡ true → path ≡ []
+no_path [] e = refl
+no_path (byte ∷ path) e = absurd (cc (e))
