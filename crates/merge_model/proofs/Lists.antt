@@ -3,6 +3,7 @@
 pub mod Tests
 pub mod Finding
 pub mod KeyLookUps
+pub mod RowsFound
 pub mod KeyLists
 pub mod PlaceLookUps
 pub mod Places

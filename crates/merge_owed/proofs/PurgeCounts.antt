@@ -6,7 +6,6 @@ use Rattle.std.specs.Map.{keys_of}
 use Rattle.std.specs.Option.{option_map_or}
 use Rattle.std.specs.Ordering.{eq_by_cmp, nat_cmp}
 use Rattle.std.specs.Prelude.{AllPairs, Bool, List, None, Option, Some, [], cond, count_by, false, filter, find, flat_map, is_some, length, map, option_map, refl, suc, true, zero, ◌&&◌, ◌++◌, ◌+◌, ◌<◌, ◌==◌, ◌≡◌, ◌∷◌, ℕ}
-use Rattle.std.specs.declared.cmp.Ordering.TheVariants.{Less}
 use Rattle.std.proofs.Common.{ap, arith, sym, ◌∙◌}
 use Rattle.std.proofs.lemmas.Bool.Decides.{nat_tests}
 use Rattle.std.proofs.lemmas.Cmp.{eq_by_cmp_equiv}
@@ -18,7 +17,6 @@ use Rattle.std.proofs.lemmas.Map.Made.{IsDistinct-keys_filter, is_some-lookup, l
 use Rattle.merge_types.specs.RowKeys.{key_cmp}
 use Rattle.merge_types.specs.declared.identifiers.SiteId.{SiteId}
 use Rattle.merge_types.specs.declared.row_key.RowKey.{RowKey as Key}
-use Rattle.merge_table.proofs.Room.{AreAbove}
 use Rattle.merge_table.proofs.Sorted.{sorted_put}
 use Rattle.merge_gens.specs.Book.{moment_of}
 use Rattle.merge_gens.specs.Moves.{row_site_cmp}
@@ -30,11 +28,11 @@ use Rattle.merge_schema.specs.declared.publication.Subscription.{Subscription}
 use Rattle.merge_model.specs.Judge.ByHistory.{is_line_for, says_left, touched_outside}
 use Rattle.merge_model.specs.Publisher.Entries as entry
 use Rattle.merge_model.specs.History.{Line}
-use Rattle.merge_model.specs.Tables.Keys.{at_row_site, put_row, row_at, same_key}
+use Rattle.merge_model.specs.Tables.Keys.{at_row_site, put_row, same_key}
 use Rattle.merge_model.specs.History.Noting.{gone_for, site_of_subscription}
 use Rattle.merge_model.specs.Tables.Publications.{by_site}
 use Rattle.merge_model.proofs.Lists.Finding.{all-weaker}
-use Rattle.merge_model.proofs.Lists.KeyLookUps.{key-itself, key-test, keys-exact}
+use Rattle.merge_model.proofs.Lists.KeyLookUps.{key-test}
 use Rattle.merge_model.proofs.Lists.{all-append, all-filter, all-map, all-of, any-same}
 use Rattle.merge_model.proofs.Lists.PlaceLookUps.{is_place, kept, lookup-filter, place-is, places-exact}
 use Rattle.merge_model.proofs.Lists.SitesInOrder.{AreKeyed, sites-ascend, sites-keyed}
@@ -186,32 +184,8 @@ count-same {X = X} f g (x ∷ xs) same =
     ∙ ap (λ (n : ℕ). cond (g x) 1 0 + n) (count-same f g xs same.1)
     ∙ sym (sum_by-cons (λ (y : X). cond (g y) 1 0) x xs)
 
--- each row is found by its key
-module _ {R : Type 0} where
-  abbrev pub Found : List (Key × R) → Key × R → Type 0
-  Found rows row = row_at rows row.0 ≡ Some row.1
+-- The moment of each closed generation is found.
 
-  first-found : (row : Key × R) (rows : List (Key × R)) → Found (row ∷ rows) row
-  first-found row rows = ap (λ (b : Bool). (let found : Option R = cond b (Some row.1) (row_at rows row.0) in found)) (key-test row.0 row.0 ∙ key-itself row.0)
-
-  behind-by : (row other : Key × R) (rows : List (Key × R)) (b : Bool) → is_at (key_cmp other.0) row.0 ≡ b → key_cmp row.0 other.0 ≡ Less → Found rows other → Found (row ∷ rows) other
-  behind-by row other rows true is above found = absurd (
-      let same : other.0 ≡ row.0 = keys-exact other.0 row.0 is in
-      let itself : is_at (key_cmp row.0) row.0 ≡ true = key-test row.0 row.0 ∙ key-itself row.0 in
-      let less : key_cmp row.0 row.0 ≡ Less = ap (λ (k : Key). key_cmp row.0 k) (sym same) ∙ above in
-      grind (arith, itself, less))
-  behind-by row other rows false is above found = ap (λ (b : Bool). (let found : Option R = cond b (Some row.1) (row_at rows other.0) in found)) is ∙ found
-
-  rest-found : (row : Key × R) (all rest : List (Key × R)) → AreAbove key_cmp row.0 (keys_of rest) → AllByRecursion (Found all) rest → AllByRecursion (Found (row ∷ all)) rest
-  rest-found row all [] above found = tt
-  rest-found row all (other ∷ rest) above found = (behind-by row other all (is_at (key_cmp other.0) row.0) refl above.0 found.0, rest-found row all rest above.1 found.1)
-
-  pub each-found : (rows : List (Key × R)) → IsStrictlySortedBy key_cmp (keys_of rows) → AllByRecursion (Found rows) rows
-  unfolding IsStrictlySortedBy
-  each-found [] sorted = tt
-  each-found (row ∷ rows) sorted = (first-found row rows, rest-found row rows rows sorted.0 (each-found rows sorted.1))
-
--- and the moment of each closed generation
 abbrev pub Closes : List Closing → Closing → Type 0
 Closes closings c = moment_of closings c.generation ≡ Some c.moment.0
 

@@ -25,11 +25,12 @@ use Rattle.merge_model.specs.declared.outcome.Forgotten.{Forgotten}
 use Rattle.merge_model.specs.declared.outcome.Outcome.{Outcome}
 use Rattle.merge_model.specs.declared.outcome.Outcome.TheVariants.{Forgot}
 use Rattle.merge_model.proofs.Lists.Finding.{all-weaker}
+use Rattle.merge_model.proofs.Lists.RowsFound.{Found, each-found}
 use Rattle.merge_laws.specs.Laws.{OfEveryValidActions}
 use Rattle.merge_owed.specs.Forgotten.{PurgesAnswerByLines, PurgesCountByLines, answer_of_counts, forgotten_by_lines, going_over, is_old_by_lines, lines_past}
 use Rattle.merge_owed.proofs.ForgottenByLines.{purges-forget, tombstones-old}
 use Rattle.merge_owed.proofs.MappingRuns.{Based, based-by-actions}
-use Rattle.merge_owed.proofs.PurgeCounts.{Closes, Found, as-many, count-same, each-closing, each-found, purge-places-once}
+use Rattle.merge_owed.proofs.PurgeCounts.{Closes, as-many, count-same, each-closing, purge-places-once}
 
 abbrev counted : ℕ → ℕ → ℕ → Forgotten
 counted tombstones mappings generations = record { tombstones = tombstones; mappings = mappings; generations = generations }

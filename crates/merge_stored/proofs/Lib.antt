@@ -3,7 +3,6 @@ pub mod Versions
 pub mod PublisherCalls
 pub mod ConflictLists
 pub mod PublisherConflicts
-pub mod RowsFound
 pub mod SubscriberConflicts
 pub mod Generations
 pub mod SubscriberRows

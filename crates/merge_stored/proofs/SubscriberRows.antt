@@ -55,11 +55,11 @@ use Rattle.merge_laws.proofs.Received.Models.{begins-with}
 use Rattle.merge_laws.proofs.Unsent.UnsentKept.{all-found, reply-site, version-site}
 use Rattle.merge_laws.proofs.Walking.{StepsKeep, step-keeps}
 use Rattle.merge_model.proofs.Lists.Finding.{found-named}
+use Rattle.merge_model.proofs.Lists.RowsFound.{Found, each-found}
 use Rattle.merge_honest.proofs.PutFound.{put-each}
 use Rattle.merge_stored.specs.Entries.{Ascends, RowsHaveRoom, room_of, times, total}
 use Rattle.merge_stored.proofs.ConflictLists.{anew-long}
 use Rattle.merge_stored.proofs.Generations.{IsWeight, kept-ascends, length-open, length-weighs, open-ascends, times-open, times-weigh}
-use Rattle.merge_stored.proofs.RowsFound.{Found, each-found}
 
 abbrev pub Rows : Type 0
 Rows = List (Key × SubscriberRow)
