@@ -1,3 +1,4 @@
 pub mod Causes
+pub mod Preparing
 pub mod Reading
 pub mod Writing

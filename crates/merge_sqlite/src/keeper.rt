@@ -1,10 +1,12 @@
 //! A keeper over a SQLite file: one table, three statements that are prepared once, and one
 //! transaction for each commit.
 ghost use Rattle.std.specs.Prelude.{◌≡◌, codes, false, IfOk, IsErrOf, IsTrue, OnErr, OnOk};
+ghost use Rattle.sqlite.specs.Files.{file_state};
 ghost use Rattle.sqlite.specs.Held.{state};
 ghost use Rattle.sqlite.specs.State.{HasCleanDisk, KeepsCommit, Survives};
 ghost use Rattle.merge_ports.specs.Keeping.{HasKeepCause};
 ghost use Rattle.merge_sqlite.specs.Causes.{fault_of, count_after};
+ghost use Rattle.merge_sqlite.specs.Preparing.{AreStatements};
 ghost use Rattle.merge_sqlite.specs.Reading.{IsEntry, IsNoEntry, Loads, with_row};
 ghost use Rattle.merge_sqlite.specs.Writing.{Commits, MayLeave, Writes};
 ghost use Rattle.merge_sqlite.specs.declared.keeper.Stop.TheVariants.{Refused as refused};
@@ -82,6 +84,7 @@ impl SqliteKeeper<FileStore<File>> {
     /// The file is left as it is; a log without a commit may be left beside it.
     pub fn open(rt: &HostRuntime, path: &str) -> Result<Self, KeepFault>
         ensures fresh { IfOk result (λ keeper. keeper.count ≡ 0) }
+        ensures statements { IfOk result (λ keeper. HasCleanDisk (file_state keeper.conn) → AreStatements ALL.now PUT.now TAKE.now keeper.all keeper.put keeper.take) }
         ensures memory { path.now ≡ codes ":memory:" → result ≡ Err KeepFault.Failed }
     {
         match opened(rt, path) {
@@ -94,10 +97,20 @@ impl SqliteKeeper<FileStore<File>> {
 
 fn opened(rt: &HostRuntime, path: &str) -> Result<SqliteKeeper<FileStore<File>>, Stop>
     ensures fresh { IfOk result (λ keeper. keeper.count ≡ 0) }
+    ensures statements { IfOk result (λ keeper. HasCleanDisk (file_state keeper.conn) → AreStatements ALL.now PUT.now TAKE.now keeper.all keeper.put keeper.take) }
     ensures memory { path.now ≡ codes ":memory:" → result ≡ Err Stop.Refused }
 {
     let mut conn = Connection::open(rt, path)?;
     make_table(&mut conn)?;
+    prepared(rt.alloc(), conn)
+}
+
+// A keeper with the three statements of a store.
+fn prepared<S: Alter + Drop>(alloc: Global, conn: Connection<S>) -> Result<SqliteKeeper<S>, Stop>
+    ensures fresh { IfOk result (λ keeper. keeper.count ≡ 0) }
+    ensures statements { IfOk result (λ keeper. HasCleanDisk (state S.Store keeper.conn) → AreStatements ALL.now PUT.now TAKE.now keeper.all keeper.put keeper.take) }
+{
+    let mut conn = conn;
     let all = conn.prepare(ALL)?;
     let put = conn.prepare(PUT)?;
     let take = conn.prepare(TAKE)?;
@@ -106,7 +119,7 @@ fn opened(rt: &HostRuntime, path: &str) -> Result<SqliteKeeper<FileStore<File>>,
         all,
         put,
         take,
-        alloc: rt.alloc(),
+        alloc,
         count: 0,
     })
 }
