@@ -18,6 +18,6 @@ pub use commands::CommandOutside;
 pub use memory::{MemoryCommands, MemoryText};
 pub use real::RealOutside;
 pub use response::read_response;
-pub use store::{RealStore, Store};
+pub use store::{FileKeeper, RealStore, Store};
 pub use tcp::{RESPONSE_LIMIT, TcpLink, Waits};
 pub use text::FileText;

@@ -84,7 +84,7 @@ fn source_at(texts: &[MemoryText], path: &Words) -> Result<Option<MemorySource>,
 
 impl<K: Keeper> Outside for MemoryCommands<K> {
     ghost use Rattle.std.specs.Prelude.{IfErr, List, is_err, ℕ};
-    ghost use Rattle.std.specs.Map.{lookup};
+    ghost use Rattle.std.specs.Map.{lookup, remove_entry};
     ghost use Rattle.std.specs.BTreeMap.{insert_entry, is_at};
     ghost use Rattle.std.specs.Ordering.{nat_cmp};
     ghost use Rattle.merge_types.specs.declared.identifiers.SiteId.{SiteId as Site};
@@ -109,6 +109,13 @@ impl<K: Keeper> Outside for MemoryCommands<K> {
         ensures cause { HasStoreCause self.old.stores.counts self.new.stores.counts result }
         ensures fails { is_err result ≡ opening_fails K.count self.old.stores.failing self.old.stores.calls path.now (lookup (is_at (nat_cmp site.0)) self.old.stores.stores.rows) }
         ensures fault { IfErr result (λ fault. fault ≡ failed) }
+        ensures given { IfOk result (λ keeper. lookup (is_at (nat_cmp site.0)) self.old.stores.stores.rows ≡ Some keeper) }
+        ensures left { OnOk result (self.new.stores.stores.rows ≡ remove_entry (is_at (nat_cmp site.0)) self.old.stores.stores.rows) }
+        ensures stays { OnErr result (self.new.stores.stores ≡ self.old.stores.stores) }
+        ensures slots { self.new.stores.stores.slots ≡ self.old.stores.stores.slots }
+        ensures calls { self.new.stores ≡ record self.old.stores { stores = self.new.stores.stores; calls = one_more self.old.stores.calls; counts = self.new.stores.counts } }
+        ensures kept { OnOk result (self.new.stores.counts ≡ self.old.stores.counts) }
+        ensures counted { OnErr result (self.new.stores.counts ≡ with_faults 1 self.old.stores.counts) }
         ensures rest { self.new ≡ record self.old { stores = self.new.stores } }
     {
         self.stores.keeper(site, path)
@@ -120,8 +127,9 @@ impl<K: Keeper> Outside for MemoryCommands<K> {
         ensures others { SameElsewhere site path.now (told_in K.told self.old.stores.stores.rows) (told_in K.told self.new.stores.stores.rows) }
         ensures still { (s : Site) (p : List ℕ) → HasPlace self.old.stores.stores.slots s p → HasPlace self.new.stores.stores.slots s p }
         ensures put { self.new.stores.stores.rows ≡ insert_entry nat_cmp self.old.stores.stores.rows site.0 keeper }
+        ensures slots { self.new.stores.stores.slots ≡ self.old.stores.stores.slots }
         ensures counts { self.new.stores.counts ≡ with_faults (K.count keeper) self.old.stores.counts }
-        ensures rest { self.new ≡ record self.old { stores = self.new.stores } }
+        ensures rest { self.new ≡ record self.old { stores = record self.old.stores { stores = self.new.stores.stores; counts = self.new.stores.counts } } }
     {
         self.stores.keeper_back(site, path, keeper);
     }

@@ -6,14 +6,12 @@ ghost use Rattle.merge_outside.specs.Slots.{HasSlot, KeepsOthers, KeepsSlots, ke
 use crate::clock::SystemClock;
 use crate::commands::CommandOutside;
 use crate::slots::{Slot, make_slot, replace_kept};
-use crate::store::{RealStore, Store};
+use crate::store::RealStore;
 use crate::tcp::{TcpLink, Waits};
 use crate::text::{FileText, open_text};
-use merge_keeper::MemoryKeeper;
 use merge_link::Link;
-use merge_ports::{Counts, Entries, KeepFault, Keeper, OpenFault, Outside, Source};
-use merge_sqlite::SqliteKeeper;
-use merge_types::{Listing, NoMemory, SiteId, Words};
+use merge_ports::{Counts, KeepFault, Keeper, OpenFault, Outside, Source};
+use merge_types::{NoMemory, SiteId, Words};
 use std::alloc::Global;
 
 /// The files, the clock and the network of the system.
@@ -47,21 +45,12 @@ impl RealOutside {
     }
 }
 
-fn memory_store(alloc: Global) -> RealStore
-    ensures told { ⟦<RealStore as Keeper>⟧.told result ≡ Some [] }
-    ensures fresh { ⟦<RealStore as Keeper>⟧.count result ≡ 0 }
-{
-    let none = Listing::empty(alloc);
-    let entries = Entries::empty(alloc);
-    Store::Memory(MemoryKeeper::new(alloc, entries, none, Listing::empty(alloc)))
-}
-
 fn file_store(rt: &HostRuntime, path: &Words) -> Result<RealStore, OpenFault>
     ensures told { IfOk result (λ store. ⟦<RealStore as Keeper>⟧.told store ≡ None) }
     ensures fresh { IfOk result (λ store. ⟦<RealStore as Keeper>⟧.count store ≡ 0) }
 {
-    match SqliteKeeper::open(rt, path.as_str()) {
-        Ok(keeper) => Ok(Store::File(keeper)),
+    match RealStore::in_file(rt, path.as_str()) {
+        Ok(store) => Ok(store),
         Err(KeepFault::NoMemory) => Err(OpenFault::NoMemory),
         Err(KeepFault::Failed) => Err(OpenFault::Failed),
     }
@@ -74,7 +63,7 @@ fn new_store(rt: &HostRuntime, path: &Words) -> Result<RealStore, OpenFault>
     ensures fresh { IfOk result (λ store. ⟦<RealStore as Keeper>⟧.count store ≡ 0) }
 {
     if path.is_empty() {
-        return Ok(memory_store(rt.alloc()));
+        return Ok(RealStore::in_memory(rt.alloc()));
     }
     file_store(rt, path)
 }
@@ -107,10 +96,10 @@ fn open_slot(
 fn kept_of(path: &Words, store: RealStore) -> Option<RealStore>
     ensures { told_or ⟦<RealStore as Keeper>⟧.told (told_unkept path.now) result ≡ ⟦<RealStore as Keeper>⟧.told store }
 {
-    match store {
-        Store::File(_) if !path.is_empty() => None,
-        kept => Some(kept),
+    if store.is_in_file() && !path.is_empty() {
+        return None;
     }
+    Some(store)
 }
 
 impl Outside for RealOutside {

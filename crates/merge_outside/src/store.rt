@@ -1,11 +1,13 @@
-//! A keeper of one of two kinds.
-ghost use Rattle.std.specs.Prelude.{◌≡◌};
+//! Keepers of stores in memory and in files.
+ghost use Rattle.std.specs.Prelude.{◌≡◌, [], None, Some, IfOk, true};
 
 use merge_keeper::MemoryKeeper;
 use merge_ports::{Entries, EntryEdit, KeepFault, Keeper};
 use merge_sqlite::SqliteKeeper;
+use merge_types::Listing;
 use sqlite::FileStore;
 use sqlite_std_file::File;
+use std::alloc::Global;
 
 /// The keeper of a store in memory or in a file. It tells what that keeper tells.
 #[derive(Drop)]
@@ -13,9 +15,6 @@ pub enum Store<M, F> {
     Memory(M),
     File(F),
 }
-
-/// A store in memory tells its map, one in a file does not.
-pub type RealStore = Store<MemoryKeeper, SqliteKeeper<FileStore<File>>>;
 
 impl<M: Keeper, F: Keeper> Keeper for Store<M, F> {
     ghost use Rattle.merge_outside.specs.Stores.{told_by, count_of};
@@ -43,5 +42,100 @@ impl<M: Keeper, F: Keeper> Keeper for Store<M, F> {
             Store::Memory(keeper) => keeper.faults(),
             Store::File(keeper) => keeper.faults(),
         }
+    }
+}
+
+/// The keeper of a SQLite file that the system has. It tells nothing of its map.
+///
+/// Its name has no parameters, so a proof of what is called with it looks into no database.
+#[derive(Drop)]
+pub struct FileKeeper {
+    keeper: SqliteKeeper<FileStore<File>>,
+}
+
+impl FileKeeper {
+    // The keeper of the file at a path.
+    fn open(rt: &HostRuntime, path: &str) -> Result<Self, KeepFault>
+        ensures fresh { IfOk result (λ keeper. ⟦<FileKeeper as Keeper>⟧.count keeper ≡ 0) }
+    {
+        let keeper = SqliteKeeper::open(rt, path)?;
+        Ok(FileKeeper { keeper })
+    }
+}
+
+impl Keeper for FileKeeper {
+    ghost use Rattle.std.specs.Prelude.{None};
+
+    ghost told = { λ k. None };
+
+    ghost count = { λ k. ⟦<SqliteKeeper<FileStore<File>> as Keeper>⟧.count k.keeper };
+
+    fn load(&mut self) -> Result<Entries, KeepFault> {
+        self.keeper.load()
+    }
+
+    fn commit(&mut self, edits: &[EntryEdit]) -> Result<(), KeepFault> {
+        self.keeper.commit(edits)
+    }
+
+    fn faults(&self) -> u64 {
+        self.keeper.faults()
+    }
+}
+
+/// The keeper of a store of the program: one in memory tells its map, one in a file does not.
+#[derive(Drop)]
+pub struct RealStore {
+    kept: Store<MemoryKeeper, FileKeeper>,
+}
+
+impl RealStore {
+    /// A store in memory, which has no entries.
+    pub(crate) fn in_memory(alloc: Global) -> Self
+        ensures told { ⟦<RealStore as Keeper>⟧.told result ≡ Some [] }
+        ensures fresh { ⟦<RealStore as Keeper>⟧.count result ≡ 0 }
+    {
+        let none = Listing::empty(alloc);
+        let entries = Entries::empty(alloc);
+        let keeper = MemoryKeeper::new(alloc, entries, none, Listing::empty(alloc));
+        RealStore {
+            kept: Store::Memory(keeper),
+        }
+    }
+
+    /// The store in the file at a path.
+    pub(crate) fn in_file(rt: &HostRuntime, path: &str) -> Result<Self, KeepFault>
+        ensures told { IfOk result (λ store. ⟦<RealStore as Keeper>⟧.told store ≡ None) }
+        ensures fresh { IfOk result (λ store. ⟦<RealStore as Keeper>⟧.count store ≡ 0) }
+    {
+        let keeper = FileKeeper::open(rt, path)?;
+        Ok(RealStore {
+            kept: Store::File(keeper),
+        })
+    }
+
+    /// Whether it is in a file, of which nothing is told.
+    pub(crate) fn is_in_file(&self) -> bool
+        ensures { result ≡ true → ⟦<RealStore as Keeper>⟧.told self.now ≡ None }
+    {
+        matches!(self.kept, Store::File(_))
+    }
+}
+
+impl Keeper for RealStore {
+    ghost told = { λ s. ⟦<Store<MemoryKeeper, FileKeeper> as Keeper>⟧.told s.kept };
+
+    ghost count = { λ s. ⟦<Store<MemoryKeeper, FileKeeper> as Keeper>⟧.count s.kept };
+
+    fn load(&mut self) -> Result<Entries, KeepFault> {
+        self.kept.load()
+    }
+
+    fn commit(&mut self, edits: &[EntryEdit]) -> Result<(), KeepFault> {
+        self.kept.commit(edits)
+    }
+
+    fn faults(&self) -> u64 {
+        self.kept.faults()
     }
 }

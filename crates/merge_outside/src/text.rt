@@ -2,12 +2,31 @@
 ghost use Rattle.std.specs.Prelude.{◌≡◌, ◌≢◌, IfOk};
 ghost use Rattle.std.specs.IoError.{error_kind};
 
-use merge_ports::{OpenFault, Reading};
+use merge_ports::{Failed, OpenFault, Reading, Source};
 use std::fs::File;
 use std::io::{Error, ErrorKind};
 
 /// A text in a file. It counts each read that fails, and tells nothing of its bytes.
-pub type FileText = Reading<File>;
+#[derive(Drop)]
+pub struct FileText {
+    reading: Reading<File>,
+}
+
+impl Source for FileText {
+    ghost use Rattle.std.specs.Prelude.{None};
+
+    ghost left = { λ t. None };
+
+    ghost count = { λ t. t.reading.faults };
+
+    fn read(&mut self, piece: &mut [u8]) -> Result<usize, Failed> {
+        self.reading.read(piece)
+    }
+
+    fn faults(&self) -> u64 {
+        self.reading.faults()
+    }
+}
 
 fn fault_of(error: &Error) -> OpenFault
     ensures starved { error_kind error.now ≡ ErrorKind.OutOfMemory → result ≡ OpenFault.NoMemory }
@@ -21,10 +40,12 @@ fn fault_of(error: &Error) -> OpenFault
 
 /// Opens the text in a file.
 pub(crate) fn open_text(rt: &HostRuntime, path: &str) -> Result<FileText, OpenFault>
-    ensures { IfOk result (λ text. text.faults ≡ 0) }
+    ensures { IfOk result (λ text. text.reading.faults ≡ 0) }
 {
     match File::open(rt, path) {
-        Ok(file) => Ok(Reading::new(file)),
+        Ok(file) => Ok(FileText {
+            reading: Reading::new(file),
+        }),
         Err(error) => Err(fault_of(&error)),
     }
 }
