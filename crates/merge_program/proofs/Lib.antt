@@ -9,6 +9,7 @@ pub mod Plays
 pub mod Readings
 pub mod Rises
 pub mod Rooms
+pub mod Serves
 pub mod Shows
 pub mod Sites
 pub mod Statuses

@@ -7,7 +7,9 @@ pub mod Headline
 pub mod Making
 pub mod Notes
 pub mod Opening
+pub mod Orders
 pub mod Runs
+pub mod Serving
 pub mod Showing
 pub mod Sited
 pub mod Statuses

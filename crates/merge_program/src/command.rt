@@ -80,8 +80,8 @@ fn site_in(word: &[u8]) -> Option<SiteId>
     }
 }
 
-// Whether a word begins as an option does.
-fn is_dashed(word: &Words) -> bool
+/// Whether a word begins as an option does.
+pub(crate) fn is_dashed(word: &Words) -> bool
     ensures { result ≡ is_dashed word.now }
 {
     match word.as_str().as_bytes() {
@@ -149,8 +149,8 @@ fn by_show(
     }
 }
 
-// Whether a word is an address.
-fn is_address(word: &Words) -> bool
+/// Whether a word is an address.
+pub(crate) fn is_address(word: &Words) -> bool
     ensures { result ≡ is_address word.now }
 {
     is_visible(word.as_str())
@@ -211,14 +211,25 @@ pub fn command_of(words: &[Words]) -> Result<Option<Command>, NoMemory>
     }
 }
 
-// The program and its commands, as its help shows them.
-fn program(alloc: Global) -> Result<clap::Command<'static>, AllocError> {
+// A program with the commands that read a script of all sites, or make one.
+fn with_played(
+    alloc: Global,
+    program: clap::Command<'static>,
+) -> Result<clap::Command<'static>, AllocError> {
     let play = clap::Command::new(alloc, "play").about(
         "Read a publication, a line --- and a script, and answer each event",
     );
     let make = clap::Command::new(alloc, "make")
         .about("Play a script that is made for N customers, 1 to 20000, and sum up its answers")
         .arg(Arg::new(alloc, "N").required(true))?;
+    Ok(program.subcommand(play)?.subcommand(make)?)
+}
+
+// A program with the commands that one site obeys alone.
+fn with_stored(
+    alloc: Global,
+    program: clap::Command<'static>,
+) -> Result<clap::Command<'static>, AllocError> {
     let change = clap::Command::new(alloc, "change")
         .about(
             "Read a script that changes the site SITE of the publication in the file PUB, at the store STORE",
@@ -232,12 +243,34 @@ fn program(alloc: Global) -> Result<clap::Command<'static>, AllocError> {
         .arg(Arg::new(alloc, "STORE").required(true))?
         .arg(Arg::new(alloc, "SITE").required(true))?
         .arg(Arg::new(alloc, "ARTICLE").required(true))?;
+    Ok(program.subcommand(change)?.subcommand(show)?)
+}
+
+// A program with the commands by which a subscriber and the publisher meet.
+fn with_met(
+    alloc: Global,
+    program: clap::Command<'static>,
+) -> Result<clap::Command<'static>, AllocError> {
     let sync = clap::Command::new(alloc, "sync")
         .about("Synchronise that site, a subscriber, with the publisher at ADDRESS over HTTP")
         .arg(Arg::new(alloc, "PUB").required(true))?
         .arg(Arg::new(alloc, "STORE").required(true))?
         .arg(Arg::new(alloc, "SITE").required(true))?
         .arg(Arg::new(alloc, "ADDRESS").required(true))?;
+    let serve = clap::Command::new(alloc, "serve")
+        .about(
+            "Serve subscribers at ADDRESS over HTTP from the publisher at the store STORE, by 1 to 16 WORKERS and for 1 to 1000000 REQUESTS, and sum up",
+        )
+        .arg(Arg::new(alloc, "PUB").required(true))?
+        .arg(Arg::new(alloc, "STORE").required(true))?
+        .arg(Arg::new(alloc, "ADDRESS").required(true))?
+        .arg(Arg::new(alloc, "WORKERS").required(true))?
+        .arg(Arg::new(alloc, "REQUESTS").required(true))?;
+    Ok(program.subcommand(sync)?.subcommand(serve)?)
+}
+
+// The program and its commands, as its help shows them.
+fn program(alloc: Global) -> Result<clap::Command<'static>, AllocError> {
     let program = clap::Command::new(alloc, "replmerge")
         .about("Merge replication between a publisher and its subscribers")
         .after_help(
@@ -245,13 +278,10 @@ fn program(alloc: Global) -> Result<clap::Command<'static>, AllocError> {
         )
         .disable_help_flag(true)
         .disable_version_flag(true)
-        .disable_help_subcommand(true)
-        .subcommand(play)?
-        .subcommand(make)?
-        .subcommand(change)?
-        .subcommand(show)?
-        .subcommand(sync)?;
-    Ok(program)
+        .disable_help_subcommand(true);
+    let program = with_played(alloc, program)?;
+    let program = with_stored(alloc, program)?;
+    with_met(alloc, program)
 }
 
 /// The program's help: each command with its words, and where the script's page is.

@@ -76,15 +76,15 @@ fn declined_note(alloc: Global, number: u8) -> Result<String, NoMemory>
     Ok(format!(in alloc; "refused {number}\n")?)
 }
 
-// Writes a note. A fault of the notes is nobody's.
-fn write_note<N: Sink>(notes: &mut N, note: &str)
+/// Writes a note. A fault of the notes is nobody's.
+pub(crate) fn write_note<N: Sink>(notes: &mut N, note: &str)
     ensures { IsTold note.now (N.written notes.old) (N.written notes.new) (N.count notes.old) (N.count notes.new) }
 {
     if let Err(_) = write_whole(notes, note.as_bytes()) {}
 }
 
-// Writes a note that was put together, and nothing where memory was wanting for that.
-fn write_made<N: Sink>(notes: &mut N, note: Result<String, NoMemory>)
+/// Writes a note that was put together, and nothing where memory was wanting for that.
+pub(crate) fn write_made<N: Sink>(notes: &mut N, note: Result<String, NoMemory>)
     ensures ok { IfOk note (λ note. IsTold (string_bytes note) (N.written notes.old) (N.written notes.new) (N.count notes.old) (N.count notes.new)) }
     ensures err { OnErr note (N.written notes.new ≡ N.written notes.old) }
 {

@@ -1,0 +1,39 @@
+-- A publisher serves, or the words are those of another command.
+use Rattle.std.proofs.Common.{refl}
+use Rattle.merge_program.proofs.Serves.{no-order, one-order, some-order, tells-of, wanting}
+use Rattle.merge_program.proofs.performing.perform.Goals as goal
+
+pub returns-in-Ok-Some-clause-statuses : goal.returns-in-Ok-Some-clause-statuses
+returns-in-Ok-Some-clause-statuses g c = λ none. let said = rw c.in-Ok-Some.field-0-is at c.in-Ok-Some.ensures.ok in no-order _ _ said none
+
+pub returns-in-Ok-Some-clause-part : goal.returns-in-Ok-Some-clause-part
+returns-in-Ok-Some-clause-part g c = λ none play. let said = rw c.in-Ok-Some.field-0-is at c.in-Ok-Some.ensures.ok in no-order _ _ said none
+
+pub returns-in-Ok-Some-clause-made : goal.returns-in-Ok-Some-clause-made
+returns-in-Ok-Some-clause-made g c = λ customers none make. let said = rw c.in-Ok-Some.field-0-is at c.in-Ok-Some.ensures.ok in no-order _ _ said none
+
+pub returns-in-Ok-Some-clause-noted : goal.returns-in-Ok-Some-clause-noted
+returns-in-Ok-Some-clause-noted g c = λ none. let said = rw c.in-Ok-Some.field-0-is at c.in-Ok-Some.ensures.ok in no-order _ _ said none
+
+pub returns-in-Ok-Some-clause-served : goal.returns-in-Ok-Some-clause-served
+returns-in-Ok-Some-clause-served g c = λ order say.
+    let said = rw c.in-Ok-Some.field-0-is at c.in-Ok-Some.ensures.ok in
+    tells-of _ _ _ _ _ _ c.status.ensures (c.serve-finish.ensures _ _ _) _ _ _ _ c.tell.ensures order (one-order _ _ _ said say)
+
+pub returns-in-Ok-None-clause-served : goal.returns-in-Ok-None-clause-served
+returns-in-Ok-None-clause-served g c = λ order say. let said = rw c.in-Ok-None.field-0-is at c.in-Ok-None.ensures.ok in some-order _ _ said say
+
+pub returns-in-Err-clause-statuses : goal.returns-in-Err-clause-statuses
+returns-in-Err-clause-statuses g c = λ none. absurd (c.in-Err.ensures.err none)
+
+pub returns-in-Err-clause-part : goal.returns-in-Err-clause-part
+returns-in-Err-clause-part g c = λ none play. absurd (c.in-Err.ensures.err none)
+
+pub returns-in-Err-clause-made : goal.returns-in-Err-clause-made
+returns-in-Err-clause-made g c = λ customers none make. absurd (c.in-Err.ensures.err none)
+
+pub returns-in-Err-clause-noted : goal.returns-in-Err-clause-noted
+returns-in-Err-clause-noted g c = λ none. absurd (c.in-Err.ensures.err none)
+
+pub returns-in-Err-clause-served : goal.returns-in-Err-clause-served
+returns-in-Err-clause-served g c = λ order say. wanting order _ _ _ _ refl refl refl _ c.status-in-Err.ensures _ _ _ _ c.tell-in-Err.ensures
