@@ -3,31 +3,53 @@ ghost use Rattle.std.specs.Prelude.{◌≡◌, IfOk};
 ghost use Rattle.merge_serve.specs.Attending.{traffic};
 ghost use Rattle.merge_serve.specs.Closing.{IsServed};
 
-use crate::half::{TcpHalf, Waits};
+use crate::waits::Waits;
 use merge_desk::Seat;
-use merge_ports::{Failed, OpenFault};
+use merge_outside::TimedStream;
+use merge_ports::{Failed, OpenFault, Sink, Source};
 use merge_serve::{Connection, Door, Doors, LastClosed};
 use merge_types::Words;
 use std::io;
-use std::io::ErrorKind;
-use std::net::{TcpListener, TcpStream};
+use std::io::{ErrorKind, Read};
+use std::net::{Shutdown, TcpListener, TcpStream};
 use std::sync::ledger::Ledger;
-use std::time::Instant;
+use std::time::{Duration, Instant};
 
 // How many peers in turn may go away before they are accepted.
 const GONE_IN_TURN: usize = 1000;
 
+// What a peer may still send once it was answered, in pieces of 4096 bytes.
+const PIECES_BEHIND: usize = 16;
+
 // The two halves of a connection, whose time begins now.
-fn halves(rt: HostRuntime, stream: TcpStream, waits: Waits) -> io::Result<(TcpHalf, TcpHalf)>
-    ensures input { IfOk result (λ halves. halves.0.faults ≡ 0) }
-    ensures output { IfOk result (λ halves. halves.1.faults ≡ 0) }
+fn halves(
+    rt: HostRuntime,
+    stream: TcpStream,
+    waits: Waits,
+) -> io::Result<(TimedStream, TimedStream)>
+    ensures input { IfOk result (λ halves. ⟦<TimedStream as Source>⟧.count halves.0 ≡ 0) }
+    ensures output { IfOk result (λ halves. ⟦<TimedStream as Sink>⟧.count halves.1 ≡ 0) }
 {
     let started = Instant::now(&rt)?;
     let output = stream.try_clone()?;
     Ok((
-        TcpHalf::new(rt, stream, started, waits),
-        TcpHalf::new(rt, output, started, waits),
+        TimedStream::new(rt, stream, started, waits.at_once, waits.in_all),
+        TimedStream::new(rt, output, started, waits.at_once, waits.in_all),
     ))
+}
+
+// Nothing more is written, and some of what the peer still sends is read: a socket that is closed
+// with bytes to read would be reset, and the peer could lose the response.
+fn hang_up(mut stream: TcpStream) -> io::Result<()> {
+    stream.shutdown(Shutdown::Write)?;
+    stream.set_read_timeout(Some(Duration::from_secs(1)))?;
+    let mut piece = [0; 4096];
+    for _ in 0..PIECES_BEHIND {
+        if stream.read(&mut piece)? == 0 {
+            return Ok(());
+        }
+    }
+    Ok(())
 }
 
 // Whether a peer went away before it was accepted, so that the next may be.
@@ -73,9 +95,9 @@ impl TcpDoor {
         Err(ErrorKind::ConnectionAborted.into())
     }
 
-    fn take(&self) -> io::Result<(TcpHalf, TcpHalf)>
-        ensures input { IfOk result (λ halves. halves.0.faults ≡ 0) }
-        ensures output { IfOk result (λ halves. halves.1.faults ≡ 0) }
+    fn take(&self) -> io::Result<(TimedStream, TimedStream)>
+        ensures input { IfOk result (λ halves. ⟦<TimedStream as Source>⟧.count halves.0 ≡ 0) }
+        ensures output { IfOk result (λ halves. ⟦<TimedStream as Sink>⟧.count halves.1 ≡ 0) }
     {
         halves(self.rt, self.next()?, self.waits)
     }
@@ -84,15 +106,15 @@ impl TcpDoor {
 impl Door for TcpDoor {
     ghost use Rattle.std.specs.Prelude.{None};
 
-    type Input = TcpHalf;
+    type Input = TimedStream;
 
-    type Output = TcpHalf;
+    type Output = TimedStream;
 
     ghost handed = { λ d. None };
 
     ghost count = { λ d. d.faults };
 
-    fn accept(&mut self) -> Result<Connection<TcpHalf, TcpHalf>, Failed> {
+    fn accept(&mut self) -> Result<Connection<TimedStream, TimedStream>, Failed> {
         match self.take() {
             Ok((input, output)) => Ok(Connection::new(input, output)),
             Err(_) => {
@@ -103,18 +125,18 @@ impl Door for TcpDoor {
     }
 
     fn close<L: Ledger, M: Ledger>(
-        connection: Connection<TcpHalf, TcpHalf>,
+        connection: Connection<TimedStream, TimedStream>,
         seat: &Seat<L, M>,
         last: &mut LastClosed<L, M>,
     )
         requires { IsServed
-            (traffic None None connection.first_input.value.faults connection.first_output.value.faults)
-            (traffic None None connection.input.faults connection.output.faults)
+            (traffic None None (⟦<TimedStream as Source>⟧.count connection.first_input.value) (⟦<TimedStream as Sink>⟧.count connection.first_output.value))
+            (traffic None None (⟦<TimedStream as Source>⟧.count connection.input) (⟦<TimedStream as Sink>⟧.count connection.output))
             last.old.seat.value seat.now }
         ensures { last.new.seat.value ≡ seat.now }
     {
         let (_input, output) = connection.into_halves();
-        output.close();
+        if let Err(_) = hang_up(output.into_stream()) {}
         last.note(seat);
     }
 

@@ -2,7 +2,7 @@
 #![tactic(auto)]
 
 mod door;
-mod half;
+mod waits;
 
 pub use door::{TcpDoor, TcpDoors};
-pub use half::{TcpHalf, Waits};
+pub use waits::Waits;

@@ -12,6 +12,7 @@ mod slots;
 mod store;
 mod tcp;
 mod text;
+mod timed;
 
 pub use clock::SystemClock;
 pub use commands::CommandOutside;
@@ -21,3 +22,4 @@ pub use response::read_response;
 pub use store::{FileKeeper, RealStore, Store};
 pub use tcp::{RESPONSE_LIMIT, TcpLink, Waits};
 pub use text::FileText;
+pub use timed::TimedStream;

@@ -5,7 +5,7 @@ ghost use Rattle.merge_ports.specs.Faults.{one_more};
 ghost use Rattle.merge_link.specs.Carried.{HasLinkCause};
 ghost use Rattle.merge_link.specs.declared.link.LinkFault.TheVariants.{Failed as failed};
 
-use crate::connection::Connection;
+use crate::connection::open_connection;
 use crate::response::read_response;
 use merge_link::{Link, LinkFault};
 use merge_ports::write_whole;
@@ -69,7 +69,7 @@ impl TcpLink {
     {
         let address = self.address.as_str();
         let waits = self.waits;
-        let opened = Connection::open(&self.rt, address, waits.to_connect, waits.to_answer);
+        let opened = open_connection(&self.rt, address, waits.to_connect, waits.to_answer);
         let Ok(mut connection) = opened else {
             return Err(LinkFault::Failed);
         };

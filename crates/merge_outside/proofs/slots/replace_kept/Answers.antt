@@ -1,4 +1,4 @@
-use Rattle.std.proofs.Common.{◌≡◌, ◌∙◌, sym, ap}
+use Rattle.std.proofs.Common.{◌∙◌, sym, ap}
 use Rattle.std.specs.Prelude.{position}
 use Rattle.merge_outside.specs.Slots.{is_slot}
 use Rattle.merge_outside.proofs.Kept.{kept-before, kept-after, kept-others}
