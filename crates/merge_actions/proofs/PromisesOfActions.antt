@@ -1,4 +1,5 @@
--- All promises, of the model behind a list of actions.
+-- All promises, of the model behind a list of actions, and so of the machine.
+use Rattle.std.proofs.Common.{sym}
 use Rattle.std.specs.Prelude.{All}
 use Rattle.merge_ident.specs.Books.{IsRule}
 use Rattle.merge_model.specs.Tables.Publications.{rules_of}
@@ -12,12 +13,13 @@ use Rattle.merge_laws.proofs.Sessions.BoundsEnough.{downloads-enough, uploads-en
 use Rattle.merge_laws.proofs.ActsOnce.EffectsOnce.{news-is-unmet, numbers-take-effect}
 use Rattle.merge_laws.proofs.Runs.LawsOfActions as laws
 use Rattle.merge_laws.proofs.LastLines.LeavingsOwed.{joins-take-nothing, purges-take-nothing}
-use Rattle.merge_laws.proofs.Lineages.LineagesAlways.{all-alike, all-steps, cases-decided, publishers-alike}
+use Rattle.merge_laws.proofs.Lineages.LineagesAlways.{actions-same, all-alike, all-steps, cases-decided, publishers-alike}
 use Rattle.merge_laws.proofs.Runs.RestsOnKept.{accepted-known-by-actions, chains-accounted, held-granted-always, known-accepted-by-actions, moments-step, received-step, replies-true, sites-equal}
 use Rattle.merge_laws.proofs.Sessions.RoundLaw.{round-settles}
 use Rattle.merge_laws.proofs.Sessions.SessionLaw.{sessions-settle-by-actions}
 use Rattle.merge_laws.proofs.Settled.SettledLaw.{settled-sites-hold}
 use Rattle.merge_laws.proofs.Runs.ValidRules.{valid-rules}
+use Rattle.merge_actions.specs.Actions.{MachineHasPromisesBehindActions}
 
 pub promises-hold : OfEveryValidActions Promised
 promises-hold resolvers publication valid says tallies slips actions =
@@ -77,3 +79,10 @@ promises-hold resolvers publication valid says tallies slips actions =
       sorted = laws.lists-sorted publication says tallies slips actions;
       subscriber_sorted = laws.sub-lists-sorted publication says tallies slips actions;
     }
+
+pub machine-has-promises : MachineHasPromisesBehindActions
+machine-has-promises resolvers publication valid says tallies slips actions = record {
+  model = model_behind_actions publication says tallies slips actions;
+  same_tables = sym (actions-same publication (resolvers, valid) says tallies slips actions).1;
+  promised = promises-hold resolvers publication valid says tallies slips actions;
+}

@@ -1,0 +1,223 @@
+-- The journal of a publisher that serves, one action after the other.
+use Rattle.std.proofs.Common.{◌≡◌, ◌++◌, ◌∷◌, ◌∙◌, [], All, Bool, true, false, List, Option, Some, None, Result, Ok, Err, ℕ, ap, map, refl, sym, if◌then◌else◌}
+use Rattle.std.proofs.lemmas.List.Elements.{All-head, All-tail}
+use Rattle.merge_types.specs.declared.identifiers.SiteId.{SiteId}
+use Rattle.merge_schema.specs.declared.publication.Publication.{Publication}
+use Rattle.merge_batch.specs.declared.refusal.Refusal.{Refusal}
+use Rattle.merge_batch.specs.declared.refusal.Refusal.TheVariants.{NoMemory, StoreFault}
+use Rattle.merge_batch.specs.declared.reply.Reply.{Reply}
+use Rattle.merge_batch.specs.declared.reply.Uploaded.{Uploaded}
+use Rattle.merge_batch.specs.declared.reply.Reply.TheVariants as reply
+use Rattle.merge_batch.specs.declared.request.Request.{Request}
+use Rattle.merge_batch.specs.declared.request.Request.TheVariants as request
+use Rattle.merge_batch.specs.declared.request.Upload.{Upload}
+use Rattle.merge_model.specs.Failing.{Faulty, Slip, Slips, acting_with, slip_if, slip_refusal}
+use Rattle.merge_model.specs.Failing.Reach.{stepping}
+use Rattle.merge_model.specs.Failing.Runs.{after_actions}
+use Rattle.merge_model.specs.Judge.ByNumbers.{by_numbers}
+use Rattle.merge_model.specs.Laws.SlipLaws.{is_slip, refused_for}
+use Rattle.merge_model.specs.Publisher.PublisherDownload.{download}
+use Rattle.merge_model.specs.Publisher.PublisherJoin.{join}
+use Rattle.merge_model.specs.Publisher.PublisherRanges.{ranges}
+use Rattle.merge_model.specs.Publisher.PublisherUpload.{upload}
+use Rattle.merge_model.specs.Tables.{PublisherTables, SubscriberTables}
+use Rattle.merge_model.specs.World.Calls.{as_reply, handled}
+use Rattle.merge_model.specs.World.Events.{machine}
+use Rattle.merge_model.specs.World.Steps.{Action, CloseAt, Deliver, Forget, Look, Make, MakeAnew, Pass, Send, Sending, SendDownload, SendJoin, SendRanges, SendUpload, after_upload, answered as answers, at_subscriber, deliver, deliver_letter, deliver_request, kept_decisions, posted, send_from, unless_refused, upload_questions}
+use Rattle.merge_model.specs.World.{Saying, World, by_tables, letter_at, subscriber_at}
+use Rattle.merge_model.specs.declared.letter.Letter.{Letter}
+use Rattle.merge_model.specs.declared.letter.Message.{Message}
+use Rattle.merge_model.specs.declared.letter.Message.TheVariants.{Asks, Replies}
+use Rattle.merge_model.specs.declared.outcome.Outcome.{Outcome}
+use Rattle.merge_model.specs.declared.outcome.Outcome.TheVariants.{NoLetter}
+use Rattle.merge_desk.proofs.Entries.{answered-again}
+use Rattle.merge_desk.specs.Replay.{answer_to, answered, entry_decisions, replay}
+use Rattle.merge_desk.specs.declared.entry.Entry.{Entry}
+use Rattle.merge_draft.specs.Drafting.{decided}
+use Rattle.merge_served.specs.Served.{Attended, IsServing, asked_by, attended, attended_by, attended_in, unless_failed}
+
+-- Journals by their parts.
+
+none : (journal : List Entry) → map attended_in journal ≡ [] → journal ≡ []
+none [] e = refl
+none (x ∷ journal) e = absurd (cc e)
+
+first : {x y : Attended} {xs ys : List Attended} → x ∷ xs ≡ y ∷ ys → x ≡ y
+first e = cc e
+
+rest : {x y : Attended} {xs ys : List Attended} → x ∷ xs ≡ y ∷ ys → xs ≡ ys
+rest e = cc e
+
+split : (xs ys : List Attended) (journal : List Entry) → map attended_in journal ≡ xs ++ ys
+    → (early : List Entry) × (late : List Entry) × (journal ≡ early ++ late) × (map attended_in early ≡ xs) × (map attended_in late ≡ ys)
+split [] ys journal e = ([], journal, refl, refl, e)
+split (x ∷ xs) ys [] e = absurd (cc e)
+split (x ∷ xs) ys (j ∷ journal) e =
+    let more = split xs ys journal (rest e) in
+    (j ∷ more.0, more.1, ap (λ (l : List Entry). j ∷ l) more.2, ap (λ (a : Attended). a ∷ map attended_in more.0) (first e) ∙ ap (λ (l : List Attended). x ∷ l) more.3, more.4)
+
+replay-on : (publication : Publication) (p : PublisherTables) (early late : List Entry) → replay publication p (early ++ late) ≡ replay publication (replay publication p early) late
+replay-on publication p [] late = refl
+replay-on publication p (e ∷ early) late = replay-on publication (answer_to publication p e).0 early late
+
+-- What does nothing at the publisher.
+
+quiet-unless : {A : Type 0} (w : World) (result : Result A Refusal) (k : A → World × Outcome) → ((a : A) → (k a).0.publisher ≡ w.publisher) → (unless_refused w result k).0.publisher ≡ w.publisher
+quiet-unless w (Err why) k h = refl
+quiet-unless w (Ok a) k h = h a
+
+quiet-if-there : (w : World) (site : SiteId) (s : Option SubscriberTables) (act : SubscriberTables → World × Outcome) → subscriber_at w site ≡ s → ((t : SubscriberTables) → (act t).0.publisher ≡ w.publisher)
+    → (at_subscriber site w act).0.publisher ≡ w.publisher
+quiet-if-there w site None act is h = rw (is, at_subscriber) refl
+quiet-if-there w site (Some t) act is h = rw (is, at_subscriber) (h t)
+
+quiet-at : (w : World) (site : SiteId) (act : SubscriberTables → World × Outcome) → ((t : SubscriberTables) → (act t).0.publisher ≡ w.publisher) → (at_subscriber site w act).0.publisher ≡ w.publisher
+quiet-at w site act h = quiet-if-there w site (subscriber_at w site) act refl h
+
+quiet-posted : {A : Type 0} (site : SiteId) (message : A → Request) (w : World) (made : Option (SubscriberTables × A)) → (posted site message w made).0.publisher ≡ w.publisher
+quiet-posted site message w None = refl
+quiet-posted site message w (Some made) = refl
+
+module _ (publication : Publication) (says : Saying) where
+  quiet-sent : (w : World) (sending : Sending) (s : SubscriberTables) → (send_from (by_tables w) sending w s).0.publisher ≡ w.publisher
+  quiet-sent w SendJoin s = quiet-unless w _ _ (λ made. quiet-posted s.site _ w made)
+  quiet-sent w SendUpload s = quiet-unless w _ _ (λ made. quiet-posted s.site _ w made)
+  quiet-sent w SendRanges s = quiet-unless w _ _ (λ made. quiet-posted s.site _ w made)
+  quiet-sent w SendDownload s = quiet-unless w _ _ (λ made. refl)
+
+  -- a step that is none at the publisher leaves its tables, also where it fails
+  slip-quiet : (b : Bool) (slips : Slips) (slip : Slip) (action : Action) (w : World) (done : World × Outcome) → done.0.publisher ≡ w.publisher
+      → (slip_if publication (machine publication says) b slips slip action w done).0.world.publisher ≡ w.publisher
+  slip-quiet true slips slip action w done h = refl
+  slip-quiet false slips slip action w done h = h
+
+  acting-quiet : (slips : Slips) (action : Action) (w : World) (done : World × Outcome) → done.0.publisher ≡ w.publisher
+      → (acting_with publication (machine publication says) slips action w done).0.world.publisher ≡ w.publisher
+  acting-quiet [] action w done h = h
+  acting-quiet (None ∷ slips) action w done h = h
+  acting-quiet (Some slip ∷ slips) action w done h = slip-quiet _ slips slip action w done h
+
+  -- What a message does that comes to the publisher: the journal's part leads to its tables, and a refusal leaves them.
+
+  by_answer : {A : Type 0} (site : SiteId) (message : A → Reply) (w : World) (done : Result (PublisherTables × A) Refusal)
+      → (answers site message w done).0.publisher ≡ (answered w.publisher (as_reply message done)).0
+  by_answer site message w (Ok made) = refl
+  by_answer site message w (Err why) = refl
+
+  by_upload : (site : SiteId) (m : Upload) (w : World) (done : Result (PublisherTables × Uploaded) Refusal)
+      → (after_upload publication says (by_numbers w.publisher) site m w done).0.publisher ≡ (answered w.publisher (as_reply reply.Uploaded done)).0
+  by_upload site m w (Ok made) = refl
+  by_upload site m w (Err why) = refl
+
+  delivered : (site : SiteId) (m : Request) (w : World)
+      → (deliver_request publication says (by_numbers w.publisher) site m w).0.publisher ≡ (answered w.publisher (handled publication says w.tallies w.moment m w.publisher)).0
+  delivered site (request.Join m) w = by_answer site reply.Joined w (join publication w.moment m w.publisher)
+  delivered site (request.Upload m) w = by_upload site m w (upload publication (by_numbers w.publisher) w.moment m (kept_decisions says w.tallies (upload_questions publication (by_numbers w.publisher) w.moment m w.publisher)) w.publisher)
+  delivered site (request.Ranges m) w = by_answer site reply.Ranged w (ranges publication (by_numbers w.publisher) w.moment m w.publisher)
+  delivered site (request.Download m) w = by_answer site reply.Downloaded w (download publication (by_numbers w.publisher) w.moment m w.publisher)
+
+  refused_answer : {A : Type 0} (site : SiteId) (message : A → Reply) (w : World) (done : Result (PublisherTables × A) Refusal)
+      → refused_for is_slip (answers site message w done).1 ≡ true → (answers site message w done).0.publisher ≡ w.publisher
+  refused_answer site message w (Ok made) is = absurd (cc is)
+  refused_answer site message w (Err why) is = refl
+
+  refused_upload : (site : SiteId) (m : Upload) (w : World) (done : Result (PublisherTables × Uploaded) Refusal)
+      → refused_for is_slip (after_upload publication says (by_numbers w.publisher) site m w done).1 ≡ true → (after_upload publication says (by_numbers w.publisher) site m w done).0.publisher ≡ w.publisher
+  refused_upload site m w (Ok made) is = absurd (cc is)
+  refused_upload site m w (Err why) is = refl
+
+  refused : (site : SiteId) (m : Request) (w : World)
+      → refused_for is_slip (deliver_request publication says (by_numbers w.publisher) site m w).1 ≡ true → (deliver_request publication says (by_numbers w.publisher) site m w).0.publisher ≡ w.publisher
+  refused site (request.Join m) w = refused_answer site reply.Joined w (join publication w.moment m w.publisher)
+  refused site (request.Upload m) w = refused_upload site m w (upload publication (by_numbers w.publisher) w.moment m (kept_decisions says w.tallies (upload_questions publication (by_numbers w.publisher) w.moment m w.publisher)) w.publisher)
+  refused site (request.Ranges m) w = refused_answer site reply.Ranged w (ranges publication (by_numbers w.publisher) w.moment m w.publisher)
+  refused site (request.Download m) w = refused_answer site reply.Downloaded w (download publication (by_numbers w.publisher) w.moment m w.publisher)
+
+  -- what a part of a journal makes of tables
+  abbrev answer_in : PublisherTables → Attended → PublisherTables × Reply
+  answer_in p a = answered p (decided publication a.moment a.request a.decisions p)
+
+  one-entry : (w : World) (m : Request) (part : List Entry)
+      → map attended_in part ≡ record { moment = w.moment; request = m; decisions = entry_decisions publication says w.tallies w.moment m w.publisher } ∷ []
+      → replay publication w.publisher part ≡ (answered w.publisher (handled publication says w.tallies w.moment m w.publisher)).0
+  one-entry w m [] e = absurd (cc e)
+  one-entry w m (x ∷ y ∷ part) e = absurd (cc e)
+  one-entry w m (x ∷ []) e =
+      ap (λ (a : Attended). (answer_in w.publisher a).0) (first e)
+      ∙ ap (λ (done : PublisherTables × Reply). done.0) (answered-again publication says w.tallies w.moment m w.publisher)
+
+  -- how a message that comes and its part of a journal fit together
+  record Fits (w : World) (asked : List Attended) (done : World × Outcome) : Type 0 where
+    entries : (part : List Entry) → map attended_in part ≡ asked → replay publication w.publisher part ≡ done.0.publisher
+    still : refused_for is_slip done.1 ≡ true → done.0.publisher ≡ w.publisher
+
+  quiet-fits : (w : World) (done : World × Outcome) → done.0.publisher ≡ w.publisher → Fits w [] done
+  quiet-fits w done h = record {
+    entries = λ part e. ap (replay publication w.publisher) (none part e) ∙ sym h;
+    still = λ is. h;
+  }
+
+  fits-message : (site : SiteId) (number : ℕ) (message : Message) (w : World)
+      → Fits w (asked_by publication says w (Some (record { site = site; message = message }))) (deliver_letter publication says (by_tables w) number w (record { site = site; message = message }))
+  fits-message site number (Asks m) w = record {
+    entries = λ part e. one-entry w m part e ∙ sym (delivered site m w);
+    still = refused site m w;
+  }
+  fits-message site number (Replies m) w = quiet-fits w _ (quiet-at w site _ (λ t. quiet-unless w _ _ (λ made. refl)))
+
+  fits : (number : ℕ) (w : World) (letter : Option Letter) → letter_at w number ≡ letter → Fits w (asked_by publication says w (letter_at w number)) (deliver publication says (by_tables w) number w)
+  fits number w None is = rw (is, deliver) (quiet-fits w (w, NoLetter) refl)
+  fits number w (Some letter) is = rw (is, deliver) (fits-message letter.site number letter.message w)
+
+  made-fits : (b : Bool) (w : World) (asked : List Attended) (done : World × Outcome) → Fits w asked done → refused_for is_slip done.1 ≡ b
+      → (part : List Entry) → map attended_in part ≡ unless_failed b asked → replay publication w.publisher part ≡ done.0.publisher
+  made-fits true w asked done f is part e = ap (replay publication w.publisher) (none part e) ∙ sym (f.still is)
+  made-fits false w asked done f is part e = f.entries part e
+
+  by-kind : (b : Bool) → is_slip (if b then StoreFault else NoMemory) ≡ true
+  by-kind true = refl
+  by-kind false = refl
+
+  told-slip : (slip : Slip) → is_slip (slip_refusal slip) ≡ true
+  told-slip slip = by-kind slip.is_fault
+
+  slip-fits : (b : Bool) (slips : Slips) (slip : Slip) (action : Action) (w : World) (asked : List Attended) (done : World × Outcome) → Fits w asked done
+      → (part : List Entry) → map attended_in part ≡ unless_failed (refused_for is_slip (slip_if publication (machine publication says) b slips slip action w done).1) asked
+      → replay publication w.publisher part ≡ (slip_if publication (machine publication says) b slips slip action w done).0.world.publisher
+  slip-fits true slips slip action w asked done f part e =
+      ap (replay publication w.publisher) (none part (e ∙ ap (λ (b : Bool). unless_failed b asked) (told-slip slip)))
+  slip-fits false slips slip action w asked done f part e = made-fits _ w asked done f refl part e
+
+  acting-fits : (slips : Slips) (action : Action) (w : World) (asked : List Attended) (done : World × Outcome) → Fits w asked done
+      → (part : List Entry) → map attended_in part ≡ unless_failed (refused_for is_slip (acting_with publication (machine publication says) slips action w done).1) asked
+      → replay publication w.publisher part ≡ (acting_with publication (machine publication says) slips action w done).0.world.publisher
+  acting-fits [] action w asked done f part e = made-fits _ w asked done f refl part e
+  acting-fits (None ∷ slips) action w asked done f part e = made-fits _ w asked done f refl part e
+  acting-fits (Some slip ∷ slips) action w asked done f part e = slip-fits _ slips slip action w asked done f part e
+
+  -- One action, and all of them.
+
+  nothing-added : (w : World) (after : PublisherTables) → after ≡ w.publisher → (part : List Entry) → map attended_in part ≡ [] → replay publication w.publisher part ≡ after
+  nothing-added w after same part e = ap (replay publication w.publisher) (none part e) ∙ sym same
+
+  one : (f : Faulty World) (action : Action) → IsServing action → (part : List Entry) → map attended_in part ≡ attended_by publication says f.world action ((stepping publication says).act f action).1
+      → replay publication f.world.publisher part ≡ ((stepping publication says).act f action).0.world.publisher
+  one f (Pass seconds) serving part e = nothing-added f.world _ refl part e
+  one f (Make site change) serving part e = nothing-added f.world _ (acting-quiet f.slips (Make site change) f.world _ (rw serving (quiet-at f.world site _ (λ t. quiet-unless f.world _ _ (λ made. refl))))) part e
+  one f (CloseAt site) serving part e = nothing-added f.world _ (acting-quiet f.slips (CloseAt site) f.world _ (rw serving (quiet-at f.world site _ (λ t. quiet-unless f.world _ _ (λ made. refl))))) part e
+  one f (Send site sending) serving part e = nothing-added f.world _ (acting-quiet f.slips (Send site sending) f.world _ (quiet-at f.world site _ (quiet-sent f.world sending))) part e
+  one f (Deliver number) serving part e = acting-fits f.slips (Deliver number) f.world _ _ (fits number f.world (letter_at f.world number) refl) part e
+  one f (MakeAnew site) serving part e = nothing-added f.world _ (acting-quiet f.slips (MakeAnew site) f.world _ (quiet-at f.world site _ (λ t. quiet-unless f.world _ _ (λ made. refl)))) part e
+  one f Forget serving part e = absurd serving
+  one f Look serving part e = nothing-added f.world _ (acting-quiet f.slips Look f.world _ refl) part e
+
+  pub all-serving : (f : Faulty World) (actions : List Action) → All IsServing actions → (journal : List Entry) → map attended_in journal ≡ attended publication says f actions
+      → replay publication f.world.publisher journal ≡ (after_actions (stepping publication says) f actions).world.publisher
+  all-serving f [] serving journal e = ap (replay publication f.world.publisher) (none journal e)
+  all-serving f (action ∷ actions) serving journal e =
+      let done = (stepping publication says).act f action in
+      let parts = split (attended_by publication says f.world action done.1) (attended publication says done.0 actions) journal e in
+      ap (replay publication f.world.publisher) parts.2
+      ∙ replay-on publication f.world.publisher parts.0 parts.1
+      ∙ ap (λ (p : PublisherTables). replay publication p parts.1) (one f action (All-head IsServing action actions serving) parts.0 parts.3)
+      ∙ all-serving done.0 actions (All-tail IsServing action actions serving) parts.1 parts.4

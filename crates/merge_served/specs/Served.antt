@@ -1,0 +1,77 @@
+-- What stands in the journal of a publisher that serves, as the actions of a world go by, and what its tables are then.
+use Rattle.std.specs.Prelude.{All, Bool, List, None, Option, Some, [], false, map, true, ℕ, ◌++◌, ◌==◌, ◌∷◌, ◌≡◌}
+use Rattle.merge_types.specs.declared.identifiers.Moment.{Moment}
+use Rattle.merge_units.specs.declared.result.Decision.{Decision}
+use Rattle.merge_schema.specs.Valid.{IsValid}
+use Rattle.merge_schema.specs.declared.publication.Publication.{Publication}
+use Rattle.merge_batch.specs.declared.request.Request.{Request}
+use Rattle.merge_model.specs.Failing.{Faulty, Slips, faulty}
+use Rattle.merge_model.specs.Failing.Reach.{stepping}
+use Rattle.merge_model.specs.Failing.Runs.{after_actions, world_behind_actions}
+use Rattle.merge_model.specs.Laws.SlipLaws.{is_slip, refused_for}
+use Rattle.merge_model.specs.World.Steps.{Action, CloseAt, Deliver, Forget, Make}
+use Rattle.merge_model.specs.World.{Saying, World, empty_world, letter_at}
+use Rattle.merge_model.specs.declared.letter.Letter.{Letter}
+use Rattle.merge_model.specs.declared.letter.Message.TheVariants.{Asks, Replies}
+use Rattle.merge_model.specs.declared.outcome.Outcome.{Outcome}
+use Rattle.merge_laws.specs.Laws.Promised.{HasPromises}
+use Rattle.merge_desk.specs.Replay.{entry_decisions, replay}
+use Rattle.merge_desk.specs.declared.entry.Entry.{Entry}
+
+-- a request that was answered: when, and what the decisions on its conflicts counted as
+pub record Attended : Type 0 where
+  pub moment : Moment
+  pub request : Request
+  pub decisions : List Decision
+
+abbrev pub attended_in : Entry → Attended
+attended_in e = record { moment = e.moment; request = e.request; decisions = e.decisions }
+
+-- The publisher only serves: it makes no change, closes nothing by itself and purges nothing. Its sites may do all that they can.
+abbrev pub IsServing : Action → Type 0
+IsServing (Make site change) = (site.0 == 0) ≡ false
+IsServing (CloseAt site) = (site.0 == 0) ≡ false
+IsServing Forget = ⊥
+IsServing action = Unit {0}
+
+-- a request that failed, by a fault of the store or for want of memory, stands in no journal
+abbrev pub unless_failed : Bool → List Attended → List Attended
+unless_failed true attended = []
+unless_failed false attended = attended
+
+module _ (publication : Publication) (says : Saying) where
+  -- what the publisher is asked by a message that comes
+  abbrev pub asked_by : World → Option Letter → List Attended
+  asked_by w None = []
+  asked_by w (Some letter) = elim letter.message [
+    | Asks m ↦ record { moment = w.moment; request = m; decisions = entry_decisions publication says w.tallies w.moment m w.publisher } ∷ []
+    | Replies m ↦ []
+  ]
+
+  -- what an action adds to the journal
+  abbrev pub attended_by : World → Action → Outcome → List Attended
+  attended_by w (Deliver number) outcome = unless_failed (refused_for is_slip outcome) (asked_by w (letter_at w number))
+  attended_by w action outcome = []
+
+  -- what all of them add, one after the other
+  abbrev pub attended : Faulty World → List Action → List Attended
+  attended f [] = []
+  attended f (action ∷ actions) = let done = (stepping publication says).act f action in attended_by f.world action done.1 ++ attended done.0 actions
+
+-- The journal of a publisher that served while actions went by leads from its tables before them to those behind them.
+abbrev pub JournalsAreRuns : Type 0
+JournalsAreRuns = (publication : Publication) (says : Saying) (f : Faulty World) (actions : List Action) → All IsServing actions
+    → (journal : List Entry) → map attended_in journal ≡ attended publication says f actions
+    → replay publication f.world.publisher journal ≡ (after_actions (stepping publication says) f actions).world.publisher
+
+-- the world behind some actions, with the slips that are still to come
+abbrev pub world_at : Publication → Saying → List ℕ → Slips → List Action → Faulty World
+world_at publication says tallies slips actions = after_actions (stepping publication says) (faulty (empty_world publication tallies) slips) actions
+
+-- So a publisher that served among sites of a world has the tables of a world of which all is promised.
+abbrev pub ServedWorldsHavePromises : Type 0
+ServedWorldsHavePromises = (resolvers : ℕ) (publication : Publication) → IsValid resolvers publication → (says : Saying) (tallies : List ℕ) (slips : Slips)
+    (before during : List Action) → All IsServing during → (journal : List Entry)
+    → map attended_in journal ≡ attended publication says (world_at publication says tallies slips before) during
+    → (replay publication (world_at publication says tallies slips before).world.publisher journal ≡ (world_behind_actions publication says tallies slips (before ++ during)).publisher)
+    × HasPromises publication says (world_behind_actions publication says tallies slips (before ++ during))
