@@ -1,0 +1,148 @@
+//! Two threads with a seat each of one desk.
+ghost use Rattle.std.specs.List.{sum_by};
+ghost use Rattle.std.specs.Prelude.{◌≡◌, ◌≤◌, ◌<◌, ◌+◌, ℕ, None, length, slice_index_or};
+ghost use Rattle.merge_json.specs.Sendable.{IsSendableRequest};
+ghost use Rattle.merge_model.specs.Publisher.{empty_publisher};
+ghost use Rattle.merge_desk.specs.Replay.{no_publication};
+ghost use Rattle.merge_desk.specs.Views.{SeatView, seat_call_parts, seat_fault_parts};
+
+use crate::nobody::Nobody;
+use merge_batch::{Join, Kind, Request};
+use merge_desk::{Closed, Desk, Opening, Seat, summary};
+use merge_types::{Moment, SiteId};
+use std::alloc::Global;
+use std::marker::Brand;
+use std::process::Abort;
+use std::sync::Wait;
+use std::sync::ledger::{Blank, Ledger};
+use std::test::*;
+use std::thread;
+use std::thread::Threads;
+
+fn join(site: u16, seq: u64) -> Request
+    ensures { IsSendableRequest result }
+{
+    Request::Join(Join {
+        site: SiteId(site),
+        seq,
+        generation: 0,
+        number: 0,
+    })
+}
+
+const ASKED: [u8; 32] = [
+    0x0c, 0x60, 0xfc, 0xbb, 0x6e, 0xcb, 0x5c, 0xe5, 0xb3, 0xd0, 0xed, 0xd9, 0xcd, 0xd2, 0x72, 0x3c,
+    0x1b, 0xae, 0x90, 0xde, 0x16, 0x00, 0x47, 0x60, 0xd7, 0xbf, 0x5d, 0xf8, 0x2e, 0x4e, 0x3f, 0x87,
+];
+
+const TOLD: [u8; 32] = [
+    0xd1, 0xf3, 0x10, 0x6b, 0x81, 0xd3, 0xd6, 0xcd, 0x4a, 0xc8, 0x1a, 0xc9, 0xa3, 0x89, 0xf6, 0x50,
+    0x40, 0xf5, 0x5d, 0x06, 0x99, 0x43, 0xd6, 0x25, 0x62, 0xb4, 0x15, 0x27, 0x7c, 0xd1, 0x84, 0x7c,
+];
+
+// A site's requests, one after the other.
+fn work<R: Wait, L: Ledger, M: Ledger, O: Opening>(
+    rt: &R,
+    desk: &Desk<Nobody, L, M, O>,
+    seat: &mut Seat<L, M>,
+)
+    ensures parts { (seat.new.call_parts ≡ seat.old.call_parts) × (seat.new.fault_parts ≡ seat.old.fault_parts) }
+{
+    for seq in 0..50u64 {
+        let _receipt = desk.call(rt, seat, Moment(seq), &join(7, seq));
+    }
+}
+
+fn all<
+    L: Ledger + Send + Sync,
+    M: Ledger + Send + Sync,
+    O: Opening + Send + Sync,
+    R: Threads + Wait + Sync,
+>(rt: &R, desk: &Desk<Nobody, L, M, O>, seats: &mut [Seat<L, M>])
+    ensures length { length seats.new ≡ length seats.old }
+    ensures parts { (i : ℕ) (d : SeatView) → i < length seats.old → ((slice_index_or seats.new i d).call_parts ≡ (slice_index_or seats.old i d).call_parts) × ((slice_index_or seats.new i d).fault_parts ≡ (slice_index_or seats.old i d).fault_parts) }
+{
+    thread::for_each_mut(
+        rt,
+        seats,
+        2,
+        &|_, seat: &mut Seat<L, M>|
+            ensures { (seat.exit.now.call_parts ≡ seat.entry.now.call_parts) × (seat.exit.now.fault_parts ≡ seat.entry.now.fault_parts) }
+        { work(rt, desk, seat) },
+    );
+}
+
+fn serve<
+    L: Ledger + Send + Sync,
+    M: Ledger + Send + Sync,
+    O: Opening + Send + Sync,
+    R: Threads + Wait + Sync,
+>(rt: &R, desk: &Desk<Nobody, L, M, O>, seats: Vec<Seat<L, M>>) -> Vec<Seat<L, M>>
+    ensures calls { sum_by seat_call_parts result.items ≡ sum_by seat_call_parts seats.items }
+    ensures faults { sum_by seat_fault_parts result.items ≡ sum_by seat_fault_parts seats.items }
+{
+    let mut seats = seats;
+    all(rt, desk, seats.as_mut_slice());
+    seats
+}
+
+fn day<
+    L: Ledger + Send + Sync,
+    M: Ledger + Send + Sync,
+    O: Opening + Send + Sync,
+    R: Threads + Wait + Abort + Sync,
+>(
+    rt: &R,
+    alloc: Global,
+    publisher: Nobody,
+    calls: Blank,
+    faults: Blank,
+) -> Result<Closed<Nobody>, Fail>
+    requires publication { O.publication ≡ no_publication }
+    requires tables { O.tables ≡ empty_publisher no_publication }
+    requires says { O.says ≡ (λ place tally asked. None) }
+    requires count { O.count ≡ 0 }
+    requires calls { (calls.name ≡ L.name) × (calls.parts ≡ L.parts) × (2 ≤ calls.parts) }
+    requires faults { (faults.name ≡ M.name) × (faults.parts ≡ M.parts) × (2 ≤ faults.parts) }
+{
+    let Ok((desk, seats)) = Desk::<Nobody, L, M, O>::start(alloc, publisher, 2, calls, faults)
+    else {
+        return Err(Fail::new("no memory for a desk"));
+    };
+    let seats = serve(rt, &desk, seats);
+    let Ok(closed) = desk.close(seats) else {
+        return Err(Fail::new("the journal differs"));
+    };
+    Ok(closed)
+}
+
+#[test]
+fn two_threads_are_answered_in_journal_order(rt: HostRuntime) -> Result<(), Fail> {
+    let calls = Blank::new(2);
+    let faults = Blank::new(2);
+    let nobody = Nobody { asked: 0 };
+    let closed = day::<Brand, Brand, Brand, _>(&rt, rt.alloc(), nobody, calls, faults)?;
+    assert_eq!(rt; closed.publisher.asked, 100);
+    assert_eq!(rt; closed.journal.len(), 100);
+    let mut place = 0u64;
+    let mut first = 0u64;
+    for entry in &closed.journal {
+        place = place.wrapping_add(1);
+        assert_eq!(rt; entry.mark.place, place);
+        assert_eq!(rt; entry.mark.digest, TOLD);
+        assert!(rt; entry.mark.refused && entry.mark.kind == Kind::Join);
+        if entry.request.seq() == 1 {
+            assert_eq!(rt; entry.mark.asked, ASKED);
+        }
+        if entry.seat == 1 {
+            first = first.wrapping_add(1);
+        }
+    }
+    assert_eq!(rt; first, 50);
+    let told = summary(rt.alloc(), &closed.journal)?;
+    assert_eq!(rt;
+        told.as_str(),
+        "calls 100 joins 100 uploads 0 ranges 0 downloads 0 refused 100\n"
+    );
+    Ok(())
+}

@@ -1,0 +1,16 @@
+//! Tests of what is done with sites: sessions, commands, made scripts, a publisher that callers share,
+//! and its connections.
+#![tactic(auto)]
+
+#[cfg(test)]
+mod command;
+#[cfg(test)]
+mod desk;
+#[cfg(test)]
+mod make;
+#[cfg(test)]
+mod nobody;
+#[cfg(test)]
+mod serve;
+#[cfg(test)]
+mod sync;

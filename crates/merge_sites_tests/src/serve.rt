@@ -1,0 +1,279 @@
+//! Connections to a desk whose publisher refuses everything.
+ghost use Rattle.std.specs.Prelude.{◌≡◌, ◌≤◌, None};
+ghost use Rattle.merge_model.specs.Publisher.{empty_publisher};
+ghost use Rattle.merge_desk.specs.Replay.{no_publication};
+
+use crate::nobody::Nobody;
+use merge_desk::{Closed, Desk, Opening, summary};
+use merge_link::MemoryClock;
+use merge_ports::{MemorySink, MemorySource};
+use merge_serve::{Attended, Caller, Gate, MemoryDoor, OpenGate, Served, attend, serve};
+use merge_types::{Listing, Moment, Octets};
+use std::alloc::Global;
+use std::marker::Brand;
+use std::sync::Wait;
+use std::sync::atomic::{AtomicU64, Ordering};
+use std::sync::ledger::{Blank, Ledger};
+use std::test::*;
+use std::thread;
+use std::thread::Threads;
+
+const JOIN: &[u8] =
+    b"POST /merge/join HTTP/1.1\r\nHost: 127.0.0.1:7000\r\nContent-Type: application/json\r\nContent-Length: 44\r\nConnection: close\r\n\r\n{\"generation\":0,\"number\":0,\"seq\":1,\"site\":1}";
+
+const REFUSED: &[u8] =
+    b"HTTP/1.1 409 Conflict\r\nContent-Type: application/json\r\nContent-Length: 26\r\nConnection: close\r\n\r\n{\"refused\":1,\"values\":[1]}";
+
+// What comes, and the first line of what is answered, with how many calls of the desk there are.
+const TABLE: &[(&[u8], u16, u64)] = &[
+    (JOIN, 409, 1),
+    (
+        b"GET /merge/join HTTP/1.1\r\nContent-Length: 0\r\n\r\n",
+        405,
+        0,
+    ),
+    (b"GET /merge HTTP/1.1\r\nContent-Length: 0\r\n\r\n", 404, 0),
+    (
+        b"POST /merge/join HTTP/1.1\r\nContent-Length: 2\r\n\r\n{}",
+        400,
+        0,
+    ),
+    (
+        b"POST /merge/join HTTP/1.1\r\nContent-Length: 3\r\n\r\n{}",
+        400,
+        0,
+    ),
+    (b"POST /merge/join HTTP/1.1\r\n\r\n{}", 400, 0),
+    (b"POST\r\n\r\n", 400, 0),
+    (b"", 400, 0),
+    (
+        b"POST /merge/join HTTP/1.1\r\nContent-Length: 134217729\r\n\r\n",
+        413,
+        0,
+    ),
+];
+
+fn octets(alloc: Global, bytes: &[u8]) -> Result<Octets, Fail> {
+    Ok(Listing::new(bytes.to_vec(alloc)?))
+}
+
+// What one connection is answered with, and how many calls of the desk that made.
+#[derive(Drop)]
+struct Seen {
+    attended: Attended,
+    written: Octets,
+    calls: u64,
+}
+
+fn serve_one<R: Wait, L: Ledger, M: Ledger, O: Opening>(
+    rt: &R,
+    alloc: Global,
+    bytes: &[u8],
+    failing: (&[u64], &[u64]),
+    calls: Blank,
+    faults: Blank,
+) -> Result<Seen, Fail>
+    requires publication { O.publication ≡ no_publication }
+    requires tables { O.tables ≡ empty_publisher no_publication }
+    requires says { O.says ≡ (λ place tally asked. None) }
+    requires count { O.count ≡ 0 }
+    requires calls { (calls.name ≡ L.name) × (calls.parts ≡ L.parts) × (1 ≤ calls.parts) }
+    requires faults { (faults.name ≡ M.name) × (faults.parts ≡ M.parts) × (1 ≤ faults.parts) }
+{
+    let Ok((desk, seats)) = Desk::<Nobody, L, M, O>::start(
+        alloc,
+        Nobody { asked: 0 },
+        1,
+        calls,
+        faults,
+    ) else {
+        return Err(Fail::new("no memory for a desk"));
+    };
+    let mut input = MemorySource::new(
+        octets(alloc, bytes)?,
+        Listing::new(failing.0.to_vec(alloc)?),
+    );
+    let mut output = MemorySink::new(alloc, Listing::new(failing.1.to_vec(alloc)?));
+    for mut seat in seats {
+        let attended = attend(
+            rt,
+            alloc,
+            &desk,
+            &mut seat,
+            1,
+            &mut input,
+            &mut output,
+            Moment(7),
+            &OpenGate,
+        );
+        return Ok(Seen {
+            attended,
+            written: output.bytes,
+            calls: seat.told().len() as u64,
+        });
+    }
+    Err(Fail::new("no seat"))
+}
+
+fn try_one<R: Wait>(
+    rt: &R,
+    alloc: Global,
+    bytes: &[u8],
+    reads: &[u64],
+    writes: &[u64],
+) -> Result<Seen, Fail> {
+    serve_one::<_, Brand, Brand, Brand>(
+        rt,
+        alloc,
+        bytes,
+        (reads, writes),
+        Blank::new(1),
+        Blank::new(1),
+    )
+}
+
+#[test]
+fn each_connection_is_answered_by_what_comes(rt: HostRuntime) -> Result<(), Fail> {
+    for (bytes, status, calls) in TABLE {
+        let seen = try_one(&rt, rt.alloc(), bytes, &[], &[])?;
+        assert_eq!(rt; seen.attended, Attended::Answered { status: *status });
+        assert_eq!(rt; seen.calls, *calls);
+    }
+    let seen = try_one(&rt, rt.alloc(), JOIN, &[], &[])?;
+    assert_eq!(rt; seen.written.as_slice(), REFUSED);
+    Ok(())
+}
+
+#[test]
+fn ports_fail_by_their_cause(rt: HostRuntime) -> Result<(), Fail> {
+    let unread = try_one(&rt, rt.alloc(), JOIN, &[3], &[])?;
+    assert_eq!(rt; unread.attended, Attended::ReadFault);
+    assert_eq!(rt; (unread.calls, unread.written.len()), (0, 0));
+    let unwritten = try_one(&rt, rt.alloc(), JOIN, &[], &[2])?;
+    assert_eq!(rt; unwritten.attended, Attended::WriteFault);
+    assert_eq!(rt; unwritten.calls, 1);
+    assert!(rt; REFUSED.starts_with(unwritten.written.as_slice()));
+    Ok(())
+}
+
+// Holds the first connection before the desk until the second is answered, for so many turns.
+#[derive(Drop)]
+struct Holding {
+    turns: u64,
+    // the connection that was answered last, and the one that opened the gate
+    answered: AtomicU64,
+    opened: AtomicU64,
+}
+
+impl Gate for Holding {
+    fn before(&self, connection: u64) {
+        if connection != 1 {
+            return;
+        }
+        for _ in 0..self.turns {
+            let answered = self.answered.load(Ordering::SeqCst);
+            if answered > 0 {
+                self.opened.store(answered, Ordering::SeqCst);
+                return;
+            }
+            thread::yield_now();
+        }
+    }
+
+    fn answered(&self, connection: u64) {
+        self.answered.store(connection, Ordering::SeqCst);
+    }
+}
+
+const SECOND_JOIN: &[u8] =
+    b"POST /merge/join HTTP/1.1\r\nContent-Length: 44\r\n\r\n{\"generation\":0,\"number\":0,\"seq\":1,\"site\":2}";
+
+fn caller(alloc: Global, bytes: &[u8]) -> Result<Caller, Fail> {
+    Ok(Caller {
+        bytes: octets(alloc, bytes)?,
+        failing_reads: Listing::empty(alloc),
+        failing_writes: Listing::empty(alloc),
+    })
+}
+
+// What a day of a desk leaves.
+#[derive(Drop)]
+struct Left {
+    accepted: u64,
+    faults: u64,
+    closed: Closed<Nobody>,
+}
+
+fn day<
+    L: Ledger + Send + Sync,
+    M: Ledger + Send + Sync,
+    O: Opening + Send + Sync,
+    R: Threads + Wait + Sync,
+    G: Gate + Sync,
+>(rt: &R, alloc: Global, requests: u64, gate: &G, calls: Blank, faults: Blank) -> Result<Left, Fail>
+    requires publication { O.publication ≡ no_publication }
+    requires tables { O.tables ≡ empty_publisher no_publication }
+    requires says { O.says ≡ (λ place tally asked. None) }
+    requires count { O.count ≡ 0 }
+    requires calls { (calls.name ≡ L.name) × (calls.parts ≡ L.parts) × (2 ≤ calls.parts) }
+    requires faults { (faults.name ≡ M.name) × (faults.parts ≡ M.parts) × (2 ≤ faults.parts) }
+{
+    let mut callers = Vec::new(alloc);
+    callers.push(caller(alloc, JOIN)?)?;
+    callers.push(caller(alloc, SECOND_JOIN)?)?;
+    let door = MemoryDoor::new(alloc, callers, Listing::empty(alloc));
+    let clock = MemoryClock::new(Listing::empty(alloc));
+    let Ok((desk, seats)) = Desk::<Nobody, L, M, O>::start(
+        alloc,
+        Nobody { asked: 0 },
+        2,
+        calls,
+        faults,
+    ) else {
+        return Err(Fail::new("no memory for a desk"));
+    };
+    if seats.is_empty() {
+        return Err(Fail::new("no seats"));
+    }
+    let Served {
+        seats,
+        accepted,
+        door,
+    } = serve(rt, alloc, &desk, seats, requests, door, clock, gate);
+    let Ok(closed) = desk.close(seats) else {
+        return Err(Fail::new("the journal differs"));
+    };
+    Ok(Left {
+        accepted,
+        faults: door.faults,
+        closed,
+    })
+}
+
+#[test]
+fn two_workers_serve_at_once(rt: HostRuntime) -> Result<(), Fail> {
+    let gate = Holding {
+        turns: 10_000_000,
+        answered: AtomicU64::new(0),
+        opened: AtomicU64::new(0),
+    };
+    let blanks = (Blank::new(2), Blank::new(2));
+    let left = day::<Brand, Brand, Brand, _, _>(&rt, rt.alloc(), 2, &gate, blanks.0, blanks.1)?;
+    assert_eq!(rt; gate.opened.load(Ordering::SeqCst), 2);
+    assert_eq!(rt; (left.accepted, left.faults), (2, 0));
+    let told = summary(rt.alloc(), &left.closed.journal)?;
+    assert_eq!(rt;
+        told.as_str(),
+        "calls 2 joins 2 uploads 0 ranges 0 downloads 0 refused 2\n"
+    );
+    Ok(())
+}
+
+#[test]
+fn a_door_that_fails_ends_the_day(rt: HostRuntime) -> Result<(), Fail> {
+    let (calls, faults) = (Blank::new(2), Blank::new(2));
+    let left = day::<Brand, Brand, Brand, _, _>(&rt, rt.alloc(), 3, &OpenGate, calls, faults)?;
+    assert_eq!(rt; (left.accepted, left.faults), (2, 1));
+    assert_eq!(rt; left.closed.journal.len(), 2);
+    Ok(())
+}
