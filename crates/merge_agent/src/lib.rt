@@ -8,8 +8,6 @@ mod fault;
 mod message;
 mod stages;
 mod take;
-#[cfg(test)]
-mod tests;
 
 pub use answer::{Form, Told};
 pub use fault::{Done, SessionFault};

@@ -6,8 +6,6 @@ mod events;
 mod lines;
 mod show;
 mod stop;
-#[cfg(test)]
-mod tests;
 mod writing;
 
 pub use elsewhere::Elsewhere;

@@ -11,8 +11,6 @@ mod opening;
 mod seat;
 mod state;
 mod telling;
-#[cfg(test)]
-mod tests;
 mod working;
 
 pub use desk::{Desk, DeskStart};

@@ -7,8 +7,6 @@ mod run;
 mod script;
 mod step;
 mod tally;
-#[cfg(test)]
-mod tests;
 mod worked;
 
 pub use part::Part;
