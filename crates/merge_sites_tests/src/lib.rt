@@ -13,4 +13,6 @@ mod nobody;
 #[cfg(test)]
 mod serve;
 #[cfg(test)]
+mod service;
+#[cfg(test)]
 mod sync;
