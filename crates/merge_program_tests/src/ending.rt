@@ -1,9 +1,10 @@
 //! How the program ends, over an input, an output, stores and a file in memory.
+use crate::fixed::Fixed;
 use merge_keeper::MemoryKeeper;
 use merge_outside::{MemoryCommands, MemoryText};
 use merge_ports::{Entries, MemoryOutside, MemorySink, MemorySource};
 use merge_program::{Host, Status, run};
-use merge_resolve::{Handed, Priority};
+use merge_resolve::{Additive, Handed, Maximum, Minimum, Priority, SubscriberWins};
 use merge_table::Table;
 use merge_types::{Listing, Moment, NoMemory, Octets, Words};
 use std::alloc::Global;
@@ -20,16 +21,22 @@ pub(crate) type MemoryHost = Host<
 const P1: &str =
     "name = \"p\"\n[[article]]\nname = \"item\"\n[[article.column]]\nname = \"qty\"\ntype = \"int\"\n[[subscription]]\nsite = 1\nhost = \"h\"\n";
 
-// Stores in memory that start empty, one for each site that a publication may have.
+fn empty_keeper(alloc: Global) -> MemoryKeeper {
+    let none = Listing::empty(alloc);
+    MemoryKeeper::new(alloc, Entries::empty(alloc), none, Listing::empty(alloc))
+}
+
+// Stores in memory, one for each site that a publication may have: that of the publisher, and the
+// others start empty.
 fn memory_stores(
     alloc: Global,
+    publisher: MemoryKeeper,
     failing: Listing<u64>,
 ) -> Result<MemoryOutside<MemoryKeeper>, NoMemory> {
     let mut stores = Table::new(alloc);
-    for site in 0..64u16 {
-        let none = Listing::empty(alloc);
-        let keeper = MemoryKeeper::new(alloc, Entries::empty(alloc), none, Listing::empty(alloc));
-        stores.insert(site, keeper)?;
+    stores.insert(0u16, publisher)?;
+    for site in 1..64u16 {
+        stores.insert(site, empty_keeper(alloc))?;
     }
     Ok(MemoryOutside::new(stores, failing))
 }
@@ -48,15 +55,24 @@ pub(crate) fn outside(
     alloc: Global,
     openings: &[u64],
 ) -> Result<MemoryCommands<MemoryKeeper>, Fail> {
+    outside_over(alloc, empty_keeper(alloc), openings)
+}
+
+/// The same with this keeper of the publisher.
+pub(crate) fn outside_over(
+    alloc: Global,
+    publisher: MemoryKeeper,
+    openings: &[u64],
+) -> Result<MemoryCommands<MemoryKeeper>, Fail> {
     let failing = Listing::new(openings.to_vec(alloc)?);
-    let mut outside = MemoryCommands::new(alloc, memory_stores(alloc, failing)?);
+    let mut outside = MemoryCommands::new(alloc, memory_stores(alloc, publisher, failing)?);
     outside.texts.push(text(alloc, "p1", P1)?)?;
     outside.moments.push(Moment(5))?;
     Ok(outside)
 }
 
 /// The calls that fail at the input, the output and the notes, by their numbers.
-pub(crate) type Failing = [&'static [u64]; 3];
+pub(crate) type Failing<'a> = [&'a [u64]; 3];
 
 fn host(
     alloc: Global,
@@ -84,9 +100,16 @@ fn words(alloc: Global, line: &str) -> Result<Vec<Words>, Fail> {
     Ok(words)
 }
 
+// The resolvers of the program, and behind them two of these tests.
 fn resolvers(alloc: Global) -> Result<Vec<Handed>, Fail> {
     let mut resolvers: Vec<Handed> = Vec::new(alloc);
     resolvers.push(Box::new(alloc, Priority::new())?)?;
+    resolvers.push(Box::new(alloc, Maximum::new())?)?;
+    resolvers.push(Box::new(alloc, Minimum::new())?)?;
+    resolvers.push(Box::new(alloc, Additive::new())?)?;
+    resolvers.push(Box::new(alloc, SubscriberWins::new())?)?;
+    resolvers.push(Box::new(alloc, Fixed::of(false))?)?;
+    resolvers.push(Box::new(alloc, Fixed::of(true))?)?;
     Ok(resolvers)
 }
 
@@ -116,7 +139,7 @@ pub(crate) fn end(
 }
 
 /// No call fails.
-pub(crate) const NONE: Failing = [&[], &[], &[]];
+pub(crate) const NONE: Failing<'static> = [&[], &[], &[]];
 
 /// Whether a run ended so: its status, what it wrote, and the note.
 pub(crate) fn is_ended(
@@ -129,4 +152,18 @@ pub(crate) fn is_ended(
     ended == status
         && host.output.bytes.as_slice() == output.as_bytes()
         && host.notes.bytes.as_slice() == notes.as_bytes()
+}
+
+/// Plays a script of a publication.
+pub(crate) fn play(
+    alloc: Global,
+    publication: &str,
+    script: &[u8],
+    failing: &Failing,
+    outside: MemoryCommands<MemoryKeeper>,
+) -> Result<(u8, MemoryHost), Fail> {
+    let mut input = publication.as_bytes().to_vec(alloc)?;
+    input.extend_from_slice(b"---\n".as_slice())?;
+    input.extend_from_slice(script)?;
+    end(alloc, "play", &input, failing, outside)
 }

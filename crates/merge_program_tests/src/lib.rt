@@ -6,4 +6,14 @@ mod commands;
 #[cfg(test)]
 mod ending;
 #[cfg(test)]
+mod failing;
+#[cfg(test)]
+mod fixed;
+#[cfg(test)]
+mod many;
+#[cfg(test)]
+mod rows;
+#[cfg(test)]
 mod scripts;
+#[cfg(test)]
+mod stores;

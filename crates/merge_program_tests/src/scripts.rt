@@ -1,10 +1,10 @@
-//! Worked scripts with their answers, and ports that fail at each of their calls.
-use crate::ending::{Failing, MemoryHost, NONE, end, is_ended, outside};
-use std::alloc::Global;
+//! Worked scripts with their answers.
+use crate::ending::{NONE, is_ended, outside, play};
+use crate::rows::MORE;
 use std::test::Fail;
 
 // One table with one column, and one site.
-const ITEM: &str = r#"name = "first"
+pub(crate) const ITEM: &str = r#"name = "first"
 [[article]]
 name = "item"
 [[article.column]]
@@ -16,7 +16,7 @@ host = "h1"
 "#;
 
 // The same with two sites.
-const ITEM_AT_TWO: &str = r#"name = "first"
+pub(crate) const ITEM_AT_TWO: &str = r#"name = "first"
 [[article]]
 name = "item"
 [[article.column]]
@@ -31,7 +31,7 @@ host = "h2"
 "#;
 
 // Two servers, of which the first has the greater priority.
-const FIRST_IS_GREATER: &str = r#"name = "first"
+pub(crate) const FIRST_IS_GREATER: &str = r#"name = "first"
 [[article]]
 name = "item"
 [[article.column]]
@@ -153,20 +153,6 @@ parent_column = "x"
 site = 1
 host = "h1"
 "#;
-
-// Plays a script of a publication.
-fn play(
-    alloc: Global,
-    publication: &str,
-    script: &str,
-    failing: &Failing,
-) -> Result<(u8, MemoryHost), Fail> {
-    let mut input = publication.as_bytes().to_vec(alloc)?;
-    input.extend_from_slice(b"---\n".as_slice())?;
-    input.extend_from_slice(script.as_bytes())?;
-    let outside = outside(alloc, &[])?;
-    end(alloc, "play", &input, failing, outside)
-}
 
 // Its name, a publication, a script, and the answers.
 const WORKED: &[(&str, &str, &str, &str)] = &[
@@ -473,8 +459,9 @@ no message 99
 
 #[test]
 fn worked_scripts(rt: HostRuntime) -> Result<(), Fail> {
-    for (name, publication, script, answers) in WORKED {
-        let (ended, host) = play(rt.alloc(), publication, script, &NONE)?;
+    for (name, publication, script, answers) in WORKED.iter().chain(MORE) {
+        let outside = outside(rt.alloc(), &[])?;
+        let (ended, host) = play(rt.alloc(), publication, script.as_bytes(), &NONE, outside)?;
         assert!(rt; is_ended(ended, &host, 0, answers, ""), "{name}");
     }
     Ok(())
@@ -516,37 +503,9 @@ const EARLY: &[(&str, &str, u8, &str, &str)] = &[
 #[test]
 fn inputs_that_end_early(rt: HostRuntime) -> Result<(), Fail> {
     for (publication, script, status, output, notes) in EARLY {
-        let (ended, host) = play(rt.alloc(), publication, script, &NONE)?;
+        let outside = outside(rt.alloc(), &[])?;
+        let (ended, host) = play(rt.alloc(), publication, script.as_bytes(), &NONE, outside)?;
         assert!(rt; is_ended(ended, &host, *status, output, notes), "{notes}");
-    }
-    Ok(())
-}
-
-const SCRIPT: &str = "insert 0 item qty=7\nsync 1\nshow 1 item\n";
-
-const ANSWERS: &[u8] =
-    b"row 00000000-0000-8000-8000-000000000001\ndone 0 1 1\n00000000-0000-8000-8000-000000000001 7\nrows 1\n";
-
-// The calls that fail, the status, and the note.
-const FAILING: &[(Failing, u8, &str)] = &[
-    ([&[0], &[], &[]], 4, "read fault\n"),
-    ([&[1], &[], &[]], 4, "read fault\n"),
-    ([&[], &[0], &[]], 5, "write fault\n"),
-    ([&[], &[1], &[]], 5, "write fault\n"),
-    ([&[], &[2], &[]], 5, "write fault\n"),
-    ([&[0], &[], &[0]], 4, ""),
-    ([&[], &[1], &[0]], 5, ""),
-];
-
-// Each read, and the first writes: what was written is a part of the answers in front.
-#[test]
-fn ports_that_fail(rt: HostRuntime) -> Result<(), Fail> {
-    for (failing, status, note) in FAILING {
-        let (ended, host) = play(rt.alloc(), ITEM, SCRIPT, failing)?;
-        let written = host.output.bytes.as_slice();
-        assert_eq!(rt; ended, *status, "{failing:?}");
-        assert!(rt; ANSWERS.starts_with(written) && written.len() < ANSWERS.len());
-        assert_eq!(rt; host.notes.bytes.as_slice(), note.as_bytes());
     }
     Ok(())
 }
