@@ -1,0 +1,10 @@
+pub mod Written
+pub mod Telling
+pub mod Steps
+pub mod Made
+pub mod Turns
+pub mod Granting
+pub mod Took
+pub mod Courses
+pub mod Led
+pub mod Synced

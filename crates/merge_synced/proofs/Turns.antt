@@ -1,0 +1,79 @@
+-- A turn of a session of the agent that met the model's publisher, by what each of both made.
+use Rattle.std.specs.Prelude.{Err, List, Ok, Result, Some, refl, ℕ, ◌≡◌}
+use Rattle.std.proofs.Common.{subst, sym}
+use Rattle.merge_types.specs.declared.identifiers.Moment.{Moment}
+use Rattle.merge_resolve.specs.Asked.{tallies_after}
+use Rattle.merge_schema.specs.declared.publication.Publication.{Publication}
+use Rattle.merge_batch.specs.Heads.{answered_kind, kind_of}
+use Rattle.merge_batch.specs.declared.refusal.Refusal.{Refusal}
+use Rattle.merge_batch.specs.declared.reply.Reply.{Reply}
+use Rattle.merge_batch.specs.declared.reply.Reply.TheVariants as reply
+use Rattle.merge_batch.specs.declared.request.Kind.{Kind}
+use Rattle.merge_batch.specs.declared.request.Request.{Request}
+use Rattle.merge_model.specs.Judge.ByNumbers.{by_rows}
+use Rattle.merge_model.specs.Subscriber.Taking.{take_reply}
+use Rattle.merge_model.specs.Tables.{PublisherTables, SubscriberTables}
+use Rattle.merge_model.specs.World.Calls.{handled, questions_on}
+use Rattle.merge_model.specs.World.Steps.{Sending}
+use Rattle.merge_model.specs.World.{Saying}
+use Rattle.merge_model.specs.declared.outcome.Taken.TheVariants.{Acted}
+use Rattle.merge_world.specs.Messages.{requested}
+use Rattle.merge_agent.specs.Texts.{request_text}
+use Rattle.merge_agent.specs.Turns.{Takes, Turn, taken_by}
+use Rattle.merge_agent.specs.declared.answer.Told.{Told}
+use Rattle.merge_agent.specs.declared.answer.Told.TheVariants.{Replied}
+use Rattle.merge_desk.specs.Replay.{answered, told as told_as}
+use Rattle.merge_synced.specs.Answering.{AreRead, AreTold, Serving, behind, counted_by, made_of, reply_by}
+use Rattle.merge_synced.proofs.Made.{answers-kind}
+use Rattle.merge_synced.proofs.Telling.{Fits, one-read, one-told, refused-fits, refused-stops, replied-acts}
+
+-- The site made a request, the publisher answered it, and the reply acted.
+pub record Turned (publication : Publication) (says : Saying) (now : Moment) (sending : Sending) (s new : SubscriberTables) (r : Reply) (p q : Serving) : Type 0 where
+  pub sent : SubscriberTables
+  pub request : Request
+  pub after : PublisherTables
+  pub made : requested sending now s ≡ Ok (Some (sent, request))
+  pub answer : handled publication says p.tallies now request p.publisher ≡ Ok (after, r)
+  pub taken : take_reply publication (by_rows sent) now r sent ≡ Ok (new, Acted)
+  pub tables : q.publisher ≡ after
+  pub tallies : q.tallies ≡ tallies_after p.tallies (questions_on publication now request p.publisher)
+
+kind-fits : (asked : Kind) (r : Reply) → asked ≡ answered_kind r → Fits asked r
+kind-fits asked (reply.Joined m) is = is
+kind-fits asked (reply.Uploaded m) is = is
+kind-fits asked (reply.Ranged m) is = is
+kind-fits asked (reply.Downloaded m) is = is
+kind-fits asked (reply.Refused number values) is = tt
+
+module _ (publication : Publication) (says : Saying) (now : Moment) (address : List ℕ) where
+  -- what the request is that was read
+  pub same-read : (bytes : List ℕ) (q r : Request) → bytes ≡ request_text address q → AreRead (request_text address q) q → AreRead bytes r → r ≡ q
+  same-read bytes q r text plain read = one-read (request_text address q) r q (subst (λ (x : List ℕ). AreRead x r) text read) plain
+
+  turned-by : (sending : Sending) (turn : Turn) (s sent new : SubscriberTables) (request : Request) (told : Told) (other : Reply) (p : Serving) (done : Result (PublisherTables × Reply) Refusal)
+      → requested sending now s ≡ Ok (Some (sent, request)) → handled publication says p.tallies now request p.publisher ≡ done → AreTold turn.carried.response (answered p.publisher done).1
+      → ((r : Reply) → Fits (kind_of request) r → AreTold turn.carried.response r → told ≡ Replied r)
+      → taken_by publication now told sent ≡ Ok (new, other)
+      → Turned publication says now sending s new other p (record { publisher = (answered p.publisher done).0; tallies = counted_by done (questions_on publication now request p.publisher) p.tallies })
+  turned-by sending turn s sent new request told other p (Err why) made handling tells is taken =
+      let said = is (told_as why) (refused-fits (kind_of request) why) tells in
+      absurd (refused-stops publication now why other sent new (subst (λ (t : Told). taken_by publication now t sent ≡ Ok (new, other)) said taken))
+  turned-by sending turn s sent new request told other p (Ok (after, r)) made handling tells is taken =
+      let said = is r (kind-fits (kind_of request) r (answers-kind publication says p.tallies now p.publisher after r request handling)) tells in
+      let acts = replied-acts publication now r other sent new (subst (λ (t : Told). taken_by publication now t sent ≡ Ok (new, other)) said taken) in
+      subst (λ (x : Reply). Turned publication says now sending s new x p (record { publisher = after; tallies = tallies_after p.tallies (questions_on publication now request p.publisher) })) acts.1
+      (record { sent = sent; request = request; after = after; made = made; answer = handling; taken = acts.0; tables = refl; tallies = refl })
+
+  pub turned : (sending : Sending) (made : Moment) (turn : Turn) (s new : SubscriberTables) (m : Reply) (p : Serving) (r : Request) → made ≡ now → turn.now ≡ now → Takes publication address sending made turn s new m
+      → ((sent : SubscriberTables) (q : Request) → requested sending now s ≡ Ok (Some (sent, q)) → AreRead (request_text address q) q)
+      → AreRead turn.carried.request r → AreTold turn.carried.response (reply_by publication says now r p)
+      → Turned publication says now sending s new m p (behind publication says now r p)
+  turned sending made turn s new m p r at then takes plain read tells =
+      let q : Request = takes.meets.request in
+      let asked : requested sending now s ≡ Ok (Some (takes.sent, q)) = subst (λ (x : Moment). requested sending x s ≡ Ok (Some (takes.sent, q))) at takes.meets.is_made in
+      let same : r ≡ q = same-read turn.carried.request q r takes.meets.text (plain takes.sent q asked) read in
+      subst (λ (x : Request). Turned publication says now sending s new m p (behind publication says now x p)) (sym same)
+      (turned-by sending turn s takes.sent new q takes.told m p (made_of publication says now q p) asked refl
+      (subst (λ (x : Request). AreTold turn.carried.response (reply_by publication says now x p)) same tells)
+      (λ x fits is. one-told (kind_of q) turn.carried.response x takes.told fits is takes.meets.tells)
+      (subst (λ (x : Moment). taken_by publication x takes.told takes.sent ≡ Ok (new, m)) then takes.taken))

@@ -1,0 +1,25 @@
+//! A session over a link that meets the model's publisher is the model's session. These functions do
+//! nothing: their contracts are the laws.
+#![tactic(auto)]
+
+ghost use Rattle.merge_synced.specs.Synced.{DoneIsTheModels, OfEveryValidWorld, RefusedIsTheModels, RepliesAreTold, RequestsAreRead};
+
+/// The bytes that the agent sends are read as its request, and those that a publisher serves with a reply
+/// tell it, where the body tells the message and is no longer than bodies may be.
+pub fn what_is_written_is_told()
+    ensures requests { RequestsAreRead }
+    ensures replies { RepliesAreTold }
+{}
+
+/// In every world behind actions, where the link of a session of a site meets the world's publisher: once
+/// the session is done, the model's session of that site ends with nothing refused, with as many uploads
+/// and downloads, and with the same tables at the site and at the publisher.
+pub fn done_sessions_are_the_models()
+    ensures { OfEveryValidWorld DoneIsTheModels }
+{}
+
+/// Where the publisher refuses, the model's session stops with that refusal, with the same counts and
+/// tables.
+pub fn refused_sessions_are_the_models()
+    ensures { OfEveryValidWorld RefusedIsTheModels }
+{}
