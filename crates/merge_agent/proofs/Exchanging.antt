@@ -24,10 +24,10 @@ use Rattle.merge_link.specs.declared.link.Exchange.{Exchange}
 use Rattle.merge_link.specs.declared.link.LinkFault.{LinkFault}
 use Rattle.merge_link.specs.declared.link.LinkFault.TheVariants as link
 use Rattle.merge_agent.specs.Answers.{Tells}
-use Rattle.merge_agent.specs.Faults.{carrying_fault, with_fault}
+use Rattle.merge_agent.specs.Faults.{carrying_fault, fault_of, with_fault}
 use Rattle.merge_agent.specs.Meetings.{Gives, Meeting, Passes, meeting}
 use Rattle.merge_agent.specs.Texts.{request_text}
-use Rattle.merge_agent.specs.Turns.{Broke, HasCauses, IsMade, Makes, Skips, Stepped, Turn, Turns, Unanswered, Unmade, Untaken, taken_by}
+use Rattle.merge_agent.specs.Turns.{Broke, HasCauses, HasMessage, IsLeft, IsMade, Makes, Skips, Stepped, Turn, Turns, Unanswered, Unmade, Untaken, taken_by}
 use Rattle.merge_agent.specs.declared.answer.Told.{Told}
 use Rattle.merge_agent.specs.declared.fault.SessionFault.{SessionFault}
 use Rattle.merge_agent.specs.declared.fault.SessionFault.TheVariants as fault
@@ -60,6 +60,21 @@ Calls sending made v w r = SubscriberCall (message_or_none v.tables (requested s
 
 makes-some : (sending : Sending) (made : Moment) (v w : SubscriberView) (m : Request) → Calls sending made v w (Ok (Some m)) → Makes sending made v w (Ok (Some m))
 makes-some sending made v w m called = (some-made v.tables w.tables m (requested sending made v.tables) called.0, called.1)
+
+-- what it refused, and that its store failed only where there was a message to make
+
+refused-as : (s : SubscriberTables) (by : By) (why : Refusal) → message_or_none s by ≡ Err why → with_fault by ≡ Err (fault_of why)
+refused-as s (Ok made) why e = absurd (cc)
+refused-as s (Err other) why e = cc
+
+had-message : (sending : Sending) (made : Moment) (s t : SubscriberTables) (found : Option Request) → message_or_none s (requested sending made s) ≡ Ok (t, found) → message_commits found ≡ true → HasMessage sending made s
+had-message sending made s t None e commits = absurd (cc)
+had-message sending made s t (Some m) e commits = (t, m, some-made s t m (requested sending made s) e)
+
+pub made-not : (sending : Sending) (made : Moment) (v w : SubscriberView) (why : Refusal) → Calls sending made v w (Err why) → Makes sending made v w (Err (fault_of why))
+made-not sending made v w why (same, inl (refused, later)) = (same, inl (refused-as v.tables (requested sending made v.tables) why refused, later))
+made-not sending made v w why (same, inr (inl (memory, later))) = (same, inr (inl (ap fault_of memory, later)))
+made-not sending made v w why (same, inr (inr (store, there, rose))) = (same, inr (inr (ap fault_of store, had-message sending made v.tables there.0.0 there.0.1 there.1 there.2, rose)))
 
 -- and what it made can be written
 pub made-writable : (sending : Sending) (made : Moment) (v w : SubscriberView) (m : Option Request) → ArePrintable (λ (row : SubscriberRow). row.version) v.tables.rows → Calls sending made v w (Ok m) → IfSome m IsSendableRequest
@@ -108,19 +123,19 @@ module _ (address : List ℕ) (sending : Sending) (made : Moment) (v w : Subscri
   pub unmade : (why : SessionFault) → Makes sending made v w (Err why) → Broke address sending (meeting v co xo lo mo) (meeting w co xo lo mn) why
   unmade why (same, inl (refused, later)) = record {
     at = Unmade made;
-    breaks = (same, inr refused);
+    breaks = (same, inl refused);
     passes = passes-still v w co co xo xo lo lo mo mn (made ∷ []) publication later refl refl (omega arith) gave;
     causes = causes-told _ _ why (told-by sending made v.tables (requested sending made v.tables) why refl refused);
   }
   unmade why (same, inr (inl (memory, later))) = record {
     at = Unmade made;
-    breaks = (same, inl (inl memory));
+    breaks = (same, inr (inl memory));
     passes = passes-still v w co co xo xo lo lo mo mn (made ∷ []) publication later refl refl (omega arith) gave;
     causes = causes-memory _ _ why memory;
   }
-  unmade why (same, inr (inr (store, rose))) = record {
+  unmade why (same, inr (inr (store, there, rose))) = record {
     at = Unmade made;
-    breaks = (same, inl (inr store));
+    breaks = (same, inr (inr (store, there)));
     passes = passes-still v w co co xo xo lo lo mo mn (made ∷ []) publication (omega (arith, rose)) refl refl (omega arith) gave;
     causes = causes-store _ _ why store rose;
   }
@@ -162,7 +177,7 @@ module _ (address : List ℕ) (sending : Sending) (made : Moment) (v w : Subscri
       pub unread : (why : SessionFault) → why ≡ fault.NoMemory → Broke address sending (meeting v co xo lo mo) (meeting w cn xn ln ml) why
       unread why memory = record {
         at = Untaken made turn;
-        breaks = record { request = request; is_made = makes.0; text = refl; by = inl (inl memory) };
+        breaks = record { request = request; is_made = makes.0; text = refl; by = inl memory };
         passes = over w refl (omega arith);
         causes = causes-memory _ _ why memory;
       }
@@ -171,23 +186,26 @@ module _ (address : List ℕ) (sending : Sending) (made : Moment) (v w : Subscri
         is_made : u.tables ≡ w.tables → IsMade sending made v.tables u.tables request
         is_made e = subst (λ (t : SubscriberTables). IsMade sending made v.tables t request) (sym e) makes.0
 
+        left : u.tables ≡ w.tables → (why : SessionFault) → IsLeft (taken_by w.publication now told w.tables) why → IsLeft (taken_by v.publication now told u.tables) why
+        left e why is = subst (λ (p : Publication). IsLeft (taken_by p now told u.tables) why) publication (subst (λ (t : SubscriberTables). IsLeft (taken_by w.publication now told t) why) (sym e) is)
+
         -- what it tells was not taken
         pub untaken : (why : SessionFault) → Stepped {A = Reply} (taken_by w.publication now told w.tables) w.tables u.tables w.faults u.faults (Err why) → Broke address sending (meeting v co xo lo mo) (meeting u cn xn ln ml) why
         untaken why (kept, inl (refused, later)) = record {
           at = Untaken made turn;
-          breaks = record { request = request; is_made = is_made kept; text = refl; by = inr (told, tells, subst (λ (p : Publication). taken_by p now told u.tables ≡ Err why) publication (subst (λ (t : SubscriberTables). taken_by w.publication now told t ≡ Err why) (sym kept) refused)) };
+          breaks = record { request = request; is_made = is_made kept; text = refl; by = inr (told, tells, left kept why (inl refused)) };
           passes = over u same later;
           causes = causes-told _ _ why (taken-told w.publication now told w.tables why refused);
         }
         untaken why (kept, inr (inl (memory, later))) = record {
           at = Untaken made turn;
-          breaks = record { request = request; is_made = is_made kept; text = refl; by = inl (inl memory) };
+          breaks = record { request = request; is_made = is_made kept; text = refl; by = inl memory };
           passes = over u same later;
           causes = causes-memory _ _ why memory;
         }
         untaken why (kept, inr (inr (store, done, rose))) = record {
           at = Untaken made turn;
-          breaks = record { request = request; is_made = is_made kept; text = refl; by = inl (inr store) };
+          breaks = record { request = request; is_made = is_made kept; text = refl; by = inr (told, tells, left kept why (inr (store, done))) };
           passes = over u same (omega (arith, rose));
           causes = causes-store _ _ why store (omega (arith, rose, makes.1));
         }

@@ -58,11 +58,15 @@ pub record Turn : Type 0 where
 abbrev pub IsMade : Sending → Moment → SubscriberTables → SubscriberTables → Request → Type 0
 IsMade sending made old sent request = requested sending made old ≡ Ok (Some (sent, request))
 
--- what a site did that was told to make a message
+-- there is a message to make
+abbrev pub HasMessage : Sending → Moment → SubscriberTables → Type 0
+HasMessage sending made old = (sent : SubscriberTables) × (request : Request) × IsMade sending made old sent request
+
+-- What a site did that was told to make a message. Its store fails only where there is one to make.
 abbrev pub Makes : Sending → Moment → SubscriberView → SubscriberView → Result (Option Request) SessionFault → Type 0
 Makes sending made old new (Ok None) = (requested sending made old.tables ≡ Ok None) × (new.tables ≡ old.tables) × (old.faults ≤ new.faults)
 Makes sending made old new (Ok (Some request)) = IsMade sending made old.tables new.tables request × (old.faults ≤ new.faults)
-Makes sending made old new (Err why) = (new.tables ≡ old.tables) × ((with_fault (requested sending made old.tables) ≡ Err why) × (old.faults ≤ new.faults) ⊎ ((why ≡ fault.NoMemory) × (old.faults ≤ new.faults) ⊎ (why ≡ fault.StoreFault) × (old.faults + 1 ≤ new.faults)))
+Makes sending made old new (Err why) = (new.tables ≡ old.tables) × ((with_fault (requested sending made old.tables) ≡ Err why) × (old.faults ≤ new.faults) ⊎ ((why ≡ fault.NoMemory) × (old.faults ≤ new.faults) ⊎ (why ≡ fault.StoreFault) × HasMessage sending made old.tables × (old.faults + 1 ≤ new.faults)))
 
 -- the message was made, the link carried it, and the response tells this
 pub record Meets (address : List ℕ) (sending : Sending) (made : Moment) (turn : Turn) (old sent : SubscriberTables) (told : Told) : Type 0 where
@@ -95,21 +99,20 @@ moments_in (Unmade made) = made ∷ []
 moments_in (Unanswered made) = made ∷ []
 moments_in (Untaken made turn) = made ∷ turn.now ∷ []
 
--- a fault of the site that the definition does not make
-abbrev pub IsSlip : SessionFault → Type 0
-IsSlip why = (why ≡ fault.NoMemory) ⊎ (why ≡ fault.StoreFault)
+-- What the site did not take: it refused it, or its store failed where it would take it.
+abbrev pub IsLeft : Result (SubscriberTables × Reply) SessionFault → SessionFault → Type 0
+IsLeft by why = (by ≡ Err why) ⊎ ((why ≡ fault.StoreFault) × ((done : SubscriberTables × Reply) × (by ≡ Ok done)))
 
--- the request was made and the link carried it, and then memory was wanting, or the store failed or the reply was refused
--- as it was taken
+-- the request was made and the link carried it, and then memory was wanting, or the site did not take what the response tells
 pub record Untakes (publication : Publication) (address : List ℕ) (sending : Sending) (made : Moment) (turn : Turn) (old new : SubscriberTables) (why : SessionFault) : Type 0 where
   pub request : Request
   pub is_made : IsMade sending made old new request
   pub text : turn.carried.request ≡ request_text address request
-  pub by : IsSlip why ⊎ ((told : Told) × Tells (kind_of request) turn.carried.response told × (taken_by publication turn.now told new ≡ Err why))
+  pub by : (why ≡ fault.NoMemory) ⊎ ((told : Told) × Tells (kind_of request) turn.carried.response told × IsLeft (taken_by publication turn.now told new) why)
 
 -- what a fault leaves, and how it comes
 abbrev pub Breaks : Publication → List ℕ → Sending → SubscriberTables → SubscriberTables → Break → SessionFault → Type 0
-Breaks publication address sending old new (Unmade made) why = (new ≡ old) × (IsSlip why ⊎ (with_fault (requested sending made old) ≡ Err why))
+Breaks publication address sending old new (Unmade made) why = (new ≡ old) × ((with_fault (requested sending made old) ≡ Err why) ⊎ ((why ≡ fault.NoMemory) ⊎ (why ≡ fault.StoreFault) × HasMessage sending made old))
 Breaks publication address sending old new (Unanswered made) why = ((request : Request) × IsMade sending made old new request) × ((why ≡ fault.NoMemory) ⊎ (why ≡ fault.LinkFault))
 Breaks publication address sending old new (Untaken made turn) why = Untakes publication address sending made turn old new why
 

@@ -39,8 +39,8 @@ use Rattle.merge_owed.proofs.RangeAnswers.{brought, planned}
 use Rattle.merge_agent.specs.Sessions.{Asks, Downloads, IsUnderWay, Joins, Over, Session, Stage, Uploads, answered, at, passed, sending_in, stage_to}
 use Rattle.merge_synced.specs.Answering.{Serving, serving_in}
 use Rattle.merge_synced.proofs.Granting.{AllGo, all-begin, all-go, none-left}
-use Rattle.merge_synced.proofs.Made.{closes-one, none-unsent, sent-site, taken-site, upload-made}
-use Rattle.merge_synced.proofs.Steps.{asks-always, exchange-is, none-sent, refused-is, replied_world, sent_world, taken-has, taken_world, told-last}
+use Rattle.merge_synced.proofs.Made.{closes-one, none-unsent, ranges-refused, sent-site, taken-site, upload-made}
+use Rattle.merge_synced.proofs.Steps.{asks-always, exchange-is, last-posted, none-sent, refused-is, replied_world, sent_world, taken-has, taken_world, told-last, unmade-is, untaken-is}
 use Rattle.merge_synced.proofs.Took.{DownloadTook, RangesTook, UploadTook, closing_in, download-took, join-took, ranges-took, upload-took}
 use Rattle.merge_synced.proofs.Turns.{Turned}
 
@@ -174,9 +174,8 @@ module _ (publication : Publication) (says : Saying) (site : SiteId) (now : Mome
         → exchange M site sending counted next (under v i j) ≡ next (record (counted (under (replied_world publication site t.request t.after r (sent_world site t.sent t.request v)) i j)) { world = next_world })
     turn-is i j counted next = exchange-is publication says site sending v s t.sent t.request h.here h.own
         (subst (λ (x : Moment). requested sending x s ≡ Ok (Some (t.sent, t.request))) (sym h.moment) t.made)
-        t.after r new (subst (λ (x : Moment). handled publication says v.tallies x t.request v.publisher ≡ Ok (t.after, r)) (sym h.moment) t.answer) keyed
-        (subst (λ (x : Moment). take_reply publication (by_rows t.sent) x r t.sent ≡ Ok (new, Acted)) (sym h.moment) t.taken)
-        (under v i j) counted next refl
+        t.after r (subst (λ (x : Moment). handled publication says v.tallies x t.request v.publisher ≡ Ok (t.after, r)) (sym h.moment) t.answer) keyed
+        new (under v i j) counted next (subst (λ (x : Moment). take_reply publication (by_rows t.sent) x r t.sent ≡ Ok (new, Acted)) (sym h.moment) t.taken) refl
 
     last-is : last_message M site next_world ≡ Some (Replies r)
     last-is = told-last publication site t.sent t.request t.after r new v
@@ -476,3 +475,74 @@ module _ (publication : Publication) (says : Saying) (site : SiteId) (now : Mome
     refuse-on (Downloading zero target) e going made = absurd (never-fetches target v s e)
     refuse-on (Downloading (suc count) target) e going made = refused-by SendDownload (with_answer M site) (after_download M site (λ (m : Downloaded) (x : ModelSession World). if nat_le target m.from then x else downloading M site count target x)) made
     refuse-on Done e going made = absurd going
+
+  -- The site refuses to make a message.
+
+  module _ (v : World) (s : SubscriberTables) (i j : ℕ) (why : Refusal) (h : StandsAt site now v s) where
+    unmade-by : (sending : Sending) (counted next : ModelSession World → ModelSession World) → requested sending now s ≡ Err why → exchange M site sending counted next (under v i j) ≡ stopped v i j why
+    unmade-by sending counted next refused = unmade-is publication says site sending v s why (under v i j) counted next h.here (subst (λ (x : Moment). requested sending x s ≡ Err why) (sym h.moment) refused) refl
+
+    ranges-unmade : (count : ℕ) → 1 ≤ count → requested SendRanges now s ≡ Err why → asking_ranges M site count (under v i j) ≡ stopped v i j why
+    ranges-unmade zero some refused = absurd (omega (arith, some))
+    ranges-unmade (suc count) some refused = unmade-by SendRanges (as_it_is M site) (λ (x : ModelSession World). if has_grant M site (last_message M site x.world) then asking_ranges M site count x else x) refused
+
+    -- where it refuses an upload, it refuses a request for ranges too
+    pub unmade-on : (c : Course) → Enough publication site c v s → IsUnderWay (stage_of c) → requested (sending_in (stage_of c)) now s ≡ Err why → rest c (under v i j) ≡ stopped v i j why
+    unmade-on Joining e going refused = ap after_join (unmade-by SendJoin (as_it_is M site) (as_it_is M site) refused)
+    unmade-on (Uploading zero) e going refused = ap after_ranges (ranges-unmade (range_asks M site v) (omega arith) (ranges-refused now s why refused))
+    unmade-on (Uploading (suc count)) e going refused = ap after_uploads (unmade-by SendUpload (with_upload M site) (uploading M site count) refused)
+    unmade-on (Asking count) e going refused = (let enough = e.enough in ap after_ranges (ranges-unmade count (omega (arith, enough)) refused))
+    unmade-on Fetching e going refused = unmade-by SendDownload (with_answer M site) (after_download M site (λ (m : Downloaded) (x : ModelSession World). if nat_le m.last m.from then x else downloading M site (m.last + 1 - m.from) m.last x)) refused
+    unmade-on (Downloading zero target) e going refused = absurd (never-fetches target v s e)
+    unmade-on (Downloading (suc count) target) e going refused = unmade-by SendDownload (with_answer M site) (after_download M site (λ (m : Downloaded) (x : ModelSession World). if nat_le target m.from then x else downloading M site count target x)) refused
+    unmade-on Done e going refused = absurd going
+
+  -- The site refuses a reply, which the model's session counts all the same.
+
+  same-download : (r : Reply) → downloaded_in M site (Some (Replies r)) ≡ download_in (Some (Replies r))
+  same-download (reply.Joined m) = refl
+  same-download (reply.Uploaded m) = refl
+  same-download (reply.Ranged m) = refl
+  same-download (reply.Downloaded m) = refl
+  same-download (reply.Refused number values) = refl
+
+  counted-or : (w : World) (i j : ℕ) (why : Refusal) (found : Option Downloaded)
+      → (let x : ModelSession World = elim found [ None ↦ under w i j | Some m ↦ with_download M site m (under w i j) ] in let y : ModelSession World = record x { world = w; stop = Some why } in y) ≡ stopped w i (j + one_if (brings_found found)) why
+  counted-or w i j why None = (let same : j ≡ j + 0 = omega arith in ap (λ (n : ℕ). stopped w i n why) same)
+  counted-or w i j why (Some m) = ap (λ (n : ℕ). stopped w i n why) (one-more (brings_generations M site m) j)
+
+  module _ (v : World) (s sent : SubscriberTables) (q : Request) (p : PublisherTables) (r : Reply) (i j : ℕ) (why : Refusal) (h : StandsAt site now v s) (keyed : sent.site ≡ site)
+      (answer : handled publication says v.tallies now q v.publisher ≡ Ok (p, r)) (untaken : take_reply publication (by_rows sent) now r sent ≡ Err why) where
+    abbrev told_world : World
+    told_world = replied_world publication site q p r (sent_world site sent q v)
+
+    untaken-by : (sending : Sending) (counted next : ModelSession World → ModelSession World) → requested sending now s ≡ Ok (Some (sent, q))
+        → exchange M site sending counted next (under v i j) ≡ record (counted (under told_world i j)) { world = told_world; stop = Some why }
+    untaken-by sending counted next made = untaken-is publication says site sending v s sent q h.here h.own (subst (λ (x : Moment). requested sending x s ≡ Ok (Some (sent, q))) (sym h.moment) made)
+        p r (subst (λ (x : Moment). handled publication says v.tallies x q v.publisher ≡ Ok (p, r)) (sym h.moment) answer) keyed
+        why (under v i j) counted next (subst (λ (x : Moment). take_reply publication (by_rows sent) x r sent ≡ Err why) (sym h.moment) untaken) refl
+
+    last-told : downloaded_in M site (last_message M site told_world) ≡ download_in (Some (Replies r))
+    last-told = ap (λ (found : Option Message). downloaded_in M site found) (last-posted None (sent_world site sent q v).pool (record { site = site; message = Replies r })) ∙ same-download r
+
+    fetch-untaken : (next : ModelSession World → ModelSession World) → requested SendDownload now s ≡ Ok (Some (sent, q))
+        → exchange M site SendDownload (with_answer M site) next (under v i j) ≡ stopped told_world i (j + one_if (brings_found (download_in (Some (Replies r))))) why
+    fetch-untaken next made =
+        untaken-by SendDownload (with_answer M site) next made
+        ∙ ap (λ (found : Option Downloaded). (let x : ModelSession World = elim found [ None ↦ under told_world i j | Some m ↦ with_download M site m (under told_world i j) ] in let y : ModelSession World = record x { world = told_world; stop = Some why } in y)) last-told
+        ∙ counted-or told_world i j why (download_in (Some (Replies r)))
+
+    abbrev counted_in : Stage → Session
+    counted_in stage = answered (at stage s i j) sent r stage
+
+    pub untaken-on : (c : Course) → Enough publication site c v s → IsUnderWay (stage_of c) → requested (sending_in (stage_of c)) now s ≡ Ok (Some (sent, q))
+        → rest c (under v i j) ≡ stopped told_world (counted_in (stage_of c)).uploads (counted_in (stage_of c)).downloads why
+    untaken-on Joining e going made = ap after_join (untaken-by SendJoin (as_it_is M site) (as_it_is M site) made)
+    untaken-on (Uploading zero) e going made = absurd (nothing-left s sent q e made)
+    untaken-on (Uploading (suc count)) e going made = ap after_uploads (untaken-by SendUpload (with_upload M site) (uploading M site count) made)
+    untaken-on (Asking zero) e going made = (let enough = e.enough in absurd (omega (arith, enough)))
+    untaken-on (Asking (suc count)) e going made = ap after_ranges (untaken-by SendRanges (as_it_is M site) (λ (x : ModelSession World). if has_grant M site (last_message M site x.world) then asking_ranges M site count x else x) made)
+    untaken-on Fetching e going made = fetch-untaken (after_download M site (λ (m : Downloaded) (x : ModelSession World). if nat_le m.last m.from then x else downloading M site (m.last + 1 - m.from) m.last x)) made
+    untaken-on (Downloading zero target) e going made = absurd (never-fetches target v s e)
+    untaken-on (Downloading (suc count) target) e going made = fetch-untaken (after_download M site (λ (m : Downloaded) (x : ModelSession World). if nat_le target m.from then x else downloading M site count target x)) made
+    untaken-on Done e going made = absurd going

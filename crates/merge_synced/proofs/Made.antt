@@ -12,7 +12,7 @@ use Rattle.merge_ident.specs.Holders.{Holder}
 use Rattle.merge_units.specs.declared.result.Decision.{Decision}
 use Rattle.merge_units.specs.declared.site_row.SubscriberRow.{SubscriberRow}
 use Rattle.merge_schema.specs.declared.publication.Publication.{Publication}
-use Rattle.merge_batch.specs.Heads.{answered_kind, kind_of}
+use Rattle.merge_batch.specs.Heads.{answered_kind, kind_of, seq_of as number_of}
 use Rattle.merge_batch.specs.Replies.{broken_by_reply}
 use Rattle.merge_batch.specs.Search.{broken_by_items, broken_by_message}
 use Rattle.merge_batch.specs.Uploads.{broken_by_upload, has_generations, item_rules}
@@ -35,7 +35,7 @@ use Rattle.merge_batch.specs.declared.rules.BrokenRule.{BrokenRule}
 use Rattle.merge_model.specs.Judge.ByNumbers.{by_numbers, by_rows, changed_row_between}
 use Rattle.merge_model.specs.Judge.{PublisherJudge, SubscriberJudge}
 use Rattle.merge_model.specs.Publisher.PublisherDownload.{asked, download_refusal, reply_to}
-use Rattle.merge_model.specs.Publisher.PublisherJoin.{join}
+use Rattle.merge_model.specs.Publisher.PublisherJoin.{join, join_refusal, joined}
 use Rattle.merge_model.specs.Publisher.PublisherRanges.{plans, ranged, ranges_refusal, with_grants}
 use Rattle.merge_model.specs.Publisher.PublisherUpload.{upload_refusal, uploaded}
 use Rattle.merge_model.specs.Publisher.{at_moment, site_refusal}
@@ -130,6 +130,21 @@ download-made now s sent q e =
     let pair : (let both : SubscriberTables × Download = (with_message (ask.Download s.watermark) s, a) in both) ≡ (sent, m.0) = (unless-made {A = SubscriberTables × Download} (sending_refusal s) (with_message (ask.Download s.watermark) s, a) (sent, m.0) (ask-made (make_ask s) sent m.0 m.1)).1 in
     record { tables = ap (λ (both : SubscriberTables × Download). both.0) pair; asks = ap (λ (both : SubscriberTables × Download). request.Download both.1) pair ∙ m.2 }
 
+-- What refuses an upload refuses a request for ranges too.
+
+unless-refused : {A : Type 0} (fault : Option Refusal) (a : A) (why : Refusal) → unless fault a ≡ Err why → fault ≡ Some why
+unless-refused None a why e = absurd cc
+unless-refused (Some other) a why e = (let same : other ≡ why = cc in ap (λ (x : Refusal). Some x) same)
+
+request-refused : {A : Type 0} (message : A → Request) (made : Result (Option (SubscriberTables × A)) Refusal) (why : Refusal) → as_request message made ≡ Err why → made ≡ Err why
+request-refused message (Ok made) why e = absurd cc
+request-refused message (Err other) why e = (let same : other ≡ why = cc in ap (λ (x : Refusal). Err x) same)
+
+pub ranges-refused : (now : Moment) (s : SubscriberTables) (why : Refusal) → requested SendUpload now s ≡ Err why → requested SendRanges now s ≡ Err why
+ranges-refused now s why e =
+    let refused : sending_refusal s ≡ Some why = unless-refused (sending_refusal s) (upload_made (by_rows s) now s) why (request-refused request.Upload (make_upload (by_rows s) now s) why e) in
+    ap (λ (fault : Option Refusal). as_request request.Ranges (unless fault (ranges_made s))) refused
+
 -- a site stays the one that it is
 upload-sites : (now : Moment) (s sent : SubscriberTables) (u : Upload) → upload_sent (by_rows s) (subscriber_closed (subscriber_at_moment now s)) ≡ (sent, u) → sent.site ≡ s.site
 upload-sites now s sent u e = sym (ap (λ (both : SubscriberTables × Upload). both.0.site) e)
@@ -139,6 +154,26 @@ sent-site SendJoin now s sent q e = sym (ap (λ (t : SubscriberTables). t.site) 
 sent-site SendUpload now s sent q e = (let made = upload-made now s sent q e in upload-sites now s sent made.batch made.made)
 sent-site SendRanges now s sent q e = sym (ap (λ (t : SubscriberTables). t.site) (ranges-made now s sent q e).tables)
 sent-site SendDownload now s sent q e = sym (ap (λ (t : SubscriberTables). t.site) (download-made now s sent q e).tables)
+
+-- the message that it made is outstanding, under the number of the request
+
+pub record Outstands (sent : SubscriberTables) (q : Request) : Type 0 where
+  pub message : Outstanding
+  pub here : sent.outstanding ≡ Some (number_of q, message)
+
+outstands-by : (sent : SubscriberTables) (a q : Request) (message : Outstanding) → sent.outstanding ≡ Some (number_of a, message) → a ≡ q → Outstands sent q
+outstands-by sent a q message here same = record { message = message; here = here ∙ ap (λ (x : Request). (let o : Option (ℕ × Outstanding) = Some (number_of x, message) in o)) same }
+
+pub outstands : (sending : Sending) (now : Moment) (s sent : SubscriberTables) (q : Request) → requested sending now s ≡ Ok (Some (sent, q)) → Outstands sent q
+outstands SendJoin now s sent q e = (let m = join-made now s sent q e in outstands-by sent (request.Join (join_of s)) q ask.Join (sym (ap (λ (t : SubscriberTables). t.outstanding) m.tables)) m.asks)
+outstands SendUpload now s sent q e =
+    let m = upload-made now s sent q e in
+    let made : SubscriberTables × Upload = upload_sent (by_rows s) (subscriber_closed (subscriber_at_moment now s)) in
+    outstands-by sent (request.Upload made.1) q (ask.Upload made.1.from made.1.to) (sym (ap (λ (both : SubscriberTables × Upload). both.0.outstanding) m.made)) (ap (λ (both : SubscriberTables × Upload). request.Upload both.1) m.made ∙ m.asks)
+outstands SendRanges now s sent q e =
+    (let m = ranges-made now s sent q e in outstands-by sent (request.Ranges (record { site = s.site; seq = s.seq + 1; wants = map want_of s.held })) q ask.Ranges (sym (ap (λ (t : SubscriberTables). t.outstanding) m.tables)) m.asks)
+outstands SendDownload now s sent q e =
+    (let m = download-made now s sent q e in outstands-by sent (request.Download (record { site = s.site; seq = s.seq + 1; from = s.watermark })) q (ask.Download s.watermark) (sym (ap (λ (t : SubscriberTables). t.outstanding) m.tables)) m.asks)
 
 -- What the publisher answers.
 
@@ -150,6 +185,7 @@ reply-made message None a p r e =
 
 pub record UploadAnswered (u : Upload) (r : Reply) : Type 0 where
   pub told : Uploaded
+  pub number : u.seq ≡ told.seq
   pub goes : u.from < u.to
   pub received : u.to ≤ told.received
   pub replied : reply.Uploaded told ≡ r
@@ -190,7 +226,7 @@ module _ (publication : Publication) (says : Saying) (tallies : List ℕ) (now :
       let decisions : List Decision = kept_decisions says tallies (upload_questions publication judge now u p) in
       let told : Uploaded = record { seq = u.seq; received = max u.to (judge.received u.site.0) } in
       let made = reply-made reply.Uploaded (upload_refusal publication judge now u p) (uploaded publication judge u decisions (at_moment now p), told) after r e in
-      record { told = told; goes = upload-goes publication judge now u p made.0; received = most-left u.to (judge.received u.site.0); replied = made.2 }
+      record { told = told; number = refl; goes = upload-goes publication judge now u p made.0; received = most-left u.to (judge.received u.site.0); replied = made.2 }
 
   pub ranges-answered : (a : RangeAsk) → handled publication says tallies now (request.Ranges a) p ≡ Ok (after, r) → RangesAnswered publication now a p after r
   ranges-answered a e =
@@ -217,6 +253,16 @@ module _ (publication : Publication) (says : Saying) (tallies : List ℕ) (now :
   answers-kind (request.Ranges a) e = ap answered_kind (ranges-answered a e).replied
   answers-kind (request.Download a) e = ap answered_kind (download-answered a e).replied
 
+  join-number : (m : Join) (fault : Option Refusal) (made : PublisherTables) → as_reply reply.Joined (unless fault (made, record { seq = m.seq })) ≡ Ok (after, r) → m.seq ≡ seq_of r
+  join-number m fault made e = ap seq_of (reply-made reply.Joined fault (made, record { seq = m.seq }) after r e).2
+
+  -- under its number
+  pub answers-number : (q : Request) → handled publication says tallies now q p ≡ Ok (after, r) → number_of q ≡ seq_of r
+  answers-number (request.Join m) e = join-number m (join_refusal publication m p) (joined m (at_moment now p)) e
+  answers-number (request.Upload u) e = (let a = upload-answered u e in a.number ∙ ap seq_of a.replied)
+  answers-number (request.Ranges a) e = ap seq_of (ranges-answered a e).replied
+  answers-number (request.Download a) e = ap seq_of (download-answered a e).replied
+
 -- What the site takes.
 
 pub record Fit (publication : Publication) (now : Moment) (judge : SubscriberJudge) (m : Reply) (message : Outstanding) (s new : SubscriberTables) : Type 0 where
@@ -237,6 +283,15 @@ met-fits publication judge now m s new number message e =
 pub met-out : (publication : Publication) (judge : SubscriberJudge) (now : Moment) (m : Reply) (s new : SubscriberTables) (number : ℕ) (message : Outstanding) → s.outstanding ≡ Some (number, message) → met_by publication judge now m s s.outstanding ≡ Ok (new, Acted)
     → Fit publication now judge m message s new
 met-out publication judge now m s new number message out e = met-fits publication judge now m s new number message (subst (λ (o : Option (ℕ × Outstanding)). met_by publication judge now m s o ≡ Ok (new, Acted)) out e)
+
+-- What it refuses, where the reply has the number of the message that is outstanding.
+
+pub met-numbered : (publication : Publication) (judge : SubscriberJudge) (now : Moment) (m : Reply) (s : SubscriberTables) (number : ℕ) (message : Outstanding) → s.outstanding ≡ Some (number, message) → number ≡ seq_of m
+    → met_by publication judge now m s s.outstanding ≡ unless {A = SubscriberTables × Taken} (reply_fault publication message m s) (taken judge now m s, Acted)
+met-numbered publication judge now m s number message out same =
+    let is : (number == seq_of m) ≡ true = grind (arith, nat_tests, same) in
+    ap (λ (o : Option (ℕ × Outstanding)). met_by publication judge now m s o) out
+    ∙ ap (λ (b : Bool). (let done : Result (SubscriberTables × Taken) Refusal = if b then unless (reply_fault publication message m s) (taken judge now m s, Acted) else Ok (s, Missed (seq_of m) number) in done)) is
 
 -- a site stays the one that it is
 missed-never : (publication : Publication) (judge : SubscriberJudge) (now : Moment) (m : Reply) (s new : SubscriberTables) (out : Option (ℕ × Outstanding)) → met_by publication judge now m s out ≡ Ok (new, Acted) → taken judge now m s ≡ new

@@ -50,6 +50,10 @@ replied_world publication site q p r w = (post site (Replies r) (record w { publ
 abbrev pub taken_world : Publication → SiteId → SubscriberTables → Request → PublisherTables → Reply → SubscriberTables → World → World
 taken_world publication site sent q p r new w = with_subscriber new (replied_world publication site q p r (sent_world site sent q w))
 
+-- the site's tables in it
+pub sent-has : (site : SiteId) (sent : SubscriberTables) (q : Request) (w : World) → sent.site ≡ site → subscriber_at (sent_world site sent q w) site ≡ Some sent
+sent-has site sent q w keyed = subst (λ (x : SiteId). at_number (put_number w.subscribers sent.site.0 sent) x.0 ≡ Some sent) keyed (at_put_same sent.site.0 sent w.subscribers)
+
 pub last-posted : (before : Option Message) (pool : List Letter) (letter : Letter) → last_or before (map (λ (x : Letter). x.message) (pool ++ letter ∷ [])) ≡ Some letter.message
 last-posted before [] letter = refl
 last-posted before (other ∷ pool) letter = last-posted (Some other.message) pool letter
@@ -95,6 +99,23 @@ none-is SendUpload w s e = none-by s.site request.Upload w (make_upload (by_rows
 none-is SendRanges w s e = none-by s.site request.Ranges w (make_ranges s) e
 none-is SendDownload w s e = absurd (none-never (make_ask s) e)
 
+-- and where the site refuses to make it
+
+not-by : {A : Type 0} (site : SiteId) (message : A → Request) (w : World) (made : Result (Option (SubscriberTables × A)) Refusal) (why : Refusal) → as_request message made ≡ Err why → unless_refused w made (posted site message w) ≡ (w, Refuses why)
+not-by site message w (Ok made) why e = absurd cc
+not-by site message w (Err other) why e = let same : other ≡ why = cc in ap (λ (x : Refusal). (let done : World × Outcome = (w, Refuses x) in done)) same
+
+not-always : (site : SiteId) (w : World) (made : Result (SubscriberTables × Download) Refusal) (why : Refusal) → as_request request.Download (always made) ≡ Err why
+    → unless_refused w made (λ (done : SubscriberTables × Download). post site (Asks (request.Download done.1)) (with_subscriber done.0 w)) ≡ (w, Refuses why)
+not-always site w (Ok made) why e = absurd cc
+not-always site w (Err other) why e = let same : other ≡ why = cc in ap (λ (x : Refusal). (let done : World × Outcome = (w, Refuses x) in done)) same
+
+not-made : (sending : Sending) (w : World) (s : SubscriberTables) (why : Refusal) → requested sending w.moment s ≡ Err why → send_from (by_tables w) sending w s ≡ (w, Refuses why)
+not-made SendJoin w s why e = not-by s.site request.Join w (make_join s) why e
+not-made SendUpload w s why e = not-by s.site request.Upload w (make_upload (by_rows s) w.moment s) why e
+not-made SendRanges w s why e = not-by s.site request.Ranges w (make_ranges s) why e
+not-made SendDownload w s why e = not-always s.site w (make_ask s) why e
+
 -- a site always has an ask to make
 pub asks-always : (s : SubscriberTables) → as_request request.Download (always (make_ask s)) ≡ Ok None → ⊥
 asks-always s e = none-never (make_ask s) e
@@ -137,9 +158,9 @@ module _ (publication : Publication) (says : Saying) where
   refusal-is site (request.Ranges m) w why e = refused-by site reply.Ranged w (ranges publication (by_numbers w.publisher) w.moment m w.publisher) why e
   refusal-is site (request.Download m) w why e = refused-by site reply.Downloaded w (download publication (by_numbers w.publisher) w.moment m w.publisher) why e
 
-  taking-is : (w : World) (r : Reply) (t : SubscriberTables) (done : Result (SubscriberTables × Taken) Refusal) (new : SubscriberTables) → done ≡ Ok (new, Acted)
-      → unless_refused w done (λ (made : SubscriberTables × Taken). (with_subscriber made.0 w, Took made.1)) ≡ (with_subscriber new w, Took Acted)
-  taking-is w r t done new e = ap (λ (x : Result (SubscriberTables × Taken) Refusal). unless_refused w x (λ (made : SubscriberTables × Taken). (with_subscriber made.0 w, Took made.1))) e
+  -- what comes of a reply that the site took, or refused
+  abbrev took_by : World → Result (SubscriberTables × Taken) Refusal → World × Outcome
+  took_by w done = unless_refused w done (λ (made : SubscriberTables × Taken). (with_subscriber made.0 w, Took made.1))
 
   -- The steps of the machine.
 
@@ -159,13 +180,13 @@ module _ (publication : Publication) (says : Saying) where
   comes number w letter done at is =
       subst (λ (found : Option Letter). (let made : World × Outcome = elim found [ None ↦ (w, NoLetter) | Some x ↦ deliver_letter publication says (by_tables w) number w x ] in made) ≡ done) (sym at) is
 
-  came-back : (number : ℕ) (w : World) (site : SiteId) (r : Reply) (t new : SubscriberTables) → letter_at w number ≡ Some (record { site = site; message = Replies r }) → subscriber_at w site ≡ Some t
-      → take_reply publication (by_rows t) w.moment r t ≡ Ok (new, Acted) → act w (Deliver number) ≡ (with_subscriber new w, Took Acted)
-  came-back number w site r t new letter at is = comes number w (record { site = site; message = Replies r }) (with_subscriber new w, Took Acted) letter
-      (subst (λ (found : Option SubscriberTables). (let made : World × Outcome = elim found [ None ↦ (w, Refuses (UnknownSite site)) | Some s ↦ deliver_reply publication (by_tables w) r w s ] in made) ≡ (with_subscriber new w, Took Acted)) (sym at)
-      (taking-is w r t (take_reply publication (by_rows t) w.moment r t) new is))
+  came-back : (number : ℕ) (w : World) (site : SiteId) (r : Reply) (t : SubscriberTables) (done : Result (SubscriberTables × Taken) Refusal) → letter_at w number ≡ Some (record { site = site; message = Replies r }) → subscriber_at w site ≡ Some t
+      → take_reply publication (by_rows t) w.moment r t ≡ done → act w (Deliver number) ≡ took_by w done
+  came-back number w site r t done letter at is = comes number w (record { site = site; message = Replies r }) (took_by w done) letter
+      (subst (λ (found : Option SubscriberTables). (let made : World × Outcome = elim found [ None ↦ (w, Refuses (UnknownSite site)) | Some s ↦ deliver_reply publication (by_tables w) r w s ] in made) ≡ took_by w done) (sym at)
+      (ap (λ (x : Result (SubscriberTables × Taken) Refusal). took_by w x) is))
 
-  -- An exchange that went through, or that the publisher refused.
+  -- An exchange that went through, or that one of both refused.
   module _ (site : SiteId) (sending : Sending) (w : World) (s sent : SubscriberTables) (q : Request) (here : subscriber_at w site ≡ Some s) (own : s.site ≡ site) (made : requested sending w.moment s ≡ Ok (Some (sent, q))) where
     send-is : act w (Send site sending) ≡ (sent_world site sent q w, Posted (length w.pool + 1))
     send-is = sent-at site sending w s (sent_world site sent q w, Posted (length w.pool + 1)) here
@@ -184,25 +205,33 @@ module _ (publication : Publication) (says : Saying) where
         ap (λ (v : World). answered_as (machine publication says) site counted next x (ask (machine publication says) site sending v)) is
         ∙ ap (λ (done : World × Outcome). answered_as (machine publication says) site counted next x done) (ask-refused why e)
 
-    module _ (p : PublisherTables) (r : Reply) (new : SubscriberTables) (answer : handled publication says w.tallies w.moment q w.publisher ≡ Ok (p, r)) (keyed : sent.site ≡ site) (taken : take_reply publication (by_rows sent) w.moment r sent ≡ Ok (new, Acted)) where
-      ask-answered : ask (machine publication says) site sending w ≡ (replied_world publication site q p r (sent_world site sent q w), Posted (length (sent_world site sent q w).pool + 1))
+    -- the publisher answered
+    module _ (p : PublisherTables) (r : Reply) (answer : handled publication says w.tallies w.moment q w.publisher ≡ Ok (p, r)) (keyed : sent.site ≡ site) where
+      abbrev replied : World
+      replied = replied_world publication site q p r (sent_world site sent q w)
+
+      ask-answered : ask (machine publication says) site sending w ≡ (replied, Posted (length (sent_world site sent q w).pool + 1))
       ask-answered = ap (λ (done : World × Outcome). then_deliver (machine publication says) site done) send-is
-          ∙ comes (length w.pool + 1) (sent_world site sent q w) (record { site = site; message = Asks q }) (replied_world publication site q p r (sent_world site sent q w), Posted (length (sent_world site sent q w).pool + 1)) request-there
+          ∙ comes (length w.pool + 1) (sent_world site sent q w) (record { site = site; message = Asks q }) (replied, Posted (length (sent_world site sent q w).pool + 1)) request-there
           (answer-is site q (sent_world site sent q w) p r answer)
 
-      sent-here : subscriber_at (replied_world publication site q p r (sent_world site sent q w)) site ≡ Some sent
-      sent-here = subst (λ (x : SiteId). at_number (put_number w.subscribers sent.site.0 sent) x.0 ≡ Some sent) keyed (at_put_same sent.site.0 sent w.subscribers)
-
-      back-is : act (replied_world publication site q p r (sent_world site sent q w)) (Deliver (length (sent_world site sent q w).pool + 1)) ≡ (taken_world publication site sent q p r new w, Took Acted)
-      back-is = came-back (length (sent_world site sent q w).pool + 1) (replied_world publication site q p r (sent_world site sent q w)) site r sent new
-          (letter-last (sent_world site sent q w).pool (record { site = site; message = Replies r }) (replied_world publication site q p r (sent_world site sent q w)) refl) sent-here taken
-
-      pub exchange-is : (x : Session World) (counted next : Session World → Session World) → x.world ≡ w
-          → exchange (machine publication says) site sending counted next x ≡ next (record (counted (record x { world = replied_world publication site q p r (sent_world site sent q w) })) { world = taken_world publication site sent q p r new w })
-      exchange-is x counted next is =
+      -- and this came of its reply
+      came-is : (done : Result (SubscriberTables × Taken) Refusal) (x : Session World) (counted next : Session World → Session World) → take_reply publication (by_rows sent) w.moment r sent ≡ done → x.world ≡ w
+          → exchange (machine publication says) site sending counted next x ≡ arrived (machine publication says) site next (counted (record x { world = replied })) (took_by replied done)
+      came-is done x counted next taken is =
           ap (λ (v : World). answered_as (machine publication says) site counted next x (ask (machine publication says) site sending v)) is
-          ∙ ap (λ (done : World × Outcome). answered_as (machine publication says) site counted next x done) ask-answered
-          ∙ ap (λ (done : World × Outcome). arrived (machine publication says) site next (counted (record x { world = replied_world publication site q p r (sent_world site sent q w) })) done) back-is
+          ∙ ap (λ (made : World × Outcome). answered_as (machine publication says) site counted next x made) ask-answered
+          ∙ ap (λ (made : World × Outcome). arrived (machine publication says) site next (counted (record x { world = replied })) made)
+          (came-back (length (sent_world site sent q w).pool + 1) replied site r sent done
+          (letter-last (sent_world site sent q w).pool (record { site = site; message = Replies r }) replied refl) (sent-has site sent q w keyed) taken)
+
+      pub exchange-is : (new : SubscriberTables) (x : Session World) (counted next : Session World → Session World) → take_reply publication (by_rows sent) w.moment r sent ≡ Ok (new, Acted) → x.world ≡ w
+          → exchange (machine publication says) site sending counted next x ≡ next (record (counted (record x { world = replied })) { world = taken_world publication site sent q p r new w })
+      exchange-is new x counted next taken is = came-is (Ok (new, Acted)) x counted next taken is
+
+      pub untaken-is : (why : Refusal) (x : Session World) (counted next : Session World → Session World) → take_reply publication (by_rows sent) w.moment r sent ≡ Err why → x.world ≡ w
+          → exchange (machine publication says) site sending counted next x ≡ record (counted (record x { world = replied })) { world = replied; stop = Some why }
+      untaken-is why x counted next refused is = came-is (Err why) x counted next refused is
 
   pub none-sent : (site : SiteId) (sending : Sending) (w : World) (s : SubscriberTables) (x : Session World) (counted next : Session World → Session World) → subscriber_at w site ≡ Some s → requested sending w.moment s ≡ Ok None
       → x.world ≡ w → exchange (machine publication says) site sending counted next x ≡ record x { world = w }
@@ -210,10 +239,13 @@ module _ (publication : Publication) (says : Saying) where
       ap (λ (v : World). answered_as (machine publication says) site counted next x (ask (machine publication says) site sending v)) is
       ∙ ap (λ (done : World × Outcome). answered_as (machine publication says) site counted next x (then_deliver (machine publication says) site done)) (sent-at site sending w s (w, NoPost) here (none-is sending w s none))
 
--- What the worlds have behind them.
-pub sent-has : (site : SiteId) (sent : SubscriberTables) (q : Request) (w : World) → sent.site ≡ site → subscriber_at (sent_world site sent q w) site ≡ Some sent
-sent-has site sent q w keyed = subst (λ (x : SiteId). at_number (put_number w.subscribers sent.site.0 sent) x.0 ≡ Some sent) keyed (at_put_same sent.site.0 sent w.subscribers)
+  pub unmade-is : (site : SiteId) (sending : Sending) (w : World) (s : SubscriberTables) (why : Refusal) (x : Session World) (counted next : Session World → Session World) → subscriber_at w site ≡ Some s → requested sending w.moment s ≡ Err why
+      → x.world ≡ w → exchange (machine publication says) site sending counted next x ≡ record x { world = w; stop = Some why }
+  unmade-is site sending w s why x counted next here refused is =
+      ap (λ (v : World). answered_as (machine publication says) site counted next x (ask (machine publication says) site sending v)) is
+      ∙ ap (λ (done : World × Outcome). answered_as (machine publication says) site counted next x (then_deliver (machine publication says) site done)) (sent-at site sending w s (w, Refuses why) here (not-made sending w s why refused))
 
+-- What the world has behind a turn.
 module _ (publication : Publication) (site : SiteId) (sent : SubscriberTables) (q : Request) (p : PublisherTables) (r : Reply) (new : SubscriberTables) (w : World) where
   pub taken-has : new.site ≡ site → subscriber_at (taken_world publication site sent q p r new w) site ≡ Some new
   taken-has same = subst (λ (x : SiteId). at_number (put_number (put_number w.subscribers sent.site.0 sent) new.site.0 new) x.0 ≡ Some new) same (at_put_same new.site.0 new (put_number w.subscribers sent.site.0 sent))

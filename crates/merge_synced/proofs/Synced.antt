@@ -1,14 +1,18 @@
 -- A session over a link that met the model's publisher is the model's session.
-use Rattle.std.specs.Prelude.{Bool, Err, List, None, Ok, Option, Some, [], false, if◌then◌else◌, option_map, refl, true, unwrap_or, ℕ, ◌≡◌}
+use Rattle.std.specs.Prelude.{Bool, Err, List, None, Ok, Option, Result, Some, [], false, if◌then◌else◌, option_map, refl, true, unwrap_or, ℕ, ◌≡◌}
 use Rattle.std.proofs.Common.{ap, append-nil, inl, inr, subst, sym, ◌∙◌, ◌⊎◌}
 use Rattle.merge_types.specs.declared.identifiers.Moment.{Moment}
+use Rattle.merge_resolve.specs.Asked.{tallies_after}
 use Rattle.merge_schema.specs.declared.publication.Publication.{Publication}
-use Rattle.merge_batch.specs.Heads.{kind_of}
+use Rattle.merge_batch.specs.Heads.{kind_of, seq_of}
 use Rattle.merge_batch.specs.declared.refusal.Refusal.{Refusal}
+use Rattle.merge_batch.specs.declared.reply.Reply.{Reply}
 use Rattle.merge_batch.specs.declared.request.Request.{Request}
 use Rattle.merge_model.specs.Failing.Runs.{world_behind_actions}
-use Rattle.merge_model.specs.Tables.{SubscriberTables}
-use Rattle.merge_model.specs.World.Calls.{handled}
+use Rattle.merge_model.specs.Judge.ByNumbers.{by_rows}
+use Rattle.merge_model.specs.Subscriber.Taking.{take_reply}
+use Rattle.merge_model.specs.Tables.{PublisherTables, SubscriberTables}
+use Rattle.merge_model.specs.World.Calls.{handled, questions_on}
 use Rattle.merge_model.specs.World.Events.{machine}
 use Rattle.merge_model.specs.World.Session.{Session as ModelSession, as_it_is, exchange, is_joined_in, session, unsent_generations}
 use Rattle.merge_model.specs.World.Steps.{SendJoin}
@@ -17,20 +21,22 @@ use Rattle.merge_world.specs.Messages.{requested}
 use Rattle.merge_laws.proofs.Lineages.LineagesAlways.{actions-same}
 use Rattle.merge_owed.proofs.HeldThresholds.{AreThresholds, thresholds-by-actions}
 use Rattle.merge_agent.specs.Answers.{Tells}
-use Rattle.merge_agent.specs.Sessions.{IsUnderWay, Joins, Over, Session, Stage, Step, Uploads, at, begun, sending_in}
-use Rattle.merge_agent.specs.Turns.{IsSlip, Turn, Untakes, taken_by}
+use Rattle.merge_agent.specs.Faults.{with_fault}
+use Rattle.merge_agent.specs.Sessions.{IsUnderWay, Joins, Over, Session, Stage, Step, Uploads, answered as counted, at, begun, sending_in}
+use Rattle.merge_agent.specs.Turns.{HasMessage, IsLeft, Turn, Untakes, reply_taken, taken_by}
 use Rattle.merge_agent.specs.declared.answer.Told.{Told}
 use Rattle.merge_agent.specs.declared.answer.Told.TheVariants.{Replied}
 use Rattle.merge_agent.specs.declared.fault.SessionFault.{SessionFault}
-use Rattle.merge_desk.specs.Replay.{told as told_as}
-use Rattle.merge_synced.specs.Answering.{AreTold, Serving, made_of, serving_in}
-use Rattle.merge_synced.specs.Synced.{DoneIsTheModels, IsRefused, Met, OfEveryValidWorld, RefusedIsTheModels, StandsAs}
-use Rattle.merge_synced.proofs.Courses.{Asking, Course, Done, Downloading, Enough, Fetching, Joining, Onward, Uploading, after_join, refuse-on, rest, sends-begin, stage_of, under}
+use Rattle.merge_agent.specs.declared.fault.SessionFault.TheVariants as fault
+use Rattle.merge_desk.specs.Replay.{answered, told as told_as}
+use Rattle.merge_synced.specs.Answering.{AreTold, Serving, behind, counted_by, made_of, serving_in}
+use Rattle.merge_synced.specs.Synced.{DoneIsTheModels, IsRefused, IsUntaken, Met, OfEveryValidWorld, RefusedIsTheModels, SiteStops, StandsAs, UnmadeIsTheModels, UntakenIsTheModels, WouldAct}
+use Rattle.merge_synced.proofs.Courses.{Asking, Course, Done, Downloading, Enough, Fetching, Joining, Onward, Uploading, after_join, refuse-on, rest, sends-begin, stage_of, under, unmade-on, untaken-on}
 use Rattle.merge_synced.proofs.Led.{led}
-use Rattle.merge_synced.proofs.Made.{sent-site}
-use Rattle.merge_synced.proofs.Steps.{sent-has, sent_world}
-use Rattle.merge_synced.proofs.Telling.{one-told, refused-fits}
-use Rattle.merge_synced.proofs.Turns.{same-read}
+use Rattle.merge_synced.proofs.Made.{Outstands, answers-kind, answers-number, outstands, sent-site}
+use Rattle.merge_synced.proofs.Steps.{replied_world, sent-has, sent_world}
+use Rattle.merge_synced.proofs.Telling.{Refusing, one-told, refused-fits, refused-stops, refusing, replied-acts, reply-refused}
+use Rattle.merge_synced.proofs.Turns.{asks-reply, kind-fits, same-read}
 
 -- only a session that is over stands at its end
 ended : (c : Course) → Over ≡ stage_of c → c ≡ Done
@@ -99,14 +105,113 @@ module _ (publication : Publication) (says : Saying) (w : World) (s : Subscriber
       (begins.same ∙ o.same ∙ refuse-on publication says s.site w.moment o.world last.tables t q last.uploads last.downloads refusal o.here refused o.course o.enough (subst IsUnderWay o.stage r.under_way) made)
       (sent-has s.site t q o.world (sent-site (sending_in (stage_of o.course)) w.moment last.tables t q made ∙ o.here.own)) o.serving
 
+  -- The site refuses to make its next message.
+
+  unmade-stands : (address : List ℕ) (steps : List Step) (last : Session) (p : Serving) (refusal : Refusal) → Met publication says w address s steps last p → IsUnderWay last.stage → requested (sending_in last.stage) w.moment last.tables ≡ Err refusal
+      → StandsAs s.site last.tables last.uploads last.downloads (Some refusal) p (session (machine publication says) s.site w)
+  unmade-stands address steps last p refusal met going refused =
+      let o : Onward publication says s.site w.moment begins.course w 0 0 last p = goes address steps last p met in
+      stands last.tables last.uploads last.downloads (Some refusal) p o.world (session (machine publication says) s.site w)
+      (begins.same ∙ o.same ∙ unmade-on publication says s.site w.moment o.world last.tables last.uploads last.downloads refusal o.here o.course o.enough (subst IsUnderWay o.stage going)
+      (subst (λ (x : Stage). requested (sending_in x) w.moment last.tables ≡ Err refusal) o.stage refused))
+      o.here.here o.serving
+
+  unmade-by : (address : List ℕ) (t : SubscriberTables) (steps : List Step) (last : Session) (p : Serving) (why : SessionFault) → Met publication says w address s steps last p → IsUnderWay last.stage → t ≡ last.tables
+      → (with_fault (requested (sending_in last.stage) w.moment last.tables) ≡ Err why) ⊎ ((why ≡ fault.NoMemory) ⊎ (why ≡ fault.StoreFault) × HasMessage (sending_in last.stage) w.moment last.tables)
+      → SiteStops publication says w s.site t last.uploads last.downloads p why ⊎ ((why ≡ fault.NoMemory) ⊎ (why ≡ fault.StoreFault) × HasMessage (sending_in last.stage) w.moment last.tables)
+  unmade-by address t steps last p why met going same (inr failed) = inr failed
+  unmade-by address t steps last p why met going same (inl told) =
+      let r : Refusing (requested (sending_in last.stage) w.moment last.tables) why = refusing (requested (sending_in last.stage) w.moment last.tables) why told in
+      inl (record {
+        refusal = r.refusal;
+        fault = r.fault;
+        stands = subst (λ (x : SubscriberTables). StandsAs s.site x last.uploads last.downloads (Some r.refusal) p (session (machine publication says) s.site w)) (sym same) (unmade-stands address steps last p r.refusal met going r.is);
+      })
+
+  -- The site refuses the reply of a turn.
+  module _ (address : List ℕ) (t : SubscriberTables) (steps : List Step) (last : Session) (p : Serving) (turn : Turn) (r : Reply) (why : SessionFault) (met : Met publication says w address s steps last p) (u : IsUntaken publication says w address last p t turn r why) where
+    onward : Onward publication says s.site w.moment begins.course w 0 0 last p
+    onward = goes address steps last p met
+
+    breaks : Untakes publication address (sending_in last.stage) w.moment turn last.tables t why
+    breaks = u.breaks
+
+    -- the request that the publisher read is the one that was made
+    same-request : u.request ≡ breaks.request
+    same-request = same-read publication says w.moment address turn.carried.request breaks.request u.request breaks.text (met.plain steps [] last (append-nil steps) met.follows t breaks.request breaks.is_made) u.read
+
+    answer : handled publication says p.tallies w.moment breaks.request p.publisher ≡ Ok (u.after, r)
+    answer = subst (λ (x : Request). made_of publication says w.moment x p ≡ Ok (u.after, r)) same-request u.made
+
+    answer-here : handled publication says onward.world.tallies w.moment breaks.request onward.world.publisher ≡ Ok (u.after, r)
+    answer-here = subst (λ (x : Serving). made_of publication says w.moment breaks.request x ≡ Ok (u.after, r)) (sym onward.serving) answer
+
+    made : requested (sending_in (stage_of onward.course)) w.moment last.tables ≡ Ok (Some (t, breaks.request))
+    made = subst (λ (x : Stage). requested (sending_in x) w.moment last.tables ≡ Ok (Some (t, breaks.request))) onward.stage breaks.is_made
+
+    keyed : t.site ≡ s.site
+    keyed = sent-site (sending_in (stage_of onward.course)) w.moment last.tables t breaks.request made ∙ onward.here.own
+
+    served : serving_in (replied_world publication s.site breaks.request u.after r (sent_world s.site t breaks.request onward.world)) ≡ behind publication says w.moment u.request p
+    served =
+        ap (λ (x : Moment). (let q : Serving = record { publisher = u.after; tallies = tallies_after onward.world.tallies (questions_on publication x breaks.request onward.world.publisher) } in q)) onward.here.moment
+        ∙ ap (λ (x : Serving). (let q : Serving = record { publisher = u.after; tallies = tallies_after x.tallies (questions_on publication w.moment breaks.request x.publisher) } in q)) onward.serving
+        ∙ sym (ap (λ (x : Result (PublisherTables × Reply) Refusal). (let q : Serving = record { publisher = (answered p.publisher x).0; tallies = counted_by x (questions_on publication w.moment breaks.request p.publisher) p.tallies } in q)) answer)
+        ∙ ap (λ (x : Request). behind publication says w.moment x p) (sym same-request)
+
+    untaken-stands : (refusal : Refusal) → take_reply publication (by_rows t) w.moment r t ≡ Err refusal
+        → StandsAs s.site t (counted last t r last.stage).uploads (counted last t r last.stage).downloads (Some refusal) (behind publication says w.moment u.request p) (session (machine publication says) s.site w)
+    untaken-stands refusal untaken =
+        let told : World = replied_world publication s.site breaks.request u.after r (sent_world s.site t breaks.request onward.world) in
+        stands t (counted last t r last.stage).uploads (counted last t r last.stage).downloads (Some refusal) (behind publication says w.moment u.request p) told (session (machine publication says) s.site w)
+        (begins.same ∙ onward.same
+        ∙ subst (λ (x : Stage). rest publication says s.site w.moment onward.course (under onward.world last.uploads last.downloads) ≡ record { world = told; uploads = (counted (at x last.tables last.uploads last.downloads) t r x).uploads; downloads = (counted (at x last.tables last.uploads last.downloads) t r x).downloads; stop = Some refusal }) (sym onward.stage)
+        (untaken-on publication says s.site w.moment onward.world last.tables t breaks.request u.after r last.uploads last.downloads refusal onward.here keyed answer-here untaken onward.course onward.enough (subst IsUnderWay onward.stage u.under_way) made))
+        (sent-has s.site t breaks.request onward.world keyed) served
+
+    -- what the response tells is that reply
+    told-reply : (told : Told) → Tells (kind_of breaks.request) turn.carried.response told → told ≡ Replied r
+    told-reply told tells = one-told (kind_of breaks.request) turn.carried.response r told (kind-fits (kind_of breaks.request) r (answers-kind publication says p.tallies w.moment p.publisher u.after r breaks.request answer)) u.told tells
+
+    abbrev Stops : Type 0
+    Stops = SiteStops publication says w s.site t (counted last t r last.stage).uploads (counted last t r last.stage).downloads (behind publication says w.moment u.request p) why
+
+    -- the site did not take it
+    left-by : (told : Told) → told ≡ Replied r → IsLeft (taken_by publication turn.now told t) why → Stops ⊎ ((why ≡ fault.NoMemory) ⊎ (why ≡ fault.StoreFault) × WouldAct publication w.moment r t)
+    left-by told is (inl e) =
+        let out : Outstands t breaks.request = outstands (sending_in last.stage) w.moment last.tables t breaks.request breaks.is_made in
+        let refused : Refusing (take_reply publication (by_rows t) w.moment r t) why = reply-refused publication w.moment (kind_of breaks.request) r t why (seq_of breaks.request) out.message out.here
+        (answers-number publication says p.tallies w.moment p.publisher u.after r breaks.request answer)
+        (answers-kind publication says p.tallies w.moment p.publisher u.after r breaks.request answer) (asks-reply breaks.request)
+        (subst (λ (x : Moment). reply_taken publication x r t ≡ Err why) u.now (subst (λ (x : Told). taken_by publication turn.now x t ≡ Err why) is e)) in
+        inl (record { refusal = refused.refusal; fault = refused.fault; stands = untaken-stands refused.refusal refused.is })
+    left-by told is (inr (store, done)) =
+        let here : reply_taken publication w.moment r t ≡ Ok (done.0.0, done.0.1) =
+        subst (λ (x : Moment). reply_taken publication x r t ≡ Ok (done.0.0, done.0.1)) u.now (subst (λ (x : Told). taken_by publication turn.now x t ≡ Ok (done.0.0, done.0.1)) is done.1) in
+        let acts : WouldAct publication w.moment r t = (done.0.0, (replied-acts publication w.moment r done.0.1 t done.0.0 here).0) in
+        inr (inr (store, acts))
+
+    untaken-by : (why ≡ fault.NoMemory) ⊎ ((told : Told) × Tells (kind_of breaks.request) turn.carried.response told × IsLeft (taken_by publication turn.now told t) why)
+        → Stops ⊎ ((why ≡ fault.NoMemory) ⊎ (why ≡ fault.StoreFault) × WouldAct publication w.moment r t)
+    untaken-by (inl memory) = inr (inl memory)
+    untaken-by (inr tells) = left-by tells.0 (told-reply tells.0 tells.1) tells.2
+
+    pub untaken-here : Stops ⊎ ((why ≡ fault.NoMemory) ⊎ (why ≡ fault.StoreFault) × WouldAct publication w.moment r t)
+    untaken-here = untaken-by breaks.by
+
 -- what the fault of the session tells
 told-stops : (publication : Publication) (address : List ℕ) (last : Session) (t : SubscriberTables) (now : Moment) (turn : Turn) (refusal : Refusal) (why : SessionFault) → Untakes publication address (sending_in last.stage) now turn last.tables t why
-    → AreTold turn.carried.response (told_as refusal) → IsSlip why ⊎ (taken_by publication turn.now (Replied (told_as refusal)) t ≡ Err why)
+    → AreTold turn.carried.response (told_as refusal) → (why ≡ fault.NoMemory) ⊎ (taken_by publication turn.now (Replied (told_as refusal)) t ≡ Err why)
 told-stops publication address last t now turn refusal why breaks is = tells-by breaks.by
   where
-    tells-by : IsSlip why ⊎ ((told : Told) × Tells (kind_of breaks.request) turn.carried.response told × (taken_by publication turn.now told t ≡ Err why)) → IsSlip why ⊎ (taken_by publication turn.now (Replied (told_as refusal)) t ≡ Err why)
-    tells-by (inl slip) = inl slip
-    tells-by (inr tells) = inr (subst (λ (x : Told). taken_by publication turn.now x t ≡ Err why) (one-told (kind_of breaks.request) turn.carried.response (told_as refusal) tells.0 (refused-fits (kind_of breaks.request) refusal) is tells.1) tells.2)
+    left-by : IsLeft (taken_by publication turn.now (Replied (told_as refusal)) t) why → taken_by publication turn.now (Replied (told_as refusal)) t ≡ Err why
+    left-by (inl e) = e
+    left-by (inr (store, done)) = absurd (refused-stops publication turn.now refusal done.0.1 t done.0.0 done.1)
+
+    tells-by : (why ≡ fault.NoMemory) ⊎ ((told : Told) × Tells (kind_of breaks.request) turn.carried.response told × IsLeft (taken_by publication turn.now told t) why) → (why ≡ fault.NoMemory) ⊎ (taken_by publication turn.now (Replied (told_as refusal)) t ≡ Err why)
+    tells-by (inl memory) = inl memory
+    tells-by (inr tells) =
+        inr (left-by (subst (λ (x : Told). IsLeft (taken_by publication turn.now x t) why) (one-told (kind_of breaks.request) turn.carried.response (told_as refusal) tells.0 (refused-fits (kind_of breaks.request) refusal) is tells.1) tells.2))
 
 -- In a world behind actions ranges are due as the publication says.
 has-thresholds : OfEveryValidWorld (λ publication says w. (s : SubscriberTables) → subscriber_at w s.site ≡ Some s → AreThresholds s.held)
@@ -125,3 +230,13 @@ refused-is resolvers publication valid says tallies slips actions address s t st
       refused-stands publication says w s met.here (has-thresholds resolvers publication valid says tallies slips actions s met.here) address t steps last p turn refusal why met r,
       told-stops publication address last t w.moment turn refusal why r.breaks r.told,
     )
+
+pub unmade-is : OfEveryValidWorld UnmadeIsTheModels
+unmade-is resolvers publication valid says tallies slips actions address s t steps last p why met going breaks =
+    let w : World = world_behind_actions publication says tallies slips actions in
+    unmade-by publication says w s met.here (has-thresholds resolvers publication valid says tallies slips actions s met.here) address t steps last p why met going breaks.0 breaks.1
+
+pub untaken-is : OfEveryValidWorld UntakenIsTheModels
+untaken-is resolvers publication valid says tallies slips actions address s t steps last p turn r why met u =
+    let w : World = world_behind_actions publication says tallies slips actions in
+    untaken-here publication says w s met.here (has-thresholds resolvers publication valid says tallies slips actions s met.here) address t steps last p turn r why met u

@@ -10,6 +10,7 @@ use Rattle.merge_batch.specs.declared.reply.Reply.{Reply}
 use Rattle.merge_batch.specs.declared.reply.Reply.TheVariants as reply
 use Rattle.merge_batch.specs.declared.request.Kind.{Kind}
 use Rattle.merge_batch.specs.declared.request.Kind.TheVariants as kind
+use Rattle.merge_batch.specs.declared.request.Outstanding.{Outstanding}
 use Rattle.merge_batch.specs.declared.request.Request.{Request}
 use Rattle.merge_json.specs.Messages.{IsAnswered, IsSent}
 use Rattle.merge_json.proofs.AnswerForms.{answered_or_bad, one_reply}
@@ -18,12 +19,14 @@ use Rattle.merge_wire.specs.declared.message.Message.{Message}
 use Rattle.merge_wire.proofs.NoFault.{response_at_no_fault}
 use Rattle.merge_wire.proofs.OneMessage.{one_request as one_message, one_response}
 use Rattle.merge_model.specs.Judge.ByNumbers.{by_rows}
-use Rattle.merge_model.specs.Subscriber.Taking.{take_reply}
+use Rattle.merge_model.specs.Subscriber.Taking.{met_by, seq_of, take_reply, taken}
+use Rattle.merge_model.specs.Tables.Refusals.{unless}
 use Rattle.merge_model.specs.Tables.{SubscriberTables}
+use Rattle.merge_model.specs.World.Faults.{reply_fault}
 use Rattle.merge_model.specs.declared.outcome.Taken.{Taken}
 use Rattle.merge_model.specs.declared.outcome.Taken.TheVariants.{Acted, Missed}
 use Rattle.merge_agent.specs.Answers.{Tells, TellsBody, TellsBy, form_of}
-use Rattle.merge_agent.specs.Faults.{refused_as}
+use Rattle.merge_agent.specs.Faults.{fault_of, refused_as, with_fault}
 use Rattle.merge_agent.specs.Turns.{reply_taken, taken_as}
 use Rattle.merge_agent.specs.declared.answer.Told.{Told}
 use Rattle.merge_agent.specs.declared.answer.Told.TheVariants.{Declined, Replied, Spoiled}
@@ -31,6 +34,7 @@ use Rattle.merge_agent.specs.declared.fault.SessionFault.{SessionFault}
 use Rattle.merge_desk.specs.Replay.{told as told_as}
 use Rattle.merge_serve.specs.Answers.{reply_status}
 use Rattle.merge_synced.specs.Answering.{AreRead, AreTold}
+use Rattle.merge_synced.proofs.Made.{met-numbered}
 
 pub one-read : (bytes : List ℕ) (r q : Request) → AreRead bytes r → AreRead bytes q → r ≡ q
 one-read bytes r q a b =
@@ -100,3 +104,35 @@ refused-stops publication now why other s new e = never (refused_as (number_of w
   where
     never : (fault : SessionFault) → (let done : Result (SubscriberTables × Reply) SessionFault = Err fault in done) ≡ Ok (new, other) → ⊥
     never fault is = absurd cc
+
+-- What the site refuses, as the session tells it.
+
+pub record Refusing {A : Type 0} (done : Result A Refusal) (why : SessionFault) : Type 0 where
+  pub refusal : Refusal
+  pub is : done ≡ Err refusal
+  pub fault : fault_of refusal ≡ why
+
+pub refusing : {A : Type 0} (done : Result A Refusal) (why : SessionFault) → with_fault done ≡ Err why → Refusing done why
+refusing (Ok made) why e = absurd cc
+refusing (Err refusal) why e = record { refusal = refusal; is = refl; fault = cc }
+
+-- A reply that has the number of the outstanding message is taken or refused.
+
+acted-or : (m : Reply) (why : SessionFault) (fault : Option Refusal) (a : SubscriberTables) → taken_as m (unless fault (a, Acted)) ≡ Err why → Refusing {A = SubscriberTables × Taken} (unless fault (a, Acted)) why
+acted-or m why None a e = absurd cc
+acted-or m why (Some refusal) a e = record { refusal = refusal; is = refl; fault = cc }
+
+met-or : (publication : Publication) (now : Moment) (m : Reply) (s : SubscriberTables) (why : SessionFault) (number : ℕ) (message : Outstanding) → s.outstanding ≡ Some (number, message) → number ≡ seq_of m
+    → taken_as m (met_by publication (by_rows s) now m s s.outstanding) ≡ Err why → Refusing (met_by publication (by_rows s) now m s s.outstanding) why
+met-or publication now m s why number message out same e =
+    let is = met-numbered publication (by_rows s) now m s number message out same in
+    subst (λ (done : Result (SubscriberTables × Taken) Refusal). Refusing done why) (sym is)
+    (acted-or m why (reply_fault publication message m s) (taken (by_rows s) now m s) (subst (λ (done : Result (SubscriberTables × Taken) Refusal). taken_as m done ≡ Err why) is e))
+
+pub reply-refused : (publication : Publication) (now : Moment) (asked : Kind) (m : Reply) (s : SubscriberTables) (why : SessionFault) (number : ℕ) (message : Outstanding) → s.outstanding ≡ Some (number, message) → number ≡ seq_of m → asked ≡ answered_kind m → (asked ≡ kind.Refused → ⊥)
+    → reply_taken publication now m s ≡ Err why → Refusing (take_reply publication (by_rows s) now m s) why
+reply-refused publication now asked (reply.Joined m) s why number message out same is some e = met-or publication now (reply.Joined m) s why number message out same e
+reply-refused publication now asked (reply.Uploaded m) s why number message out same is some e = met-or publication now (reply.Uploaded m) s why number message out same e
+reply-refused publication now asked (reply.Ranged m) s why number message out same is some e = met-or publication now (reply.Ranged m) s why number message out same e
+reply-refused publication now asked (reply.Downloaded m) s why number message out same is some e = met-or publication now (reply.Downloaded m) s why number message out same e
+reply-refused publication now asked (reply.Refused n values) s why number message out same is some e = absurd (some is)

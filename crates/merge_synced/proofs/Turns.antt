@@ -9,7 +9,9 @@ use Rattle.merge_batch.specs.declared.refusal.Refusal.{Refusal}
 use Rattle.merge_batch.specs.declared.reply.Reply.{Reply}
 use Rattle.merge_batch.specs.declared.reply.Reply.TheVariants as reply
 use Rattle.merge_batch.specs.declared.request.Kind.{Kind}
+use Rattle.merge_batch.specs.declared.request.Kind.TheVariants as kind
 use Rattle.merge_batch.specs.declared.request.Request.{Request}
+use Rattle.merge_batch.specs.declared.request.Request.TheVariants as request
 use Rattle.merge_model.specs.Judge.ByNumbers.{by_rows}
 use Rattle.merge_model.specs.Subscriber.Taking.{take_reply}
 use Rattle.merge_model.specs.Tables.{PublisherTables, SubscriberTables}
@@ -38,12 +40,19 @@ pub record Turned (publication : Publication) (says : Saying) (now : Moment) (se
   pub tables : q.publisher ≡ after
   pub tallies : q.tallies ≡ tallies_after p.tallies (questions_on publication now request p.publisher)
 
-kind-fits : (asked : Kind) (r : Reply) → asked ≡ answered_kind r → Fits asked r
+pub kind-fits : (asked : Kind) (r : Reply) → asked ≡ answered_kind r → Fits asked r
 kind-fits asked (reply.Joined m) is = is
 kind-fits asked (reply.Uploaded m) is = is
 kind-fits asked (reply.Ranged m) is = is
 kind-fits asked (reply.Downloaded m) is = is
 kind-fits asked (reply.Refused number values) is = tt
+
+-- no message asks for a refusal
+pub asks-reply : (q : Request) → kind_of q ≡ kind.Refused → ⊥
+asks-reply (request.Join m) e = absurd cc
+asks-reply (request.Upload m) e = absurd cc
+asks-reply (request.Ranges m) e = absurd cc
+asks-reply (request.Download m) e = absurd cc
 
 module _ (publication : Publication) (says : Saying) (now : Moment) (address : List ℕ) where
   -- what the request is that was read

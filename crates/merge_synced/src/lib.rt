@@ -2,7 +2,7 @@
 //! nothing: their contracts are the laws.
 #![tactic(auto)]
 
-ghost use Rattle.merge_synced.specs.Synced.{DoneIsTheModels, OfEveryValidWorld, RefusedIsTheModels, RepliesAreTold, RequestsAreRead};
+ghost use Rattle.merge_synced.specs.Synced.{DoneIsTheModels, OfEveryValidWorld, RefusedIsTheModels, RepliesAreTold, RequestsAreRead, UnmadeIsTheModels, UntakenIsTheModels};
 
 /// The bytes that the agent sends are read as its request, and those that a publisher serves with a reply
 /// tell it, where the body tells the message and is no longer than bodies may be.
@@ -22,4 +22,12 @@ pub fn done_sessions_are_the_models()
 /// tables.
 pub fn refused_sessions_are_the_models()
     ensures { OfEveryValidWorld RefusedIsTheModels }
+{}
+
+/// Where the site itself refuses, to make its next message or to take a reply, the model's session stops
+/// with that refusal and with the same tables. It has the same counts, but that it counts the answer that
+/// the site refused.
+pub fn sessions_that_sites_break_off_are_the_models()
+    ensures unmade { OfEveryValidWorld UnmadeIsTheModels }
+    ensures untaken { OfEveryValidWorld UntakenIsTheModels }
 {}
