@@ -88,7 +88,12 @@ so-far-stops here lines rest number first u v began told later a b c s idle = re
   answers = s.answers;
   happened = rw idle.0.sites s.happened;
   moments = rw idle.0.clock s.moments;
+  whole = s.answers;
+  rest = [];
+  parts = sym (append-nil s.answers);
+  one = omega arith;
   count = length (texts_of (names_of first.publication) s.answers);
+  enough = omega arith;
   bytes = rw (idle.1, take-length) s.bytes;
 }
 
@@ -153,7 +158,12 @@ module _ (here : SiteId) (lines : List (List ℕ)) (line : List ℕ) (rest : Lis
     answers = s.answers ++ answer ∷ [];
     happened = and-then s.timed first u v s.answers (took.moment, event) answer s.happened took.happened;
     moments = moments-more s.timed event took.moment s.moments took.clock;
+    whole = s.answers;
+    rest = answer ∷ [];
+    parts = refl;
+    one = omega arith;
     count = length (texts_of (names_of first.publication) s.answers) + written.0;
+    enough = omega arith;
     bytes = bytes-front first.publication u.publication s.answers answer written.0 a b c s.happened.publication s.bytes written.1;
   }
 

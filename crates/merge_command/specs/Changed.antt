@@ -1,5 +1,5 @@
 -- What the lines of a script change at one site, and what is written of it.
-use Rattle.std.specs.Prelude.{List, Option, map, take, ℕ, ◌++◌, ◌≡◌, ◌⊎◌}
+use Rattle.std.specs.Prelude.{List, Option, length, map, take, ℕ, ◌++◌, ◌≡◌, ◌≤◌, ◌⊎◌}
 use Rattle.std.specs.Io.KnownBytes.{Appends}
 use Rattle.merge_types.specs.declared.identifiers.SiteId.{SiteId}
 use Rattle.merge_link.specs.Moments.{Moments}
@@ -24,7 +24,8 @@ pub record Changed (here : SiteId) (lines : List (List ℕ)) (old new : SitesVie
   pub moments : AreTold (map moment_of timed) began told
   pub bytes : Appends was now (texts_of (names_of old.publication) answers)
 
--- Some of the first of these events happened, and nothing else did, and a front of the text of their answers was written.
+-- Some of the first of these events happened, and nothing else did, and a front of the text of their answers was written: all of them
+-- but the last one whole.
 pub record ChangedInPart (here : SiteId) (lines : List (List ℕ)) (old new : SitesView) (began told : Option Moments) (was now : Option (List ℕ)) : Type 0 where
   pub timed : List Timed
   pub more : List Event
@@ -32,7 +33,12 @@ pub record ChangedInPart (here : SiteId) (lines : List (List ℕ)) (old new : Si
   pub answers : List Answer
   pub happened : AllHappenedAt timed old new answers
   pub moments : AreTold (map moment_of timed) began told
+  pub whole : List Answer
+  pub rest : List Answer
+  pub parts : answers ≡ whole ++ rest
+  pub one : length rest ≤ 1
   pub count : ℕ
+  pub enough : length (texts_of (names_of old.publication) whole) ≤ count
   pub bytes : Appends was now (take count (texts_of (names_of old.publication) answers))
 
 -- nothing was done, and nothing written

@@ -4,15 +4,17 @@ use Rattle.std.proofs.lemmas.List.{append-nil}
 use Rattle.std.proofs.lemmas.Grind.{flat_map-append}
 use Rattle.std.proofs.Math.Seq.{take-length, take-append-add}
 use Rattle.std.specs.declared.option.Option.{Option}
-use Rattle.std.specs.Prelude.{Some, None, ℕ}
+use Rattle.std.specs.Prelude.{Some, None, true, ℕ}
 use Rattle.std.specs.Io.KnownBytes.{Appends}
 use Rattle.merge_ports.specs.Parts.{AppendsFront}
 use Rattle.merge_ports.proofs.Known.{Appends-append}
 use Rattle.merge_script.specs.Lines.{lines_of}
 use Rattle.merge_schema.specs.declared.publication.Publication.{Publication}
+use Rattle.merge_batch.specs.declared.refusal.Refusal.{Refusal}
 use Rattle.merge_model.specs.Script.Play.{names_of}
 use Rattle.merge_model.specs.Script.Reading.{events_of, fault_by, fault_from, fault_of, line_of}
 use Rattle.merge_model.specs.Script.Text.{Names, text_of, texts_of}
+use Rattle.merge_model.specs.World.Events.{is_site}
 use Rattle.merge_model.specs.World.{Saying, World}
 use Rattle.merge_model.specs.declared.answer.Answer.{Answer}
 use Rattle.merge_model.specs.declared.event.Event.{Event}
@@ -20,9 +22,11 @@ use Rattle.merge_model.specs.declared.event.Line.{Line}
 use Rattle.merge_model.specs.declared.event.Line.TheVariants.{Quiet, Event as Does, NoEvent}
 use Rattle.merge_world.specs.Happenings.{Comes, Happened}
 use Rattle.merge_world.specs.Playing.{AllHappened}
+use Rattle.merge_world.specs.Restarts.{IsLost}
+use Rattle.merge_world.specs.Resuming.{EndsRun}
 use Rattle.merge_world.specs.Views.{HandedView, IsOrdered, SitesView}
 use Rattle.merge_world.proofs.Playings.{and-then, nothing-yet, ordered-behind}
-use Rattle.merge_play.specs.Played.{LineAnswered, LineInPart, Played, PlayedInPart}
+use Rattle.merge_play.specs.Played.{LineAnswered, LineEnds, LineInPart, Played, PlayedInPart, PlayedToRestart}
 
 -- the lines up to the rest are answered, and the sites are as they left them
 pub record SoFar (lines rest : List (List ℕ)) (number : ℕ) (first now : SitesView) (before after : HandedView) (was written : Option (List ℕ)) : Type 0 where
@@ -88,7 +92,12 @@ so-far-stops lines rest number first u k g a b c faults le same s = record {
   behind = g;
   happened = s.happened;
   few = le;
+  whole = s.answers;
+  rest = [];
+  parts = sym (append-nil s.answers);
+  one = omega arith;
   count = length (texts_of (names_of first.publication) s.answers);
+  enough = omega arith;
   bytes = rw (same, take-length) s.bytes;
 }
 
@@ -140,7 +149,12 @@ module _ (lines : List (List ℕ)) (line : List ℕ) (rest : List (List ℕ)) (n
     behind = h;
     happened = and-then s.events first u v k g h s.answers event done.0 s.happened done.1;
     few = le';
+    whole = s.answers;
+    rest = done.0 ∷ [];
+    parts = refl;
+    one = omega arith;
     count = length (texts_of (names_of first.publication) s.answers) + done.2.0;
+    enough = omega arith;
     bytes = bytes-front first.publication u.publication s.answers done.0 done.2.0 a b c s.happened.publication s.bytes done.2.1;
   }
 
@@ -160,6 +174,49 @@ module _ (lines : List (List ℕ)) (line : List ℕ) (rest : List (List ℕ)) (n
 
   pub so-far-fault : (word : ℕ) → line_of line ≡ NoEvent word → SoFar lines (line ∷ rest) number first u k g a b → fault_of lines ≡ Some (number, word)
   so-far-fault word is s = s.fault ∙ ap (λ (said : Line). fault_by number said (fault_from (number + 1) rest)) is
+
+-- a line that says an event which ended the run
+pub line-ends : (said : Line) (e : Event) → said ≡ Does e → (u v : SitesView) (why : Refusal) (b c : Option (List ℕ)) → EndsRun e u v why → c ≡ b → LineEnds said u v why b c
+line-ends said e is u v why b c ends same = subst (λ (x : Line). LineEnds x u v why b c) (sym is) (ends, same)
+
+module _ (line : List ℕ) (u v : SitesView) (b c : Option (List ℕ)) where
+  -- a line that ends the run loses a site
+  lost : (said : Line) (why : Refusal) → LineEnds said u v why b c → IsLost why u.faults v.faults
+  lost Quiet why done = absurd done
+  lost (NoEvent word) why done = absurd done
+  lost (Does event) why done = done.0.lost
+
+  pub line-lost : (why : Refusal) → LineEnds (line_of line) u v why b c → IsLost why u.faults v.faults
+  line-lost why done = lost (line_of line) why done
+
+  module _ (lines rest : List (List ℕ)) (number : ℕ) (first : SitesView) (k g : HandedView) (a : Option (List ℕ)) where
+    -- the lines before it are answered, and it says a restart
+    ended : (said : Line) (faults : ℕ) (why : Refusal) → line_of line ≡ said → u.faults ≤ faults → SoFar lines (line ∷ rest) number first u k g a b → LineEnds said u v why b c → PlayedToRestart lines first k faults a c
+    ended Quiet faults why e le s done = absurd done
+    ended (NoEvent word) faults why e le s done = absurd done
+    ended (Does event) faults why e le s done =
+        let split : events_of lines ≡ s.events ++ event ∷ events_of rest = rw e at s.split in
+        record {
+          events = s.events;
+          site = done.0.site;
+          more = events_of rest;
+          split = split ∙ ap (λ (x : Event). s.events ++ x ∷ events_of rest) done.0.restarts;
+          known = subst (λ (x : Publication). is_site x done.0.site ≡ true) s.happened.publication done.0.known;
+          answers = s.answers;
+          last = u;
+          behind = g;
+          happened = s.happened;
+          few = le;
+          bytes = subst (λ (x : Option (List ℕ)). Appends a x (texts_of (names_of first.publication) s.answers)) (sym done.1) s.bytes;
+        }
+
+    pub so-far-ends : (faults : ℕ) (why : Refusal) → u.faults ≤ faults → SoFar lines (line ∷ rest) number first u k g a b → LineEnds (line_of line) u v why b c → PlayedToRestart lines first k faults a c
+    so-far-ends faults why le s done = ended (line_of line) faults why refl le s done
+
+-- a loss is counted from before
+pub lost-before : (why : Refusal) (a b c : ℕ) → a ≤ b → IsLost why b c → IsLost why a c
+lost-before why a b c le (inl (is, rose)) = inl (is, omega (arith, le, rose))
+lost-before why a b c le (inr (is, later)) = inr (is, omega (arith, le, later))
 
 -- all lines are answered, where nothing is left of the script
 pub so-far-done : (lines : List (List ℕ)) (left : List ℕ) → length left ≡ 0 → (number : ℕ) (first u : SitesView) (k g : HandedView) (a b : Option (List ℕ)) → SoFar lines (lines_of left) number first u k g a b → Played lines first u k g a b

@@ -9,7 +9,7 @@ ghost use Rattle.merge_model.specs.Script.Play.{names_of};
 ghost use Rattle.merge_model.specs.Script.Reading.{fault_of, line_of};
 ghost use Rattle.merge_model.specs.Script.Text.{text_of};
 ghost use Rattle.merge_model.specs.declared.event.Line.TheVariants.{Event as Does, NoEvent};
-ghost use Rattle.merge_play.specs.Played.{LineAnswered, LineInPart, Played, PlayedInPart};
+ghost use Rattle.merge_play.specs.Played.{LineAnswered, LineEnds, LineInPart, Played, PlayedInPart, PlayedToRestart};
 ghost use Rattle.merge_play.specs.declared.stop.Stop.TheVariants as stop;
 ghost use Rattle.merge_model.specs.Script.Proper.{IsProperAnswer};
 ghost use Rattle.merge_world.specs.Restarts.{IsLost};
@@ -63,7 +63,7 @@ fn play_event<P: PublisherSite, S: SubscriberSite, O: Sink>(
     ensures soon { OnOk result (sites.new.moment.0 < sites.old.moment.0 + 2 ^ 32) }
     ensures no_event { (line word : ℕ) → result ≡ Err (stop.NoEvent line word) → ⊥ }
     ensures write { result ≡ Err stop.WriteFault → Rose (O.count output.old) (O.count output.new) }
-    ensures ended { (why : Refused) → result ≡ Err (stop.Ended why) → IsLost why (⟦<Sites<P, S> as Seen>⟧.seen sites.old).faults (⟦<Sites<P, S> as Seen>⟧.seen sites.new).faults }
+    ensures ended { (why : Refused) → result ≡ Err (stop.Ended why) → LineEnds (Does event.now) (⟦<Sites<P, S> as Seen>⟧.seen sites.old) (⟦<Sites<P, S> as Seen>⟧.seen sites.new) why (O.written output.old) (O.written output.new) }
     ensures later { (⟦<Sites<P, S> as Seen>⟧.seen sites.old).faults ≤ (⟦<Sites<P, S> as Seen>⟧.seen sites.new).faults }
     ensures stays { (⟦<Sites<P, S> as Seen>⟧.seen sites.new).sites ≡ (⟦<Sites<P, S> as Seen>⟧.seen sites.old).sites }
     ensures writes { O.count output.old ≤ O.count output.new }
@@ -93,7 +93,7 @@ fn play_line<P: PublisherSite, S: SubscriberSite, O: Sink>(
     ensures soon { OnOk result (sites.new.moment.0 < sites.old.moment.0 + 2 ^ 32) }
     ensures no_event { (at word : ℕ) → result ≡ Err (stop.NoEvent at word) → (at ≡ number) × (line_of line.now ≡ NoEvent word) }
     ensures write { result ≡ Err stop.WriteFault → Rose (O.count output.old) (O.count output.new) }
-    ensures ended { (why : Refused) → result ≡ Err (stop.Ended why) → IsLost why (⟦<Sites<P, S> as Seen>⟧.seen sites.old).faults (⟦<Sites<P, S> as Seen>⟧.seen sites.new).faults }
+    ensures ended { (why : Refused) → result ≡ Err (stop.Ended why) → LineEnds (line_of line.now) (⟦<Sites<P, S> as Seen>⟧.seen sites.old) (⟦<Sites<P, S> as Seen>⟧.seen sites.new) why (O.written output.old) (O.written output.new) }
     ensures later { (⟦<Sites<P, S> as Seen>⟧.seen sites.old).faults ≤ (⟦<Sites<P, S> as Seen>⟧.seen sites.new).faults }
     ensures stays { (⟦<Sites<P, S> as Seen>⟧.seen sites.new).sites ≡ (⟦<Sites<P, S> as Seen>⟧.seen sites.old).sites }
     ensures writes { O.count output.old ≤ O.count output.new }
@@ -129,6 +129,8 @@ pub fn play_lines<P: PublisherSite, S: SubscriberSite, O: Sink>(
         (⟦<Sites<P, S> as Seen>⟧.seen sites.new).faults (O.written output.old) (O.written output.new) }
     ensures write { result ≡ Err stop.WriteFault → Rose (O.count output.old) (O.count output.new) }
     ensures ended { (why : Refused) → result ≡ Err (stop.Ended why) → IsLost why (⟦<Sites<P, S> as Seen>⟧.seen sites.old).faults (⟦<Sites<P, S> as Seen>⟧.seen sites.new).faults }
+    ensures restart { (why : Refused) → result ≡ Err (stop.Ended why) → PlayedToRestart (lines_of script.now) (⟦<Sites<P, S> as Seen>⟧.seen sites.old) (handed_view (λ r. says r) (λ r. tally_of r) resolvers.old.items)
+        (⟦<Sites<P, S> as Seen>⟧.seen sites.new).faults (O.written output.old) (O.written output.new) }
     ensures later { (⟦<Sites<P, S> as Seen>⟧.seen sites.old).faults ≤ (⟦<Sites<P, S> as Seen>⟧.seen sites.new).faults }
     ensures stays { (⟦<Sites<P, S> as Seen>⟧.seen sites.new).sites ≡ (⟦<Sites<P, S> as Seen>⟧.seen sites.old).sites }
     ensures writes { O.count output.old ≤ O.count output.new }

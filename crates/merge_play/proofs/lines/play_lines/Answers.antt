@@ -1,6 +1,6 @@
 use Rattle.std.proofs.Common.{◌≡◌, ◌∙◌, arith, refl}
 use Rattle.std.proofs.lemmas.Grind.{common_steps}
-use Rattle.merge_play.proofs.SoFar.{so-far-at-start, so-far-cut, so-far-done, so-far-more, so-far-ordered, so-far-stops, so-far-wrong}
+use Rattle.merge_play.proofs.SoFar.{line-lost, lost-before, so-far-at-start, so-far-cut, so-far-done, so-far-ends, so-far-more, so-far-ordered, so-far-stops, so-far-wrong}
 use Rattle.merge_play.proofs.lines.play_lines.Goals as goal
 
 pub loop-rest-init : goal.loop-rest-init
@@ -28,6 +28,16 @@ pub returns-in_err-play_line-clause-before : goal.returns-in_err-play_line-claus
 returns-in_err-play_line-clause-before g c = λ line word is.
     let said = c.in_err-play_line.ensures.no_event line word (grind (arith, common_steps, is, c.from_residual.ensures)) in
     so-far-wrong _ _ _ _ _ _ _ _ _ _ _ _ _ word said.1 (rw c.cut_line.ensures.line at c.loop-rest.invariant.so_far) c.in_err-play_line.ensures.part
+
+pub returns-in_err-play_line-clause-ended : goal.returns-in_err-play_line-clause-ended
+returns-in_err-play_line-clause-ended g c = λ why is.
+    let done = c.in_err-play_line.ensures.ended why (grind (arith, common_steps, is, c.from_residual.ensures)) in
+    lost-before why _ _ _ c.loop-rest.invariant.later (line-lost _ _ _ _ _ why done)
+
+pub returns-in_err-play_line-clause-restart : goal.returns-in_err-play_line-clause-restart
+returns-in_err-play_line-clause-restart g c = λ why is.
+    let done = c.in_err-play_line.ensures.ended why (grind (arith, common_steps, is, c.from_residual.ensures)) in
+    so-far-ends _ _ _ _ _ _ _ _ _ _ _ _ _ why c.in_err-play_line.ensures.later (rw c.cut_line.ensures.line at c.loop-rest.invariant.so_far) done
 
 pub returns-clause-done : goal.returns-clause-done
 returns-clause-done g c = so-far-done _ c.loop-rest.rest.now (grind (arith, common_steps, c.is_empty.ensures, c.loop-rest-test.false)) _ _ _ _ _ _ _ c.loop-rest.invariant.so_far
