@@ -1,4 +1,4 @@
--- A publisher that served for a while has the tables of a world of which all is promised.
+-- A publisher that served for a while has its tables in a world that is the model's, of which all is promised.
 use Rattle.std.proofs.Common.{◌≡◌, ◌++◌, ◌∷◌, ◌∙◌, [], List, ap, refl, sym}
 use Rattle.merge_model.specs.Failing.Runs.{after_actions}
 use Rattle.merge_model.specs.World.Session.{Stepping}
@@ -6,7 +6,8 @@ use Rattle.merge_model.specs.World.Steps.{Action}
 use Rattle.merge_model.specs.World.{World}
 use Rattle.merge_model.specs.Failing.{Faulty}
 use Rattle.merge_model.specs.Failing.Reach.{stepping}
-use Rattle.merge_actions.proofs.PromisesOfActions.{machine-has-promises}
+use Rattle.merge_laws.proofs.Lineages.LineagesAlways.{actions-same}
+use Rattle.merge_actions.proofs.PromisesOfActions.{promises-hold}
 use Rattle.merge_served.proofs.Serving.{all-serving}
 use Rattle.merge_served.specs.Served.{ServedWorldsHavePromises, world_at}
 
@@ -16,8 +17,11 @@ after-more steps [] during w = refl
 after-more steps (action ∷ before) during w = after-more steps before during (steps.act w action).0
 
 pub served-have-promises : ServedWorldsHavePromises
-served-have-promises resolvers publication valid says tallies slips before during serving journal e = (
-  all-serving publication says (world_at publication says tallies slips before) during serving journal e
-      ∙ ap (λ (f : Faulty World). f.world.publisher) (sym (after-more (stepping publication says) before during _)),
-  machine-has-promises resolvers publication valid says tallies slips (before ++ during),
-)
+served-have-promises resolvers publication valid says tallies slips before during serving journal e =
+    let same = actions-same publication (resolvers, valid) says tallies slips (before ++ during) in record {
+      tables = all-serving publication says (world_at publication says tallies slips before) during serving journal e
+          ∙ ap (λ (f : Faulty World). f.world.publisher) (sym (after-more (stepping publication says) before during _));
+      same_outcomes = sym same.0;
+      same_tables = sym same.1;
+      promised = promises-hold resolvers publication valid says tallies slips (before ++ during);
+    }

@@ -7,14 +7,15 @@ use Rattle.merge_schema.specs.declared.publication.Publication.{Publication}
 use Rattle.merge_batch.specs.declared.request.Request.{Request}
 use Rattle.merge_model.specs.Failing.{Faulty, Slips, faulty}
 use Rattle.merge_model.specs.Failing.Reach.{stepping}
-use Rattle.merge_model.specs.Failing.Runs.{after_actions, world_behind_actions}
+use Rattle.merge_model.specs.Failing.Runs.{after_actions, machine_does, model_behind_actions, model_does, world_behind_actions}
 use Rattle.merge_model.specs.Laws.SlipLaws.{is_slip, refused_for}
 use Rattle.merge_model.specs.World.Steps.{Action, CloseAt, Deliver, Forget, Make}
+use Rattle.merge_model.specs.Tables.{PublisherTables}
 use Rattle.merge_model.specs.World.{Saying, World, empty_world, letter_at}
 use Rattle.merge_model.specs.declared.letter.Letter.{Letter}
 use Rattle.merge_model.specs.declared.letter.Message.TheVariants.{Asks, Replies}
 use Rattle.merge_model.specs.declared.outcome.Outcome.{Outcome}
-use Rattle.merge_laws.specs.Laws.Promised.{HasPromises}
+use Rattle.merge_laws.specs.Laws.Promised.{Promised}
 use Rattle.merge_desk.specs.Replay.{entry_decisions, replay}
 use Rattle.merge_desk.specs.declared.entry.Entry.{Entry}
 
@@ -68,10 +69,16 @@ JournalsAreRuns = (publication : Publication) (says : Saying) (f : Faulty World)
 abbrev pub world_at : Publication → Saying → List ℕ → Slips → List Action → Faulty World
 world_at publication says tallies slips actions = after_actions (stepping publication says) (faulty (empty_world publication tallies) slips) actions
 
--- So a publisher that served among sites of a world has the tables of a world of which all is promised.
+-- A publisher has its tables in the world behind these actions. Where the same steps fail in the model, the same comes of the same actions, it has the tables of that world, and all is promised of it.
+pub record StandsBehind (publication : Publication) (says : Saying) (tallies : List ℕ) (slips : Slips) (actions : List Action) (publisher : PublisherTables) : Type 0 where
+  pub tables : publisher ≡ (world_behind_actions publication says tallies slips actions).publisher
+  pub same_outcomes : model_does publication says tallies slips actions ≡ machine_does publication says tallies slips actions
+  pub same_tables : (model_behind_actions publication says tallies slips actions).world ≡ world_behind_actions publication says tallies slips actions
+  pub promised : Promised publication says (model_behind_actions publication says tallies slips actions)
+
+-- So it is with one that served among sites of a world, whose journal this is.
 abbrev pub ServedWorldsHavePromises : Type 0
 ServedWorldsHavePromises = (resolvers : ℕ) (publication : Publication) → IsValid resolvers publication → (says : Saying) (tallies : List ℕ) (slips : Slips)
     (before during : List Action) → All IsServing during → (journal : List Entry)
     → map attended_in journal ≡ attended publication says (world_at publication says tallies slips before) during
-    → (replay publication (world_at publication says tallies slips before).world.publisher journal ≡ (world_behind_actions publication says tallies slips (before ++ during)).publisher)
-    × HasPromises publication says (world_behind_actions publication says tallies slips (before ++ during))
+    → StandsBehind publication says tallies slips (before ++ during) (replay publication (world_at publication says tallies slips before).world.publisher journal)

@@ -12,7 +12,8 @@ pub fn journals_are_runs()
 {}
 
 /// So where the requests of a journal are messages that such sites made, and the publication can be
-/// said by a file, all promises hold of a model that has the tables behind the journal.
+/// said by a file, all promises hold of the model of the same actions, where the same steps fail: the
+/// same comes of them, and it has the tables behind the journal.
 pub fn served_worlds_have_promises()
     ensures { ServedWorldsHavePromises }
 {}
