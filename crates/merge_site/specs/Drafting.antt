@@ -1,11 +1,18 @@
 -- A request that is worked out at a publisher with a keeper, and then put in place.
-use Rattle.std.specs.Prelude.{Bool, Err, IfOk, List, Ok, Result, [], false, ℕ, ◌≡◌}
+use Rattle.std.specs.Prelude.{Bool, Err, IfOk, List, Ok, OnOk, Result, [], false, take, ℕ, ◌≡◌}
+use Rattle.merge_types.specs.declared.identifiers.Moment.{Moment}
 use Rattle.merge_units.specs.declared.result.Decision.{Decision}
+use Rattle.merge_resolve.specs.Asked.{tallies_after}
+use Rattle.merge_schema.specs.declared.publication.Publication.{Publication}
 use Rattle.merge_batch.specs.declared.refusal.Refusal.{Refusal}
 use Rattle.merge_batch.specs.declared.reply.Reply.{Reply}
 use Rattle.merge_batch.specs.declared.reply.Reply.TheVariants as reply
+use Rattle.merge_batch.specs.declared.request.Request.{Request}
 use Rattle.merge_json.specs.Sendable.{IsSendableReply}
+use Rattle.merge_model.specs.World.Calls.{handled, questions_on, request_commits}
 use Rattle.merge_model.specs.Tables.{PublisherTables}
+use Rattle.merge_model.specs.World.{Saying}
+use Rattle.merge_draft.specs.Drafting.{decisions_on}
 use Rattle.merge_draft.specs.declared.drafting.Drafted.{Drafted}
 use Rattle.merge_pub.specs.After.{after}
 use Rattle.merge_pub.specs.Held.{Held, IsDrafted, tables_of}
@@ -42,3 +49,11 @@ pub record IsWorked (by : Result (PublisherTables × Reply) Refusal) (kept : Lis
   pub commits : IfOk result (λ d. d.work.commits ≡ commits_with d.reply)
   pub sendable : IfOk result (λ d. IsSendableReply d.reply)
   pub refused : (why : Refusal) → result ≡ Err why → IsRefused by why
+
+-- A request was drafted on the tables `p`, where the resolvers say this and were asked so often before it and behind it: what was
+-- worked out, and that they were asked all its questions where it is made, none where it is refused, and else the first few.
+pub record IsRequestDrafted (publication : Publication) (says : Saying) (tallies told : List ℕ) (now : Moment) (m : Request) (p : PublisherTables) (result : Result (Drafted RequestDraft) Refusal) : Type 0 where
+  pub worked : IsWorked (handled publication says tallies now m p) (decisions_on publication says tallies now m p) (request_commits publication now m p) p result
+  pub asked : OnOk result (told ≡ tallies_after tallies (questions_on publication now m p))
+  pub some : (n : ℕ) × (told ≡ tallies_after tallies (take n (questions_on publication now m p)))
+  pub none : (refusal : Refusal) → handled publication says tallies now m p ≡ Err refusal → told ≡ tallies

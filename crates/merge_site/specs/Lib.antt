@@ -1,6 +1,7 @@
 pub mod Beginning
 pub mod Calls
 pub mod Drafting
+pub mod Evaluations
 pub mod Grants
 pub mod Kept
 pub mod Lists

@@ -1,14 +1,16 @@
 //! A request of a site is worked out at the publisher, with what its commit needs to know.
-ghost use Rattle.std.specs.Prelude.{◌≡◌, ◌≤◌, ℕ, [], Err, IfOk, OnOk, map, take};
+ghost use Rattle.std.specs.Prelude.{◌≡◌, ◌≤◌, ◌+◌, ℕ, [], Err, IfOk, OnOk, map, take};
 ghost use Rattle.merge_batch.specs.declared.refusal.Refusal.{Refusal as OneRefusal};
 ghost use Rattle.merge_batch.specs.declared.reply.Reply.TheVariants as a_reply;
 ghost use Rattle.merge_batch.specs.declared.request.Request.TheVariants.{Download as a_download, Join as a_join, Ranges as a_range_ask, Upload as an_upload};
 ghost use Rattle.merge_draft.specs.Drafting.{decisions_on};
+ghost use Rattle.merge_model.specs.Laws.{AreSorted};
 ghost use Rattle.merge_model.specs.World.Calls.{handled, questions_on, request_commits};
 ghost use Rattle.merge_model.specs.World.{Saying};
 ghost use Rattle.merge_pub.specs.Held.{publication_of, tables_of};
 ghost use Rattle.merge_resolve.specs.Asked.{says_at, tallies_after};
 ghost use Rattle.merge_site.specs.Drafting.{IsFit, IsWorked, drafted_as, upload_drafted};
+ghost use Rattle.merge_site.specs.Evaluations.{most_evaluations};
 ghost use Rattle.merge_world.specs.Printable.{ArePrintable};
 
 use crate::handling::ranges_commit;
@@ -22,8 +24,7 @@ use merge_resolve::Handed;
 use merge_steps::Draft;
 use merge_types::{Listing, Moment, Steps};
 use std::alloc::Global;
-use std::marker::Brand;
-use std::sync::ledger::{Blank, Ledger};
+use std::sync::ledger::Ledger;
 
 // A join that was worked out. It has no conflicts.
 fn join_drafted(
@@ -154,18 +155,16 @@ fn draft_download(
     download_drafted(alloc, worked, commits)
 }
 
-// A site uploads rows. The steps of the search for rows are counted in the ledger that the blank
-// opens.
+// A site uploads rows. The counter counts the evaluations of filters. Without a condition this would
+// be taken for a function that makes resolvers.
 fn draft_upload<L: Ledger>(
     publisher: &mut Publisher,
     resolvers: &mut Vec<Handed>,
     now: Moment,
     m: &Upload,
-    blank: Blank,
+    steps: &mut Steps<L>,
 ) -> Result<Drafted<RequestDraft>, Refusal>
-    requires name { blank.name ≡ L.name }
-    requires parts { blank.parts ≡ L.parts }
-    requires some { 1 ≤ blank.parts }
+    requires { AreSorted (tables_of publisher.old) }
     ensures worked { IsWorked (handled (publication_of publisher.old) (says_at (λ r. says r) resolvers.old.items) (map (λ r. tally_of r) resolvers.old.items) now (an_upload m.now) (tables_of publisher.old)) (decisions_on (publication_of publisher.old) (says_at (λ r. says r) resolvers.old.items) (map (λ r. tally_of r) resolvers.old.items) now (an_upload m.now) (tables_of publisher.old)) (request_commits (publication_of publisher.old) now (an_upload m.now) (tables_of publisher.old)) (tables_of publisher.old) result }
     ensures asked { OnOk result (map (λ r. tally_of r) resolvers.new.items ≡ tallies_after (map (λ r. tally_of r) resolvers.old.items) (questions_on (publication_of publisher.old) now (an_upload m.now) (tables_of publisher.old))) }
     ensures some { (n : ℕ) × (map (λ r. tally_of r) resolvers.new.items ≡ tallies_after (map (λ r. tally_of r) resolvers.old.items) (take n (questions_on (publication_of publisher.old) now (an_upload m.now) (tables_of publisher.old)))) }
@@ -174,22 +173,22 @@ fn draft_upload<L: Ledger>(
     ensures ready { IfOk result (λ d. IsFit publisher.new d.work) }
     ensures same { tables_of publisher.new ≡ tables_of publisher.old }
     ensures publication { publication_of publisher.new ≡ publication_of publisher.old }
+    ensures cost { steps.new ≤ steps.old + most_evaluations (publication_of publisher.old) (an_upload m.now) }
 {
-    publisher.sorted();
     let commits = publisher.commits_upload(now, m);
-    let mut steps = Steps::<L>::new(blank);
-    let worked = publisher.draft_upload(resolvers, now, m, &mut steps);
+    let worked = publisher.draft_upload(resolvers, now, m, steps);
     upload_drafted(worked, commits)
 }
 
 /// Works a request out, with the decisions of the resolvers on its conflicts. The publisher's rows
-/// can all be printed, and so can those of the reply.
-pub(crate) fn draft_request(
+/// can all be printed, and so can those of the reply. The counter counts the evaluations of filters.
+pub(crate) fn draft_request<L: Ledger>(
     alloc: Global,
     publisher: &mut Publisher,
     resolvers: &mut Vec<Handed>,
     now: Moment,
     request: &Request,
+    steps: &mut Steps<L>,
 ) -> Result<Drafted<RequestDraft>, Refusal>
     requires { ArePrintable (λ row. row.version) (tables_of publisher.old).rows }
     ensures worked { IsWorked (handled (publication_of publisher.old) (says_at (λ r. says r) resolvers.old.items) (map (λ r. tally_of r) resolvers.old.items) now request.now (tables_of publisher.old)) (decisions_on (publication_of publisher.old) (says_at (λ r. says r) resolvers.old.items) (map (λ r. tally_of r) resolvers.old.items) now request.now (tables_of publisher.old)) (request_commits (publication_of publisher.old) now request.now (tables_of publisher.old)) (tables_of publisher.old) result }
@@ -200,10 +199,14 @@ pub(crate) fn draft_request(
     ensures ready { IfOk result (λ d. IsFit publisher.new d.work) }
     ensures same { tables_of publisher.new ≡ tables_of publisher.old }
     ensures publication { publication_of publisher.new ≡ publication_of publisher.old }
+    ensures cost { steps.new ≤ steps.old + most_evaluations (publication_of publisher.old) request.now }
 {
     match request {
         Request::Join(m) => draft_join(alloc, publisher, now, m),
-        Request::Upload(m) => draft_upload::<Brand>(publisher, resolvers, now, m, Blank::new(1)),
+        Request::Upload(m) => {
+            publisher.sorted();
+            draft_upload(publisher, resolvers, now, m, steps)
+        }
         Request::Ranges(m) => draft_ranges(alloc, publisher, now, m),
         Request::Download(m) => draft_download(alloc, publisher, now, m),
     }

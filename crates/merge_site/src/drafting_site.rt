@@ -6,7 +6,9 @@ use merge_batch::{Refusal, Request};
 use merge_draft::{Drafted, DraftingPublisher};
 use merge_ports::{KeepFault, Keeper};
 use merge_resolve::{Handed, Resolver};
-use merge_types::Moment;
+use merge_types::{Moment, Steps};
+use std::marker::Brand;
+use std::sync::ledger::{Blank, Ledger};
 
 /// A kept publisher with its resolvers.
 #[derive(Drop)]
@@ -16,8 +18,11 @@ pub struct DraftingSite<K: Keeper> {
 }
 
 impl<K: Keeper> DraftingSite<K> {
-    ghost use Rattle.std.specs.Prelude.{◌≡◌};
+    ghost use Rattle.std.specs.Prelude.{◌≡◌, ◌≤◌, ◌+◌, IfOk, map, ℕ};
     ghost use Rattle.merge_pub.specs.Held.{publication_of, tables_of};
+    ghost use Rattle.merge_resolve.specs.Asked.{says_at};
+    ghost use Rattle.merge_site.specs.Drafting.{IsFit, IsRequestDrafted};
+    ghost use Rattle.merge_site.specs.Evaluations.{most_evaluations};
     ghost use Rattle.merge_site.specs.Publishers.{IsKeptPublisher};
 
     /// Of a kept publisher and the resolvers that decide its conflicts, by their places.
@@ -40,6 +45,47 @@ impl<K: Keeper> DraftingSite<K> {
     {
         self.site.into_keeper()
     }
+
+    // Works a request out, with a counter in the ledger that the blank opens.
+    fn draft_in_ledger<L: Ledger>(
+        &mut self,
+        now: Moment,
+        request: &Request,
+        blank: Blank,
+    ) -> Result<Drafted<RequestDraft>, Refusal>
+        requires name { blank.name ≡ L.name }
+        requires parts { blank.parts ≡ L.parts }
+        requires some { 1 ≤ blank.parts }
+        ensures drafted { IsRequestDrafted (publication_of self.old.site.held) (says_at (λ r. (Resolver-box r).says r.value) self.old.resolvers.items) (map (λ r. (Resolver-box r).tally_of r.value) self.old.resolvers.items) (map (λ r. (Resolver-box r).tally_of r.value) self.new.resolvers.items) now request.now (tables_of self.old.site.held) result }
+        ensures steady { (k n : ℕ) (asked : _) → says_at (λ r. (Resolver-box r).says r.value) self.new.resolvers.items k n asked ≡ says_at (λ r. (Resolver-box r).says r.value) self.old.resolvers.items k n asked }
+        ensures ready { IfOk result (λ d. IsFit self.new.site.held d.work) }
+        ensures same { tables_of self.new.site.held ≡ tables_of self.old.site.held }
+        ensures publication { publication_of self.new.site.held ≡ publication_of self.old.site.held }
+        ensures faults { self.new.site.faults ≡ self.old.site.faults }
+    {
+        let mut steps = Steps::<L>::new(blank);
+        self.draft_in_steps(now, request, &mut steps)
+    }
+
+    /// Works a request out, as `draft` of `DraftingPublisher` does, and the caller's counter counts
+    /// the evaluations of filters: of an upload one for each subscription and each of its items, at
+    /// most, and of other requests none.
+    pub fn draft_in_steps<L: Ledger>(
+        &mut self,
+        now: Moment,
+        request: &Request,
+        steps: &mut Steps<L>,
+    ) -> Result<Drafted<RequestDraft>, Refusal>
+        ensures drafted { IsRequestDrafted (publication_of self.old.site.held) (says_at (λ r. (Resolver-box r).says r.value) self.old.resolvers.items) (map (λ r. (Resolver-box r).tally_of r.value) self.old.resolvers.items) (map (λ r. (Resolver-box r).tally_of r.value) self.new.resolvers.items) now request.now (tables_of self.old.site.held) result }
+        ensures steady { (k n : ℕ) (asked : _) → says_at (λ r. (Resolver-box r).says r.value) self.new.resolvers.items k n asked ≡ says_at (λ r. (Resolver-box r).says r.value) self.old.resolvers.items k n asked }
+        ensures ready { IfOk result (λ d. IsFit self.new.site.held d.work) }
+        ensures same { tables_of self.new.site.held ≡ tables_of self.old.site.held }
+        ensures publication { publication_of self.new.site.held ≡ publication_of self.old.site.held }
+        ensures faults { self.new.site.faults ≡ self.old.site.faults }
+        ensures cost { steps.new ≤ steps.old + most_evaluations (publication_of self.old.site.held) request.now }
+    {
+        self.site.draft(&mut self.resolvers, now, request, steps)
+    }
 }
 
 impl<K: Keeper> DraftingPublisher for DraftingSite<K> {
@@ -61,7 +107,7 @@ impl<K: Keeper> DraftingPublisher for DraftingSite<K> {
     ghost IsReady = { λ s work. IsFit s.site.held work };
 
     fn draft(&mut self, now: Moment, request: &Request) -> Result<Drafted<RequestDraft>, Refusal> {
-        self.site.draft(&mut self.resolvers, now, request)
+        self.draft_in_ledger::<Brand>(now, request, Blank::new(1))
     }
 
     // The clauses of the trait, written out: where a condition of a method stands in its trait alone,

@@ -1,8 +1,9 @@
 //! The publisher answers the requests of sites.
 ghost use Rattle.std.specs.List.{list_any};
-ghost use Rattle.std.specs.Prelude.{◌≡◌, ◌≤◌, ◌||◌, ℕ, IfOk, map};
+ghost use Rattle.std.specs.Prelude.{◌≡◌, ◌≤◌, ◌+◌, ◌||◌, ℕ, IfOk, map};
 ghost use Rattle.merge_batch.specs.declared.request.Request.TheVariants.{Download as a_download, Join as a_join, Ranges as a_range_ask, Upload as an_upload};
 ghost use Rattle.merge_model.specs.Judge.ByNumbers.{by_numbers};
+ghost use Rattle.merge_model.specs.Laws.{AreSorted};
 ghost use Rattle.merge_model.specs.World.Calls.{Counted, handled, is_later, is_new_grant, questions_on, request_commits};
 ghost use Rattle.merge_model.specs.Publisher.PublisherDownload.{download};
 ghost use Rattle.merge_model.specs.Publisher.PublisherJoin.{join};
@@ -10,6 +11,7 @@ ghost use Rattle.merge_model.specs.Publisher.PublisherRanges.{ranges};
 ghost use Rattle.merge_pub.specs.Held.{tables_of};
 ghost use Rattle.merge_pub.specs.Uploaded.{asked_on, upload_by};
 ghost use Rattle.merge_resolve.specs.Asked.{says_at};
+ghost use Rattle.merge_site.specs.Evaluations.{most_evaluations};
 ghost use Rattle.merge_site.specs.Publishers.{told_alone};
 ghost use Rattle.merge_world.specs.Views.{PublisherCall};
 
@@ -102,28 +104,32 @@ impl<K: Keeper> KeptPublisher<K> {
         )
     }
 
-    // A site uploads rows. The steps of the search for rows are counted in the ledger that the blank
-    // opens.
+    // That the lists ascend. It is a fact for proofs, and does nothing.
+    fn sorted(&self)
+        ensures { AreSorted self.now.tables }
+    {
+        self.publisher.sorted();
+    }
+
+    // A site uploads rows. The counter counts the evaluations of filters. Without a condition this
+    // would be taken for a function that makes resolvers.
     fn handle_upload<L: Ledger>(
         &mut self,
         resolvers: &mut Vec<Handed>,
         now: Moment,
         m: &Upload,
-        blank: Blank,
+        steps: &mut Steps<L>,
     ) -> Result<Uploaded, Refusal>
-        requires name { blank.name ≡ L.name }
-        requires parts { blank.parts ≡ L.parts }
-        requires some { 1 ≤ blank.parts }
+        requires { AreSorted self.old.tables }
         ensures called { PublisherCall (upload_by self.old.publication (says_at (λ r. says r) resolvers.old.items) (map (λ r. tally_of r) resolvers.old.items) now m.now self.old.tables) (request_commits self.old.publication now (an_upload m.now) self.old.tables) self.old self.new result }
         ensures counted { Counted (upload_by self.old.publication (says_at (λ r. says r) resolvers.old.items) (map (λ r. tally_of r) resolvers.old.items) now m.now self.old.tables)
             (asked_on self.old.publication now m.now self.old.tables) (map (λ r. tally_of r) resolvers.old.items) (map (λ r. tally_of r) resolvers.new.items) result }
         ensures publication { self.new.publication ≡ self.old.publication }
         ensures steady { (k n : ℕ) (asked : _) → says_at (λ r. says r) resolvers.new.items k n asked ≡ says_at (λ r. says r) resolvers.old.items k n asked }
+        ensures cost { steps.new ≤ steps.old + most_evaluations self.old.publication (an_upload m.now) }
     {
-        self.publisher.sorted();
         let commits = self.publisher.commits_upload(now, m);
-        let mut steps = Steps::<L>::new(blank);
-        let drafted = self.publisher.draft_upload(resolvers, now, m, &mut steps);
+        let drafted = self.publisher.draft_upload(resolvers, now, m, steps);
         let worked = told_alone(drafted);
         finish(
             self.alloc,
@@ -148,10 +154,53 @@ impl<K: Keeper> KeptPublisher<K> {
         ensures publication { self.new.publication ≡ self.old.publication }
         ensures steady { (k n : ℕ) (asked : _) → says_at (λ r. says r) resolvers.new.items k n asked ≡ says_at (λ r. says r) resolvers.old.items k n asked }
     {
+        self.handle_in_ledger::<Brand>(resolvers, now, request, Blank::new(1))
+    }
+
+    // The same, with a counter in the ledger that the blank opens.
+    fn handle_in_ledger<L: Ledger>(
+        &mut self,
+        resolvers: &mut Vec<Handed>,
+        now: Moment,
+        request: &Request,
+        blank: Blank,
+    ) -> Result<Reply, Refusal>
+        requires name { blank.name ≡ L.name }
+        requires parts { blank.parts ≡ L.parts }
+        requires some { 1 ≤ blank.parts }
+        ensures called { PublisherCall (handled self.old.publication (says_at (λ r. says r) resolvers.old.items) (map (λ r. tally_of r) resolvers.old.items) now request.now self.old.tables)
+            (request_commits self.old.publication now request.now self.old.tables) self.old self.new result }
+        ensures counted { Counted (handled self.old.publication (says_at (λ r. says r) resolvers.old.items) (map (λ r. tally_of r) resolvers.old.items) now request.now self.old.tables)
+            (questions_on self.old.publication now request.now self.old.tables) (map (λ r. tally_of r) resolvers.old.items) (map (λ r. tally_of r) resolvers.new.items) result }
+        ensures publication { self.new.publication ≡ self.old.publication }
+        ensures steady { (k n : ℕ) (asked : _) → says_at (λ r. says r) resolvers.new.items k n asked ≡ says_at (λ r. says r) resolvers.old.items k n asked }
+    {
+        let mut steps = Steps::<L>::new(blank);
+        self.handle_in_steps(resolvers, now, request, &mut steps)
+    }
+
+    /// The same, and the caller's counter counts the evaluations of filters: of an upload one for
+    /// each subscription and each of its items, at most, and of other requests none.
+    pub fn handle_in_steps<L: Ledger>(
+        &mut self,
+        resolvers: &mut Vec<Handed>,
+        now: Moment,
+        request: &Request,
+        steps: &mut Steps<L>,
+    ) -> Result<Reply, Refusal>
+        ensures called { PublisherCall (handled self.old.publication (says_at (λ r. says r) resolvers.old.items) (map (λ r. tally_of r) resolvers.old.items) now request.now self.old.tables)
+            (request_commits self.old.publication now request.now self.old.tables) self.old self.new result }
+        ensures counted { Counted (handled self.old.publication (says_at (λ r. says r) resolvers.old.items) (map (λ r. tally_of r) resolvers.old.items) now request.now self.old.tables)
+            (questions_on self.old.publication now request.now self.old.tables) (map (λ r. tally_of r) resolvers.old.items) (map (λ r. tally_of r) resolvers.new.items) result }
+        ensures publication { self.new.publication ≡ self.old.publication }
+        ensures steady { (k n : ℕ) (asked : _) → says_at (λ r. says r) resolvers.new.items k n asked ≡ says_at (λ r. says r) resolvers.old.items k n asked }
+        ensures cost { steps.new ≤ steps.old + most_evaluations self.old.publication request.now }
+    {
         match request {
             Request::Join(m) => Ok(Reply::Joined(self.handle_join(now, m)?)),
             Request::Upload(m) => {
-                let told = self.handle_upload::<Brand>(resolvers, now, m, Blank::new(1))?;
+                self.sorted();
+                let told = self.handle_upload(resolvers, now, m, steps)?;
                 Ok(Reply::Uploaded(told))
             }
             Request::Ranges(m) => Ok(Reply::Ranged(self.handle_ranges(now, m)?)),

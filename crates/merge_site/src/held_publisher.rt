@@ -1,14 +1,12 @@
 //! A kept publisher that shows all that it holds, so that contracts can say which drafts fit it.
-ghost use Rattle.std.specs.Prelude.{◌≡◌, ◌≤◌, ◌+◌, ℕ, Err, IfOk, OnErr, OnOk, map, take, true};
-ghost use Rattle.merge_batch.specs.declared.refusal.Refusal.{Refusal as OneRefusal};
+ghost use Rattle.std.specs.Prelude.{◌≡◌, ◌≤◌, ◌+◌, ℕ, Err, IfOk, OnErr, OnOk, map, true};
 ghost use Rattle.merge_batch.specs.declared.refusal.Refusal.TheVariants.{StoreFault as store_fault};
-ghost use Rattle.merge_draft.specs.Drafting.{decisions_on};
-ghost use Rattle.merge_model.specs.World.Calls.{handled, questions_on, request_commits};
 ghost use Rattle.merge_ports.specs.declared.keeper.KeepFault.TheVariants.{Failed};
 ghost use Rattle.merge_pub.specs.After.{after};
 ghost use Rattle.merge_pub.specs.Held.{IsDrafted, publication_of, tables_of};
-ghost use Rattle.merge_resolve.specs.Asked.{says_at, tallies_after};
-ghost use Rattle.merge_site.specs.Drafting.{IsFit, IsWorked};
+ghost use Rattle.merge_resolve.specs.Asked.{says_at};
+ghost use Rattle.merge_site.specs.Drafting.{IsFit, IsRequestDrafted};
+ghost use Rattle.merge_site.specs.Evaluations.{most_evaluations};
 ghost use Rattle.merge_site.specs.Publishers.{IsKeptPublisher};
 
 use crate::drafting::draft_request;
@@ -21,9 +19,10 @@ use merge_ports::{KeepFault, Keeper};
 use merge_pub::Publisher;
 use merge_resolve::Handed;
 use merge_steps::Draft;
-use merge_types::Moment;
+use merge_types::{Moment, Steps};
 use std::alloc::Global;
 use std::marker::Model;
+use std::sync::ledger::Ledger;
 
 /// A publisher with a keeper of its records, of which contracts see all that it holds.
 #[derive(Drop)]
@@ -87,24 +86,31 @@ impl<K: Keeper> HeldPublisher<K> {
         self.keeper
     }
 
-    /// Works a request out, with the decisions of the resolvers on its conflicts.
-    pub(crate) fn draft(
+    /// Works a request out, with the decisions of the resolvers on its conflicts. The counter counts
+    /// the evaluations of filters.
+    pub(crate) fn draft<L: Ledger>(
         &mut self,
         resolvers: &mut Vec<Handed>,
         now: Moment,
         request: &Request,
+        steps: &mut Steps<L>,
     ) -> Result<Drafted<RequestDraft>, Refusal>
-        ensures worked { IsWorked (handled (publication_of self.old.held) (says_at (λ r. says r) resolvers.old.items) (map (λ r. tally_of r) resolvers.old.items) now request.now (tables_of self.old.held)) (decisions_on (publication_of self.old.held) (says_at (λ r. says r) resolvers.old.items) (map (λ r. tally_of r) resolvers.old.items) now request.now (tables_of self.old.held)) (request_commits (publication_of self.old.held) now request.now (tables_of self.old.held)) (tables_of self.old.held) result }
-        ensures asked { OnOk result (map (λ r. tally_of r) resolvers.new.items ≡ tallies_after (map (λ r. tally_of r) resolvers.old.items) (questions_on (publication_of self.old.held) now request.now (tables_of self.old.held))) }
-        ensures some { (n : ℕ) × (map (λ r. tally_of r) resolvers.new.items ≡ tallies_after (map (λ r. tally_of r) resolvers.old.items) (take n (questions_on (publication_of self.old.held) now request.now (tables_of self.old.held)))) }
-        ensures none { (refusal : OneRefusal) → handled (publication_of self.old.held) (says_at (λ r. says r) resolvers.old.items) (map (λ r. tally_of r) resolvers.old.items) now request.now (tables_of self.old.held) ≡ Err refusal → map (λ r. tally_of r) resolvers.new.items ≡ map (λ r. tally_of r) resolvers.old.items }
+        ensures drafted { IsRequestDrafted (publication_of self.old.held) (says_at (λ r. says r) resolvers.old.items) (map (λ r. tally_of r) resolvers.old.items) (map (λ r. tally_of r) resolvers.new.items) now request.now (tables_of self.old.held) result }
         ensures steady { (k n : ℕ) (asked : _) → says_at (λ r. says r) resolvers.new.items k n asked ≡ says_at (λ r. says r) resolvers.old.items k n asked }
         ensures ready { IfOk result (λ d. IsFit self.new.held d.work) }
         ensures same { tables_of self.new.held ≡ tables_of self.old.held }
         ensures publication { publication_of self.new.held ≡ publication_of self.old.held }
         ensures faults { self.new.faults ≡ self.old.faults }
+        ensures cost { steps.new ≤ steps.old + most_evaluations (publication_of self.old.held) request.now }
     {
-        draft_request(self.alloc, &mut self.publisher, resolvers, now, request)
+        draft_request(
+            self.alloc,
+            &mut self.publisher,
+            resolvers,
+            now,
+            request,
+            steps,
+        )
     }
 
     // Commits a draft, and puts it in place.

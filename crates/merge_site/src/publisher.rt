@@ -1,5 +1,5 @@
 //! A publisher with a keeper of its records.
-ghost use Rattle.std.specs.Prelude.{◌≡◌, ◌≤◌, ◌||◌, ℕ, IfErr, IfOk, Ok, nat_lt, true};
+ghost use Rattle.std.specs.Prelude.{◌≡◌, ◌≤◌, ◌+◌, ◌||◌, ℕ, IfErr, IfOk, Ok, length, nat_lt, true};
 ghost use Rattle.merge_units.specs.Changes.{ColumnsAscend};
 ghost use Rattle.merge_batch.specs.Articles.{has_article};
 ghost use Rattle.merge_batch.specs.LocalChanges.{article_of, settings_of};
@@ -113,11 +113,11 @@ impl<K: Keeper> KeptPublisher<K> {
         ensures called { PublisherCall (local self.old.publication (by_numbers self.old.tables) now change.now self.old.tables) always_commits self.old self.new result }
         ensures publication { self.new.publication ≡ self.old.publication }
     {
-        self.local_counted::<Brand>(now, change, Blank::new(1))
+        self.local_in_ledger::<Brand>(now, change, Blank::new(1))
     }
 
-    // The same, with the steps counted in the ledger that the blank opens.
-    fn local_counted<L: Ledger>(
+    // The same, with a counter in the ledger that the blank opens.
+    fn local_in_ledger<L: Ledger>(
         &mut self,
         now: Moment,
         change: &Change,
@@ -132,7 +132,24 @@ impl<K: Keeper> KeptPublisher<K> {
         ensures publication { self.new.publication ≡ self.old.publication }
     {
         let mut steps = Steps::<L>::new(blank);
-        let worked = self.publisher.draft_local(now, change, &mut steps);
+        self.local_in_steps(now, change, &mut steps)
+    }
+
+    /// The same, and the caller's counter counts the evaluations of filters: one for each
+    /// subscription, at most.
+    pub fn local_in_steps<L: Ledger>(
+        &mut self,
+        now: Moment,
+        change: &Change,
+        steps: &mut Steps<L>,
+    ) -> Result<RowId, Refusal>
+        requires place { has_article self.old.publication (article_of change.now) ≡ true }
+        requires ascend { ColumnsAscend (settings_of change.now) }
+        ensures called { PublisherCall (local self.old.publication (by_numbers self.old.tables) now change.now self.old.tables) always_commits self.old self.new result }
+        ensures publication { self.new.publication ≡ self.old.publication }
+        ensures cost { steps.new ≤ steps.old + length self.old.publication.subscriptions }
+    {
+        let worked = self.publisher.draft_local(now, change, steps);
         finish(
             self.alloc,
             &mut self.keeper,

@@ -42,8 +42,7 @@ fn kept_of(tables: PublisherStored) -> Kept
     }
 }
 
-// The publisher with the tables of a store, with the steps counted in the ledger that the blank
-// opens.
+// The publisher with the tables of a store, with a counter in the ledger that the blank opens.
 fn restored<L: Ledger>(
     alloc: Global,
     publication: &Publication,

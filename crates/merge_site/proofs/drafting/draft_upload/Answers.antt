@@ -24,7 +24,7 @@ returns-clause-worked g c =
 pub returns-clause-ready : goal.returns-clause-ready
 returns-clause-ready g c =
     fits-upload c.commits_upload-commits.result c.draft_upload-worked.result c.upload_drafted.result c.upload_drafted.ensures c.draft_upload-worked.new.self c.draft_upload-worked.ensures.ready
-    (request-still (λ (told : Uploaded). reply.Uploaded told) (says_at (λ r. (goal.Resolver-dyn g (r.vtable, r.value)).says r.value) c.args.resolvers.now.items) (map (λ r. (goal.Resolver-dyn g (r.vtable, r.value)).tally_of r.value) c.args.resolvers.now.items) c.args.now (request.Upload c.args.m.now) c.args.publisher.now c.draft_upload-worked.new.self (upload_by (publication_of c.args.publisher.now) (says_at (λ r. (goal.Resolver-dyn g (r.vtable, r.value)).says r.value) c.args.resolvers.now.items) (map (λ r. (goal.Resolver-dyn g (r.vtable, r.value)).tally_of r.value) c.args.resolvers.now.items) c.args.now c.args.m.now (tables_of c.args.publisher.now)) (told_alone c.draft_upload-worked.result) c.commits_upload-commits.result refl c.sorted.ensures c.draft_upload-worked.ensures.same
+    (request-still (λ (told : Uploaded). reply.Uploaded told) (says_at (λ r. (goal.Resolver-dyn g (r.vtable, r.value)).says r.value) c.args.resolvers.now.items) (map (λ r. (goal.Resolver-dyn g (r.vtable, r.value)).tally_of r.value) c.args.resolvers.now.items) c.args.now (request.Upload c.args.m.now) c.args.publisher.now c.draft_upload-worked.new.self (upload_by (publication_of c.args.publisher.now) (says_at (λ r. (goal.Resolver-dyn g (r.vtable, r.value)).says r.value) c.args.resolvers.now.items) (map (λ r. (goal.Resolver-dyn g (r.vtable, r.value)).tally_of r.value) c.args.resolvers.now.items) c.args.now c.args.m.now (tables_of c.args.publisher.now)) (told_alone c.draft_upload-worked.result) c.commits_upload-commits.result refl c.requires c.draft_upload-worked.ensures.same
     (ok-all (told_alone c.draft_upload-worked.result) (λ made. c.commits_upload-commits.ensures))
     (told-made c.draft_upload-worked.result (told_alone c.draft_upload-worked.result) refl (λ (d : Draft) (told : Uploaded). (upload_by (publication_of c.args.publisher.now) (says_at (λ r. (goal.Resolver-dyn g (r.vtable, r.value)).says r.value) c.args.resolvers.now.items) (map (λ r. (goal.Resolver-dyn g (r.vtable, r.value)).tally_of r.value) c.args.resolvers.now.items) c.args.now c.args.m.now (tables_of c.args.publisher.now)) ≡ Ok (after d.changes (tables_of c.args.publisher.now), told)) c.draft_upload-worked.ensures.made))
 

@@ -6,4 +6,4 @@ use Rattle.merge_site.proofs.drafting_site.DraftingSiteDraftingPublisher.draft.G
 
 pub returns-clause-made : goal.returns-clause-made
 returns-clause-made g c =
-    made-decided (publication_of c.args.self.now.site.held) (says_at (λ r. (goal.Resolver-dyn g (r.vtable, r.value)).says r.value) c.args.self.now.resolvers.items) (map (λ r. (goal.Resolver-dyn g (r.vtable, r.value)).tally_of r.value) c.args.self.now.resolvers.items) c.args.now c.args.request.now (tables_of c.args.self.now.site.held) _ c.draft.result c.draft.ensures.worked
+    made-decided (publication_of c.args.self.now.site.held) (says_at (λ r. (goal.Resolver-dyn g (r.vtable, r.value)).says r.value) c.args.self.now.resolvers.items) (map (λ r. (goal.Resolver-dyn g (r.vtable, r.value)).tally_of r.value) c.args.self.now.resolvers.items) c.args.now c.args.request.now (tables_of c.args.self.now.site.held) _ c.draft_in_ledger.result c.draft_in_ledger.ensures.drafted.worked

@@ -1,10 +1,11 @@
-use Rattle.std.proofs.Common.{◌≡◌, map, refl}
+use Rattle.std.proofs.Common.{◌≡◌, map, refl, subst, sym}
 use Rattle.std.specs.Prelude.{Ok}
 use Rattle.merge_batch.specs.declared.reply.Reply.TheVariants as reply
 use Rattle.merge_batch.specs.declared.reply.Uploaded.{Uploaded}
 use Rattle.merge_batch.specs.declared.refusal.Refusal.{Refusal}
 use Rattle.merge_batch.specs.declared.request.Request.TheVariants as request
 use Rattle.merge_resolve.specs.Asked.{says_at, tallies_after}
+use Rattle.merge_model.specs.Laws.{AreSorted}
 use Rattle.merge_pub.specs.After.{after}
 use Rattle.merge_pub.specs.Held.{IsDrafted, publication_of, tables_of}
 use Rattle.merge_pub.specs.Uploaded.{asked_on, upload_by}
@@ -26,7 +27,7 @@ finish-requires-clause-still g c =
     let says = says_at (λ r. (goal.Resolver-dyn g (r.vtable, r.value)).says r.value) c.args.resolvers.now.items in
     let tallies = map (λ r. (goal.Resolver-dyn g (r.vtable, r.value)).tally_of r.value) c.args.resolvers.now.items in
     let by = upload_by (publication_of c.self.inside.publisher) says tallies c.args.now c.args.m.now (tables_of c.self.inside.publisher) in
-    request-still (λ (told : Uploaded). reply.Uploaded told) says tallies c.args.now (request.Upload c.args.m.now) c.self.inside.publisher c.draft_upload-drafted.new.self by c.told_alone-worked.result c.commits_upload-commits.result refl c.sorted.ensures c.draft_upload-drafted.ensures.same
+    request-still (λ (told : Uploaded). reply.Uploaded told) says tallies c.args.now (request.Upload c.args.m.now) c.self.inside.publisher c.draft_upload-drafted.new.self by c.told_alone-worked.result c.commits_upload-commits.result refl (subst (λ (v : PublisherView). AreSorted v.tables) (sym c.self.view_is) c.requires) c.draft_upload-drafted.ensures.same
     (ok-all c.told_alone-worked.result (λ made. c.commits_upload-commits.ensures))
     (told-made c.draft_upload-drafted.result c.told_alone-worked.result c.told_alone-worked.ensures (λ (d : Draft) (told : Uploaded). by ≡ Ok (after d.changes (tables_of c.self.inside.publisher), told)) c.draft_upload-drafted.ensures.made)
 

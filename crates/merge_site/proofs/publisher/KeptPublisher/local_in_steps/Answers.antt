@@ -3,7 +3,7 @@ use Rattle.merge_model.specs.Judge.ByNumbers.{by_numbers}
 use Rattle.merge_model.specs.Publisher.PublisherLocal.{local}
 use Rattle.merge_site.proofs.PublisherCalls.{pub-called}
 use Rattle.merge_site.proofs.SubscriberCalls.{always}
-use Rattle.merge_site.proofs.publisher.KeptPublisher.local_counted.Goals as goal
+use Rattle.merge_site.proofs.publisher.KeptPublisher.local_in_steps.Goals as goal
 
 pub returns-clause-called : goal.returns-clause-called
 returns-clause-called g c =
