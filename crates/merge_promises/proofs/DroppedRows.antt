@@ -1,0 +1,86 @@
+-- Each joined site that is not expired has passed a deleted row that a purge drops, where all is promised of the model.
+use Rattle.std.specs.Prelude.{Bool, None, Option, Some, false, if◌then◌else◌, nat_le, not, option_map, refl, true, ℕ, ◌<◌, ◌&&◌, ◌||◌, ◌≡◌, ◌≤◌, ◌⊎◌}
+use Rattle.std.proofs.Common.{ap, arith, inl, inr, subst, ◌∙◌}
+use Rattle.std.proofs.lemmas.Bool.Decides.{nat_tests}
+use Rattle.merge_types.specs.declared.row_key.RowKey.{RowKey as Key}
+use Rattle.merge_units.specs.Version.{is_live}
+use Rattle.merge_units.specs.declared.site_row.PublisherRow.{PublisherRow}
+use Rattle.merge_units.specs.declared.version.Version.{Version}
+use Rattle.merge_schema.specs.declared.publication.Publication.{Publication}
+use Rattle.merge_model.specs.Judge.ByNumbers.{received_by_number}
+use Rattle.merge_model.specs.History.Model.{Model}
+use Rattle.merge_model.specs.Laws.Promises.{IsPast, base_of, is_expired_at, watermark_of}
+use Rattle.merge_model.specs.Publisher.PublisherDownload.{inside_keys}
+use Rattle.merge_model.specs.Publisher.PublisherPurge.{is_old}
+use Rattle.merge_model.specs.Subscriber.{subscriber_version_at}
+use Rattle.merge_model.specs.Tables.Keys.{has_key, row_at}
+use Rattle.merge_model.specs.Tables.{SubscriberTables}
+use Rattle.merge_model.specs.World.{Saying, subscriber_at}
+use Rattle.merge_laws.specs.Facts.Settled.{changed_of, held_at, live_only, made_in, owed_at, touched_at}
+use Rattle.merge_laws.specs.Laws.Promised.{Promised}
+use Rattle.merge_model.proofs.Lists.Finding.{some_same}
+use Rattle.merge_owed.specs.Forgotten.{going_over}
+use Rattle.merge_promises.specs.Tombstones.{HasPassed, IsStillTold, IsUnsent, TombstonesArePassed}
+
+-- A deleted row is held by none that holds what it is owed.
+
+live-if : (b : Bool) (u v : Version) → is_live u.body ≡ b → (if b then Some u else None) ≡ Some v → is_live v.body ≡ true
+live-if true u v live same = subst (λ (x : Version). is_live x.body ≡ true) (some_same u v same) live
+live-if false u v live same = absurd (cc same)
+
+live-held : (found : Option Version) (v : Version) → live_only found ≡ Some v → is_live v.body ≡ true
+live-held None v same = absurd (cc same)
+live-held (Some u) v same = live-if (is_live u.body) u v refl same
+
+dead-none : (found : Option Version) (b : Bool) (v : Version) → is_live v.body ≡ false → live_only found ≡ (if b then Some v else None) → live_only found ≡ None
+dead-none found true v dead same = (let live = live-held found v same in absurd (cc (dead, live)))
+dead-none found false v dead same = same
+
+-- both tests of a tombstone
+both-true : (live old : Bool) → not live && old ≡ true → (live ≡ false) × (old ≡ true)
+both-true true old is = absurd (cc is)
+both-true false old is = (refl, is)
+
+low-either : (generation watermark base : ℕ) (b : Bool) → nat_le generation watermark ≡ b → nat_le generation watermark || nat_le generation base ≡ true → (generation ≤ watermark) ⊎ (generation ≤ base)
+low-either generation watermark base true is past = inl (grind (arith, nat_tests, is))
+low-either generation watermark base false is past = inr (grind (arith, nat_tests, is, past))
+
+module _ (publication : Publication) (says : Saying) (m : Model) (p : Promised publication says m) (key : Key) (row : PublisherRow) (s : SubscriberTables) (found : row_at m.world.publisher.rows key ≡ Some row) (dead : is_live row.version.body ≡ false) (here : subscriber_at m.world s.site ≡ Some s) (joins : s.is_joined ≡ true) (live : is_expired_at publication m.world s.site ≡ false) where
+  abbrev changed : ℕ
+  changed = changed_of (made_in m.history.made s.site.0) key
+
+  abbrev received : ℕ
+  received = received_by_number m.world.publisher s.site.0
+
+  abbrev touched : ℕ
+  touched = touched_at publication m.world.publisher s.site key
+
+  -- where the site has nothing unsent of it, and was told
+  held-none : changed ≤ received → touched ≤ s.watermark → held_at s key ≡ None
+  held-none taken told =
+      let inside : Bool = has_key (inside_keys publication s.site m.world.publisher) key in
+      let owed : owed_at publication m.world.publisher s.site key ≡ (if inside then Some row.version else None) =
+      ap (λ (x : Option PublisherRow). (let version : Option Version = option_map (λ (y : PublisherRow). y.version) x in if inside then version else None)) found in
+      dead-none (subscriber_version_at s key) inside row.version dead (p.equal s key here joins live taken told ∙ owed)
+
+  told-by : (b : Bool) → nat_le touched s.watermark ≡ b → changed ≤ received → (held_at s key ≡ None) ⊎ (IsUnsent m s key ⊎ IsStillTold publication m s key)
+  told-by true is taken = inl (held-none taken (grind (arith, nat_tests, is)))
+  told-by false is taken = (let above : s.watermark < touched = grind (arith, nat_tests, is) in inr (inr (record { above = above; stays = (p.purges s key here joins live above).touched })))
+
+  gone-by : (b : Bool) → nat_le changed received ≡ b → (held_at s key ≡ None) ⊎ (IsUnsent m s key ⊎ IsStillTold publication m s key)
+  gone-by true is = told-by (nat_le touched s.watermark) refl (grind (arith, nat_tests, is))
+  gone-by false is = inr (inl (grind (arith, nat_tests, is)))
+
+  passed : is_old publication (going_over m) row.changed ≡ true → HasPassed publication m s key row
+  passed old =
+      let past : IsPast m s.site row.changed = p.old s.site row.changed live old in
+      record {
+        asked = low-either row.changed (watermark_of m.world s.site) (base_of m.history s.site) (nat_le row.changed (watermark_of m.world s.site)) refl past.reached;
+        marked = p.watermarks s.site.0 s here joins;
+        gone = gone-by (nat_le changed received) refl;
+      }
+
+pub all-passed : (publication : Publication) (says : Saying) (m : Model) → Promised publication says m → TombstonesArePassed publication m
+all-passed publication says m p key row s found drops here joins live =
+    let both = both-true (is_live row.version.body) (is_old publication (going_over m) row.changed) drops in
+    passed publication says m p key row s found both.0 here joins live both.1

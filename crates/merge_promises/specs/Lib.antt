@@ -1,0 +1,4 @@
+pub mod Promises
+pub mod Failures
+pub mod Syncs
+pub mod Tombstones
