@@ -16,7 +16,7 @@ use Rattle.merge_world.specs.Views.{HandedView}
 use Rattle.merge_program.specs.declared.ending.Ending.{Ending}
 use Rattle.merge_program.specs.declared.ending.Ending.TheVariants.{BadReply, Damaged, Declined, Done, Expired, LinkFault, NoEvent, NoMemory, NotTaken, ReadFault, Refused, StoreFault, TooLong, UnknownArticle, UnknownSite, Usage, WriteFault}
 use Rattle.merge_program.specs.Endings.{refused_for, unread}
-use Rattle.merge_program.specs.Headline.{AnsweredInPart, InputEnds, IsTaken, IsTakenInput, PlayEnds, PlayRunEnds, Sides, WrittenInPart, lines_of_input}
+use Rattle.merge_program.specs.Headline.{AnsweredInPart, InputEnds, IsStopped, IsTaken, IsTakenInput, PlayEnds, PlayRunEnds, Sides, WrittenInPart, lines_of_input}
 
 module _ (handed : HandedView) (input : List ℕ) (sides : Sides) (writes refused : ℕ) where
   abbrev Input : Ending → Type 0
@@ -28,8 +28,8 @@ module _ (handed : HandedView) (input : List ℕ) (sides : Sides) (writes refuse
     input-ends Done p = record { publication = publication; taken = taken; events = p.0; answered = p.1 }
     input-ends (NoEvent line word) p = record { publication = publication; taken = taken; no_event = p.0; answered = p.1 }
     input-ends WriteFault p = ((publication, taken), p)
-    input-ends StoreFault p = ((publication, taken), p)
-    input-ends (Damaged table key) p = (publication, taken)
+    input-ends StoreFault p = ((publication, taken, p.0), p.1)
+    input-ends (Damaged table key) p = (publication, taken, p)
     input-ends NoMemory p = tt
     input-ends Usage p = absurd p
     input-ends (Refused fault) p = absurd p
@@ -110,7 +110,7 @@ module _ (left : Option (List ℕ)) (handed : HandedView) (sides : Sides) (write
   read-ends input same (Refused fault) p = some-of (λ (l : List ℕ). InputEnds (Refused fault) handed l sides writes refused) left input same p
   read-ends input same (NoEvent line word) p = some-of (λ (l : List ℕ). InputEnds (NoEvent line word) handed l sides writes refused) left input same p
   read-ends input same WriteFault p = (p.1, some-of (IsTakenInput (length handed.tallies)) left input same p.0)
-  read-ends input same StoreFault p = (p.1, some-of (IsTakenInput (length handed.tallies)) left input same p.0)
+  read-ends input same StoreFault p = (p.1, some-of (λ (l : List ℕ). IsStopped handed l sides) left input same p.0)
   read-ends input same (Damaged table key) p = some-of (λ (l : List ℕ). InputEnds (Damaged table key) handed l sides writes refused) left input same p
   read-ends input same NoMemory p = any-of left
   read-ends input same Usage p = absurd p

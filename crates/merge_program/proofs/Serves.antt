@@ -1,5 +1,5 @@
 -- How a run of `serve` finishes.
-use Rattle.std.proofs.Common.{Err, List, None, Ok, Option, Result, Some, ap, arith, inl, inr, length, subst, sym, unwrap_or, ℕ, ◌∙◌, ◌≡◌, ◌≤◌}
+use Rattle.std.proofs.Common.{Err, List, None, Ok, Option, Result, Some, ap, arith, inl, inr, length, subst, sym, unwrap_or, ℕ, ◌∙◌, ◌≡◌, ◌≤◌, ◌⊎◌}
 use Rattle.std.specs.Prelude.{IfOk, IfSome, OnErr, not}
 use Rattle.merge_types.specs.declared.identifiers.SiteId.{SiteId}
 use Rattle.merge_ports.specs.Entries.{Map}
@@ -128,9 +128,9 @@ some-order b said is some = absurd (cc (is, some))
 
 -- a note that was put together, or none where memory was wanting
 pub told-note : {T E : Type 0} (text : T → List ℕ) (want : List ℕ) (old new : Option (List ℕ)) (before after : ℕ) (r : Result T E) → IfOk r (λ note. text note ≡ want) → IfOk r (λ note. IsTold (text note) old new before after) → OnErr r (new ≡ old)
-    → IsTold want old new before after
-told-note text want old new before after (Ok note) made t err = subst (λ (l : List ℕ). IsTold l old new before after) made t
-told-note text want old new before after (Err e) made t err = inr (inr err)
+    → IsTold want old new before after ⊎ (new ≡ old)
+told-note text want old new before after (Ok note) made t err = inl (subst (λ (l : List ℕ). IsTold l old new before after) made t)
+told-note text want old new before after (Err e) made t err = inr err
 
 pub finished : (finish other : Finish) (old new : Option (List ℕ)) (before after : ℕ) → finish ≡ other → Finished other old new before after → Finished finish old new before after
 finished finish other old new before after is p = subst (λ (f : Finish). Finished f old new before after) (sym is) p

@@ -1,5 +1,5 @@
 -- What the notes are told of an ending.
-use Rattle.std.specs.Prelude.{◌≡◌, ◌⊎◌, ◌++◌, ◌∷◌, List, Option, [], codes, unwrap_or, ℕ}
+use Rattle.std.specs.Prelude.{◌≡◌, ◌⊎◌, ◌++◌, ◌∷◌, Bool, IsTrue, List, Option, [], codes, false, true, unwrap_or, ℕ}
 use Rattle.std.specs.Fmt.{decimal}
 use Rattle.std.specs.Io.KnownBytes.{Appends}
 use Rattle.hex.specs.Hex.{encode_lower}
@@ -34,11 +34,23 @@ note_of help (Expired last_sync now) = codes "expired " ++ decimal last_sync.0 +
 note_of help (BadReply place) = codes "bad reply " ++ decimal place ++ 10 ∷ []
 note_of help (Declined number) = codes "refused " ++ decimal number ++ 10 ∷ []
 
--- The notes got the whole of a text; or a front of it, since a write failed; or nothing, since memory was wanting.
-abbrev pub IsTold : List ℕ → (old new : Option (List ℕ)) → (before after : ℕ) → Type 0
-IsTold note old new before after = Appends old new note ⊎ (AppendsFront old new note × Rose before after ⊎ (new ≡ old))
+-- A note that has the help, or what its ending carries, is put together, and that takes memory. The others are fixed.
+abbrev pub is_put_together : Ending → Bool
+is_put_together Usage = true
+is_put_together (NotTaken line) = true
+is_put_together (Refused fault) = true
+is_put_together (NoEvent line word) = true
+is_put_together (Damaged table key) = true
+is_put_together (Expired last_sync now) = true
+is_put_together (BadReply place) = true
+is_put_together (Declined number) = true
+is_put_together other = false
 
--- What the notes got of an ending.
+-- The notes got the whole of a text; or a front of it, since a write failed.
+abbrev pub IsTold : List ℕ → (old new : Option (List ℕ)) → (before after : ℕ) → Type 0
+IsTold note old new before after = Appends old new note ⊎ (AppendsFront old new note × Rose before after)
+
+-- What the notes got of an ending: its note, or nothing, where memory was wanting to put that together.
 pub record Told (ending : Ending) (old new : Option (List ℕ)) (before after : ℕ) : Type 0 where
   pub help : List ℕ
-  pub told : IsTold (note_of help ending) old new before after
+  pub told : IsTold (note_of help ending) old new before after ⊎ (IsTrue (is_put_together ending) × (new ≡ old))

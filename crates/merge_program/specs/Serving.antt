@@ -56,11 +56,11 @@ mark_text mark = decimal mark.place ++ 58 ∷ encode_lower mark.digest
 abbrev pub difference_text : Difference → List ℕ
 difference_text d = codes "differs " ++ decimal d.seat ++ 32 ∷ mark_text d.told ++ 32 ∷ mark_text d.kept ++ 10 ∷ []
 
--- what the notes got
+-- what the notes got; that of a difference is put together, and memory may be wanting for it
 abbrev pub Finished : Finish → (old new : Option (List ℕ)) → (before after : ℕ) → Type 0
 Finished (Ended ending) old new before after = Told ending old new before after
 Finished DoorFault old new before after = IsTold (codes "link fault\n") old new before after
-Finished (Differs d) old new before after = IsTold (difference_text d) old new before after
+Finished (Differs d) old new before after = IsTold (difference_text d) old new before after ⊎ (new ≡ old)
 
 -- what is told around the service of an order
 abbrev pub around_order : Order → Visit → Doorway → Around

@@ -8,7 +8,7 @@ ghost use Rattle.merge_program.specs.Stores.{AreRooms, RoseBy, fresh_publisher, 
 
 use crate::ending::Ending;
 use crate::stores::{give_back, start};
-use merge_laws::promises_hold;
+use merge_laws::{machine_answers_as_the_model, promises_hold};
 use merge_make::{made, play_script};
 use merge_ports::{Outside, Sink, write_whole};
 use merge_resolve::Handed;
@@ -31,6 +31,7 @@ fn make_on<P: PublisherSite, S: SubscriberSite>(
     ensures stays { (⟦<Sites<P, S> as Seen>⟧.seen sites.new).sites ≡ (⟦<Sites<P, S> as Seen>⟧.seen sites.old).sites }
 {
     promises_hold();
+    machine_answers_as_the_model();
     play_script(alloc, sites, resolvers, customers)
 }
 

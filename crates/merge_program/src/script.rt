@@ -9,7 +9,7 @@ ghost use Rattle.merge_program.specs.Headline.{AnsweredInPart, PlayEnds};
 ghost use Rattle.merge_program.specs.Stores.{RoseBy};
 
 use crate::ending::{Ending, stopped};
-use merge_laws::promises_hold;
+use merge_laws::{machine_answers_as_the_model, promises_hold};
 use merge_play::{Stop, play_lines};
 use merge_ports::Sink;
 use merge_resolve::Handed;
@@ -50,6 +50,7 @@ pub fn play_on<P: PublisherSite, S: SubscriberSite, O: Sink>(
     ensures stays { (⟦<Sites<P, S> as Seen>⟧.seen sites.new).sites ≡ (⟦<Sites<P, S> as Seen>⟧.seen sites.old).sites }
 {
     promises_hold();
+    machine_answers_as_the_model();
     let played = play_lines(alloc, sites, resolvers, script, output);
     ending_of(played)
 }

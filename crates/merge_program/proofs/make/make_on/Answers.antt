@@ -16,4 +16,6 @@ pub play_script-requires-clause-made : goal.play_script-requires-clause-made
 play_script-requires-clause-made g c = ap (λ (v : SitesView). v.publication) c.requires.fresh
 
 pub returns-clause-summary : goal.returns-clause-summary
-returns-clause-summary g c = IfOk-weaker c.play_script.result _ _ (λ text summed. summary-of c.promises_hold.ensures.machine _ _ _ _ _ text c.requires.fresh summed) c.play_script.ensures.summed
+returns-clause-summary g c =
+    let alike = c.machine_answers_as_the_model.ensures in
+    IfOk-weaker c.play_script.result _ _ (λ text summed. summary-of c.promises_hold.ensures.model alike.failing_answers alike.failing_tables _ _ _ _ _ text c.requires.fresh summed) c.play_script.ensures.summed
