@@ -15,6 +15,23 @@ const MADE_20000: &str =
 const MADE_1: &str =
     "made 1 events 21 refused 0\ncustomer 1\norders 2\ncustomer 0\norders 0\ncustomer 1\norders 2\ncustomer 0\norders 0\nconflicts 0\n";
 
+// What the notes are told where the words are no command: a word, and the help with a line for each command.
+const USAGE: &str = r#"usage
+Merge replication between a publisher and its subscribers
+
+Usage: replmerge [COMMAND]
+
+Commands:
+  play    Read a publication, a line --- and a script, and answer each event
+  make    Play a script that is made for N customers, 1 to 20000, and sum up its answers
+  change  Read a script that changes the site SITE of the publication in the file PUB, at the store STORE
+  show    Show the rows of the article ARTICLE at that site
+  sync    Synchronise that site, a subscriber, with the publisher at ADDRESS over HTTP
+  serve   Serve subscribers at ADDRESS over HTTP from the publisher at the store STORE, by 1 to 16 WORKERS and for 1 to 1000000 REQUESTS, and sum up
+
+The lines of a script and their answers: docs/use/script.md and docs/use/commands.md
+"#;
+
 // A line of words, the writes and the openings of stores that fail, and how the program ends.
 type Command = (
     &'static str,
@@ -58,15 +75,14 @@ fn commands(rt: HostRuntime) -> Result<(), Fail> {
 fn tells_usage(alloc: Global, line: &str, input: &str) -> Result<bool, Fail> {
     let outside = outside(alloc, &[])?;
     let (ended, host) = end(alloc, line, input.as_bytes(), &NONE, outside)?;
-    Ok(
-        ended == 1
-            && host.output.bytes.is_empty()
-            && host.notes.bytes.as_slice().starts_with(b"usage\n"),
-    )
+    Ok(is_ended(ended, &host, 1, "", USAGE))
 }
 
 const NO_COMMANDS: &[&str] = &[
     "",
+    "help",
+    "--help",
+    "-h",
     "play 1",
     "make",
     "make 0",
@@ -88,6 +104,14 @@ const NO_COMMANDS: &[&str] = &[
     "show p1 s 1",
     "show p1 s 1 -item",
     "show p1 s 1 item more",
+    "sync",
+    "sync p1 s 1",
+    "sync p1 s x a",
+    "sync p1 s 65536 a",
+    "sync p1 s 1 -a",
+    "sync p1 s 1 ",
+    "sync p1 -s 1 a",
+    "sync p1 s 1 a more",
 ];
 
 #[test]

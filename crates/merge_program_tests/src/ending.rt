@@ -49,8 +49,8 @@ fn text(alloc: Global, path: &str, bytes: &str) -> Result<MemoryText, Fail> {
     })
 }
 
-/// An outside with such stores, of which the openings with these numbers fail, the file "p1", and a
-/// clock.
+/// An outside with such stores, of which the openings with these numbers fail, the file "p1", the empty
+/// file "p0", and a clock.
 pub(crate) fn outside(
     alloc: Global,
     openings: &[u64],
@@ -67,6 +67,7 @@ pub(crate) fn outside_over(
     let failing = Listing::new(openings.to_vec(alloc)?);
     let mut outside = MemoryCommands::new(alloc, memory_stores(alloc, publisher, failing)?);
     outside.texts.push(text(alloc, "p1", P1)?)?;
+    outside.texts.push(text(alloc, "p0", "")?)?;
     outside.moments.push(Moment(5))?;
     Ok(outside)
 }
@@ -92,8 +93,12 @@ fn host(
     })
 }
 
+// The words of a line, with a space between two of them. An empty line has none.
 fn words(alloc: Global, line: &str) -> Result<Vec<Words>, Fail> {
     let mut words = Vec::new(alloc);
+    if line.is_empty() {
+        return Ok(words);
+    }
     for word in line.split(' ') {
         words.push(Words::of(alloc, word)?)?;
     }

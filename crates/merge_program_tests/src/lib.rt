@@ -17,3 +17,5 @@ mod rows;
 mod scripts;
 #[cfg(test)]
 mod stores;
+#[cfg(test)]
+mod sync;

@@ -52,10 +52,10 @@ fn script_of(alloc: Global, inserts: &Inserts) -> Result<Vec<u8>, Fail> {
 }
 
 // Whether a script is played to its end, and its last answers are these.
-fn ends_with(alloc: Global, publication: &str, script: &[u8], last: &str) -> Result<bool, Fail> {
+fn ends_with(alloc: Global, publication: &str, script: &[u8], last: &[u8]) -> Result<bool, Fail> {
     let outside = outside(alloc, &[])?;
     let (ended, host) = play(alloc, publication, script, &NONE, outside)?;
-    Ok(ended == 0 && host.output.bytes.as_slice().ends_with(last.as_bytes()))
+    Ok(ended == 0 && host.output.bytes.as_slice().ends_with(last))
 }
 
 #[test]
@@ -63,7 +63,7 @@ fn uploads_of_many_rows(rt: HostRuntime) -> Result<(), Fail> {
     for inserts in INSERTS {
         let script = script_of(rt.alloc(), inserts)?;
         assert!(rt;
-            ends_with(rt.alloc(), ITEM, &script, inserts.last)?,
+            ends_with(rt.alloc(), ITEM, &script, inserts.last.as_bytes())?,
             "{}",
             inserts.count
         );
@@ -171,8 +171,7 @@ conflicts 0
 "#;
 
 // The first upload is answered, and its reply is lost.
-const LAST_ANSWERS: &str = r#"ok
-message 19
+const LAST_ANSWERS: &str = r#"message 19
 message 20
 done 1 1 2
 message 27
@@ -189,6 +188,19 @@ orders 66
 conflicts 0
 "#;
 
+// The answers behind the rows of the publisher: that of each first session, that of each credit, and
+// the last ones.
+fn answers_of_the_day(alloc: Global) -> Result<Vec<u8>, Fail> {
+    let mut answers = b"done 0 1 1\ndone 0 1 1\ndone 0 1 1\n"
+        .as_slice()
+        .to_vec(alloc)?;
+    for _ in 0..CUSTOMERS {
+        answers.extend_from_slice(b"ok\n".as_slice())?;
+    }
+    answers.extend_from_slice(LAST_ANSWERS.as_bytes())?;
+    Ok(answers)
+}
+
 #[test]
 fn a_day_of_three_offices(rt: HostRuntime) -> Result<(), Fail> {
     let mut script = Vec::new(rt.alloc());
@@ -197,6 +209,7 @@ fn a_day_of_three_offices(rt: HostRuntime) -> Result<(), Fail> {
     script.extend_from_slice(b"sync 1\nsync 2\nsync 3\n".as_slice())?;
     push_credits(rt.alloc(), &mut script)?;
     script.extend_from_slice(LAST.as_bytes())?;
-    assert!(rt; ends_with(rt.alloc(), OFFICES, &script, LAST_ANSWERS)?);
+    let answers = answers_of_the_day(rt.alloc())?;
+    assert!(rt; ends_with(rt.alloc(), OFFICES, &script, &answers)?);
     Ok(())
 }
