@@ -8,7 +8,7 @@ pub mod Letters
 pub mod LastLines
 pub mod Purges
 pub mod Watermarks
-mod Identities
+pub mod Identities
 pub mod Known
 pub mod Lineages
 pub mod Told
