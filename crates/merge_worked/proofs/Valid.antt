@@ -1,4 +1,4 @@
--- The publications of two runs are valid, with the five resolvers of the program.
+-- The publications of three runs are valid, with the five resolvers of the program.
 use Rattle.std.proofs.Common.{arith, false, lit<, lit≤, refl, suc, zero, ℕ, ◌<◌, ◌≡◌}
 use Rattle.std.specs.List.{Contains, IsDistinct}
 use Rattle.std.specs.Prelude.{All, Bool, List, map, ◌==◌}
@@ -19,6 +19,7 @@ use Rattle.merge_schema.proofs.Distinct.{distinct_names}
 use Rattle.merge_schema.proofs.Orders.{evaluation_order_is}
 use Rattle.merge_worked.proofs.Happened.{all-pass}
 use Rattle.merge_worked.specs.EverythingHappens as everything
+use Rattle.merge_worked.specs.SessionsFail as sessions
 use Rattle.merge_worked.specs.StepsFail as failing
 
 -- whether a column has a name, and the names of articles
@@ -145,4 +146,50 @@ failing-valid = record {
   few_subscriptions = lit≤ tt;
   distinct_sites = AllPairs-from_IsDistinct Decides-eqb (sites failing.publication) one-site;
   valid_subscriptions = site-valid;
+}
+
+-- The run in which sessions fail.
+
+adding-valid : IsValidArticle 5 sessions.publication.articles sessions.stock
+adding-valid = record {
+  named = refl;
+  some_columns = (lit≤ tt, lit≤ tt);
+  named_columns = all-pass is_named sessions.stock.columns refl;
+  distinct_columns = distinct_names (column_names sessions.stock.columns) refl;
+  few_joins = lit≤ tt;
+  valid_joins = All-nil (IsValidJoin sessions.publication.articles sessions.stock.columns);
+  valid_resolver = lit< tt;
+  valid_decider = (lit< tt, refl);
+  valid_identity = tt;
+  filter_fits = tt;
+}
+
+adding-not-own : (place : ℕ) → place < 1 → is_ancestor sessions.publication.articles place place ≡ false
+adding-not-own zero less = refl
+adding-not-own (suc place) less = absurd (omega (arith, less))
+
+adding-no-parent : (place : ℕ) (join : JoinFilter) → Contains (joins_at sessions.publication place) join → join.parent < 1
+adding-no-parent zero join (k, less, is) = absurd (omega (arith, less))
+adding-no-parent (suc place) join (k, less, is) = absurd (omega (arith, less))
+
+only-site : IsDistinct (λ (a b : ℕ). a == b) (sites sessions.publication)
+unfolding IsDistinct
+only-site = (tt, tt)
+
+only-valid : AreValid sessions.publication.subscriptions
+only-valid = All-from_recursion (λ (subscription : Subscription). IsValidSubscription subscription) sessions.publication.subscriptions
+    (record { valid_site = (lit≤ tt, lit≤ tt); short_host = lit≤ tt; low_priority = lit≤ tt; no_client = λ is. refl }, tt)
+
+pub sessions-valid : IsValid 5 sessions.publication
+sessions-valid = record {
+  named = refl;
+  valid_retention = (lit≤ tt, lit≤ tt);
+  valid_conflict_retention = (lit≤ tt, lit≤ tt);
+  some_articles = (lit≤ tt, lit≤ tt);
+  distinct_articles = distinct_names (article_names sessions.publication) refl;
+  valid_articles = All-from_recursion (IsValidArticle 5 sessions.publication.articles) sessions.publication.articles (adding-valid, tt);
+  in_order = evaluation_order_is sessions.publication adding-not-own adding-no-parent;
+  few_subscriptions = lit≤ tt;
+  distinct_sites = AllPairs-from_IsDistinct Decides-eqb (sites sessions.publication) only-site;
+  valid_subscriptions = only-valid;
 }

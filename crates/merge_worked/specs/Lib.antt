@@ -1,5 +1,6 @@
 pub mod Worked
 pub mod StepsFail
+pub mod SessionsFail
 pub mod ARowGoesOver
 pub mod FirstUpdateStays
 pub mod HigherPriorityWins

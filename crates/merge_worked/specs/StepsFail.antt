@@ -24,13 +24,13 @@ IsToldWith slips worked = texts_of (names_of worked.publication) (model_says wor
 
 -- What becomes of each step, one after the other.
 
-abbrev made : Option Slip
+abbrev pub made : Option Slip
 made = None
 
-abbrev wants_memory : Option Slip
+abbrev pub wants_memory : Option Slip
 wants_memory = Some (record { is_fault = false; asked = 0 })
 
-abbrev store_fails : Option Slip
+abbrev pub store_fails : Option Slip
 store_fails = Some (record { is_fault = true; asked = 0 })
 
 -- An insert at the publisher is a fault, and is made again.

@@ -4,6 +4,7 @@
 
 mod failing;
 mod rows;
+mod sessions;
 
 pub use failing::steps_fail;
 pub use rows::{
@@ -14,3 +15,4 @@ pub use rows::{
     lost_grant, made_anew, many_generations, negated_filter, purged_tombstone, repeated_upload,
     two_deletes_unite, unsent_row_stays,
 };
+pub use sessions::sessions_fail;
