@@ -6,3 +6,15 @@ pub mod DroppedRows
 pub mod NeverNew
 pub mod ExpectedRefusals
 pub mod PurgedRows
+pub mod GivenChanges
+pub mod GivenDecisions
+pub mod GivenAnswers
+pub mod RunsGoOn
+pub mod GivenStanding
+pub mod GivenDecided
+pub mod LeavingSteps
+pub mod LeavingRuns
+pub mod EarlierKnown
+pub mod RangesApart
+pub mod WholeRanges
+pub mod RangesGranted

@@ -24,7 +24,7 @@ use Rattle.merge_laws.proofs.Own.OwnItems.{new-unaccepted}
 use Rattle.merge_laws.proofs.Pasts.DotTests.{dots-same}
 use Rattle.merge_promises.specs.Tombstones.{AcceptedAreNeverNew, HeldAreNeverNew}
 
-not-true : (b : Bool) → (b ≡ true → ⊥) → b ≡ false
+pub not-true : (b : Bool) → (b ≡ true → ⊥) → b ≡ false
 not-true true never = absurd (never refl)
 not-true false never = refl
 
@@ -52,7 +52,7 @@ module _ (publication : Publication) (m : Model) (k : Kept publication m) where
       all-in (NotNew site number) m.history.made change (not-new site number named) inside key new (grind (arith, is)) (subst (λ (d : Dot). is_accepted m.history d ≡ true) (sym same) accepted))))
 
   -- the change that made a row that is held is accepted
-  maker-accepted : (key : Key) (dot : Dot) (b : Bool) → (dot.site.0 == 0) ≡ b → has (past_at m.history 0 key).known dot ≡ true → is_accepted m.history dot ≡ true
+  pub maker-accepted : (key : Key) (dot : Dot) (b : Bool) → (dot.site.0 == 0) ≡ b → has (past_at m.history 0 key).known dot ≡ true → is_accepted m.history dot ≡ true
   maker-accepted key dot true is known = grind (arith, is)
   maker-accepted key dot false is known = counts.here key dot known (λ own. absurd (grind (arith, nat_tests, is, own)))
 

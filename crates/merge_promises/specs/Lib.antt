@@ -2,3 +2,8 @@ pub mod Promises
 pub mod Failures
 pub mod Syncs
 pub mod Tombstones
+pub mod Given
+pub mod GivenForGood
+pub mod Leavings
+pub mod Earlier
+pub mod GrantedRanges

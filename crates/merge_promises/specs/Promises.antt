@@ -26,6 +26,11 @@ use Rattle.merge_honest.specs.Finished.{FailingSessionFinishes, FailingSessionSe
 use Rattle.merge_honest.specs.Replied.{NoReplyIsRefused, PutsFit, RemovalsFit, RepliesAnswer, RepliesFit}
 use Rattle.merge_honest.specs.Taken.{HonestAreTaken}
 use Rattle.merge_honest.specs.Valued.{InsertsTook, RowsAreValued}
+use Rattle.merge_promises.specs.Given.{DecisionsAreAnswers, DecisionsGive, PublisherGives, SubscribersGive}
+use Rattle.merge_promises.specs.GivenForGood.{DecisionsStand, GivenStandsHere, GivenStandsThere}
+use Rattle.merge_promises.specs.Earlier.{EveryKnowsEarlier, HeldKnowEarlier}
+use Rattle.merge_promises.specs.GrantedRanges.{HeldRangesWereGranted, ToldRangesWereGranted}
+use Rattle.merge_promises.specs.Leavings.{LeavingsWereSeen, WasSeen}
 use Rattle.merge_promises.specs.Syncs.{TwoRoundsSettle}
 use Rattle.merge_promises.specs.Tombstones.{AcceptedAreNeverNew, HeldAreNeverNew, TombstonesArePassed}
 
@@ -39,10 +44,22 @@ pub record AllPromised (publication : Publication) (says : Saying) (m : Model) :
   -- what the publisher accepted of a row that it lacks was purged, and what a site knows of a row is known to the publisher's version or was
   pub lacked : LackedWerePurged (HasPurged m) m
   pub within : KnownIsWithin (HasPurged m) m
+  -- who knows a change of a row knows each earlier one of the same site, but what was given up
+  pub earlier : EveryKnowsEarlier m
+  pub held_earlier : HeldKnowEarlier m
   -- the change that last set a cell is in its chain, and cells with one top have the same values, for good
   pub tops : TopsAreInChains publication says m
   pub values : ValuesStandForGood publication says m
   pub values_by_actions : ValuesStandForGoodByActions publication says m
+  -- a change that a site makes gives the cells of its row what it says, and a conflict what is decided of it: what its own resolver says
+  pub own_changes : PublisherGives
+  pub subscriber_changes : SubscribersGive
+  pub decisions : DecisionsGive
+  pub answers_decide : DecisionsAreAnswers
+  -- these values stand for good
+  pub own_values : GivenStandsHere publication says m
+  pub subscriber_values : GivenStandsThere publication says m
+  pub decided_values : DecisionsStand publication says m
   -- an upload takes effect once: no generation does at two deliveries, and each item that does something stands in one that does
   pub twice : NoneTakesEffectTwice
   pub acting : ActingTakeEffect
@@ -86,6 +103,9 @@ pub record AllPromised (publication : Publication) (says : Saying) (m : Model) :
   pub taken : ValuesWereTaken publication says m
   pub identities : TakenStandsForGood publication says m
   pub identities_by_actions : TakenStandsForGoodByActions publication says m
+  -- each range that a site holds, or a reply tells it of, was granted to it, whole
+  pub held_ranges : HeldRangesWereGranted m
+  pub told_ranges : ToldRangesWereGranted m
   -- a purge drops a tombstone that each live site has passed, and no row that is held, or was accepted, is made again by what is still sent
   pub tombstones : TombstonesArePassed publication m
   pub held_rows : HeldAreNeverNew m
@@ -116,6 +136,8 @@ pub record RunPromised (publication : Publication) (says : Saying) (tallies : Li
   pub taken : PurgedWereTaken (WasPurged publication says (faulty (empty_model publication tallies) slips) events) (model_behind publication says tallies slips events)
   -- each move of a row that a line tells is kept as a mapping, or it went by one of the events
   pub told : ToldAreKeptOrGone (Went publication says (faulty (empty_model publication tallies) slips) events) (model_behind publication says tallies slips events)
+  -- each line that says that a row left was written at one of the events, by a step that saw it
+  pub left : LeavingsWereSeen (WasSeen publication says (faulty (empty_model publication tallies) slips) events) (model_behind publication says tallies slips events)
 
 abbrev pub OfEveryRunPromised : Type 0
 OfEveryRunPromised = (resolvers : ℕ) (publication : Publication) → IsValid resolvers publication → (says : Saying) (tallies : List ℕ) (slips : Slips) (events : List Event) → RunPromised publication says tallies slips events

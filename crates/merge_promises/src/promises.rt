@@ -2,6 +2,10 @@
 ghost use Rattle.merge_laws.specs.Laws.{OfEveryValidRun};
 ghost use Rattle.merge_promises.specs.Promises.{AllPromised, OfEveryRunPromised};
 
+use crate::earlier::earlier_changes_are_known;
+use crate::given::{changes_and_decisions_give_values, given_values_stand};
+use crate::leavings::leavings_were_seen;
+use crate::ranges::held_ranges_were_granted;
 use crate::rounds::two_rounds_settle_all_sites;
 use crate::tombstones::{purged_rows_are_never_new, tombstones_are_passed};
 use merge_actions::{
@@ -32,13 +36,17 @@ pub fn all_promises_hold()
     promises_hold();
     machine_answers_as_the_model();
     accepted_changes_are_known_or_purged();
+    earlier_changes_are_known();
     tops_are_in_chains();
     values_stand_by_their_tops();
     actions_keep_values();
+    changes_and_decisions_give_values();
+    given_values_stand();
     no_generation_takes_effect_twice();
     uploads_take_effect_once();
     actions_take_effect_once();
     rows_leave_where_a_step_saw_it();
+    leavings_were_seen();
     sessions_finish();
     sessions_in_which_steps_fail_finish();
     two_rounds_settle_all_sites();
@@ -51,6 +59,7 @@ pub fn all_promises_hold()
     rows_that_are_removed_fit();
     inserts_take_values();
     identity_values_stay();
+    held_ranges_were_granted();
     tombstones_are_passed();
     purged_rows_are_never_new();
     what_is_forgotten_is_read_of_lines();

@@ -12,6 +12,7 @@ use Rattle.merge_owed.specs.Values.{ValuesStandForGoodByActions}
 use Rattle.merge_promises.proofs.ExpectedRefusals.{no-gap, no-unknown-site, no-wrong-watermark, none-break, none-not-joined}
 use Rattle.merge_promises.proofs.PurgedRows.{lacked-noted, within-noted}
 use Rattle.merge_promises.proofs.promises.all_promises_hold.Goals as goal
+use Rattle.merge_promises.specs.GivenForGood.{DecisionsStand, GivenStandsHere, GivenStandsThere}
 
 pub returns-clause-model : goal.returns-clause-model
 returns-clause-model c resolvers publication valid says tallies slips events =
@@ -23,9 +24,18 @@ returns-clause-model c resolvers publication valid says tallies slips events =
       promised = c.promises_hold.ensures.model resolvers publication valid says tallies slips events;
       lacked = lacked-noted m Purged taken (c.accepted_changes_are_known_or_purged.ensures.lacked resolvers publication valid says tallies slips events);
       within = within-noted m Purged taken (c.accepted_changes_are_known_or_purged.ensures.within resolvers publication valid says tallies slips events);
+      earlier = c.earlier_changes_are_known.ensures.every resolvers publication valid says tallies slips events;
+      held_earlier = c.earlier_changes_are_known.ensures.held resolvers publication valid says tallies slips events;
       tops = c.tops_are_in_chains.ensures resolvers publication valid says tallies slips events;
       values = c.values_stand_by_their_tops.ensures resolvers publication valid says tallies slips events;
       values_by_actions = of-valid-runs ValuesStandForGoodByActions c.actions_keep_values.ensures.values resolvers publication valid says tallies slips events;
+      own_changes = c.changes_and_decisions_give_values.ensures.publisher;
+      subscriber_changes = c.changes_and_decisions_give_values.ensures.subscribers;
+      decisions = c.changes_and_decisions_give_values.ensures.decisions;
+      answers_decide = c.changes_and_decisions_give_values.ensures.answers;
+      own_values = of-valid-runs GivenStandsHere c.given_values_stand.ensures.publisher resolvers publication valid says tallies slips events;
+      subscriber_values = of-valid-runs GivenStandsThere c.given_values_stand.ensures.subscribers resolvers publication valid says tallies slips events;
+      decided_values = of-valid-runs DecisionsStand c.given_values_stand.ensures.decisions resolvers publication valid says tallies slips events;
       twice = c.no_generation_takes_effect_twice.ensures.once;
       acting = c.no_generation_takes_effect_twice.ensures.acting;
       acted_rows = c.uploads_take_effect_once.ensures.rows;
@@ -58,6 +68,8 @@ returns-clause-model c resolvers publication valid says tallies slips events =
       taken = c.identity_values_stay.ensures.taken resolvers publication valid says tallies slips events;
       identities = c.identity_values_stay.ensures.stay resolvers publication valid says tallies slips events;
       identities_by_actions = of-valid-runs TakenStandsForGoodByActions c.actions_keep_values.ensures.stay resolvers publication valid says tallies slips events;
+      held_ranges = c.held_ranges_were_granted.ensures.held resolvers publication valid says tallies slips events;
+      told_ranges = c.held_ranges_were_granted.ensures.told resolvers publication valid says tallies slips events;
       tombstones = c.tombstones_are_passed.ensures.runs resolvers publication valid says tallies slips events;
       held_rows = c.purged_rows_are_never_new.ensures.held resolvers publication valid says tallies slips events;
       accepted_rows = c.purged_rows_are_never_new.ensures.accepted resolvers publication valid says tallies slips events;
@@ -81,4 +93,5 @@ returns-clause-runs c resolvers publication valid says tallies slips events = re
   within = c.accepted_changes_are_known_or_purged.ensures.within resolvers publication valid says tallies slips events;
   taken = c.accepted_changes_are_known_or_purged.ensures.taken resolvers publication valid says tallies slips events;
   told = c.mappings_go_by_what_took_them.ensures.told resolvers publication valid says tallies slips events;
+  left = c.leavings_were_seen.ensures.runs resolvers publication valid says tallies slips events;
 }
