@@ -1,14 +1,17 @@
 //! A keeper over a SQLite file: one table, three statements that are prepared once, and one
 //! transaction for each commit.
-ghost use Rattle.std.specs.Prelude.{◌≡◌, codes, false, IfOk, IsErrOf, IsTrue, OnErr, OnOk};
+ghost use Rattle.std.specs.Prelude.{◌≡◌, codes, false, [], IfErr, IfOk, IsErrOf, IsTrue, None, OnErr, OnOk};
 ghost use Rattle.sqlite.specs.Files.{file_state};
 ghost use Rattle.sqlite.specs.Held.{state};
-ghost use Rattle.sqlite.specs.State.{HasCleanDisk, KeepsCommit, Survives};
+ghost use Rattle.sqlite.specs.State.{CommitsShowing, HasCleanDisk, KeepsCommit, Survives};
+ghost use Rattle.merge_ports.specs.Faults.{one_more};
 ghost use Rattle.merge_ports.specs.Keeping.{HasKeepCause};
+ghost use Rattle.merge_ports.specs.declared.keeper.KeepFault.TheVariants.{Failed as failed};
 ghost use Rattle.merge_sqlite.specs.Causes.{fault_of, count_after};
+ghost use Rattle.merge_sqlite.specs.Keeping.{HasCommitted, HasLoaded};
 ghost use Rattle.merge_sqlite.specs.Preparing.{AreStatements};
-ghost use Rattle.merge_sqlite.specs.Reading.{IsEntry, IsNoEntry, Loads, with_row};
-ghost use Rattle.merge_sqlite.specs.Writing.{Commits, MayLeave, Writes};
+ghost use Rattle.merge_sqlite.specs.Reading.{FailsToLoad, IsEntry, IsNoEntry, Loads, with_row};
+ghost use Rattle.merge_sqlite.specs.Writing.{Commits, FailsToWrite, MayLeave, RunsEdit, Writes};
 ghost use Rattle.merge_sqlite.specs.declared.keeper.Stop.TheVariants.{Refused as refused};
 
 use merge_ports::{Entries, EntryEdit, EntryKey, KeepFault, Keeper};
@@ -39,8 +42,9 @@ pub enum Stop {
 
 /// A keeper over a SQLite file. It tells nothing of its map.
 ///
-/// A commit that was answered is on the disk: it is written to the log beside the file and synced.
-/// Where the disk failed, the database is closed, and each later call fails.
+/// Its clauses speak of the database while the disk gives back what was written. That a commit which
+/// was answered is synced to the log beside the file, and that each call fails once the disk has
+/// failed, is SQLite's and in none of them.
 #[derive(Drop)]
 pub struct SqliteKeeper<S: Alter> {
     conn: Connection<S>,
@@ -84,6 +88,7 @@ impl SqliteKeeper<FileStore<File>> {
     /// The file is left as it is; a log without a commit may be left beside it.
     pub fn open(rt: &HostRuntime, path: &str) -> Result<Self, KeepFault>
         ensures fresh { IfOk result (λ keeper. keeper.count ≡ 0) }
+        ensures unlimited { IfOk result (λ keeper. keeper.conn.step_limit ≡ None) }
         ensures statements { IfOk result (λ keeper. HasCleanDisk (file_state keeper.conn) → AreStatements ALL.now PUT.now TAKE.now keeper.all keeper.put keeper.take) }
         ensures memory { path.now ≡ codes ":memory:" → result ≡ Err KeepFault.Failed }
     {
@@ -97,6 +102,7 @@ impl SqliteKeeper<FileStore<File>> {
 
 fn opened(rt: &HostRuntime, path: &str) -> Result<SqliteKeeper<FileStore<File>>, Stop>
     ensures fresh { IfOk result (λ keeper. keeper.count ≡ 0) }
+    ensures unlimited { IfOk result (λ keeper. keeper.conn.step_limit ≡ None) }
     ensures statements { IfOk result (λ keeper. HasCleanDisk (file_state keeper.conn) → AreStatements ALL.now PUT.now TAKE.now keeper.all keeper.put keeper.take) }
     ensures memory { path.now ≡ codes ":memory:" → result ≡ Err Stop.Refused }
 {
@@ -108,6 +114,7 @@ fn opened(rt: &HostRuntime, path: &str) -> Result<SqliteKeeper<FileStore<File>>,
 // A keeper with the three statements of a store.
 fn prepared<S: Alter + Drop>(alloc: Global, conn: Connection<S>) -> Result<SqliteKeeper<S>, Stop>
     ensures fresh { IfOk result (λ keeper. keeper.count ≡ 0) }
+    ensures limit { IfOk result (λ keeper. keeper.conn.step_limit ≡ conn.step_limit) }
     ensures statements { IfOk result (λ keeper. HasCleanDisk (state S.Store keeper.conn) → AreStatements ALL.now PUT.now TAKE.now keeper.all keeper.put keeper.take) }
 {
     let mut conn = conn;
@@ -125,7 +132,9 @@ fn prepared<S: Alter + Drop>(alloc: Global, conn: Connection<S>) -> Result<Sqlit
 }
 
 // Makes the table in an empty database. A database that has anything else is not a store's.
-fn make_table<S: Alter>(conn: &mut Connection<S>) -> Result<(), Stop> {
+fn make_table<S: Alter>(conn: &mut Connection<S>) -> Result<(), Stop>
+    ensures limit { conn.new.step_limit ≡ conn.old.step_limit }
+{
     let found = conn.query_all(FOUND, &[])?;
     match found.as_slice() {
         [] => {
@@ -170,6 +179,9 @@ fn read_all<S: Alter>(
     all: &Statement,
 ) -> Result<Entries, Stop>
     ensures read { HasCleanDisk (state S.Store conn.new) → IfOk result (Loads all.now.text (state S.Store conn.old) (state S.Store conn.new)) }
+    ensures err { HasCleanDisk (state S.Store conn.new) → IfErr result (λ stop. FailsToLoad all.now.text (state S.Store conn.old) (state S.Store conn.new) (fault_of stop)) }
+    ensures idle { conn.old.in_transaction ≡ false → conn.new.in_transaction ≡ false }
+    ensures crash { Survives (state S.Store conn.old) (state S.Store conn.new) (CommitsShowing all.now.text [] (state S.Store conn.old)) }
 {
     let mut entries = Entries::empty(alloc);
     let rows = all.query_all(conn, &[])?;
@@ -188,6 +200,7 @@ fn write_edit<S: Alter>(
 ) -> Result<(), Error>
     ensures same_reference { transaction.new.conn.ghost_name ≡ transaction.old.conn.ghost_name }
     ensures written { HasCleanDisk (state S.Store transaction.new.conn.now) → IsTrue transaction.old.conn.now.in_transaction → OnOk result (Writes S.Store put.now.text take.now.text edit.now transaction.old.conn.now transaction.new.conn.now) }
+    ensures refused { HasCleanDisk (state S.Store transaction.new.conn.now) → IsTrue transaction.old.conn.now.in_transaction → IfErr result (λ e. RunsEdit S.Store put.now.text take.now.text edit.now transaction.old.conn.now transaction.new.conn.now (Err e)) }
     ensures kept { HasCleanDisk (state S.Store transaction.new.conn.now) → IsTrue transaction.old.conn.now.in_transaction → KeepsCommit (state S.Store transaction.old.conn.now) (state S.Store transaction.new.conn.now) }
     ensures survives { Survives (state S.Store transaction.old.conn.now) (state S.Store transaction.new.conn.now) (λ _. ⊥) }
 {
@@ -214,7 +227,9 @@ fn write_all<S: Alter>(
 ) -> Result<(), Error>
     requires { conn.old.in_transaction ≡ false }
     ensures done { HasCleanDisk (state S.Store conn.new) → OnOk result (Commits S.Store put.now.text take.now.text edits.now conn.old conn.new) }
+    ensures err { HasCleanDisk (state S.Store conn.new) → IfErr result (FailsToWrite S.Store put.now.text take.now.text edits.now conn.old conn.new) }
     ensures undone { HasCleanDisk (state S.Store conn.new) → OnErr result (KeepsCommit (state S.Store conn.old) (state S.Store conn.new)) }
+    ensures idle { conn.new.in_transaction ≡ false }
     ensures crash { Survives (state S.Store conn.old) (state S.Store conn.new) (MayLeave S.Store put.now.text take.now.text edits.now conn.old) }
 {
     let mut transaction = conn.transaction();
@@ -228,6 +243,7 @@ fn write_all<S: Alter>(
 fn noted<T: Drop>(count: &mut u64, stop: Stop) -> Result<T, KeepFault>
     ensures fault { result ≡ Err (fault_of stop) }
     ensures count { count.new ≡ count_after stop count.old }
+    ensures counted { IsErrOf result failed → count.new ≡ one_more count.old }
     ensures cause { HasKeepCause count.old count.new result }
 {
     match stop {
@@ -248,7 +264,8 @@ impl<S: Alter + Drop> Keeper for SqliteKeeper<S> {
 
     fn load(&mut self) -> Result<Entries, KeepFault>
         ensures cause { HasKeepCause self.old.count self.new.count result }
-        ensures read { HasCleanDisk (state S.Store self.new.conn) → IfOk result (Loads self.old.all.text (state S.Store self.old.conn) (state S.Store self.new.conn)) }
+        ensures counted { IsErrOf result failed → self.new.count ≡ one_more self.old.count }
+        ensures loaded { HasLoaded S.Store self.old.all.text self.old.conn self.new.conn result }
         ensures kept { self.new ≡ record self.old { conn = self.new.conn; count = self.new.count } }
     {
         match read_all(self.alloc, &mut self.conn, &self.all) {
@@ -259,9 +276,8 @@ impl<S: Alter + Drop> Keeper for SqliteKeeper<S> {
 
     fn commit(&mut self, edits: &[EntryEdit]) -> Result<(), KeepFault>
         ensures cause { HasKeepCause self.old.count self.new.count result }
-        ensures done { HasCleanDisk (state S.Store self.new.conn) → OnOk result (Commits S.Store self.old.put.text self.old.take.text edits.now self.old.conn self.new.conn) }
-        ensures undone { HasCleanDisk (state S.Store self.new.conn) → OnErr result (KeepsCommit (state S.Store self.old.conn) (state S.Store self.new.conn)) }
-        ensures crash { Survives (state S.Store self.old.conn) (state S.Store self.new.conn) (MayLeave S.Store self.old.put.text self.old.take.text edits.now self.old.conn) }
+        ensures counted { IsErrOf result failed → self.new.count ≡ one_more self.old.count }
+        ensures committed { HasCommitted S.Store self.old.put.text self.old.take.text edits.now self.old.conn self.new.conn result }
         ensures kept { self.new ≡ record self.old { conn = self.new.conn; count = self.new.count } }
     {
         if !self.conn.is_autocommit() {
