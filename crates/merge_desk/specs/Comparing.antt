@@ -15,7 +15,7 @@ no_digest = replicate 32 0
 
 -- what stands for a mark that there is not, beside one that there is
 abbrev pub missing : Mark → Mark
-missing other = record { place = 0; kind = other.kind; refused = false; asked = no_digest; digest = no_digest }
+missing other = record { place = 0; moment = other.moment; kind = other.kind; refused = false; asked = no_digest; digest = no_digest }
 
 -- two lists of marks differ, and these are the first two that do
 abbrev pub FirstDiffer : List Mark → List Mark → Mark → Mark → Type 0

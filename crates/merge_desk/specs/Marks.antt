@@ -2,6 +2,7 @@
 use Rattle.std.specs.Prelude.{Bool, List, false, true, ℕ}
 use Rattle.serde_json.specs.Written.{compact_text}
 use Rattle.sha2.specs.Sha256.{sha256}
+use Rattle.merge_types.specs.declared.identifiers.Moment.{Moment}
 use Rattle.merge_batch.specs.Heads.{kind_of}
 use Rattle.merge_batch.specs.declared.reply.Reply.{Reply}
 use Rattle.merge_batch.specs.declared.reply.Reply.TheVariants as reply
@@ -21,10 +22,11 @@ request_digest m = sha256 (compact_text (request_data m))
 abbrev pub reply_digest : Reply → List ℕ
 reply_digest m = sha256 (compact_text (reply_data m))
 
--- the mark of a request and its reply, at a place of the journal
-abbrev pub mark_on : ℕ → Request → Reply → Mark
-mark_on place m answer = record {
+-- the mark of a request that was answered at a moment and of its reply, at a place of the journal
+abbrev pub mark_on : ℕ → Moment → Request → Reply → Mark
+mark_on place now m answer = record {
   place = place;
+  moment = now;
   kind = kind_of m;
   refused = is_refused answer;
   asked = request_digest m;

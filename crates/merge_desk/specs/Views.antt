@@ -4,7 +4,7 @@ use Rattle.merge_schema.specs.declared.publication.Publication.{Publication}
 use Rattle.merge_model.specs.Tables.{PublisherTables}
 use Rattle.merge_model.specs.World.{Saying}
 use Rattle.merge_draft.specs.Drafting.{DraftingView}
-use Rattle.merge_desk.specs.Replay.{mark_in, marks_from, replay}
+use Rattle.merge_desk.specs.Replay.{AreDecided, mark_in, marks_from, replay}
 use Rattle.merge_desk.specs.declared.entry.Entry.{Entry}
 use Rattle.merge_desk.specs.declared.mark.Mark.{Mark}
 
@@ -17,18 +17,21 @@ pub record DeskView : Type 0 where
   pub calls : ℕ
   pub faults : ℕ
 
--- A journal that was kept since an opening: the tables are those behind all entries, and the marks are theirs.
-pub record IsJournal (publication : Publication) (opening : PublisherTables) (journal : List Entry) (now : PublisherTables) : Type 0 where
+-- A journal that was kept since an opening: the tables are those behind all entries, the marks are theirs, and resolvers that say this
+-- decided their conflicts.
+pub record IsJournal (publication : Publication) (says : Saying) (opening : PublisherTables) (journal : List Entry) (now : PublisherTables) : Type 0 where
   pub tables : now ≡ replay publication opening journal
   pub marks : map mark_in journal ≡ marks_from publication opening 1 journal
+  pub decided : AreDecided publication says opening journal
 
--- the publisher is that of the opening, and each call that was answered has its entry
-pub record IsKeptDesk (publication : Publication) (opening : PublisherTables) (says : Saying) (count : ℕ) (v : DraftingView) (journal : List Entry) (calls faults : ℕ) : Type 0 where
+-- the publisher is that of the opening, and each call that was answered has its entry, for which a permit was spent
+pub record IsKeptDesk (publication : Publication) (opening : PublisherTables) (says : Saying) (count : ℕ) (v : DraftingView) (journal : List Entry) (calls faults spent : ℕ) : Type 0 where
   pub of-publication : v.publication ≡ publication
   pub of-says : v.says ≡ says
-  pub kept : IsJournal publication opening journal v.tables
+  pub kept : IsJournal publication says opening journal v.tables
   pub counted : length journal ≡ calls
   pub few : count + faults ≤ v.faults
+  pub paid : length journal ≤ spent
 
 -- a seat: its number, what it was told, and the amount and the parts of both its shares
 pub record SeatView : Type 0 where

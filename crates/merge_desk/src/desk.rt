@@ -25,8 +25,8 @@ use std::sync::{Mutex, Wait};
 
 /// A publisher that callers share, each from a seat of its own.
 #[derive(Drop)]
-pub struct Desk<P: DraftingPublisher, L: Ledger, M: Ledger, O: Opening> {
-    state: Mutex<DeskState<P, L, M, O>>,
+pub struct Desk<P: DraftingPublisher, L: Ledger, M: Ledger, N: Ledger, O: Opening> {
+    state: Mutex<DeskState<P, L, M, N, O>>,
 }
 
 /// A desk that could not begin for want of memory.
@@ -71,15 +71,18 @@ fn make_seats<L: Ledger, M: Ledger>(
     Ok(made)
 }
 
-impl<P: DraftingPublisher, L: Ledger, M: Ledger, O: Opening> Desk<P, L, M, O> {
-    /// A desk of this publisher, and its seats, numbered from 1.
+impl<P: DraftingPublisher, L: Ledger, M: Ledger, N: Ledger, O: Opening> Desk<P, L, M, N, O> {
+    /// A desk of this publisher, and its seats, numbered from 1. What calls spend is gathered in the
+    /// share of permits.
+    #[tactic(auto, using(crate::proofs::Entries::decided_none))]
     pub fn start(
         alloc: Global,
         publisher: P,
         seats: u16,
         calls: Blank,
         faults: Blank,
-    ) -> Result<(Desk<P, L, M, O>, Vec<Seat<L, M>>), DeskStart<P>>
+        permits: Share<N>,
+    ) -> Result<(Desk<P, L, M, N, O>, Vec<Seat<L, M>>), DeskStart<P>>
         requires seats { (1 ≤ seats) × (seats ≤ 16) }
         requires publication { O.publication ≡ (P.view publisher).publication }
         requires tables { O.tables ≡ (P.view publisher).tables }
@@ -105,6 +108,7 @@ impl<P: DraftingPublisher, L: Ledger, M: Ledger, O: Opening> Desk<P, L, M, O> {
             journal: Vec::new(alloc),
             calls: call_book,
             faults: fault_book,
+            permits,
             no_calls,
             no_faults,
             of: PhantomData,
@@ -115,21 +119,24 @@ impl<P: DraftingPublisher, L: Ledger, M: Ledger, O: Opening> Desk<P, L, M, O> {
         Ok((desk, made))
     }
 
-    /// Takes the lock, makes one step, and puts its mark into the seat. It may wait.
+    /// Takes the lock, makes one step, for a permit, and puts its mark into the seat. It may wait.
     pub fn call<R: Wait>(
         &self,
         rt: &R,
         seat: &mut Seat<L, M>,
+        permit: Share<N>,
         now: Moment,
         request: &Request,
     ) -> Result<Receipt, DeskFault>
-        requires { IsSendableRequest request.now }
+        requires permit { permit.amount ≡ 1 }
+        requires sendable { IsSendableRequest request.now }
         ensures calls { OnOk result ((seat.new.calls ≡ seat.old.calls + 1) × (seat.new.faults ≡ seat.old.faults)) }
         ensures told { IfOk result (λ r. seat.new.told ≡ seat.old.told ++ r.mark ∷ []) }
-        ensures mark { IfOk result (λ r. r.mark ≡ mark_on r.place request.now r.reply) }
+        ensures mark { IfOk result (λ r. r.mark ≡ mark_on r.place now request.now r.reply) }
         ensures sendable { IfOk result (λ r. IsSendableReply r.reply) }
         ensures place { IfOk result (λ r. length seat.new.told ≤ r.place) }
         ensures fault { (n : ℕ) → result ≡ Err (fault.StoreFault n) → (seat.new.faults ≡ seat.old.faults + 1) × (seat.new.calls ≡ seat.old.calls) }
+        ensures counted { (n : ℕ) → result ≡ Err (fault.StoreFault n) → O.count + seat.new.faults ≤ n }
         ensures memory { result ≡ Err fault.NoMemory → seat.new ≡ seat.old }
         ensures err { OnErr result (seat.new.told ≡ seat.old.told) }
         ensures same { (seat.new.number ≡ seat.old.number) × (seat.new.call_parts ≡ seat.old.call_parts) × (seat.new.fault_parts ≡ seat.old.fault_parts) }
@@ -144,21 +151,22 @@ impl<P: DraftingPublisher, L: Ledger, M: Ledger, O: Opening> Desk<P, L, M, O> {
         let receipt = self
             .state
             .lock(rt)
-            .step_with(*number, calls, faults, now, request)?;
+            .step_with(*number, calls, faults, permit, now, request)?;
         told.push_reserved(receipt.mark);
         Ok(receipt)
     }
 
     /// Ends the desk, with all its seats: what each was told is held against the journal. It takes no
     /// memory.
-    pub fn close(self, seats: Vec<Seat<L, M>>) -> Result<Closed<P>, Differs<P>>
+    pub fn close(self, seats: Vec<Seat<L, M>>) -> Result<Closed<P, N>, Differs<P>>
         requires calls { sum_by seat_call_parts seats.items ≡ L.parts }
         requires faults { sum_by seat_fault_parts seats.items ≡ M.parts }
-        ensures journal { IfOk result (λ closed. IsJournal O.publication O.tables closed.journal.items (P.view closed.publisher).tables) }
+        ensures journal { IfOk result (λ closed. IsJournal O.publication O.says O.tables closed.journal.items (P.view closed.publisher).tables) }
         ensures told { IfOk result (λ closed. AllToldAsKept closed.journal.items seats.items) }
         ensures calls { IfOk result (λ closed. length closed.journal.items ≡ sum_by seat_calls seats.items) }
+        ensures paid { IfOk result (λ closed. length closed.journal.items ≤ closed.permits.amount) }
         ensures faults { IfOk result (λ closed. O.count + sum_by seat_faults seats.items ≤ (P.view closed.publisher).faults) }
-        ensures differs { IfErr result (λ d. IsDiffering O.publication O.tables (P.view d.publisher).tables seats.items d.seat d.told d.kept) }
+        ensures differs { IfErr result (λ d. IsDiffering O.publication O.says O.tables d.journal.items (P.view d.publisher).tables seats.items d.seat d.told d.kept) }
         ensures broken { IfErr result (λ d. O.count + sum_by seat_faults seats.items ≤ (P.view d.publisher).faults) }
     {
         let Desk { state } = self;

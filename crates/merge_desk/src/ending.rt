@@ -16,18 +16,22 @@ use std::sync::ledger::{Ledger, Share};
 
 /// What a desk leaves whose seats were told what the journal has of them.
 #[derive(Drop)]
-pub struct Closed<P: DraftingPublisher> {
+pub struct Closed<P: DraftingPublisher, N: Ledger> {
     pub journal: Vec<Entry>,
     pub publisher: P,
+    /// What calls have spent.
+    pub permits: Share<N>,
 }
 
-/// What a desk leaves whose journal has something else than a seat was told: the first such seat,
-/// and the first two marks that differ. In place of one that there is not stands one with place 0.
+/// What a desk leaves whose journal has something else than a seat was told: the first such seat, the
+/// first two marks that differ, and the journal. In place of a mark that there is not stands one with
+/// place 0.
 #[derive(Drop)]
 pub struct Differs<P: DraftingPublisher> {
     pub seat: u16,
     pub told: Mark,
     pub kept: Mark,
+    pub journal: Vec<Entry>,
     pub publisher: P,
 }
 
@@ -48,16 +52,19 @@ fn gather<L: Ledger, M: Ledger>(all: &mut Share<L>, broken: &mut Share<M>, seats
     }
 }
 
-impl<P: DraftingPublisher, L: Ledger, M: Ledger, O: Opening> DeskState<P, L, M, O> {
+impl<P: DraftingPublisher, L: Ledger, M: Ledger, N: Ledger, O: Opening> DeskState<P, L, M, N, O> {
     // The journal and the publisher, where all seats are back.
-    pub(crate) fn end(self, seats: Vec<Seat<L, M>>) -> Result<Closed<P>, Differs<P>>
+    pub(crate) fn end(self, seats: Vec<Seat<L, M>>) -> Result<Closed<P, N>, Differs<P>>
         requires calls { sum_by seat_call_parts seats.items ≡ L.parts }
         requires faults { sum_by seat_fault_parts seats.items ≡ M.parts }
-        ensures journal { IfOk result (λ closed. IsJournal O.publication O.tables closed.journal.items (P.view closed.publisher).tables) }
+        ensures journal { IfOk result (λ closed. IsJournal O.publication O.says O.tables closed.journal.items (P.view closed.publisher).tables) }
         ensures told { IfOk result (λ closed. AllToldAsKept closed.journal.items seats.items) }
         ensures calls { IfOk result (λ closed. length closed.journal.items ≡ sum_by seat_calls seats.items) }
+        ensures paid { IfOk result (λ closed. length closed.journal.items ≤ closed.permits.amount) }
         ensures faults { IfOk result (λ closed. O.count + sum_by seat_faults seats.items ≤ (P.view closed.publisher).faults) }
-        ensures differs { IfErr result (λ d. IsDiffering O.publication O.tables (P.view d.publisher).tables seats.items d.seat d.told d.kept) }
+        ensures differs { IfErr result (λ d. IsDiffering O.publication O.says O.tables d.journal.items (P.view d.publisher).tables seats.items d.seat d.told d.kept) }
+        ensures own { IfOk result (λ closed. closed.journal.items ≡ self.journal) }
+        ensures torn { IfErr result (λ d. d.journal.items ≡ self.journal) }
         ensures broken { IfErr result (λ d. O.count + sum_by seat_faults seats.items ≤ (P.view d.publisher).faults) }
     {
         let DeskState {
@@ -66,6 +73,7 @@ impl<P: DraftingPublisher, L: Ledger, M: Ledger, O: Opening> DeskState<P, L, M, 
             journal,
             mut calls,
             mut faults,
+            permits,
             no_calls: mut all,
             no_faults: mut broken,
             of: _,
@@ -75,11 +83,16 @@ impl<P: DraftingPublisher, L: Ledger, M: Ledger, O: Opening> DeskState<P, L, M, 
         calls.audit(&mut all);
         faults.audit(&mut broken);
         match compared {
-            Ok(()) => Ok(Closed { journal, publisher }),
+            Ok(()) => Ok(Closed {
+                journal,
+                publisher,
+                permits,
+            }),
             Err(SeatDifference { seat, told, kept }) => Err(Differs {
                 seat,
                 told,
                 kept,
+                journal,
                 publisher,
             }),
         }

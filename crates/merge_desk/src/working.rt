@@ -4,7 +4,7 @@ ghost use Rattle.merge_batch.specs.Refusals.{reply_to};
 ghost use Rattle.merge_json.specs.Sendable.{IsSendableReply};
 ghost use Rattle.merge_model.specs.World.Calls.{handled};
 ghost use Rattle.merge_ports.specs.declared.keeper.KeepFault.TheVariants.{Failed};
-ghost use Rattle.merge_desk.specs.Replay.{answered, decisions_if_made, entry_decisions, told};
+ghost use Rattle.merge_desk.specs.Replay.{answered, asked_if_made, decisions_if_made, entry_decisions, entry_tallies, told};
 ghost use Rattle.merge_desk.specs.Working.{left_by};
 
 use merge_batch::{Refusal, Reply, Request};
@@ -45,6 +45,7 @@ pub(crate) fn work_out<P: DraftingPublisher>(
 ) -> Result<Worked<P::Work>, NoMemory>
     ensures left { IfOk result (λ w. left_by P.after w.work (P.view publisher.old).tables w.reply ≡ answered (P.view publisher.old).tables (handled (P.view publisher.old).publication (P.view publisher.old).says (P.view publisher.old).tallies now request.now (P.view publisher.old).tables)) }
     ensures decisions { IfOk result (λ w. w.decisions ≡ entry_decisions (P.view publisher.old).publication (P.view publisher.old).says (P.view publisher.old).tallies now request.now (P.view publisher.old).tables) }
+    ensures asked { OnOk result ((P.view publisher.new).tallies ≡ entry_tallies (P.view publisher.old).publication (P.view publisher.old).says (P.view publisher.old).tallies now request.now (P.view publisher.old).tables) }
     ensures ready { IfOk result (λ w. IfSome w.work (λ work. P.IsReady publisher.new work)) }
     ensures sendable { IfOk result (λ w. IsSendableReply w.reply) }
     ensures steady { (k n : ℕ) (asked : _) → (P.view publisher.new).says k n asked ≡ (P.view publisher.old).says k n asked }
@@ -81,6 +82,7 @@ pub(crate) fn put<P: DraftingPublisher>(
     requires { IfSome work (λ work. P.IsReady publisher.old work) }
     ensures ok { (reply : _) → OnOk result (left_by P.after work (P.view publisher.old).tables reply ≡ ((P.view publisher.new).tables, reply)) }
     ensures err { OnErr result ((P.view publisher.new).tables ≡ (P.view publisher.old).tables) }
+    ensures tallies { (P.view publisher.new).tallies ≡ (P.view publisher.old).tallies }
     ensures later { (P.view publisher.old).faults ≤ (P.view publisher.new).faults }
     ensures fault { result ≡ Err Failed → (P.view publisher.old).faults + 1 ≤ (P.view publisher.new).faults }
     ensures steady { (k n : ℕ) (asked : _) → (P.view publisher.new).says k n asked ≡ (P.view publisher.old).says k n asked }

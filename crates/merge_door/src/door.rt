@@ -72,7 +72,8 @@ pub struct TcpDoor {
 impl TcpDoor {
     /// A door at `HOST:PORT`, at the first of the host's addresses that can be listened at.
     pub fn open(rt: HostRuntime, address: &str, waits: Waits) -> io::Result<TcpDoor>
-        ensures { IfOk result (λ door. door.faults ≡ 0) }
+        ensures unfailed { IfOk result (λ door. door.faults ≡ 0) }
+        ensures waits { IfOk result (λ door. door.waits ≡ waits) }
     {
         let listener = TcpListener::bind(&rt, address)?;
         Ok(TcpDoor {

@@ -17,13 +17,13 @@ pub struct Drafted<W: Drop> {
 /// and takes all memory, and the second commits what changes and puts it in place. What stands
 /// between the two may still fail, and then nothing has changed.
 pub trait DraftingPublisher: Drop {
-    ghost use Rattle.std.specs.Prelude.{◌≡◌, ◌≤◌, ◌+◌, ◌⊎◌, Bool, Err, IfOk, List, OnErr, OnOk, Ok, take, true, ℕ};
+    ghost use Rattle.std.specs.Prelude.{◌≡◌, ◌≤◌, ◌+◌, ◌⊎◌, Bool, Err, IfOk, IsOk, List, OnErr, OnOk, Ok, false, take, true, ℕ};
     ghost use Rattle.merge_batch.specs.declared.refusal.Refusal.{Refusal as OneRefusal};
     ghost use Rattle.merge_batch.specs.declared.refusal.Refusal.TheVariants.{NoMemory as no_memory};
     ghost use Rattle.merge_json.specs.Sendable.{IsSendableReply};
     ghost use Rattle.merge_model.specs.World.Calls.{handled, questions_on, request_commits};
     ghost use Rattle.merge_model.specs.Tables.{PublisherTables};
-    ghost use Rattle.merge_ports.specs.declared.keeper.KeepFault.TheVariants.{Failed};
+    ghost use Rattle.merge_ports.specs.declared.keeper.KeepFault.TheVariants.{Failed, NoMemory};
     ghost use Rattle.merge_resolve.specs.Asked.{tallies_after};
     ghost use Rattle.merge_draft.specs.Drafting.{DraftingView, decided, decisions_on};
 
@@ -63,16 +63,21 @@ pub trait DraftingPublisher: Drop {
         ensures faults { (view self.new).faults ≡ (view self.old).faults };
 
     /// Commits what was worked out where it changes a record, and puts it in place. A commit that
-    /// failed is counted, and so is only tried while the count can rise.
+    /// failed is counted and told, and so is only tried while the count can rise.
     fn settle(&mut self, work: Self::Work) -> Result<(), KeepFault>
         requires { IsReady self.old work }
         ensures ok { OnOk result ((view self.new).tables ≡ after work (view self.old).tables) }
         ensures err { OnErr result ((view self.new).tables ≡ (view self.old).tables) }
         ensures later { (view self.old).faults ≤ (view self.new).faults }
         ensures fault { result ≡ Err Failed → ((view self.old).faults + 1 ≤ (view self.new).faults) × (commits work ≡ true) }
+        ensures count { OnOk result ((view self.new).faults ≡ (view self.old).faults) }
+        ensures starved { result ≡ Err NoMemory → (view self.new).faults ≡ (view self.old).faults }
         ensures tallies { (view self.new).tallies ≡ (view self.old).tallies }
         ensures steady { (k n : ℕ) (asked : _) → (view self.new).says k n asked ≡ (view self.old).says k n asked }
-        ensures publication { (view self.new).publication ≡ (view self.old).publication };
+        ensures publication { (view self.new).publication ≡ (view self.old).publication }
+
+        // What commits nothing is not refused.
+        ensures nothing { commits work ≡ false → IsOk result };
 
     /// How often the store failed.
     fn faults(&self) -> u64

@@ -1,11 +1,11 @@
 -- What happened so far of the script, and what is told of it.
-use Rattle.std.proofs.Common.{List, [], ap, append_assoc, arith, cond, count_by, length, map, refl, subst, sym, ℕ, ◌+◌, ◌++◌, ◌<◌, ◌^◌, ◌∙◌, ◌∷◌, ◌≡◌}
+use Rattle.std.proofs.Common.{List, [], ap, append_assoc, arith, cond, count_by, inl, inr, length, map, refl, subst, sym, ℕ, ◌+◌, ◌++◌, ◌<◌, ◌^◌, ◌∙◌, ◌∷◌, ◌≡◌}
 use Rattle.std.proofs.lemmas.Grind.{flat_map-append}
 use Rattle.std.proofs.lemmas.List.{append-nil, length-append, length-map, map_push}
 use Rattle.std.proofs.lemmas.List.Sums.{count_by-le-length, sum_by_push}
 use Rattle.std.specs.List.{flat_map, zip}
 use Rattle.std.specs.Iterator.{YieldsFirstBy}
-use Rattle.std.specs.Prelude.{Err, None, Ok, OnOk, Option, Result, Some, unwrap_or}
+use Rattle.std.specs.Prelude.{Err, None, Ok, OnErr, OnOk, Option, Result, Some, unwrap_or}
 use Rattle.merge_model.specs.declared.answer.Answer.{Answer}
 use Rattle.merge_model.specs.declared.event.Event.{Event}
 use Rattle.merge_world.specs.Happenings.{Happened, seconds_of}
@@ -14,7 +14,7 @@ use Rattle.merge_world.specs.Views.{HandedView, IsOrdered, SitesView}
 use Rattle.merge_world.proofs.Playings.{and-then, nothing-yet, ordered-behind}
 use Rattle.merge_make.specs.Publication.{made}
 use Rattle.merge_make.specs.Rest.{rest}
-use Rattle.merge_make.specs.Runs.{StepDone, Summed}
+use Rattle.merge_make.specs.Runs.{MadeInPart, StepDone, StepInPart, Summed}
 use Rattle.merge_make.specs.Script.{script}
 use Rattle.merge_make.specs.Steps.{event_of}
 use Rattle.merge_make.specs.Summary.{is_refusal, made_line, shown, shown_of, told}
@@ -85,6 +85,30 @@ module _ (customers : ℕ) (step : Step) (left more : List Event) (first u v : S
           ∙ flat_map-append shown_of (zip s.events (map told s.answers)) ((event_of step, told done.answer) ∷ [])
           ∙ ap (λ (l : List ℕ). flat_map shown_of (zip s.events (map told s.answers)) ++ l) (append-nil (shown (event_of step) (told done.answer)))
 
+-- of the next step nothing was done, or its event happened
+pub so-far-cut : (customers : ℕ) (step : Step) (left more : List Event) (first u v : SitesView) (k g h : HandedView) (tally : Tally) → left ≡ event_of step ∷ more → SoFar customers left first u k g tally
+    → StepInPart step u v g h → MadeInPart customers first v k h
+so-far-cut customers step left more first u v k g h tally next s (inl same) = record {
+  events = s.events;
+  more = left;
+  split = s.split;
+  answers = s.answers;
+  happened = rw (same.0, same.1) s.happened;
+}
+so-far-cut customers step left more first u v k g h tally next s (inr (answer, done)) = record {
+  events = s.events ++ event_of step ∷ [];
+  more = more;
+  split = s.split ∙ ap (λ (l : List Event). s.events ++ l) next ∙ sym (append_assoc s.events (event_of step ∷ []) more);
+  answers = s.answers ++ answer ∷ [];
+  happened = and-then s.events first u v k g h s.answers (event_of step) answer s.happened done;
+}
+
+-- what happened so far, where there is no summary of it
+pub so-far-unsummed : {T E : Type 0} (r : Result T E) (customers : ℕ) (left : List Event) (first u : SitesView) (k g : HandedView) (tally : Tally) → SoFar customers left first u k g tally
+    → OnErr r (MadeInPart customers first u k g)
+so-far-unsummed (Ok text) customers left first u k g tally s = tt
+so-far-unsummed (Err why) customers left first u k g tally s = record { events = s.events; more = left; split = s.split; answers = s.answers; happened = s.happened }
+
 module _ (customers : ℕ) (left : List Event) (first u : SitesView) (k g : HandedView) (tally : Tally) (s : SoFar customers left first u k g tally) where
   pub so-far-ordered : IsOrdered first → IsOrdered u
   so-far-ordered ordered = ordered-behind s.events first u k g s.answers s.happened ordered
@@ -124,6 +148,15 @@ step-done (Ok done) s e u v g h was now answer is happened refusals reports = re
   reports = reports ∙ ap (λ (x : Event). was.reports ++ shown x (told answer)) is;
 }
 step-done (Err why) s e u v g h was now answer is happened refusals reports = tt
+
+-- a step of which nothing was done
+pub step-left : (s : Step) (u : SitesView) (g : HandedView) → StepInPart s u u g g
+step-left s u g = inl (refl, refl)
+
+-- the event happened, also where its answer was not added
+pub step-in-part : {T E : Type 0} (r : Result T E) (s : Step) (e : Event) (u v : SitesView) (g h : HandedView) (answer : Answer) → e ≡ event_of s → Happened e u v g h answer → OnErr r (StepInPart s u v g h)
+step-in-part (Ok done) s e u v g h answer is happened = tt
+step-in-part (Err why) s e u v g h answer is happened = inr (answer, subst (λ (x : Event). Happened x u v g h answer) is happened)
 
 -- what the script gives, and where it gives nothing more
 pub one-more : (s t : Script) (o : Option Step) (x : Step) → o ≡ Some x → YieldsFirstBy event_of rest s o t → rest s ≡ event_of x ∷ rest t

@@ -1,6 +1,7 @@
 -- A run over the generated script, and what is told of it.
-use Rattle.std.specs.Prelude.{List, cond, ℕ, ◌++◌, ◌+◌, ◌≡◌}
+use Rattle.std.specs.Prelude.{List, cond, ℕ, ◌++◌, ◌+◌, ◌≡◌, ◌⊎◌}
 use Rattle.merge_model.specs.declared.answer.Answer.{Answer}
+use Rattle.merge_model.specs.declared.event.Event.{Event}
 use Rattle.merge_world.specs.Happenings.{Happened}
 use Rattle.merge_world.specs.Playing.{AllHappened}
 use Rattle.merge_world.specs.Views.{HandedView, SitesView}
@@ -16,6 +17,18 @@ pub record StepDone (step : Step) (old new : SitesView) (before after : HandedVi
   pub happened : Happened (event_of step) old new before after answer
   pub refusals : now.refusals ≡ was.refusals + cond (is_refusal (told answer)) 1 0
   pub reports : now.reports ≡ was.reports ++ shown (event_of step) (told answer)
+
+-- Nothing happened, or the event of a step did.
+abbrev pub StepInPart : Step → (old new : SitesView) → (before after : HandedView) → Type 0
+StepInPart step old new before after = ((new ≡ old) × (after ≡ before)) ⊎ ((answer : Answer) × Happened (event_of step) old new before after answer)
+
+-- Some of the first events of the script for so many customers happened, and nothing else did.
+pub record MadeInPart (customers : ℕ) (old new : SitesView) (before after : HandedView) : Type 0 where
+  pub events : List Event
+  pub more : List Event
+  pub split : script customers ≡ events ++ more
+  pub answers : List Answer
+  pub happened : AllHappened events old new before after answers
 
 -- All events of the script for so many customers happened, and the text is the summary of their answers.
 pub record Summed (customers : ℕ) (old new : SitesView) (before after : HandedView) (text : List ℕ) : Type 0 where

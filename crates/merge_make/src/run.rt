@@ -1,7 +1,7 @@
 //! A run over the script.
-ghost use Rattle.std.specs.Prelude.{◌≡◌, ◌≤◌, ◌<◌, ◌+◌, ◌^◌, IfOk, OnOk};
+ghost use Rattle.std.specs.Prelude.{◌≡◌, ◌≤◌, ◌<◌, ◌+◌, ◌^◌, IfOk, OnErr, OnOk};
 ghost use Rattle.merge_make.specs.Publication.{made};
-ghost use Rattle.merge_make.specs.Runs.{StepDone, Summed};
+ghost use Rattle.merge_make.specs.Runs.{MadeInPart, StepDone, StepInPart, Summed};
 ghost use Rattle.merge_world.specs.Views.{IsOrdered, handed_view};
 
 use crate::script::Script;
@@ -26,6 +26,8 @@ fn play_step<P: PublisherSite, S: SubscriberSite>(
     requires room { tally.old.refusals < 2 ^ 32 }
     ensures done { OnOk result (StepDone step (⟦<Sites<P, S> as Seen>⟧.seen sites.old) (⟦<Sites<P, S> as Seen>⟧.seen sites.new)
         (handed_view (λ r. says r) (λ r. tally_of r) resolvers.old.items) (handed_view (λ r. says r) (λ r. tally_of r) resolvers.new.items) tally.old tally.new) }
+    ensures part { OnErr result (StepInPart step (⟦<Sites<P, S> as Seen>⟧.seen sites.old) (⟦<Sites<P, S> as Seen>⟧.seen sites.new)
+        (handed_view (λ r. says r) (λ r. tally_of r) resolvers.old.items) (handed_view (λ r. says r) (λ r. tally_of r) resolvers.new.items)) }
     ensures stays { (⟦<Sites<P, S> as Seen>⟧.seen sites.new).sites ≡ (⟦<Sites<P, S> as Seen>⟧.seen sites.old).sites }
 {
     let event = step.event(alloc)?;
@@ -49,6 +51,8 @@ pub fn play_script<P: PublisherSite, S: SubscriberSite>(
     requires clock { sites.old.moment.0 + 2 ^ 32 ≤ 2 ^ 64 }
     requires made { (⟦<Sites<P, S> as Seen>⟧.seen sites.old).publication ≡ made }
     ensures summed { IfOk result (Summed customers (⟦<Sites<P, S> as Seen>⟧.seen sites.old) (⟦<Sites<P, S> as Seen>⟧.seen sites.new)
+        (handed_view (λ r. says r) (λ r. tally_of r) resolvers.old.items) (handed_view (λ r. says r) (λ r. tally_of r) resolvers.new.items)) }
+    ensures part { OnErr result (MadeInPart customers (⟦<Sites<P, S> as Seen>⟧.seen sites.old) (⟦<Sites<P, S> as Seen>⟧.seen sites.new)
         (handed_view (λ r. says r) (λ r. tally_of r) resolvers.old.items) (handed_view (λ r. says r) (λ r. tally_of r) resolvers.new.items)) }
     ensures stays { (⟦<Sites<P, S> as Seen>⟧.seen sites.new).sites ≡ (⟦<Sites<P, S> as Seen>⟧.seen sites.old).sites }
 {

@@ -81,17 +81,18 @@ bytes-front p q answers answer n a b c same so_far more =
     front : (xs ys zs : List ℕ) → zs ≡ xs ++ ys → xs ++ take n ys ≡ take (length xs + n) zs
     front xs ys zs e = sym (take-append-add xs ys n) ∙ ap (λ (l : List ℕ). take (length xs + n) l) (sym e)
 
--- what was answered so far is a front
-pub so-far-stops : (lines rest : List (List ℕ)) (number : ℕ) (first u : SitesView) (k g : HandedView) (a b c : Option (List ℕ)) (faults : ℕ) → u.faults ≤ faults → c ≡ b → SoFar lines rest number first u k g a b → PlayedInPart lines first k faults a c
-so-far-stops lines rest number first u k g a b c faults le same s = record {
+-- what was answered so far is a front, where nothing was done since
+pub so-far-stops : (lines rest : List (List ℕ)) (number : ℕ) (first u v : SitesView) (k g h : HandedView) (a b c : Option (List ℕ)) → v ≡ u → h ≡ g → c ≡ b → SoFar lines rest number first u k g a b
+    → PlayedInPart lines first v k h a c
+so-far-stops lines rest number first u v k g h a b c stay still same s = record {
   events = s.events;
   more = events_of rest;
   split = s.split;
   answers = s.answers;
-  last = u;
-  behind = g;
-  happened = s.happened;
-  few = le;
+  last = v;
+  happened = rw (stay, still) s.happened;
+  left = inl refl;
+  few = omega arith;
   whole = s.answers;
   rest = [];
   parts = sym (append-nil s.answers);
@@ -108,8 +109,14 @@ line-answered e u v g h answer p b c done same more = (answer, done, subst (λ (
 
 pub line-in-part : (e : Event) (u v : SitesView) (g h : HandedView) (answer : Answer) (p : Publication) (b c : Option (List ℕ)) → Happened e u v g h answer → p ≡ v.publication
     → (c ≡ b) ⊎ AppendsFront b c (text_of (names_of p) answer) → LineInPart (Does e) u v g h b c
-line-in-part e u v g h answer p b c done same (inl nothing) = inl nothing
-line-in-part e u v g h answer p b c done same (inr more) = inr (answer, done, (more.0, subst (λ (x : Publication). Appends b c (take more.0 (text_of (names_of x) answer))) (same ∙ done.publication) more.1))
+line-in-part e u v g h answer p b c done same (inl nothing) = inr (inr (answer, done, (0, subst (λ (x : Option (List ℕ)). Appends b x []) (sym nothing) (Appends-nothing b))))
+line-in-part e u v g h answer p b c done same (inr more) = inr (inr (answer, done, (more.0, subst (λ (x : Publication). Appends b c (take more.0 (text_of (names_of x) answer))) (same ∙ done.publication) more.1)))
+
+-- a line of which nothing was done
+pub line-left : (said : Line) (u : SitesView) (g : HandedView) (b : Option (List ℕ)) → LineInPart said u u g g b b
+line-left Quiet u g b = (refl, refl, refl)
+line-left (NoEvent word) u g b = (refl, refl, refl)
+line-left (Does event) u g b = inl (refl, refl, refl)
 
 module _ (lines : List (List ℕ)) (line : List ℕ) (rest : List (List ℕ)) (number : ℕ) (first u v : SitesView) (k g h : HandedView) (a b c : Option (List ℕ)) where
   -- one more line, which says this
@@ -136,19 +143,38 @@ module _ (lines : List (List ℕ)) (line : List ℕ) (rest : List (List ℕ)) (n
   so-far-more s done = next (line_of line) refl s done
 
   -- the answer to the next line was written in part, or not
-  cut : (said : Line) (faults : ℕ) → line_of line ≡ said → u.faults ≤ faults → v.faults ≤ faults → SoFar lines (line ∷ rest) number first u k g a b → LineInPart said u v g h b c → PlayedInPart lines first k faults a c
-  cut Quiet faults e le le' s done = so-far-stops lines (line ∷ rest) number first u k g a b c faults le done.2 s
-  cut (NoEvent word) faults e le le' s done = so-far-stops lines (line ∷ rest) number first u k g a b c faults le done.2 s
-  cut (Does event) faults e le le' s (inl done) = so-far-stops lines (line ∷ rest) number first u k g a b c faults le done s
-  cut (Does event) faults e le le' s (inr done) = record {
+  cut : (said : Line) → line_of line ≡ said → u.faults ≤ v.faults → SoFar lines (line ∷ rest) number first u k g a b → LineInPart said u v g h b c → PlayedInPart lines first v k h a c
+  cut Quiet e le s done = so-far-stops lines (line ∷ rest) number first u v k g h a b c done.0 done.1 done.2 s
+  cut (NoEvent word) e le s done = so-far-stops lines (line ∷ rest) number first u v k g h a b c done.0 done.1 done.2 s
+  cut (Does event) e le s (inl done) = so-far-stops lines (line ∷ rest) number first u v k g h a b c done.0 done.1 done.2 s
+  cut (Does event) e le s (inr (inl done)) =
+      let split : events_of lines ≡ s.events ++ event ∷ events_of rest = rw e at s.split in
+      record {
+        events = s.events;
+        more = event ∷ events_of rest;
+        split = split;
+        answers = s.answers;
+        last = u;
+        happened = rw done.2 s.happened;
+        left = inr (event, events_of rest, done.0, refl, done.1);
+        few = le;
+        whole = s.answers;
+        rest = [];
+        parts = sym (append-nil s.answers);
+        one = omega arith;
+        count = length (texts_of (names_of first.publication) s.answers);
+        enough = omega arith;
+        bytes = rw (done.3, take-length) s.bytes;
+      }
+  cut (Does event) e le s (inr (inr done)) = record {
     events = s.events ++ event ∷ [];
     more = events_of rest;
     split = rw append_assoc (rw e at s.split);
     answers = s.answers ++ done.0 ∷ [];
     last = v;
-    behind = h;
     happened = and-then s.events first u v k g h s.answers event done.0 s.happened done.1;
-    few = le';
+    left = inl refl;
+    few = omega arith;
     whole = s.answers;
     rest = done.0 ∷ [];
     parts = refl;
@@ -158,8 +184,8 @@ module _ (lines : List (List ℕ)) (line : List ℕ) (rest : List (List ℕ)) (n
     bytes = bytes-front first.publication u.publication s.answers done.0 done.2.0 a b c s.happened.publication s.bytes done.2.1;
   }
 
-  pub so-far-cut : (faults : ℕ) → u.faults ≤ faults → v.faults ≤ faults → SoFar lines (line ∷ rest) number first u k g a b → LineInPart (line_of line) u v g h b c → PlayedInPart lines first k faults a c
-  so-far-cut faults le le' s done = cut (line_of line) faults refl le le' s done
+  pub so-far-cut : u.faults ≤ v.faults → SoFar lines (line ∷ rest) number first u k g a b → LineInPart (line_of line) u v g h b c → PlayedInPart lines first v k h a c
+  so-far-cut le s done = cut (line_of line) refl le s done
 
   -- the lines before one that is no event are answered
   wrong : (said : Line) (word : ℕ) → line_of line ≡ said → said ≡ NoEvent word → SoFar lines (line ∷ rest) number first u k g a b → LineInPart said u v g h b c → Played lines first v k h a c
@@ -191,10 +217,10 @@ module _ (line : List ℕ) (u v : SitesView) (b c : Option (List ℕ)) where
 
   module _ (lines rest : List (List ℕ)) (number : ℕ) (first : SitesView) (k g : HandedView) (a : Option (List ℕ)) where
     -- the lines before it are answered, and it says a restart
-    ended : (said : Line) (faults : ℕ) (why : Refusal) → line_of line ≡ said → u.faults ≤ faults → SoFar lines (line ∷ rest) number first u k g a b → LineEnds said u v why b c → PlayedToRestart lines first k faults a c
-    ended Quiet faults why e le s done = absurd done
-    ended (NoEvent word) faults why e le s done = absurd done
-    ended (Does event) faults why e le s done =
+    ended : (said : Line) (faults : ℕ) (why : Refusal) → line_of line ≡ said → u.faults ≤ faults → SoFar lines (line ∷ rest) number first u k g a b → LineEnds said u v why b c → IsLost why u.faults faults → PlayedToRestart lines first k why faults a c
+    ended Quiet faults why e le s done gone = absurd done
+    ended (NoEvent word) faults why e le s done gone = absurd done
+    ended (Does event) faults why e le s done gone =
         let split : events_of lines ≡ s.events ++ event ∷ events_of rest = rw e at s.split in
         record {
           events = s.events;
@@ -207,11 +233,12 @@ module _ (line : List ℕ) (u v : SitesView) (b c : Option (List ℕ)) where
           behind = g;
           happened = s.happened;
           few = le;
+          lost = gone;
           bytes = subst (λ (x : Option (List ℕ)). Appends a x (texts_of (names_of first.publication) s.answers)) (sym done.1) s.bytes;
         }
 
-    pub so-far-ends : (faults : ℕ) (why : Refusal) → u.faults ≤ faults → SoFar lines (line ∷ rest) number first u k g a b → LineEnds (line_of line) u v why b c → PlayedToRestart lines first k faults a c
-    so-far-ends faults why le s done = ended (line_of line) faults why refl le s done
+    pub so-far-ends : (faults : ℕ) (why : Refusal) → u.faults ≤ faults → SoFar lines (line ∷ rest) number first u k g a b → LineEnds (line_of line) u v why b c → IsLost why u.faults faults → PlayedToRestart lines first k why faults a c
+    so-far-ends faults why le s done gone = ended (line_of line) faults why refl le s done gone
 
 -- a loss is counted from before
 pub lost-before : (why : Refusal) (a b c : ℕ) → a ≤ b → IsLost why b c → IsLost why a c

@@ -125,11 +125,11 @@ pub fn play_lines<P: PublisherSite, S: SubscriberSite, O: Sink>(
     ensures no_event { (line word : ℕ) → result ≡ Err (stop.NoEvent line word) → fault_of (lines_of script.now) ≡ Some (line, word) }
     ensures before { (line word : ℕ) → result ≡ Err (stop.NoEvent line word) → Played (lines_of script.now) (⟦<Sites<P, S> as Seen>⟧.seen sites.old) (⟦<Sites<P, S> as Seen>⟧.seen sites.new)
         (handed_view (λ r. says r) (λ r. tally_of r) resolvers.old.items) (handed_view (λ r. says r) (λ r. tally_of r) resolvers.new.items) (O.written output.old) (O.written output.new) }
-    ensures part { PlayedInPart (lines_of script.now) (⟦<Sites<P, S> as Seen>⟧.seen sites.old) (handed_view (λ r. says r) (λ r. tally_of r) resolvers.old.items)
-        (⟦<Sites<P, S> as Seen>⟧.seen sites.new).faults (O.written output.old) (O.written output.new) }
+    ensures part { PlayedInPart (lines_of script.now) (⟦<Sites<P, S> as Seen>⟧.seen sites.old) (⟦<Sites<P, S> as Seen>⟧.seen sites.new)
+        (handed_view (λ r. says r) (λ r. tally_of r) resolvers.old.items) (handed_view (λ r. says r) (λ r. tally_of r) resolvers.new.items) (O.written output.old) (O.written output.new) }
     ensures write { result ≡ Err stop.WriteFault → Rose (O.count output.old) (O.count output.new) }
     ensures ended { (why : Refused) → result ≡ Err (stop.Ended why) → IsLost why (⟦<Sites<P, S> as Seen>⟧.seen sites.old).faults (⟦<Sites<P, S> as Seen>⟧.seen sites.new).faults }
-    ensures restart { (why : Refused) → result ≡ Err (stop.Ended why) → PlayedToRestart (lines_of script.now) (⟦<Sites<P, S> as Seen>⟧.seen sites.old) (handed_view (λ r. says r) (λ r. tally_of r) resolvers.old.items)
+    ensures restart { (why : Refused) → result ≡ Err (stop.Ended why) → PlayedToRestart (lines_of script.now) (⟦<Sites<P, S> as Seen>⟧.seen sites.old) (handed_view (λ r. says r) (λ r. tally_of r) resolvers.old.items) why
         (⟦<Sites<P, S> as Seen>⟧.seen sites.new).faults (O.written output.old) (O.written output.new) }
     ensures later { (⟦<Sites<P, S> as Seen>⟧.seen sites.old).faults ≤ (⟦<Sites<P, S> as Seen>⟧.seen sites.new).faults }
     ensures stays { (⟦<Sites<P, S> as Seen>⟧.seen sites.new).sites ≡ (⟦<Sites<P, S> as Seen>⟧.seen sites.old).sites }

@@ -1,5 +1,5 @@
 -- How a run of `change` ends.
-use Rattle.std.proofs.Common.{Err, List, None, Ok, Option, Result, Some, ap, false, inl, inr, length, refl, subst, sym, true, ℕ, ◌≡◌, ◌≢◌, ◌≤◌}
+use Rattle.std.proofs.Common.{Err, List, None, Ok, Option, Result, Some, false, inl, inr, length, refl, subst, sym, true, ℕ, ◌≡◌, ◌≢◌, ◌≤◌}
 use Rattle.std.specs.Prelude.{IfSome, OnOk}
 use Rattle.merge_types.specs.declared.identifiers.SiteId.{SiteId}
 use Rattle.merge_link.specs.Moments.{Moments}
@@ -25,10 +25,10 @@ use Rattle.merge_program.specs.Changing.{ChangeEnds, LinesDone, LinesEnd, SiteEn
 use Rattle.merge_program.specs.Files.{HasSite, IsAccepted, IsGiven, IsRefusedFile, IsShort, IsUnaccepted, IsUngiven, IsUnpublished, IsUnread}
 use Rattle.merge_program.specs.Opening.{IsUnopened}
 use Rattle.merge_program.specs.Runs.{Sides}
-use Rattle.merge_program.specs.Sited.{IsDamageAt, IsKeptAt, IsReadAt, IsUntouched}
+use Rattle.merge_program.specs.Sited.{IsDamageAt, IsKeptAt, IsReadAt}
 use Rattle.merge_program.specs.Stopping.{changed_by}
 use Rattle.merge_program.specs.Stores.{RoseBy}
-use Rattle.merge_program.specs.Visits.{Visit}
+use Rattle.merge_program.specs.Visits.{IsIdle, Visit}
 use Rattle.merge_program.proofs.Ends.{some-of}
 
 -- Lines.
@@ -116,16 +116,17 @@ module _ (place : Place) (resolvers : ℕ) (v : Visit) where
       (subst (λ (m : Option Moments). SiteEnds ending publication place.site (v.stored place.site place.store) (lines_of slice) m (record { was = v.was; written = v.written; before = before; after = v.new.stores }) (v.kept place.site place.store) v.writes v.refused) coming
       (subst (λ (f : SiteId → List ℕ → Option Map). SiteEnds ending publication place.site (f place.site place.store) (lines_of slice) moments (record { was = v.was; written = v.written; before = before; after = v.new.stores }) (v.kept place.site place.store) v.writes v.refused) stored p))))
 
-  untouched : v.written ≡ v.was → v.kept ≡ v.stored → IsUntouched (v.stored place.site place.store) (v.kept place.site place.store) (record { was = v.was; written = v.written; before = v.old.stores; after = v.new.stores })
-  untouched silent same = record { silent = silent; same = ap (λ (f : SiteId → List ℕ → Option Map). f place.site place.store) same }
+  ungiven-so : (ending : Ending) → IsUngiven ending (v.offers.texts place.publication) v.input resolvers place.site v.old.texts v.new.texts v.reads v.failed → IsIdle v → Change ending
+  ungiven-so (Refused fault) p idle = (p, idle)
+  ungiven-so ReadFault p idle = (p, idle)
+  ungiven-so TooLong p idle = (p, idle)
+  ungiven-so UnknownSite p idle = (p, idle)
+  ungiven-so NoMemory p idle = inl idle
+  ungiven-so other p idle = absurd p
 
-  pub ungiven-ends : (ending : Ending) → IsUngiven ending (v.offers.texts place.publication) v.input resolvers place.site v.old.texts v.new.texts v.reads v.failed → v.written ≡ v.was → v.kept ≡ v.stored → Change ending
-  ungiven-ends (Refused fault) p silent same = (p, untouched silent same)
-  ungiven-ends ReadFault p silent same = (p, untouched silent same)
-  ungiven-ends TooLong p silent same = (p, untouched silent same)
-  ungiven-ends UnknownSite p silent same = (p, untouched silent same)
-  ungiven-ends NoMemory p silent same = inl (untouched silent same)
-  ungiven-ends other p silent same = absurd p
+  pub ungiven-ends : (ending : Ending) → IsUngiven ending (v.offers.texts place.publication) v.input resolvers place.site v.old.texts v.new.texts v.reads v.failed
+      → v.written ≡ v.was → v.kept ≡ v.stored → v.behind ≡ v.offers → v.new.links ≡ v.old.links → Change ending
+  ungiven-ends ending p silent same unasked unlinked = ungiven-so ending p (record { silent = silent; same = same; unasked = unasked; unlinked = unlinked })
 
 -- What was read, and why not.
 
@@ -133,17 +134,17 @@ module _ (told input : Option (List ℕ)) (resolvers : ℕ) (site : SiteId) (bef
   abbrev Ungiven : Ending → Type 0
   Ungiven ending = IsUngiven ending told input resolvers site before after reads failed
 
-  pub by-file : (ending : Ending) → IsUnread ending told before after → Ungiven ending
-  by-file ReadFault p = inl p
-  by-file TooLong p = inl p
-  by-file NoMemory p = tt
-  by-file other p = absurd p
+  pub by-file : (ending : Ending) → failed ≡ reads → IsUnread ending told before after → Ungiven ending
+  by-file ReadFault same p = inl (p, same)
+  by-file TooLong same p = inl (p, same)
+  by-file NoMemory same p = tt
+  by-file other same p = absurd p
 
-  pub by-input : (ending : Ending) → IsUnread ending input reads failed → Ungiven ending
-  by-input ReadFault p = inr p
-  by-input TooLong p = inr p
-  by-input NoMemory p = tt
-  by-input other p = absurd p
+  pub by-input : (text : List ℕ) → IfSome told (λ (left : List ℕ). text ≡ left) → length text ≤ 67108864 → (ending : Ending) → IsUnread ending input reads failed → Ungiven ending
+  by-input text whole fits ReadFault p = inr (some-of (λ (t : List ℕ). length t ≤ 67108864) told text whole fits, p)
+  by-input text whole fits TooLong p = inr (some-of (λ (t : List ℕ). length t ≤ 67108864) told text whole fits, p)
+  by-input text whole fits NoMemory p = tt
+  by-input text whole fits other p = absurd p
 
   -- the text of the file was read
   module _ (text : List ℕ) (whole : IfSome told (λ (left : List ℕ). text ≡ left)) (fits : length text ≤ 67108864) (slice : List ℕ) (is : slice ≡ text) where

@@ -1,5 +1,5 @@
 -- How a run ends by the command that its words say.
-use Rattle.std.proofs.Common.{List, None, Option, Some, ap, inl, length, refl, subst, sym, unwrap_or, ℕ, ◌∙◌, ◌≡◌, ◌≢◌}
+use Rattle.std.proofs.Common.{List, None, Option, Some, ap, false, inl, length, refl, subst, sym, unwrap_or, ℕ, ◌∙◌, ◌≡◌, ◌≢◌}
 use Rattle.merge_types.specs.declared.identifiers.SiteId.{SiteId}
 use Rattle.merge_ports.specs.Entries.{Map}
 use Rattle.merge_world.specs.Views.{HandedView}
@@ -9,12 +9,14 @@ use Rattle.merge_program.specs.declared.command.Place.{Place}
 use Rattle.merge_program.specs.declared.ending.Ending.{Ending}
 use Rattle.merge_program.specs.declared.ending.Ending.TheVariants.{NoMemory, Usage}
 use Rattle.merge_program.specs.Changing.{ChangeEnds}
+use Rattle.merge_program.specs.Commands.{reads_input}
+use Rattle.merge_program.specs.Elsewhere.{ChangesItsOwn}
 use Rattle.merge_program.specs.Headline.{PlayRunEnds}
 use Rattle.merge_program.specs.Making.{MakeEnds}
 use Rattle.merge_program.specs.Showing.{ShowEnds}
 use Rattle.merge_program.specs.Statuses.{CommandEnds}
 use Rattle.merge_program.specs.Syncing.{SyncEnds}
-use Rattle.merge_program.specs.Visits.{Visit, sides_of}
+use Rattle.merge_program.specs.Visits.{IsIdle, Visit, sides_of}
 use Rattle.merge_program.proofs.Ends.{any-of}
 
 module _ (ending : Ending) (handed : HandedView) (v : Visit) where
@@ -40,8 +42,8 @@ module _ (ending : Ending) (handed : HandedView) (v : Visit) where
       subst (λ (c : Command). Ends (Some c)) (sym is) (subst (λ (n : ℕ). SyncEnds ending place address n v) counted ends)
 
   -- the words say no command
-  pub by-none : (command : Option Command) → command ≡ None → ending ≡ Usage → v.written ≡ v.was → Ends command
-  by-none command none usage silent = subst Ends (sym none) (usage, silent)
+  pub by-none : (command : Option Command) → command ≡ None → ending ≡ Usage → v.written ≡ v.was → v.kept ≡ v.stored → v.behind ≡ v.offers → v.new.links ≡ v.old.links → Ends command
+  by-none command none usage silent same unasked unlinked = subst Ends (sym none) (usage, record { silent = silent; same = same; unasked = unasked; unlinked = unlinked })
 
   pub as-made : (command : Option Command) (customers : ℕ) → command ≡ Some (Make customers) → Ends command → MakeEnds ending customers handed (sides_of v) v.writes v.refused
   as-made command customers is ends = subst Ends is ends
@@ -50,13 +52,39 @@ module _ (ending : Ending) (handed : HandedView) (v : Visit) where
   by-words command said is ends = subst Ends is ends
 
 -- memory was wanting for the words of a command
-pub lacking : (handed : HandedView) (v : Visit) (command : Option Command) → command ≢ None → v.written ≡ v.was → v.kept ≡ v.stored → CommandEnds command NoMemory handed v
-lacking handed v None some silent same = absurd (some refl)
-lacking handed v (Some Play) some silent same = any-of v.input
-lacking handed v (Some (Make customers)) some silent same = (tt, silent)
-lacking handed v (Some (Change place)) some silent same = inl (record { silent = silent; same = ap (λ (f : SiteId → List ℕ → Option Map). f place.site place.store) same })
-lacking handed v (Some (Show place article)) some silent same = inl (record { silent = silent; same = ap (λ (f : SiteId → List ℕ → Option Map). f place.site place.store) same })
-lacking handed v (Some (Sync place address)) some silent same = inl (record { silent = silent; same = ap (λ (f : SiteId → List ℕ → Option Map). f place.site place.store) same })
+lacking-so : (handed : HandedView) (v : Visit) (command : Option Command) → command ≢ None → IsIdle v → CommandEnds command NoMemory handed v
+lacking-so handed v None some idle = absurd (some refl)
+lacking-so handed v (Some Play) some idle = any-of v.input
+lacking-so handed v (Some (Make customers)) some idle = (tt, idle.silent)
+lacking-so handed v (Some (Change place)) some idle = inl idle
+lacking-so handed v (Some (Show place article)) some idle = inl idle
+lacking-so handed v (Some (Sync place address)) some idle = inl idle
+
+pub lacking : (handed : HandedView) (v : Visit) (command : Option Command) → command ≢ None → v.written ≡ v.was → v.kept ≡ v.stored → v.behind ≡ v.offers → v.new.links ≡ v.old.links → CommandEnds command NoMemory handed v
+lacking handed v command some silent same unasked unlinked = lacking-so handed v command some (record { silent = silent; same = same; unasked = unasked; unlinked = unlinked })
 
 pub same-command : (command other : Command) (said : Option Command) → Some command ≡ said → said ≡ Some other → command ≡ other
 same-command command other said is say = ap (λ (o : Option Command). unwrap_or o command) (is ∙ say)
+
+-- commands that read the input
+pub play-reads : {P : Type 0} (command : Command) → command ≡ Play → reads_input (Some command) ≡ false → P
+play-reads command is not_read = let lost : reads_input (Some Play) ≡ false = subst (λ (c : Command). reads_input (Some c) ≡ false) is not_read in absurd (cc lost)
+
+pub change-reads : {P : Type 0} (command : Command) (place : Place) → command ≡ Change place → reads_input (Some command) ≡ false → P
+change-reads command place is not_read = let lost : reads_input (Some (Change place)) ≡ false = subst (λ (c : Command). reads_input (Some c) ≡ false) is not_read in absurd (cc lost)
+
+-- A command changes no store but its own.
+module _ (old new : SiteId → List ℕ → Option Map) where
+  pub own-by : (command said : Command) → command ≡ said → ChangesItsOwn (Some said) old new → ChangesItsOwn (Some command) old new
+  own-by command said is same = subst (λ (c : Command). ChangesItsOwn (Some c) old new) (sym is) same
+
+  pub own-said : (said command : Option Command) → said ≡ command → ChangesItsOwn said old new → ChangesItsOwn command old new
+  own-said said command is same = subst (λ (c : Option Command). ChangesItsOwn c old new) is same
+
+pub none-changed : (told : SiteId → List ℕ → Option Map) (command : Option Command) → ChangesItsOwn command told told
+none-changed told None = refl
+none-changed told (Some Play) = λ s p other. refl
+none-changed told (Some (Make customers)) = λ s p other. refl
+none-changed told (Some (Change place)) = λ s p other. refl
+none-changed told (Some (Show place article)) = λ s p other. refl
+none-changed told (Some (Sync place address)) = λ s p other. refl

@@ -110,7 +110,7 @@ module _ (left : Option (List ℕ)) (handed : HandedView) (sides : Sides) (write
   read-ends input same (Refused fault) p = some-of (λ (l : List ℕ). InputEnds (Refused fault) handed l sides writes refused) left input same p
   read-ends input same (NoEvent line word) p = some-of (λ (l : List ℕ). InputEnds (NoEvent line word) handed l sides writes refused) left input same p
   read-ends input same WriteFault p = (p.1, some-of (IsTakenInput (length handed.tallies)) left input same p.0)
-  read-ends input same StoreFault p = (p.1, some-of (λ (l : List ℕ). IsStopped handed l sides) left input same p.0)
+  read-ends input same StoreFault p = (p.1, some-of (λ (l : List ℕ). IsStopped handed l sides 1) left input same p.0)
   read-ends input same (Damaged table key) p = some-of (λ (l : List ℕ). InputEnds (Damaged table key) handed l sides writes refused) left input same p
   read-ends input same NoMemory p = any-of left
   read-ends input same Usage p = absurd p

@@ -1,13 +1,11 @@
 -- How a run over a generated script ends.
 use Rattle.std.proofs.Common.{List, arith, subst, ◌≡◌, ℕ}
 use Rattle.merge_world.specs.Views.{HandedView, SitesView}
-use Rattle.merge_laws.specs.Laws.{OfEveryValidRun}
-use Rattle.merge_laws.specs.Laws.Deciding.{FailingAnswersAlike, FailingTablesAlike}
-use Rattle.merge_laws.specs.Laws.Promised.{Promised}
 use Rattle.merge_make.specs.Publication.{made}
 use Rattle.merge_make.specs.Runs.{Summed}
 use Rattle.merge_make.specs.Script.{script}
 use Rattle.merge_make.proofs.Published.{made-valid}
+use Rattle.merge_promises.specs.Promises.{OfEveryRunPromised}
 use Rattle.merge_program.specs.declared.ending.Ending.{Ending}
 use Rattle.merge_program.specs.declared.ending.Ending.TheVariants.{BadReply, Damaged, Declined, Done, Expired, LinkFault, NoEvent, NoMemory, NotTaken, ReadFault, Refused, StoreFault, TooLong, UnknownArticle, UnknownSite, Usage, WriteFault}
 use Rattle.merge_program.specs.Fresh.{fresh_view}
@@ -17,13 +15,13 @@ use Rattle.merge_program.specs.Stores.{IsUnstarted, RoseBy}
 use Rattle.merge_program.proofs.Plays.{run-of}
 
 -- the summary is one of a run from nothing
-pub summary-of : OfEveryValidRun Promised → FailingAnswersAlike → FailingTablesAlike
+pub summary-of : OfEveryRunPromised
     → (customers : ℕ) (old new : SitesView) (handed behind : HandedView) (text : List ℕ) → old ≡ fresh_view made → Summed customers old new handed behind text
     → (before after : ℕ) → RoseBy new.faults before after → IsSummary customers handed before after text
-summary-of promises answers_alike tables_alike customers old new handed behind text fresh summed before after rose =
+summary-of promises customers old new handed behind text fresh summed before after rose =
     let s : Summed customers (fresh_view made) new handed behind text = subst (λ (v : SitesView). Summed customers v new handed behind text) fresh summed in record {
       answers = s.answers;
-      run = run-of promises answers_alike tables_alike made (1, made-valid) handed new.faults before after rose (script customers) new behind s.answers s.happened (omega arith);
+      run = run-of promises made (1, made-valid) handed new.faults before after rose (script customers) new behind s.answers s.happened (omega arith);
       told = s.told;
     }
 

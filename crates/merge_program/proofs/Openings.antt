@@ -33,7 +33,7 @@ module _ {T : Type 0} (load : Map → Loaded T) (stored : Option Map) where
     rose more = let stores : new.stores ≡ min (mid.stores + count) (2 ^ 64 - 1) = ap (λ (c : Counts). c.stores) back in omega (arith, more, none, opened, stores)
 
     stopped-by : (why : Refusal) → LoadsNot load stored why first count → IsUnopenedFor load (stopped_by why) stored old.stores new.stores
-    stopped-by why (inl (inl is)) = subst (λ (w : Refusal). IsUnopenedFor load (stopped_by w) stored old.stores new.stores) (sym is) tt
+    stopped-by why (inl (inl (is, still))) = subst (λ (w : Refusal). IsUnopenedFor load (stopped_by w) stored old.stores new.stores) (sym is) tt
     stopped-by why (inl (inr (is, more))) = subst (λ (w : Refusal). IsUnopenedFor load (stopped_by w) stored old.stores new.stores) (sym is) (rose more)
     stopped-by why (inr (key, is, read)) = subst (λ (w : Refusal). IsUnopenedFor load (stopped_by w) stored old.stores new.stores) (sym is) (key, refl, read)
 

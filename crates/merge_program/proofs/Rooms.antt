@@ -1,13 +1,15 @@
 -- Room for the keepers of sites.
-use Rattle.std.proofs.Common.{List, [], add-one, ap, append_assoc, arith, length, map, min, refl, subst, sum_by, sym, ℕ, ◌+◌, ◌++◌, ◌-◌, ◌^◌, ◌∙◌, ◌∷◌, ◌≡◌}
+use Rattle.std.proofs.Common.{List, Option, [], add-one, ap, append_assoc, arith, length, map, min, refl, subst, sum_by, sym, ℕ, ◌+◌, ◌++◌, ◌-◌, ◌^◌, ◌∙◌, ◌∷◌, ◌≡◌}
 use Rattle.std.proofs.lemmas.List.{map-id}
 use Rattle.std.proofs.lemmas.List.Sums.{sum_by-cons}
+use Rattle.merge_ports.specs.Entries.{Map}
 use Rattle.merge_ports.specs.Opened.{with_faults}
 use Rattle.merge_ports.specs.declared.outside.Counts.{Counts}
 use Rattle.merge_schema.specs.declared.publication.Publication.{Publication}
 use Rattle.merge_schema.specs.declared.publication.Subscription.{Subscription}
 use Rattle.merge_types.specs.declared.identifiers.SiteId.{SiteId}
 use Rattle.merge_world.specs.Views.{SubscriberView, faults_of, site_of}
+use Rattle.merge_program.specs.Elsewhere.{SameAtOthers}
 use Rattle.merge_program.specs.Stores.{AreRooms, RoseBy, fresh_at, fresh_subscribers}
 use Rattle.merge_program.proofs.Rises.{rose-on}
 
@@ -20,31 +22,34 @@ pub rooms-more : (room : SiteId → List ℕ → Type 0) (path : List ℕ) (s : 
 rooms-more room path s there [] rooms = (there, tt)
 rooms-more room path s there (t ∷ ss) rooms = (rooms.0, rooms-more room path s there ss rooms.1)
 
--- the keepers that are not given back yet, of which there are so many, and the faults of the others
-pub record GivingBack (room : SiteId → List ℕ → Type 0) (path : List ℕ) (first : ℕ) (all rest : List SubscriberView) (count before now : ℕ) : Type 0 where
+-- the keepers that are not given back yet, of which there are so many, and the faults of the others; the stores that were told and are told
+pub record GivingBack (room : SiteId → List ℕ → Type 0) (path : List ℕ) (first : ℕ) (all rest : List SubscriberView) (count before now : ℕ) (were told : SiteId → List ℕ → Option Map) : Type 0 where
   pub rooms : AreRooms room path (map site_of rest)
   pub counted : count ≡ length rest
   pub given : ℕ
   pub sums : given + sum_by faults_of rest ≡ first + sum_by faults_of all
   pub rose : RoseBy given before now
+  -- no store at another path was changed
+  pub others : SameAtOthers path were told
 
 module _ (old next : SiteId → List ℕ → Type 0) (path : List ℕ) (still : (t : SiteId) (p : List ℕ) → old t p → next t p) (first : ℕ) (all : List SubscriberView) where
   -- the publisher's keeper is given back
   pub begins-giving : (rest : List SubscriberView) → rest ≡ all → (count : ℕ) → count ≡ length all → (before now : Counts) (kept : ℕ) → now ≡ with_faults kept before → kept ≡ first → AreRooms old path (map site_of all)
-      → GivingBack next path first all rest count before.stores now.stores
-  begins-giving rest is count counted before now kept risen same rooms =
+      → (were told : SiteId → List ℕ → Option Map) → SameAtOthers path were told → GivingBack next path first all rest count before.stores now.stores were told
+  begins-giving rest is count counted before now kept risen same rooms were told others =
       let stores : now.stores ≡ min (before.stores + kept) (2 ^ 64 - 1) = ap (λ (c : Counts). c.stores) risen in
-      subst (λ (l : List SubscriberView). GivingBack next path first all l count before.stores now.stores) (sym is) (record {
+      subst (λ (l : List SubscriberView). GivingBack next path first all l count before.stores now.stores were told) (sym is) (record {
         rooms = rooms-still old next path still (map site_of all) rooms;
         counted = counted;
         given = first;
         sums = refl;
         rose = omega (arith, stores, same);
+        others = others;
       })
 
   one-back : (rest : List SubscriberView) (s : SubscriberView) (before now after kept : ℕ) → after ≡ min (now + kept) (2 ^ 64 - 1) → kept ≡ s.faults → (count less : ℕ) → count ≡ less + 1
-      → GivingBack old path first all (s ∷ rest) count before now → GivingBack next path first all rest less before after
-  one-back rest s before now after kept risen same count less fewer g =
+      → (were mid told : SiteId → List ℕ → Option Map) → SameAtOthers path mid told → GivingBack old path first all (s ∷ rest) count before now were mid → GivingBack next path first all rest less before after were told
+  one-back rest s before now after kept risen same count less fewer were mid told others g =
       let cons : sum_by faults_of (s ∷ rest) ≡ s.faults + sum_by faults_of rest = sum_by-cons faults_of s rest in
       let total : g.given + sum_by faults_of (s ∷ rest) ≡ first + sum_by faults_of all = g.sums in
       let many : count ≡ length rest + 1 = g.counted ∙ sym (add-one (length rest)) in record {
@@ -53,20 +58,22 @@ module _ (old next : SiteId → List ℕ → Type 0) (path : List ℕ) (still : 
         given = g.given + s.faults;
         sums = omega (arith, total, cons);
         rose = rose-on g.given s.faults before now after g.rose (omega (arith, risen, same));
+        others = λ t p other. others t p other ∙ g.others t p other;
       }
 
   -- one keeper more is given back
   pub gives-back : (left rest : List SubscriberView) (s : SubscriberView) → left ≡ s ∷ rest → (before : ℕ) (now after : Counts) (kept : ℕ) → after ≡ with_faults kept now → kept ≡ s.faults → (count less : ℕ) → count ≡ less + 1
-      → GivingBack old path first all left count before now.stores → GivingBack next path first all rest less before after.stores
-  gives-back left rest s is before now after kept risen same count less fewer so_far =
-      one-back rest s before now.stores after.stores kept (ap (λ (c : Counts). c.stores) risen) same count less fewer (subst (λ (l : List SubscriberView). GivingBack old path first all l count before now.stores) is so_far)
+      → (were mid told : SiteId → List ℕ → Option Map) → SameAtOthers path mid told → GivingBack old path first all left count before now.stores were mid → GivingBack next path first all rest less before after.stores were told
+  gives-back left rest s is before now after kept risen same count less fewer were mid told others so_far =
+      one-back rest s before now.stores after.stores kept (ap (λ (c : Counts). c.stores) risen) same count less fewer were mid told others (subst (λ (l : List SubscriberView). GivingBack old path first all l count before now.stores were mid) is so_far)
 
 none-left : (rest : List SubscriberView) → length rest ≡ 0 → sum_by faults_of rest ≡ 0
 none-left [] none = refl
 none-left (s ∷ rest) none = absurd (omega (arith, none))
 
-pub all-given : (room : SiteId → List ℕ → Type 0) (path : List ℕ) (first : ℕ) (all rest : List SubscriberView) (count : ℕ) → count ≡ 0 → (before now : ℕ) → GivingBack room path first all rest count before now → RoseBy (first + sum_by faults_of all) before now
-all-given room path first all rest count none before now g =
+pub all-given : (room : SiteId → List ℕ → Type 0) (path : List ℕ) (first : ℕ) (all rest : List SubscriberView) (count : ℕ) → count ≡ 0 → (before now : ℕ) (were told : SiteId → List ℕ → Option Map) → GivingBack room path first all rest count before now were told
+    → RoseBy (first + sum_by faults_of all) before now
+all-given room path first all rest count none before now were told g =
     let left : sum_by faults_of rest ≡ 0 = none-left rest (sym g.counted ∙ none) in
     let total : g.given + sum_by faults_of rest ≡ first + sum_by faults_of all = g.sums in
     let rose : RoseBy g.given before now = g.rose in omega (arith, total, rose, left)

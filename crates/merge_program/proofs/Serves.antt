@@ -3,8 +3,10 @@ use Rattle.std.proofs.Common.{Err, List, None, Ok, Option, Result, Some, ap, ari
 use Rattle.std.specs.Prelude.{IfOk, IfSome, OnErr, not}
 use Rattle.merge_types.specs.declared.identifiers.SiteId.{SiteId}
 use Rattle.merge_ports.specs.Entries.{Map}
+use Rattle.merge_ports.specs.Opened.{SameElsewhere}
 use Rattle.merge_schema.specs.Answers.{IsAnswer}
 use Rattle.merge_schema.specs.declared.publication.Publication.{Publication}
+use Rattle.merge_model.specs.World.{Saying}
 use Rattle.merge_service.specs.Ends.{Ends}
 use Rattle.merge_service.specs.declared.stop.Stop.{Stop}
 use Rattle.merge_service.specs.declared.stop.Stop.TheVariants as break
@@ -44,34 +46,35 @@ module _ (told : Option (List ℕ)) (resolvers : ℕ) (before after : ℕ) where
 
 -- The whole.
 
-module _ (order : Order) (resolvers : ℕ) (v : Visit) (d : Doorway) where
+module _ (order : Order) (resolvers : ℕ) (says : Saying) (v : Visit) (d : Doorway) where
   abbrev Serve : Finish → Type 0
-  Serve finish = ServeEnds finish order resolvers v d
+  Serve finish = ServeEnds finish order resolvers says v d
 
   untouched : v.written ≡ v.was → v.kept ≡ v.stored → IsUntouched (v.stored publisher_site order.store) (v.kept publisher_site order.store) (sides_of v)
   untouched silent same = record { silent = silent; same = ap (λ (f : SiteId → List ℕ → Option Map). f publisher_site order.store) same }
 
-  unordered-ends : (finish : Finish) (ending : Ending) → finish ≡ Ended ending → IsUnordered ending (v.offers.texts order.publication) resolvers v.old.texts v.new.texts → v.written ≡ v.was → v.kept ≡ v.stored → Serve finish
-  unordered-ends finish ending is cause silent same = inl (record { ending = ending; is = is; cause = cause; untouched = untouched silent same })
+  unordered-ends : (finish : Finish) (ending : Ending) → finish ≡ Ended ending → IsUnordered ending (v.offers.texts order.publication) resolvers v.old.texts v.new.texts → v.written ≡ v.was → v.kept ≡ v.stored → d.after ≡ d.before → Serve finish
+  unordered-ends finish ending is cause silent same closed = inl (record { ending = ending; is = is; cause = cause; untouched = untouched silent same; closed = closed })
 
   -- so many resolvers were counted
   pub unordered-ends-so : (finish : Finish) (ending : Ending) → finish ≡ Ended ending → (count : ℕ) → count ≡ resolvers
-      → IsUnordered ending (v.offers.texts order.publication) count v.old.texts v.new.texts → v.written ≡ v.was → v.kept ≡ v.stored → Serve finish
-  unordered-ends-so finish ending is count counted cause silent same =
-      unordered-ends finish ending is (subst (λ (n : ℕ). IsUnordered ending (v.offers.texts order.publication) n v.old.texts v.new.texts) counted cause) silent same
+      → IsUnordered ending (v.offers.texts order.publication) count v.old.texts v.new.texts → v.written ≡ v.was → v.kept ≡ v.stored → d.after ≡ d.before → Serve finish
+  unordered-ends-so finish ending is count counted cause silent same closed =
+      unordered-ends finish ending is (subst (λ (n : ℕ). IsUnordered ending (v.offers.texts order.publication) n v.old.texts v.new.texts) counted cause) silent same closed
 
   -- what is told around the service is told as before the file was read
   pub ordered-ends : (finish : Finish) (r : Result Unit Stop) → finish ≡ finish_of r → (publication : Publication)
       → (count : ℕ) → count ≡ resolvers → IfSome (v.offers.texts order.publication) (IsAccepted count publication)
-      → (told : SiteId → List ℕ → Option Map) → told ≡ v.stored → (stores : ℕ) → stores ≡ v.old.stores
-      → Ends publication order.requests (record (around_order order v d) { stored = told publisher_site order.store; stores = stores }) v.was v.written v.writes v.refused r → Serve finish
-  ordered-ends finish r is publication count counted read told stored stores same ends = inr (record {
+      → (told : SiteId → List ℕ → Option Map) → told ≡ v.stored → (stores : ℕ) → stores ≡ v.old.stores → (saying : Saying) → saying ≡ says
+      → Ends publication saying order.requests (record (around_order order v d) { stored = told publisher_site order.store; stores = stores }) v.was v.written v.writes v.refused r → Serve finish
+  ordered-ends finish r is publication count counted read told stored stores same saying said ends = inr (record {
     publication = publication;
     read = subst (λ (n : ℕ). IfSome (v.offers.texts order.publication) (IsAccepted n publication)) counted read;
     served = r;
     is = is;
-    ends = subst (λ (n : ℕ). Ends publication order.requests (record (around_order order v d) { stores = n }) v.was v.written v.writes v.refused r) same
-        (subst (λ (f : SiteId → List ℕ → Option Map). Ends publication order.requests (record (around_order order v d) { stored = f publisher_site order.store; stores = stores }) v.was v.written v.writes v.refused r) stored ends);
+    ends = subst (λ (n : ℕ). Ends publication says order.requests (record (around_order order v d) { stores = n }) v.was v.written v.writes v.refused r) same
+        (subst (λ (f : SiteId → List ℕ → Option Map). Ends publication says order.requests (record (around_order order v d) { stored = f publisher_site order.store; stores = stores }) v.was v.written v.writes v.refused r) stored
+        (subst (λ (s : Saying). Ends publication s order.requests (record (around_order order v d) { stored = told publisher_site order.store; stores = stores }) v.was v.written v.writes v.refused r) said ends));
   })
 
   -- with status 0 all was served
@@ -81,7 +84,7 @@ module _ (order : Order) (resolvers : ℕ) (v : Visit) (d : Doorway) where
   not-unordered other cause is = omega (arith, is)
 
   served-by : (publication : Publication) → IfSome (v.offers.texts order.publication) (IsAccepted resolvers publication) → (r : Result Unit Stop)
-      → Ends publication order.requests (around_order order v d) v.was v.written v.writes v.refused r → finish_status (finish_of r) ≡ 0 → IsServed order resolvers v d
+      → Ends publication says order.requests (around_order order v d) v.was v.written v.writes v.refused r → finish_status (finish_of r) ≡ 0 → IsServed order resolvers says v d
   served-by publication read (Ok done) ends is = record { publication = publication; read = read; journal = ends.0; served = ends.1; written = ends.2 }
   served-by publication read (Err break.StoreFault) ends is = absurd (omega (arith, is))
   served-by publication read (Err (break.Damaged table key)) ends is = absurd (omega (arith, is))
@@ -90,12 +93,12 @@ module _ (order : Order) (resolvers : ℕ) (v : Visit) (d : Doorway) where
   served-by publication read (Err break.WriteFault) ends is = absurd (omega (arith, is))
   served-by publication read (Err break.NoMemory) ends is = absurd (omega (arith, is))
 
-  done-by : (finish : Finish) → Serve finish → finish_status finish ≡ 0 → IsServed order resolvers v d
+  done-by : (finish : Finish) → Serve finish → finish_status finish ≡ 0 → IsServed order resolvers says v d
   done-by finish (inl u) is = absurd (not-unordered u.ending u.cause (sym (ap finish_status u.is) ∙ is))
   done-by finish (inr o) is = served-by o.publication o.read o.served o.ends (sym (ap finish_status o.is) ∙ is)
 
   tells-served : (status : ℕ) (finish : Finish) → status ≡ finish_status finish → Serve finish → (old new : Option (List ℕ)) (before after : ℕ) → Finished finish old new before after
-      → TellsServed status order resolvers v d old new before after
+      → TellsServed status order resolvers says v d old new before after
   tells-served status finish is ends old new before after told = record {
     finish = finish;
     status_is = is;
@@ -106,14 +109,14 @@ module _ (order : Order) (resolvers : ℕ) (v : Visit) (d : Doorway) where
 
   -- the same, of the order that the words said
   pub tells-of : (status : ℕ) (finish : Finish) → status ≡ finish_status finish → Serve finish → (old new : Option (List ℕ)) (before after : ℕ) → Finished finish old new before after
-      → (other : Order) → order ≡ other → TellsServed status other resolvers v d old new before after
+      → (other : Order) → order ≡ other → TellsServed status other resolvers says v d old new before after
   tells-of status finish is ends old new before after told other same =
-      subst (λ (o : Order). TellsServed status o resolvers v d old new before after) same (tells-served status finish is ends old new before after told)
+      subst (λ (o : Order). TellsServed status o resolvers says v d old new before after) same (tells-served status finish is ends old new before after told)
 
   -- memory was wanting for the words
-  pub wanting : (finish : Finish) → finish ≡ Ended NoMemory → v.written ≡ v.was → v.kept ≡ v.stored → (status : ℕ) → status ≡ finish_status finish
-      → (old new : Option (List ℕ)) (before after : ℕ) → Finished finish old new before after → TellsServed status order resolvers v d old new before after
-  wanting finish is silent same status as_told old new before after told = tells-served status finish as_told (unordered-ends finish NoMemory is tt silent same) old new before after told
+  pub wanting : (finish : Finish) → finish ≡ Ended NoMemory → v.written ≡ v.was → v.kept ≡ v.stored → d.after ≡ d.before → (status : ℕ) → status ≡ finish_status finish
+      → (old new : Option (List ℕ)) (before after : ℕ) → Finished finish old new before after → TellsServed status order resolvers says v d old new before after
+  wanting finish is silent same closed status as_told old new before after told = tells-served status finish as_told (unordered-ends finish NoMemory is tt silent same closed) old new before after told
 
 -- The order that the words said is the one.
 
@@ -122,6 +125,9 @@ one-order a b said is say = ap (λ (o : Option Order). unwrap_or o a) (is ∙ sa
 
 pub no-order : {P : Type 0} (a : Order) (said : Option Order) → Some a ≡ said → said ≡ None → P
 no-order a said is none = absurd (cc (is, none))
+
+pub elsewhere-of : (old new : SiteId → List ℕ → Option Map) (a b : Order) → a ≡ b → SameElsewhere publisher_site a.store old new → SameElsewhere publisher_site b.store old new
+elsewhere-of old new a b is same = subst (λ (o : Order). SameElsewhere publisher_site o.store old new) is same
 
 pub some-order : {P : Type 0} (b : Order) (said : Option Order) → None ≡ said → said ≡ Some b → P
 some-order b said is some = absurd (cc (is, some))

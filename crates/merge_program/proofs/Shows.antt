@@ -22,9 +22,9 @@ use Rattle.merge_program.specs.Files.{HasSite, IsNamed, IsUnnamed, IsUnpublished
 use Rattle.merge_program.specs.Opening.{IsUnopened}
 use Rattle.merge_program.specs.Runs.{Sides}
 use Rattle.merge_program.specs.Showing.{RowsDone, RowsEnd, ShowEnds, ShownBy, ShownEnds}
-use Rattle.merge_program.specs.Sited.{IsDamageAt, IsKeptAt, IsReadAt, IsUntouched}
+use Rattle.merge_program.specs.Sited.{IsDamageAt, IsKeptAt, IsReadAt}
 use Rattle.merge_program.specs.Stopping.{shown_by}
-use Rattle.merge_program.specs.Visits.{Visit}
+use Rattle.merge_program.specs.Visits.{IsIdle, Visit}
 use Rattle.merge_program.proofs.Changes.{accepted, has-site, refused-file}
 
 -- Rows.
@@ -111,17 +111,18 @@ module _ (place : Place) (name : List ℕ) (resolvers : ℕ) (v : Visit) where
       (subst (λ (f : SiteId → List ℕ → Option Map). ShownEnds ending publication place.site article (f place.site place.store) (record { was = v.was; written = v.written; before = before; after = v.new.stores }) (v.kept place.site place.store) v.writes v.refused) stored
       (p article named.named)))
 
-  untouched : v.written ≡ v.was → v.kept ≡ v.stored → IsUntouched (v.stored place.site place.store) (v.kept place.site place.store) whole
-  untouched silent same = record { silent = silent; same = ap (λ (f : SiteId → List ℕ → Option Map). f place.site place.store) same }
+  unnamed-so : (ending : Ending) → IsUnnamed ending (v.offers.texts place.publication) resolvers place.site name v.old.texts v.new.texts → IsIdle v → Show ending
+  unnamed-so (Refused fault) p idle = (p, idle)
+  unnamed-so ReadFault p idle = (p, idle)
+  unnamed-so TooLong p idle = (p, idle)
+  unnamed-so UnknownSite p idle = (p, idle)
+  unnamed-so UnknownArticle p idle = (p, idle)
+  unnamed-so NoMemory p idle = inl idle
+  unnamed-so other p idle = absurd p
 
-  pub unnamed-ends : (ending : Ending) → IsUnnamed ending (v.offers.texts place.publication) resolvers place.site name v.old.texts v.new.texts → v.written ≡ v.was → v.kept ≡ v.stored → Show ending
-  unnamed-ends (Refused fault) p silent same = (p, untouched silent same)
-  unnamed-ends ReadFault p silent same = (p, untouched silent same)
-  unnamed-ends TooLong p silent same = (p, untouched silent same)
-  unnamed-ends UnknownSite p silent same = (p, untouched silent same)
-  unnamed-ends UnknownArticle p silent same = (p, untouched silent same)
-  unnamed-ends NoMemory p silent same = inl (untouched silent same)
-  unnamed-ends other p silent same = absurd p
+  pub unnamed-ends : (ending : Ending) → IsUnnamed ending (v.offers.texts place.publication) resolvers place.site name v.old.texts v.new.texts
+      → v.written ≡ v.was → v.kept ≡ v.stored → v.behind ≡ v.offers → v.new.links ≡ v.old.links → Show ending
+  unnamed-ends ending p silent same unasked unlinked = unnamed-so ending p (record { silent = silent; same = same; unasked = unasked; unlinked = unlinked })
 
 -- What was read, and why not.
 

@@ -124,8 +124,8 @@ module _ (handed : HandedView) (v : Visit) where
   unread None p = let is = p.0 in absurd (cc is)
   unread (Some Play) p = inl p
   unread (Some (Make customers)) p = absurd p.0
-  unread (Some (Change place)) (inl text, untouched) = inr text
-  unread (Some (Change place)) (inr input, untouched) = inl input
+  unread (Some (Change place)) (inl text, untouched) = inr text.0
+  unread (Some (Change place)) (inr input, untouched) = inl input.1
   unread (Some (Show place article)) p = inr p.0
   unread (Some (Sync place address)) p = inr p.0
 

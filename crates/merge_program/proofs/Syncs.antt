@@ -3,6 +3,7 @@ use Rattle.std.proofs.Common.{Err, List, Ok, Option, Result, ap, false, inl, inr
 use Rattle.std.specs.Prelude.{IfSome}
 use Rattle.merge_types.specs.declared.identifiers.SiteId.{SiteId}
 use Rattle.merge_link.specs.Moments.{Moments}
+use Rattle.merge_link.specs.declared.link.Exchange.{Exchange}
 use Rattle.merge_outside.specs.Offers.{Offers}
 use Rattle.merge_ports.specs.declared.outside.Counts.{Counts}
 use Rattle.merge_ports.specs.Entries.{Map}
@@ -19,11 +20,10 @@ use Rattle.merge_program.specs.declared.ending.Ending.{Ending}
 use Rattle.merge_program.specs.declared.ending.Ending.TheVariants.{BadReply, Damaged, Declined, Expired, LinkFault, NoMemory, ReadFault, Refused, StoreFault, TooLong, UnknownArticle, UnknownSite, WriteFault}
 use Rattle.merge_program.specs.Endings.{status_of}
 use Rattle.merge_program.specs.Files.{HasSubscription, IsUnpublished, IsUnread, IsUnsubscribed}
-use Rattle.merge_program.specs.Sited.{IsUntouched}
 use Rattle.merge_program.specs.Statuses.{is_silent}
 use Rattle.merge_program.specs.Stopping.{synced_by}
 use Rattle.merge_program.specs.Syncing.{SubscribedEnds, SyncEnds, around_of}
-use Rattle.merge_program.specs.Visits.{Visit}
+use Rattle.merge_program.specs.Visits.{IsIdle, Visit}
 use Rattle.merge_program.proofs.Changes.{accepted, refused-file}
 
 -- What each ending of a session tells.
@@ -120,33 +120,35 @@ module _ (place : Place) (address : List ℕ) (resolvers : ℕ) (v : Visit) wher
   subscribed-so publication there (Err break.NoMemory) p = inr (publication, there, record { synced = Err break.NoMemory; ending_is = refl; ends = p })
 
   -- what is told around the session is told as before the file was read
-  around-same : (around : Around) (told : Option Map) (responses : Option (List (List ℕ))) (moments : Option Moments) (stores links : ℕ)
-      → told ≡ v.stored place.site place.store → responses ≡ v.offers.responses → moments ≡ v.offers.moments → stores ≡ v.old.stores → links ≡ v.old.links
-      → around ≡ record (around_of place v) { stored = told; responses = responses; moments = moments; stores = stores; links = links } → around ≡ around_of place v
-  around-same around told responses moments stores links first second third fourth fifth is = is
-      ∙ (ap (λ (o : Option Map). record (around_of place v) { stored = o; responses = responses; moments = moments; stores = stores; links = links }) first
-      ∙ (ap (λ (o : Option (List (List ℕ))). record (around_of place v) { responses = o; moments = moments; stores = stores; links = links }) second
-      ∙ (ap (λ (o : Option Moments). record (around_of place v) { moments = o; stores = stores; links = links }) third
-      ∙ (ap (λ (n : ℕ). record (around_of place v) { stores = n; links = links }) fourth
-      ∙ ap (λ (n : ℕ). record (around_of place v) { links = n }) fifth))))
+  around-same : (around : Around) (told : Option Map) (responses : Option (List (List ℕ))) (moments : Option Moments) (carried : Option (List Exchange)) (stores links : ℕ)
+      → told ≡ v.stored place.site place.store → responses ≡ v.offers.responses → moments ≡ v.offers.moments → carried ≡ v.offers.exchanges → stores ≡ v.old.stores → links ≡ v.old.links
+      → around ≡ record (around_of place v) { stored = told; responses = responses; moments = moments; was_carried = carried; stores = stores; links = links } → around ≡ around_of place v
+  around-same around told responses moments carried stores links first second third fourth fifth sixth is = is
+      ∙ (ap (λ (o : Option Map). record (around_of place v) { stored = o; responses = responses; moments = moments; was_carried = carried; stores = stores; links = links }) first
+      ∙ (ap (λ (o : Option (List (List ℕ))). record (around_of place v) { responses = o; moments = moments; was_carried = carried; stores = stores; links = links }) second
+      ∙ (ap (λ (o : Option Moments). record (around_of place v) { moments = o; was_carried = carried; stores = stores; links = links }) third
+      ∙ (ap (λ (o : Option (List Exchange)). record (around_of place v) { was_carried = o; stores = stores; links = links }) fourth
+      ∙ (ap (λ (n : ℕ). record (around_of place v) { stores = n; links = links }) fifth
+      ∙ ap (λ (n : ℕ). record (around_of place v) { links = n }) sixth)))))
 
   pub subscribed-ends : (ending : Ending) (r : Result Unit Stop) → ending ≡ synced_by r → (publication : Publication) → HasSubscription (v.offers.texts place.publication) resolvers place.site publication
       → (told : SiteId → List ℕ → Option Map) → told ≡ v.stored → (offers : Offers) → offers ≡ v.offers → (counts : Counts) → counts.stores ≡ v.old.stores → counts.links ≡ v.old.links
-      → Ends address publication place.site (record (around_of place v) { stored = told place.site place.store; responses = offers.responses; moments = offers.moments; stores = counts.stores; links = counts.links }) v.was v.written v.writes v.refused r
+      → Ends address publication place.site (record (around_of place v) { stored = told place.site place.store; responses = offers.responses; moments = offers.moments; was_carried = offers.exchanges; stores = counts.stores; links = counts.links }) v.was v.written v.writes v.refused r
       → Sync ending
   subscribed-ends ending r is publication there told stored offers same counts stores links p = subst Sync (sym is) (subscribed-so publication there r (subst (λ (a : Around). Ends address publication place.site a v.was v.written v.writes v.refused r)
-      (around-same _ (told place.site place.store) offers.responses offers.moments counts.stores counts.links (ap (λ (f : SiteId → List ℕ → Option Map). f place.site place.store) stored) (ap (λ (o : Offers). o.responses) same) (ap (λ (o : Offers). o.moments) same) stores links refl) p))
+      (around-same _ (told place.site place.store) offers.responses offers.moments offers.exchanges counts.stores counts.links (ap (λ (f : SiteId → List ℕ → Option Map). f place.site place.store) stored) (ap (λ (o : Offers). o.responses) same) (ap (λ (o : Offers). o.moments) same) (ap (λ (o : Offers). o.exchanges) same) stores links refl) p))
 
-  untouched : v.written ≡ v.was → v.kept ≡ v.stored → IsUntouched (v.stored place.site place.store) (v.kept place.site place.store) (record { was = v.was; written = v.written; before = v.old.stores; after = v.new.stores })
-  untouched silent same = record { silent = silent; same = ap (λ (f : SiteId → List ℕ → Option Map). f place.site place.store) same }
+  unsubscribed-so : (ending : Ending) → IsUnsubscribed ending (v.offers.texts place.publication) resolvers place.site v.old.texts v.new.texts → IsIdle v → Sync ending
+  unsubscribed-so (Refused fault) p idle = (p, idle)
+  unsubscribed-so ReadFault p idle = (p, idle)
+  unsubscribed-so TooLong p idle = (p, idle)
+  unsubscribed-so UnknownSite p idle = (p, idle)
+  unsubscribed-so NoMemory p idle = inl idle
+  unsubscribed-so other p idle = absurd p
 
-  pub unsubscribed-ends : (ending : Ending) → IsUnsubscribed ending (v.offers.texts place.publication) resolvers place.site v.old.texts v.new.texts → v.written ≡ v.was → v.kept ≡ v.stored → Sync ending
-  unsubscribed-ends (Refused fault) p silent same = (p, untouched silent same)
-  unsubscribed-ends ReadFault p silent same = (p, untouched silent same)
-  unsubscribed-ends TooLong p silent same = (p, untouched silent same)
-  unsubscribed-ends UnknownSite p silent same = (p, untouched silent same)
-  unsubscribed-ends NoMemory p silent same = inl (untouched silent same)
-  unsubscribed-ends other p silent same = absurd p
+  pub unsubscribed-ends : (ending : Ending) → IsUnsubscribed ending (v.offers.texts place.publication) resolvers place.site v.old.texts v.new.texts
+      → v.written ≡ v.was → v.kept ≡ v.stored → v.behind ≡ v.offers → v.new.links ≡ v.old.links → Sync ending
+  unsubscribed-ends ending p silent same unasked unlinked = unsubscribed-so ending p (record { silent = silent; same = same; unasked = unasked; unlinked = unlinked })
 
 -- What was read, and why not.
 

@@ -18,7 +18,7 @@ use Rattle.merge_program.specs.Files.{IsGiven, IsUngiven}
 use Rattle.merge_program.specs.Runs.{Sides}
 use Rattle.merge_program.specs.Sited.{AtSite, IsDamageAt, IsKeptAt, IsUntouched}
 use Rattle.merge_program.specs.Stores.{RoseBy}
-use Rattle.merge_program.specs.Visits.{Visit, sides_of}
+use Rattle.merge_program.specs.Visits.{IsIdle, Visit, sides_of}
 
 -- The first line that is no event, or whose event is none of the site, is this one. The events of the lines before it happened at
 -- the site, each at the next moment of the clock, and the text of their answers was written.
@@ -58,13 +58,9 @@ abbrev pub GivenEnds : Ending → Place → (resolvers : ℕ) → Visit → Type
 GivenEnds ending place resolvers v = (publication : Publication) × (script : List ℕ) × IsGiven (v.offers.texts place.publication) v.input resolvers place.site publication script
     × SiteEnds ending publication place.site (v.stored place.site place.store) (lines_of script) v.offers.moments (sides_of v) (v.kept place.site place.store) v.writes v.refused
 
--- nothing was written, and the store is told as before
-abbrev pub IsUntouchedAt : Place → Visit → Type 0
-IsUntouchedAt place v = IsUntouched (v.stored place.site place.store) (v.kept place.site place.store) (sides_of v)
-
 -- why a run ended before its site was started
 abbrev pub UngivenEnds : Ending → Place → (resolvers : ℕ) → Visit → Type 0
-UngivenEnds ending place resolvers v = IsUngiven ending (v.offers.texts place.publication) v.input resolvers place.site v.old.texts v.new.texts v.reads v.failed × IsUntouchedAt place v
+UngivenEnds ending place resolvers v = IsUngiven ending (v.offers.texts place.publication) v.input resolvers place.site v.old.texts v.new.texts v.reads v.failed × IsIdle v
 
 -- why a run of `change` ended
 abbrev pub ChangeEnds : Ending → Place → (resolvers : ℕ) → Visit → Type 0
@@ -74,5 +70,5 @@ ChangeEnds (Refused fault) place resolvers v = UngivenEnds (Refused fault) place
 ChangeEnds ReadFault place resolvers v = UngivenEnds ReadFault place resolvers v
 ChangeEnds TooLong place resolvers v = UngivenEnds TooLong place resolvers v
 ChangeEnds UnknownSite place resolvers v = UngivenEnds UnknownSite place resolvers v
-ChangeEnds NoMemory place resolvers v = IsUntouchedAt place v ⊎ GivenEnds NoMemory place resolvers v
+ChangeEnds NoMemory place resolvers v = IsIdle v ⊎ GivenEnds NoMemory place resolvers v
 ChangeEnds other place resolvers v = GivenEnds other place resolvers v

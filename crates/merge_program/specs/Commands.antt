@@ -1,5 +1,5 @@
 -- The commands of the program.
-use Rattle.std.specs.Prelude.{Bool, List, None, Option, Some, [], codes, false, if◌then◌else◌, length, nat_eq, nat_le, not, option_and_then, option_map, ℕ, ◌&&◌, ◌==◌, ◌||◌, ◌∷◌}
+use Rattle.std.specs.Prelude.{Bool, List, None, Option, Some, [], codes, false, if◌then◌else◌, length, nat_eq, nat_le, not, option_and_then, option_map, true, ℕ, ◌&&◌, ◌==◌, ◌||◌, ◌∷◌}
 use Rattle.std.specs.List.{list_all}
 use Rattle.std.specs.Cmp.Lexicographic.{pointwise}
 use Rattle.merge_types.specs.declared.identifiers.SiteId.{SiteId}
@@ -63,6 +63,12 @@ command_of (word ∷ number ∷ []) = by_word_and_number word number
 command_of (word ∷ publication ∷ store ∷ site ∷ []) = by_change word publication store site
 command_of (word ∷ publication ∷ store ∷ site ∷ last ∷ []) = by_last word publication store site last
 command_of other = None
+
+-- whether a command reads the input
+abbrev pub reads_input : Option Command → Bool
+reads_input (Some Play) = true
+reads_input (Some (Change place)) = true
+reads_input other = false
 
 -- where a command has an address, it is one that a request can have
 abbrev pub IsMeant : Command → Type 0

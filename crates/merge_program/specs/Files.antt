@@ -71,11 +71,11 @@ pub record IsGiven (told input : Option (List ℕ)) (resolvers : ℕ) (site : Si
   pub whole : IfSome input (λ (bytes : List ℕ). script ≡ bytes)
   pub fits : length script ≤ 67108864
 
--- Why there is no such publication or script: the file comes first, then the input, then what the file says. Texts failed from
--- `before` to `after`, and reads of the input from `reads` to `failed`.
+-- Why there is no such publication or script: the file comes first, and where it cannot be read the input is not; then the input, then what
+-- the file says. Texts failed from `before` to `after`, and reads of the input from `reads` to `failed`.
 abbrev pub IsUngiven : Ending → (told input : Option (List ℕ)) → (resolvers : ℕ) → SiteId → (before after reads failed : ℕ) → Type 0
-IsUngiven ReadFault told input resolvers site before after reads failed = Rose before after ⊎ Rose reads failed
-IsUngiven TooLong told input resolvers site before after reads failed = IsLong told ⊎ IsLong input
+IsUngiven ReadFault told input resolvers site before after reads failed = (Rose before after × (failed ≡ reads)) ⊎ (IsShort told × Rose reads failed)
+IsUngiven TooLong told input resolvers site before after reads failed = (IsLong told × (failed ≡ reads)) ⊎ (IsShort told × IsLong input)
 IsUngiven (Refused fault) told input resolvers site before after reads failed = IsRefusedFile told resolvers fault × IsShort input
 IsUngiven UnknownSite told input resolvers site before after reads failed = HasNoSite told resolvers site × IsShort input
 IsUngiven NoMemory told input resolvers site before after reads failed = Unit {0}

@@ -1,5 +1,5 @@
 -- What a run of `play` may write, and why it ends.
-use Rattle.std.specs.Prelude.{Err, List, None, Ok, Option, Some, length, take, IfSome, true, ℕ, ◌++◌, ◌<◌, ◌∷◌, ◌≡◌, ◌≢◌, ◌≤◌, ◌⊎◌}
+use Rattle.std.specs.Prelude.{Err, List, None, Ok, Option, Some, count_by, length, take, IfSome, true, ℕ, ◌+◌, ◌++◌, ◌<◌, ◌∷◌, ◌≡◌, ◌≢◌, ◌≤◌, ◌⊎◌}
 use Rattle.std.specs.Io.KnownBytes.{Appends}
 use Rattle.merge_types.specs.declared.identifiers.SiteId.{SiteId}
 use Rattle.merge_ports.specs.Faults.{Rose}
@@ -9,6 +9,7 @@ use Rattle.merge_schema.specs.declared.fault.SchemaFault.TheVariants.{NoMemory a
 use Rattle.merge_schema.specs.declared.publication.Publication.{Publication}
 use Rattle.merge_script.specs.Input.{publication_of, script_of}
 use Rattle.merge_script.specs.Lines.{lines_of}
+use Rattle.merge_model.specs.Failing.Reach.{is_store_fault}
 use Rattle.merge_model.specs.Script.Play.{names_of}
 use Rattle.merge_model.specs.Script.Reading.{events_of, fault_of}
 use Rattle.merge_model.specs.Script.Text.{texts_of}
@@ -19,6 +20,7 @@ use Rattle.merge_model.specs.declared.event.Event.TheVariants.{Restart}
 use Rattle.merge_world.specs.Views.{HandedView}
 use Rattle.merge_program.specs.declared.ending.Ending.{Ending}
 use Rattle.merge_program.specs.declared.ending.Ending.TheVariants.{BadReply, Damaged, Declined, Done, Expired, LinkFault, NoEvent, NoMemory, NotTaken, ReadFault, Refused, StoreFault, TooLong, UnknownArticle, UnknownSite, Usage, WriteFault}
+use Rattle.merge_program.specs.Stores.{RoseBy}
 pub use Rattle.merge_program.specs.Runs.{IsRun, Sides}
 
 -- the lines of an input's script
@@ -46,8 +48,9 @@ pub record AnsweredInPart (publication : Publication) (handed : HandedView) (lin
   pub enough : length (texts_of (names_of publication) whole) ≤ count
   pub bytes : Appends sides.was sides.written (take count (texts_of (names_of publication) answers))
 
--- What was written is the text of a run over the events before the restart of a site.
-pub record AnsweredToRestart (publication : Publication) (handed : HandedView) (lines : List (List ℕ)) (sides : Sides) : Type 0 where
+-- What was written is the text of a run over the events before the restart of a site. Stores failed as often as steps of this run by a
+-- store, and so often more at least.
+pub record AnsweredToRestart (publication : Publication) (handed : HandedView) (lines : List (List ℕ)) (sides : Sides) (lost : ℕ) : Type 0 where
   pub events : List Event
   pub site : SiteId
   pub more : List Event
@@ -55,11 +58,12 @@ pub record AnsweredToRestart (publication : Publication) (handed : HandedView) (
   pub known : is_site publication site ≡ true
   pub answers : List Answer
   pub run : IsRun publication handed events answers sides.before sides.after
+  pub behind : RoseBy (count_by is_store_fault run.slips + lost) sides.before sides.after
   pub bytes : Appends sides.was sides.written (texts_of (names_of publication) answers)
 
 -- nothing was written, or all that comes before a restart
-abbrev pub IsCutOff : Publication → HandedView → List (List ℕ) → Sides → Type 0
-IsCutOff publication handed lines sides = (sides.written ≡ sides.was) ⊎ AnsweredToRestart publication handed lines sides
+abbrev pub IsCutOff : Publication → HandedView → List (List ℕ) → Sides → (lost : ℕ) → Type 0
+IsCutOff publication handed lines sides lost = (sides.written ≡ sides.was) ⊎ AnsweredToRestart publication handed lines sides lost
 
 -- the input is not too long, and has this publication before its script, where so many resolvers are handed in
 pub record IsTaken (resolvers : ℕ) (input : List ℕ) (publication : Publication) : Type 0 where
@@ -96,8 +100,8 @@ abbrev pub AnsweredBefore : HandedView → List ℕ → Sides → Type 0
 AnsweredBefore handed input sides = (line : ℕ) × (word : ℕ) × AnsweredUpTo handed input line word sides
 
 -- The input was taken. The run ended as the sites did not start, and nothing was written; or at a restart of its script.
-abbrev pub IsStopped : HandedView → List ℕ → Sides → Type 0
-IsStopped handed input sides = (publication : Publication) × IsTaken (length handed.tallies) input publication × IsCutOff publication handed (lines_of_input input) sides
+abbrev pub IsStopped : HandedView → List ℕ → Sides → (lost : ℕ) → Type 0
+IsStopped handed input sides lost = (publication : Publication) × IsTaken (length handed.tallies) input publication × IsCutOff publication handed (lines_of_input input) sides lost
 
 -- nothing was written, or a front of the answers to some of the first events of the input's script
 abbrev pub WrittenInPart : HandedView → List ℕ → Sides → Type 0
@@ -109,8 +113,8 @@ abbrev pub PlayEnds : Ending → Publication → HandedView → List (List ℕ) 
 PlayEnds Done publication handed lines sides writes refused = (fault_of lines ≡ None) × Answered publication handed lines sides
 PlayEnds (NoEvent line word) publication handed lines sides writes refused = (fault_of lines ≡ Some (line, word)) × Answered publication handed lines sides
 PlayEnds WriteFault publication handed lines sides writes refused = Rose writes refused
-PlayEnds StoreFault publication handed lines sides writes refused = IsCutOff publication handed lines sides × Rose sides.before sides.after
-PlayEnds (Damaged table key) publication handed lines sides writes refused = IsCutOff publication handed lines sides
+PlayEnds StoreFault publication handed lines sides writes refused = IsCutOff publication handed lines sides 1 × Rose sides.before sides.after
+PlayEnds (Damaged table key) publication handed lines sides writes refused = IsCutOff publication handed lines sides 0
 PlayEnds NoMemory publication handed lines sides writes refused = Unit {0}
 PlayEnds other publication handed lines sides writes refused = ⊥
 
@@ -120,8 +124,8 @@ InputEnds (Refused fault) handed input sides writes refused = IsRefusedFor (leng
 InputEnds Done handed input sides writes refused = AnsweredWhole handed input sides
 InputEnds (NoEvent line word) handed input sides writes refused = AnsweredUpTo handed input line word sides
 InputEnds WriteFault handed input sides writes refused = IsTakenInput (length handed.tallies) input × Rose writes refused
-InputEnds StoreFault handed input sides writes refused = IsStopped handed input sides × Rose sides.before sides.after
-InputEnds (Damaged table key) handed input sides writes refused = IsStopped handed input sides
+InputEnds StoreFault handed input sides writes refused = IsStopped handed input sides 1 × Rose sides.before sides.after
+InputEnds (Damaged table key) handed input sides writes refused = IsStopped handed input sides 0
 InputEnds NoMemory handed input sides writes refused = Unit {0}
 InputEnds other handed input sides writes refused = ⊥
 
@@ -138,5 +142,5 @@ PlayRunEnds (Declined number) left handed sides writes refused reads failed = �
 PlayRunEnds ReadFault left handed sides writes refused reads failed = Rose reads failed
 PlayRunEnds TooLong left handed sides writes refused reads failed = IfSome left (λ (input : List ℕ). 67108864 < length input)
 PlayRunEnds WriteFault left handed sides writes refused reads failed = Rose writes refused × IfSome left (IsTakenInput (length handed.tallies))
-PlayRunEnds StoreFault left handed sides writes refused reads failed = Rose sides.before sides.after × IfSome left (λ (input : List ℕ). IsStopped handed input sides)
+PlayRunEnds StoreFault left handed sides writes refused reads failed = Rose sides.before sides.after × IfSome left (λ (input : List ℕ). IsStopped handed input sides 1)
 PlayRunEnds other left handed sides writes refused reads failed = IfSome left (λ (input : List ℕ). InputEnds other handed input sides writes refused)

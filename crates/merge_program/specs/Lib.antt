@@ -1,5 +1,6 @@
 pub mod Changing
 pub mod Commands
+pub mod Elsewhere
 pub mod Endings
 pub mod Files
 pub mod Fresh

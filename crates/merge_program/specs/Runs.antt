@@ -3,11 +3,11 @@ use Rattle.std.specs.Prelude.{List, Option, count_by, ℕ, ◌≡◌}
 use Rattle.merge_schema.specs.declared.publication.Publication.{Publication}
 use Rattle.merge_model.specs.Failing.{Slips}
 use Rattle.merge_model.specs.Failing.Reach.{is_store_fault}
-use Rattle.merge_model.specs.Failing.Runs.{machine_says, model_behind, model_says, world_behind}
+use Rattle.merge_model.specs.Failing.Runs.{machine_says}
 use Rattle.merge_model.specs.declared.answer.Answer.{Answer}
 use Rattle.merge_model.specs.declared.event.Event.{Event}
 use Rattle.merge_world.specs.Views.{HandedView}
-use Rattle.merge_laws.specs.Laws.Promised.{Promised}
+use Rattle.merge_promises.specs.Promises.{RunPromised}
 use Rattle.merge_program.specs.Stores.{RoseBy}
 
 -- what the output told of its bytes before and behind a run, and how often the stores of sites had failed by then
@@ -18,11 +18,9 @@ pub record Sides : Type 0 where
   pub after : ℕ
 
 -- These answers are given in a run of the sites from nothing, each decision is what the resolvers say that were handed in, at their tallies, and no more steps fail by a store than stores failed.
--- Where the same steps fail in the model, over the same events and from nothing too, it gives these answers, it has the tables behind the run, and all is promised of it.
+-- All is promised of this run: where the same steps fail in the model, over the same events, it answers alike and has its tables, and all is promised of it.
 pub record IsRun (publication : Publication) (handed : HandedView) (events : List Event) (answers : List Answer) (before after : ℕ) : Type 0 where
   pub slips : Slips
   pub said : machine_says publication handed.says handed.tallies slips events ≡ answers
   pub few : RoseBy (count_by is_store_fault slips) before after
-  pub same_answers : model_says publication handed.says handed.tallies slips events ≡ answers
-  pub same_tables : (model_behind publication handed.says handed.tallies slips events).world ≡ world_behind publication handed.says handed.tallies slips events
-  pub promised : Promised publication handed.says (model_behind publication handed.says handed.tallies slips events)
+  pub promised : RunPromised publication handed.says handed.tallies slips events

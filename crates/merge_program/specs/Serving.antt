@@ -5,6 +5,7 @@ use Rattle.std.specs.Io.KnownBytes.{Appends}
 use Rattle.hex.specs.Hex.{encode_lower}
 use Rattle.merge_types.specs.declared.identifiers.SiteId.{SiteId}
 use Rattle.merge_schema.specs.declared.publication.Publication.{Publication}
+use Rattle.merge_model.specs.World.{Saying}
 use Rattle.merge_desk.specs.Summary.{summary_text}
 use Rattle.merge_desk.specs.declared.entry.Entry.{Entry}
 use Rattle.merge_desk.specs.declared.mark.Mark.{Mark}
@@ -82,37 +83,38 @@ IsUnordered (Refused fault) told resolvers before after = IsRefusedFile told res
 IsUnordered NoMemory told resolvers before after = Unit {0}
 IsUnordered other told resolvers before after = ⊥
 
--- A run finished before its publisher was started: nothing was written, and the store is told as before.
-pub record UnorderedEnds (finish : Finish) (order : Order) (resolvers : ℕ) (v : Visit) : Type 0 where
+-- A run finished before its publisher was started: nothing was written, the store is told as before, and no door was opened that failed.
+pub record UnorderedEnds (finish : Finish) (order : Order) (resolvers : ℕ) (v : Visit) (d : Doorway) : Type 0 where
   pub ending : Ending
   pub is : finish ≡ Ended ending
   pub cause : IsUnordered ending (v.offers.texts order.publication) resolvers v.old.texts v.new.texts
   pub untouched : IsUntouched (v.stored publisher_site order.store) (v.kept publisher_site order.store) (sides_of v)
+  pub closed : d.after ≡ d.before
 
--- a run finished as its publisher served, whose publication is that of the file
-pub record OrderedEnds (finish : Finish) (order : Order) (resolvers : ℕ) (v : Visit) (d : Doorway) : Type 0 where
+-- a run finished as its publisher served, whose publication is that of the file, and whose conflicts are decided by resolvers that say this
+pub record OrderedEnds (finish : Finish) (order : Order) (resolvers : ℕ) (says : Saying) (v : Visit) (d : Doorway) : Type 0 where
   pub publication : Publication
   pub read : IfSome (v.offers.texts order.publication) (IsAccepted resolvers publication)
   pub served : Result Unit Stop
   pub is : finish ≡ finish_of served
-  pub ends : Ends publication order.requests (around_order order v d) v.was v.written v.writes v.refused served
+  pub ends : Ends publication says order.requests (around_order order v d) v.was v.written v.writes v.refused served
 
 -- why a run of `serve` finished
-abbrev pub ServeEnds : Finish → Order → (resolvers : ℕ) → Visit → Doorway → Type 0
-ServeEnds finish order resolvers v d = UnorderedEnds finish order resolvers v ⊎ OrderedEnds finish order resolvers v d
+abbrev pub ServeEnds : Finish → Order → (resolvers : ℕ) → Saying → Visit → Doorway → Type 0
+ServeEnds finish order resolvers says v d = UnorderedEnds finish order resolvers v d ⊎ OrderedEnds finish order resolvers says v d
 
 -- All requests were served, and the summary of their journal was written.
-pub record IsServed (order : Order) (resolvers : ℕ) (v : Visit) (d : Doorway) : Type 0 where
+pub record IsServed (order : Order) (resolvers : ℕ) (says : Saying) (v : Visit) (d : Doorway) : Type 0 where
   pub publication : Publication
   pub read : IfSome (v.offers.texts order.publication) (IsAccepted resolvers publication)
   pub journal : List Entry
-  pub served : Served publication order.requests (around_order order v d) journal
+  pub served : Served publication says order.requests (around_order order v d) journal
   pub written : Appends v.was v.written (summary_text journal)
 
 -- What the status of a run of `serve` tells, and what the notes were told.
-pub record TellsServed (status : ℕ) (order : Order) (resolvers : ℕ) (v : Visit) (d : Doorway) (old new : Option (List ℕ)) (before after : ℕ) : Type 0 where
+pub record TellsServed (status : ℕ) (order : Order) (resolvers : ℕ) (says : Saying) (v : Visit) (d : Doorway) (old new : Option (List ℕ)) (before after : ℕ) : Type 0 where
   pub finish : Finish
   pub status_is : status ≡ finish_status finish
-  pub ends : ServeEnds finish order resolvers v d
+  pub ends : ServeEnds finish order resolvers says v d
   pub told : Finished finish old new before after
-  pub done : status ≡ 0 → IsServed order resolvers v d
+  pub done : status ≡ 0 → IsServed order resolvers says v d

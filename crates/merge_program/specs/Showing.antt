@@ -12,11 +12,10 @@ use Rattle.merge_command.specs.Shown.{shown_text}
 use Rattle.merge_program.specs.declared.command.Place.{Place}
 use Rattle.merge_program.specs.declared.ending.Ending.{Ending}
 use Rattle.merge_program.specs.declared.ending.Ending.TheVariants.{Damaged, Done, NoEvent, NoMemory, NotTaken, ReadFault, Refused, StoreFault, TooLong, UnknownArticle, UnknownSite, Usage, WriteFault}
-use Rattle.merge_program.specs.Changing.{IsUntouchedAt}
 use Rattle.merge_program.specs.Files.{IsNamed, IsUnnamed}
 use Rattle.merge_program.specs.Runs.{Sides}
 use Rattle.merge_program.specs.Sited.{AtSite, IsDamageAt, IsKeptAt, IsUntouched}
-use Rattle.merge_program.specs.Visits.{Visit, sides_of}
+use Rattle.merge_program.specs.Visits.{IsIdle, Visit, sides_of}
 
 -- how the rows of the article at a place were shown: their text was written, or a front of it, or nothing
 abbrev pub RowsEnd : Ending → SiteId → (article : ℕ) → SitesView → (was written : Option (List ℕ)) → (writes refused : ℕ) → Type 0
@@ -51,7 +50,7 @@ NamedEnds ending place name resolvers v = (publication : Publication) × (articl
 
 -- why a run ended before its site was started
 abbrev pub UnnamedEnds : Ending → Place → (name : List ℕ) → (resolvers : ℕ) → Visit → Type 0
-UnnamedEnds ending place name resolvers v = IsUnnamed ending (v.offers.texts place.publication) resolvers place.site name v.old.texts v.new.texts × IsUntouchedAt place v
+UnnamedEnds ending place name resolvers v = IsUnnamed ending (v.offers.texts place.publication) resolvers place.site name v.old.texts v.new.texts × IsIdle v
 
 -- why a run of `show` ended
 abbrev pub ShowEnds : Ending → Place → (name : List ℕ) → (resolvers : ℕ) → Visit → Type 0
@@ -63,5 +62,5 @@ ShowEnds ReadFault place name resolvers v = UnnamedEnds ReadFault place name res
 ShowEnds TooLong place name resolvers v = UnnamedEnds TooLong place name resolvers v
 ShowEnds UnknownSite place name resolvers v = UnnamedEnds UnknownSite place name resolvers v
 ShowEnds UnknownArticle place name resolvers v = UnnamedEnds UnknownArticle place name resolvers v
-ShowEnds NoMemory place name resolvers v = IsUntouchedAt place v ⊎ NamedEnds NoMemory place name resolvers v
+ShowEnds NoMemory place name resolvers v = IsIdle v ⊎ NamedEnds NoMemory place name resolvers v
 ShowEnds other place name resolvers v = NamedEnds other place name resolvers v

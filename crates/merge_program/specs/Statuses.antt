@@ -15,11 +15,11 @@ use Rattle.merge_program.specs.Making.{MakeEnds}
 use Rattle.merge_program.specs.Notes.{Told}
 use Rattle.merge_program.specs.Showing.{ShowEnds}
 use Rattle.merge_program.specs.Syncing.{SyncEnds}
-use Rattle.merge_program.specs.Visits.{Visit, sides_of}
+use Rattle.merge_program.specs.Visits.{IsIdle, Visit, sides_of}
 
 -- why a run of a command ended
 abbrev pub CommandEnds : Option Command → Ending → HandedView → Visit → Type 0
-CommandEnds None ending handed v = (ending ≡ Usage) × (v.written ≡ v.was)
+CommandEnds None ending handed v = (ending ≡ Usage) × IsIdle v
 CommandEnds (Some Play) ending handed v = PlayRunEnds ending v.input handed (sides_of v) v.writes v.refused v.reads v.failed
 CommandEnds (Some (Make customers)) ending handed v = MakeEnds ending customers handed (sides_of v) v.writes v.refused
 CommandEnds (Some (Change place)) ending handed v = ChangeEnds ending place (length handed.tallies) v

@@ -7,10 +7,9 @@ use Rattle.merge_sync.specs.declared.stop.Stop.{Stop}
 use Rattle.merge_program.specs.declared.command.Place.{Place}
 use Rattle.merge_program.specs.declared.ending.Ending.{Ending}
 use Rattle.merge_program.specs.declared.ending.Ending.TheVariants.{NoEvent, NoMemory, NotTaken, ReadFault, Refused, TooLong, UnknownArticle, UnknownSite, Usage}
-use Rattle.merge_program.specs.Changing.{IsUntouchedAt}
 use Rattle.merge_program.specs.Files.{HasSubscription, IsUnsubscribed}
 use Rattle.merge_program.specs.Stopping.{synced_by}
-use Rattle.merge_program.specs.Visits.{Visit}
+use Rattle.merge_program.specs.Visits.{IsIdle, Visit}
 
 -- what is told around a session at a place
 abbrev pub around_of : Place → Visit → Around
@@ -18,6 +17,7 @@ around_of place v = record {
   stored = v.stored place.site place.store;
   responses = v.offers.responses;
   moments = v.offers.moments;
+  was_carried = v.offers.exchanges;
   stores = v.old.stores;
   links = v.old.links;
   kept = v.kept place.site place.store;
@@ -39,7 +39,7 @@ SubscribedEnds ending place address resolvers v =
 
 -- why a run ended before its site was started
 abbrev pub UnsubscribedEnds : Ending → Place → (resolvers : ℕ) → Visit → Type 0
-UnsubscribedEnds ending place resolvers v = IsUnsubscribed ending (v.offers.texts place.publication) resolvers place.site v.old.texts v.new.texts × IsUntouchedAt place v
+UnsubscribedEnds ending place resolvers v = IsUnsubscribed ending (v.offers.texts place.publication) resolvers place.site v.old.texts v.new.texts × IsIdle v
 
 -- why a run of `sync` ended
 abbrev pub SyncEnds : Ending → Place → (address : List ℕ) → (resolvers : ℕ) → Visit → Type 0
@@ -51,5 +51,5 @@ SyncEnds (Refused fault) place address resolvers v = UnsubscribedEnds (Refused f
 SyncEnds ReadFault place address resolvers v = UnsubscribedEnds ReadFault place resolvers v
 SyncEnds TooLong place address resolvers v = UnsubscribedEnds TooLong place resolvers v
 SyncEnds UnknownSite place address resolvers v = UnsubscribedEnds UnknownSite place resolvers v
-SyncEnds NoMemory place address resolvers v = IsUntouchedAt place v ⊎ SubscribedEnds NoMemory place address resolvers v
+SyncEnds NoMemory place address resolvers v = IsIdle v ⊎ SubscribedEnds NoMemory place address resolvers v
 SyncEnds other place address resolvers v = SubscribedEnds other place address resolvers v

@@ -1,5 +1,5 @@
 -- What a run meets outside of itself.
-use Rattle.std.specs.Prelude.{List, Option, ℕ}
+use Rattle.std.specs.Prelude.{List, Option, ℕ, ◌≡◌}
 use Rattle.merge_types.specs.declared.identifiers.SiteId.{SiteId}
 use Rattle.merge_outside.specs.Offers.{Offers}
 use Rattle.merge_ports.specs.Entries.{Map}
@@ -26,6 +26,14 @@ pub record Visit : Type 0 where
   pub refused : ℕ
   pub reads : ℕ
   pub failed : ℕ
+
+-- A run ended before its site was started: nothing was written, all stores are told as before, what is told of texts, links and clocks
+-- stays, and no link failed.
+pub record IsIdle (v : Visit) : Type 0 where
+  pub silent : v.written ≡ v.was
+  pub same : v.kept ≡ v.stored
+  pub unasked : v.behind ≡ v.offers
+  pub unlinked : v.new.links ≡ v.old.links
 
 -- the output and the faults of stores
 abbrev pub sides_of : Visit → Sides

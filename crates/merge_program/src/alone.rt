@@ -3,6 +3,7 @@ ghost use Rattle.std.specs.Prelude.{◌≡◌, ◌∷◌, [], IfErr, IfOk, Ok, O
 ghost use Rattle.merge_keeper.specs.PublisherStart.{publisher_loaded};
 ghost use Rattle.merge_keeper.specs.SubscriberStart.{subscriber_loaded};
 ghost use Rattle.merge_model.specs.Publisher.{new_holders};
+ghost use Rattle.merge_ports.specs.Opened.{SameElsewhere};
 ghost use Rattle.merge_schema.specs.Valid.{IsValid};
 ghost use Rattle.merge_site.specs.Kept.{IsKept};
 ghost use Rattle.merge_site.specs.Loading.{IsRead};
@@ -44,6 +45,7 @@ fn start_publisher<E: Outside>(
     ensures kept { OnOk result ((E.counts outside.new).stores ≡ (E.counts outside.old).stores) }
     ensures ends { IfErr result (λ ending. IsUnopened (publisher_loaded publication.now (new_holders publication.now)) ending (E.told outside.old site path.now) (E.told outside.new site path.now)
         (E.counts outside.old).stores (E.counts outside.new).stores) }
+    ensures others { SameElsewhere site path.now (E.told outside.old) (E.told outside.new) }
 {
     let keeper = match outside.keeper(site, path) {
         Ok(keeper) => keeper,
@@ -75,6 +77,7 @@ fn start_subscriber<E: Outside>(
     ensures kept { OnOk result ((E.counts outside.new).stores ≡ (E.counts outside.old).stores) }
     ensures ends { IfErr result (λ ending. IsUnopened (subscriber_loaded publication site (new_holders publication)) ending (E.told outside.old site path.now) (E.told outside.new site path.now)
         (E.counts outside.old).stores (E.counts outside.new).stores) }
+    ensures others { SameElsewhere site path.now (E.told outside.old) (E.told outside.new) }
 {
     let keeper = match outside.keeper(site, path) {
         Ok(keeper) => keeper,
@@ -103,6 +106,7 @@ pub fn open_publisher<E: Outside>(
     ensures kept { OnOk result ((E.counts outside.new).stores ≡ (E.counts outside.old).stores) }
     ensures ends { IfErr result (λ ending. IsUnopened (publisher_loaded publication.now (new_holders publication.now)) ending (E.told outside.old site path.now) (E.told outside.new site path.now)
         (E.counts outside.old).stores (E.counts outside.new).stores) }
+    ensures others { SameElsewhere site path.now (E.told outside.old) (E.told outside.new) }
 {
     let publisher = start_publisher(alloc, outside, path, publication, site)?;
     let subscribers = Vec::new(alloc);
@@ -129,6 +133,7 @@ pub fn open_subscriber<E: Outside>(
     ensures kept { OnOk result ((E.counts outside.new).stores ≡ (E.counts outside.old).stores) }
     ensures ends { IfErr result (λ ending. IsUnopened (subscriber_loaded publication.now site (new_holders publication.now)) ending (E.told outside.old site path.now) (E.told outside.new site path.now)
         (E.counts outside.old).stores (E.counts outside.new).stores) }
+    ensures others { SameElsewhere site path.now (E.told outside.old) (E.told outside.new) }
 {
     let elsewhere = Elsewhere::new(alloc, publication.copy()?);
     let own = publication.copy()?;
@@ -156,6 +161,7 @@ pub fn close_publisher<E: Outside>(
     requires alone { (⟦<Sites<KeptPublisher<E::Keep>, KeptSubscriber<E::Keep>> as Seen>⟧.seen sites).sites ≡ [] }
     ensures kept { IsKept (records_of (⟦<Sites<KeptPublisher<E::Keep>, KeptSubscriber<E::Keep>> as Seen>⟧.seen sites).publisher) (E.told outside.new site path.now) }
     ensures few { RoseBy (⟦<Sites<KeptPublisher<E::Keep>, KeptSubscriber<E::Keep>> as Seen>⟧.seen sites).faults (E.counts outside.old).stores (E.counts outside.new).stores }
+    ensures others { SameElsewhere site path.now (E.told outside.old) (E.told outside.new) }
 {
     let Sites { publisher, .. } = sites;
     outside.keeper_back(site, path, publisher.into_keeper());
@@ -172,6 +178,7 @@ pub fn close_subscriber<E: Outside>(
     requires alone { (⟦<Sites<Elsewhere, KeptSubscriber<E::Keep>> as Seen>⟧.seen sites).sites ≡ site.0 ∷ [] }
     ensures kept { SubscriberKept site (⟦<Sites<Elsewhere, KeptSubscriber<E::Keep>> as Seen>⟧.seen sites) (E.told outside.new site path.now) }
     ensures few { RoseBy (⟦<Sites<Elsewhere, KeptSubscriber<E::Keep>> as Seen>⟧.seen sites).faults (E.counts outside.old).stores (E.counts outside.new).stores }
+    ensures others { SameElsewhere site path.now (E.told outside.old) (E.told outside.new) }
 {
     let Sites {
         mut subscribers,

@@ -1,6 +1,7 @@
 //! A script changes one site.
 ghost use Rattle.std.specs.Prelude.{◌≡◌, ◌≢◌, ◌≤◌, IfErr, IfOk, ℕ, length};
 ghost use Rattle.merge_script.specs.Lines.{lines_of};
+ghost use Rattle.merge_ports.specs.Opened.{SameElsewhere};
 ghost use Rattle.merge_schema.specs.Valid.{IsValid};
 ghost use Rattle.merge_world.specs.Views.{IsOrdered};
 ghost use Rattle.merge_command.specs.Changed.{ChangedInPart};
@@ -66,9 +67,10 @@ fn change_publisher<C: Clock, O: Sink, E: Outside>(
     requires valid { (resolvers : ℕ) × IsValid resolvers publication.now }
     requires publishes { place.now.site.0 ≡ 0 }
     requires short { length script.now ≤ 67108864 }
-    ensures { SiteEnds result publication.now place.now.site (E.told outside.old place.now.site place.now.store) (lines_of script.now) (C.told clock.old)
+    ensures ends { SiteEnds result publication.now place.now.site (E.told outside.old place.now.site place.now.store) (lines_of script.now) (C.told clock.old)
         (record { was = O.written output.old; written = O.written output.new; before = (E.counts outside.old).stores; after = (E.counts outside.new).stores }) (E.told outside.new place.now.site place.now.store)
         (O.count output.old) (O.count output.new) }
+    ensures others { SameElsewhere place.now.site place.now.store (E.told outside.old) (E.told outside.new) }
 {
     let site = place.site;
     let mut sites = match open_publisher(alloc, outside, &place.store, publication, site) {
@@ -93,9 +95,10 @@ fn change_subscriber<C: Clock, O: Sink, E: Outside>(
     requires valid { (resolvers : ℕ) × IsValid resolvers publication.now }
     requires subscribes { place.now.site.0 ≢ 0 }
     requires short { length script.now ≤ 67108864 }
-    ensures { SiteEnds result publication.now place.now.site (E.told outside.old place.now.site place.now.store) (lines_of script.now) (C.told clock.old)
+    ensures ends { SiteEnds result publication.now place.now.site (E.told outside.old place.now.site place.now.store) (lines_of script.now) (C.told clock.old)
         (record { was = O.written output.old; written = O.written output.new; before = (E.counts outside.old).stores; after = (E.counts outside.new).stores }) (E.told outside.new place.now.site place.now.store)
         (O.count output.old) (O.count output.new) }
+    ensures others { SameElsewhere place.now.site place.now.store (E.told outside.old) (E.told outside.new) }
 {
     let site = place.site;
     let mut sites = match open_subscriber(alloc, outside, &place.store, publication, site) {
@@ -107,42 +110,27 @@ fn change_subscriber<C: Clock, O: Sink, E: Outside>(
     ending
 }
 
-// The site of a place is changed, each event at a moment of the outside's clock.
-fn change_site<O: Sink, E: CommandOutside>(
+// The site of a place is changed, each event at a moment of the clock.
+fn change_site<C: Clock, O: Sink, E: Outside>(
     alloc: Global,
     publication: &Publication,
     place: &Place,
+    clock: &mut C,
     script: &[u8],
     output: &mut O,
     outside: &mut E,
 ) -> Ending
     requires valid { (resolvers : ℕ) × IsValid resolvers publication.now }
     requires short { length script.now ≤ 67108864 }
-    ensures { SiteEnds result publication.now place.now.site (E.told outside.old place.now.site place.now.store) (lines_of script.now) (E.offers outside.old).moments
+    ensures ends { SiteEnds result publication.now place.now.site (E.told outside.old place.now.site place.now.store) (lines_of script.now) (C.told clock.old)
         (record { was = O.written output.old; written = O.written output.new; before = (E.counts outside.old).stores; after = (E.counts outside.new).stores }) (E.told outside.new place.now.site place.now.store)
         (O.count output.old) (O.count output.new) }
+    ensures others { SameElsewhere place.now.site place.now.store (E.told outside.old) (E.told outside.new) }
 {
-    let mut clock = outside.clock();
     if place.site.0 == 0 {
-        change_publisher(
-            alloc,
-            publication,
-            place,
-            &mut clock,
-            script,
-            output,
-            outside,
-        )
+        change_publisher(alloc, publication, place, clock, script, output, outside)
     } else {
-        change_subscriber(
-            alloc,
-            publication,
-            place,
-            &mut clock,
-            script,
-            output,
-            outside,
-        )
+        change_subscriber(alloc, publication, place, clock, script, output, outside)
     }
 }
 
@@ -162,6 +150,7 @@ fn read_given<I: Source, E: CommandOutside>(
     ensures offers { E.offers outside.new ≡ E.offers outside.old }
     ensures told { E.told outside.new ≡ E.told outside.old }
     ensures stores { (E.counts outside.new).stores ≡ (E.counts outside.old).stores }
+    ensures links { (E.counts outside.new).links ≡ (E.counts outside.old).links }
 {
     let text = read_file(alloc, outside, &place.publication)?;
     let script = read_input(alloc, input)?;
@@ -181,7 +170,7 @@ pub fn change<I: Source, O: Sink, E: CommandOutside>(
     output: &mut O,
     outside: &mut E,
 ) -> Ending
-    ensures { ChangeEnds result place.now resolvers (record {
+    ensures ends { ChangeEnds result place.now resolvers (record {
       input = I.left input.old;
       offers = E.offers outside.old;
       behind = E.offers outside.new;
@@ -196,13 +185,16 @@ pub fn change<I: Source, O: Sink, E: CommandOutside>(
       reads = I.count input.old;
       failed = I.count input.new;
     }) }
+    ensures others { SameElsewhere place.now.site place.now.store (E.told outside.old) (E.told outside.new) }
 {
     match read_given(alloc, place, resolvers, input, outside) {
         Ok((publication, script)) => {
+            let mut clock = outside.clock();
             change_site(
                 alloc,
                 &publication,
                 place,
+                &mut clock,
                 script.as_slice(),
                 output,
                 outside,

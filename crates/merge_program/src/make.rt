@@ -1,16 +1,17 @@
 //! The script that is made for a number of customers is played, and summed up.
-ghost use Rattle.std.specs.Prelude.{◌≡◌, IfErr, IfOk, map, ℕ};
+ghost use Rattle.std.specs.Prelude.{◌≡◌, [], IfErr, IfOk, map, ℕ};
 ghost use Rattle.merge_make.specs.Publication.{made};
 ghost use Rattle.merge_world.specs.Views.{handed_view, site_of};
+ghost use Rattle.merge_program.specs.Elsewhere.{SameAtOthers};
 ghost use Rattle.merge_program.specs.Fresh.{fresh_view};
 ghost use Rattle.merge_program.specs.Making.{IsSummary, IsUnmade, MakeEnds, WriteEnds};
 ghost use Rattle.merge_program.specs.Stores.{AreRooms, RoseBy, fresh_publisher, fresh_subscribers};
 
 use crate::ending::Ending;
-use crate::stores::{give_back, start};
-use merge_laws::{machine_answers_as_the_model, promises_hold};
+use crate::stores::{give_back, no_path, start};
 use merge_make::{made, play_script};
 use merge_ports::{Outside, Sink, write_whole};
+use merge_promises::all_promises_hold;
 use merge_resolve::Handed;
 use merge_site::{KeptPublisher, KeptSubscriber};
 use merge_types::{Moment, NoMemory, Octets, Words};
@@ -30,8 +31,7 @@ fn make_on<P: PublisherSite, S: SubscriberSite>(
         → IsSummary customers (handed_view (λ r. says r) (λ r. tally_of r) resolvers.old.items) before after text) }
     ensures stays { (⟦<Sites<P, S> as Seen>⟧.seen sites.new).sites ≡ (⟦<Sites<P, S> as Seen>⟧.seen sites.old).sites }
 {
-    promises_hold();
-    machine_answers_as_the_model();
+    all_promises_hold();
     play_script(alloc, sites, resolvers, customers)
 }
 
@@ -48,7 +48,8 @@ fn make_started<E: Outside>(
     requires subscribers { started.1.items ≡ fresh_subscribers made }
     requires room { E.HasRoom outside.old (record { 0 = 0 }) path.now }
     requires rooms { AreRooms (E.HasRoom outside.old) path.now (map site_of started.1.items) }
-    ensures { IfOk result (IsSummary customers (handed_view (λ r. says r) (λ r. tally_of r) resolvers.old.items) (E.counts outside.old).stores (E.counts outside.new).stores) }
+    ensures summary { IfOk result (IsSummary customers (handed_view (λ r. says r) (λ r. tally_of r) resolvers.old.items) (E.counts outside.old).stores (E.counts outside.new).stores) }
+    ensures others { SameAtOthers path.now (E.told outside.old) (E.told outside.new) }
 {
     let (publisher, subscribers) = started;
     let mut sites = Sites {
@@ -76,13 +77,13 @@ fn summary<E: Outside>(
 ) -> Result<Octets, Ending>
     ensures summary { IfOk result (IsSummary customers (handed_view (λ r. says r) (λ r. tally_of r) resolvers.old.items) (E.counts outside.old).stores (E.counts outside.new).stores) }
     ensures unmade { IfErr result (λ ending. IsUnmade ending (E.counts outside.old).stores (E.counts outside.new).stores) }
+    ensures others { SameAtOthers [] (E.told outside.old) (E.told outside.new) }
 {
     let publication = made(alloc)?;
-    let path = Words::new(String::new(alloc));
-    match start(alloc, outside, &path, &publication) {
-        Ok(started) => Ok(make_started(alloc, started, resolvers, customers, outside, &path)?),
-        Err(ending) => Err(ending),
-    }
+    let path = no_path(alloc);
+    let started = start(alloc, outside, &path, &publication)?;
+    let text = make_started(alloc, started, resolvers, customers, outside, &path)?;
+    Ok(text)
 }
 
 // Writes a text whole.
@@ -104,8 +105,9 @@ pub fn make<O: Sink, E: Outside>(
     output: &mut O,
     outside: &mut E,
 ) -> Ending
-    ensures { MakeEnds result customers (handed_view (λ r. says r) (λ r. tally_of r) resolvers.old.items)
+    ensures ends { MakeEnds result customers (handed_view (λ r. says r) (λ r. tally_of r) resolvers.old.items)
         (record { was = O.written output.old; written = O.written output.new; before = (E.counts outside.old).stores; after = (E.counts outside.new).stores }) (O.count output.old) (O.count output.new) }
+    ensures others { SameAtOthers [] (E.told outside.old) (E.told outside.new) }
 {
     match summary(alloc, customers, resolvers, outside) {
         Ok(text) => write_text(output, text.as_slice()),

@@ -1,11 +1,14 @@
 //! All commands, those that may wait too.
-ghost use Rattle.std.specs.Prelude.{◌≡◌, IfSome, None, Some, length, ℕ};
+ghost use Rattle.std.specs.Prelude.{◌≡◌, IfSome, None, Some, false, length, ℕ};
+ghost use Rattle.merge_ports.specs.Opened.{SameElsewhere};
+ghost use Rattle.merge_resolve.specs.Asked.{says_at};
 ghost use Rattle.merge_world.specs.Views.{handed_view};
-ghost use Rattle.merge_program.specs.Commands.{command_of};
+ghost use Rattle.merge_program.specs.Commands.{command_of, reads_input};
+ghost use Rattle.merge_program.specs.Elsewhere.{ChangesItsOwn};
 ghost use Rattle.merge_program.specs.Headline.{WrittenInPart};
 ghost use Rattle.merge_program.specs.Making.{IsMade};
 ghost use Rattle.merge_program.specs.Orders.{order_of};
-ghost use Rattle.merge_program.specs.Serving.{TellsServed};
+ghost use Rattle.merge_program.specs.Serving.{TellsServed, publisher_site};
 ghost use Rattle.merge_program.specs.Statuses.{IsNoted, Tells};
 ghost use Rattle.merge_program.specs.declared.command.Command.TheVariants as command;
 ghost use Rattle.merge_program.specs.declared.order.Order.{Order as OneOrder};
@@ -82,7 +85,7 @@ where
           failed = I.count host.new.input;
         })
         (N.written host.old.notes) (N.written host.new.notes) (N.count host.old.notes) (N.count host.new.notes) }
-    ensures served { (order : OneOrder) → order_of words.now ≡ Some order → TellsServed result.0 order (length resolvers.old.items)
+    ensures served { (order : OneOrder) → order_of words.now ≡ Some order → TellsServed result.0 order (length resolvers.old.items) (says_at (λ r. says r) resolvers.old.items)
         (record {
           input = I.left host.old.input;
           offers = E.offers host.old.outside;
@@ -100,6 +103,11 @@ where
         })
         (record { handed = T.handed doors.new; before = T.count doors.old; after = T.count doors.new })
         (N.written host.old.notes) (N.written host.new.notes) (N.count host.old.notes) (N.count host.new.notes) }
+    ensures unread { order_of words.now ≡ None → reads_input (command_of words.now) ≡ false → host.new.input ≡ host.old.input }
+    ensures unasked { (order : OneOrder) → order_of words.now ≡ Some order → host.new.input ≡ host.old.input }
+    ensures closed { order_of words.now ≡ None → doors.new ≡ doors.old }
+    ensures others { order_of words.now ≡ None → ChangesItsOwn (command_of words.now) (E.told host.old.outside) (E.told host.new.outside) }
+    ensures elsewhere { (order : OneOrder) → order_of words.now ≡ Some order → SameElsewhere publisher_site order.store (E.told host.old.outside) (E.told host.new.outside) }
 {
     match order_of(words) {
         Ok(Some(order)) => {

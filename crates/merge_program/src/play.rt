@@ -1,8 +1,9 @@
 //! A publication and a script are played.
-ghost use Rattle.std.specs.Prelude.{◌≡◌, ◌⊎◌, ◌≤◌, length, map, true, ℕ};
+ghost use Rattle.std.specs.Prelude.{◌≡◌, ◌⊎◌, ◌≤◌, [], length, map, true, ℕ};
 ghost use Rattle.merge_script.specs.Lines.{lines_of};
 ghost use Rattle.merge_schema.specs.Valid.{IsValid};
 ghost use Rattle.merge_world.specs.Views.{handed_view, site_of};
+ghost use Rattle.merge_program.specs.Elsewhere.{SameAtOthers};
 ghost use Rattle.merge_program.specs.Endings.{status_of};
 ghost use Rattle.merge_program.specs.Headline.{AnsweredInPart, InputEnds, PlayEnds, WrittenInPart};
 ghost use Rattle.merge_program.specs.Statuses.{is_silent};
@@ -10,7 +11,7 @@ ghost use Rattle.merge_program.specs.Stores.{AreRooms, fresh_publisher, fresh_su
 
 use crate::ending::{Ending, refused};
 use crate::script::play_on;
-use crate::stores::{give_back, start};
+use crate::stores::{give_back, no_path, start};
 use merge_ports::{Outside, Sink};
 use merge_resolve::Handed;
 use merge_schema::{Publication, read};
@@ -40,6 +41,7 @@ fn play_started<O: Sink, E: Outside>(
         (record { was = O.written output.old; written = O.written output.new; before = (E.counts outside.old).stores; after = (E.counts outside.new).stores }) (O.count output.old) (O.count output.new) }
     ensures part { AnsweredInPart started.0.publication (handed_view (λ r. says r) (λ r. tally_of r) resolvers.old.items) (lines_of script.now)
         (record { was = O.written output.old; written = O.written output.new; before = (E.counts outside.old).stores; after = (E.counts outside.new).stores }) }
+    ensures others { SameAtOthers path.now (E.told outside.old) (E.told outside.new) }
 {
     let (publisher, subscribers) = started;
     let mut sites = Sites {
@@ -73,8 +75,9 @@ fn play_publication<O: Sink, E: Outside>(
         (record { was = O.written output.old; written = O.written output.new; before = (E.counts outside.old).stores; after = (E.counts outside.new).stores }) (O.count output.old) (O.count output.new) }
     ensures part { (O.written output.new ≡ O.written output.old) ⊎ AnsweredInPart publication.now (handed_view (λ r. says r) (λ r. tally_of r) resolvers.old.items) (lines_of script.now)
         (record { was = O.written output.old; written = O.written output.new; before = (E.counts outside.old).stores; after = (E.counts outside.new).stores }) }
+    ensures others { SameAtOthers [] (E.told outside.old) (E.told outside.new) }
 {
-    let path = Words::new(String::new(alloc));
+    let path = no_path(alloc);
     match start(alloc, outside, &path, publication) {
         Ok(started) => play_started(alloc, started, resolvers, script, output, outside, &path),
         Err(ending) => ending,
@@ -95,6 +98,7 @@ pub fn play_input<O: Sink, E: Outside>(
     ensures part { WrittenInPart (handed_view (λ r. says r) (λ r. tally_of r) resolvers.old.items) input.now
         (record { was = O.written output.old; written = O.written output.new; before = (E.counts outside.old).stores; after = (E.counts outside.new).stores }) }
     ensures silent { is_silent (status_of result) ≡ true → O.written output.new ≡ O.written output.old }
+    ensures others { SameAtOthers [] (E.told outside.old) (E.told outside.new) }
 {
     let (publication, script) = cut_input(input);
     match read(alloc, publication, resolvers.len()) {

@@ -9,9 +9,9 @@ ghost use Rattle.merge_program.specs.Headline.{AnsweredInPart, PlayEnds};
 ghost use Rattle.merge_program.specs.Stores.{RoseBy};
 
 use crate::ending::{Ending, stopped};
-use merge_laws::{machine_answers_as_the_model, promises_hold};
 use merge_play::{Stop, play_lines};
 use merge_ports::Sink;
+use merge_promises::all_promises_hold;
 use merge_resolve::Handed;
 use merge_world::{PublisherSite, Seen, Sites, SubscriberSite};
 use std::alloc::Global;
@@ -49,8 +49,7 @@ pub fn play_on<P: PublisherSite, S: SubscriberSite, O: Sink>(
         (record { was = O.written output.old; written = O.written output.new; before = before; after = after }) }
     ensures stays { (⟦<Sites<P, S> as Seen>⟧.seen sites.new).sites ≡ (⟦<Sites<P, S> as Seen>⟧.seen sites.old).sites }
 {
-    promises_hold();
-    machine_answers_as_the_model();
+    all_promises_hold();
     let played = play_lines(alloc, sites, resolvers, script, output);
     ending_of(played)
 }

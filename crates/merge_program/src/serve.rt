@@ -1,8 +1,10 @@
 //! The publisher serves subscribers.
 ghost use Rattle.std.specs.Prelude.{◌≡◌, IfErr, IfOk, IfSome, List, Option, length, ℕ};
+ghost use Rattle.merge_ports.specs.Opened.{SameElsewhere};
+ghost use Rattle.merge_resolve.specs.Asked.{says_at};
 ghost use Rattle.merge_schema.specs.Valid.{IsValid};
 ghost use Rattle.merge_program.specs.Files.{IsAccepted};
-ghost use Rattle.merge_program.specs.Serving.{IsUnordered, ServeEnds};
+ghost use Rattle.merge_program.specs.Serving.{IsUnordered, ServeEnds, publisher_site};
 
 use crate::ending::Ending;
 use crate::files::{publication_in, read_file};
@@ -57,7 +59,7 @@ where
     T::Opened: Send,
     <T::Opened as Door>::Input: Send,
     <T::Opened as Door>::Output: Send,
-    ensures { (input : Option (List ℕ)) (reads failed : ℕ) → ServeEnds result order.now (length resolvers.old.items) (record {
+    ensures ends { (input : Option (List ℕ)) (reads failed : ℕ) → ServeEnds result order.now (length resolvers.old.items) (says_at (λ r. says r) resolvers.old.items) (record {
       input = input;
       offers = E.offers outside.old;
       behind = E.offers outside.new;
@@ -72,6 +74,7 @@ where
       reads = reads;
       failed = failed;
     }) (record { handed = T.handed doors.new; before = T.count doors.old; after = T.count doors.new }) }
+    ensures others { SameElsewhere publisher_site order.now.store (E.told outside.old) (E.told outside.new) }
 {
     let publication = match read_ordered(alloc, &order.publication, resolvers.len(), outside) {
         Ok(publication) => publication,

@@ -1,5 +1,6 @@
 //! The rows of an article at one site are shown.
 ghost use Rattle.std.specs.Prelude.{◌≡◌, ◌≢◌, IfErr, IfOk, List, Ok, Option, ℕ, true};
+ghost use Rattle.merge_ports.specs.Opened.{SameElsewhere};
 ghost use Rattle.merge_schema.specs.Valid.{IsValid};
 ghost use Rattle.merge_model.specs.World.Events.{is_site};
 ghost use Rattle.merge_model.specs.World.Naming.{article_by};
@@ -62,9 +63,10 @@ fn show_publisher<O: Sink, E: Outside>(
     requires publishes { place.now.site.0 ≡ 0 }
     requires known { is_site publication.now place.now.site ≡ true }
     requires named { (place : ℕ) × (article_by publication.now article.now ≡ Ok place) }
-    ensures { ShownBy result publication.now place.now.site article.now (E.told outside.old place.now.site place.now.store)
+    ensures ends { ShownBy result publication.now place.now.site article.now (E.told outside.old place.now.site place.now.store)
         (record { was = O.written output.old; written = O.written output.new; before = (E.counts outside.old).stores; after = (E.counts outside.new).stores }) (E.told outside.new place.now.site place.now.store)
         (O.count output.old) (O.count output.new) }
+    ensures others { SameElsewhere place.now.site place.now.store (E.told outside.old) (E.told outside.new) }
 {
     let site = place.site;
     let sites = match open_publisher(alloc, outside, &place.store, publication, site) {
@@ -89,9 +91,10 @@ fn show_subscriber<O: Sink, E: Outside>(
     requires subscribes { place.now.site.0 ≢ 0 }
     requires known { is_site publication.now place.now.site ≡ true }
     requires named { (place : ℕ) × (article_by publication.now article.now ≡ Ok place) }
-    ensures { ShownBy result publication.now place.now.site article.now (E.told outside.old place.now.site place.now.store)
+    ensures ends { ShownBy result publication.now place.now.site article.now (E.told outside.old place.now.site place.now.store)
         (record { was = O.written output.old; written = O.written output.new; before = (E.counts outside.old).stores; after = (E.counts outside.new).stores }) (E.told outside.new place.now.site place.now.store)
         (O.count output.old) (O.count output.new) }
+    ensures others { SameElsewhere place.now.site place.now.store (E.told outside.old) (E.told outside.new) }
 {
     let site = place.site;
     let sites = match open_subscriber(alloc, outside, &place.store, publication, site) {
@@ -115,9 +118,10 @@ fn show_site<O: Sink, E: Outside>(
     requires valid { (resolvers : ℕ) × IsValid resolvers publication.now }
     requires known { is_site publication.now place.now.site ≡ true }
     requires named { (place : ℕ) × (article_by publication.now article.now ≡ Ok place) }
-    ensures { ShownBy result publication.now place.now.site article.now (E.told outside.old place.now.site place.now.store)
+    ensures ends { ShownBy result publication.now place.now.site article.now (E.told outside.old place.now.site place.now.store)
         (record { was = O.written output.old; written = O.written output.new; before = (E.counts outside.old).stores; after = (E.counts outside.new).stores }) (E.told outside.new place.now.site place.now.store)
         (O.count output.old) (O.count output.new) }
+    ensures others { SameElsewhere place.now.site place.now.store (E.told outside.old) (E.told outside.new) }
 {
     if place.site.0 == 0 {
         show_publisher(alloc, publication, place, article, output, outside)
@@ -137,8 +141,10 @@ fn read_named<E: CommandOutside>(
     ensures named { IfOk result (λ publication. (n : ℕ) × IsNamed ((E.offers outside.old).texts place.now.publication) resolvers place.now.site article.now publication n) }
     ensures valid { IfOk result (λ publication. IsValid resolvers publication) }
     ensures ends { IfErr result (λ ending. IsUnnamed ending ((E.offers outside.old).texts place.now.publication) resolvers place.now.site article.now (E.counts outside.old).texts (E.counts outside.new).texts) }
+    ensures offers { E.offers outside.new ≡ E.offers outside.old }
     ensures told { E.told outside.new ≡ E.told outside.old }
     ensures stores { (E.counts outside.new).stores ≡ (E.counts outside.old).stores }
+    ensures links { (E.counts outside.new).links ≡ (E.counts outside.old).links }
 {
     let text = read_file(alloc, outside, &place.publication)?;
     let publication = publication_in(alloc, text.as_slice(), resolvers)?;
@@ -157,7 +163,7 @@ pub fn show<O: Sink, E: CommandOutside>(
     output: &mut O,
     outside: &mut E,
 ) -> Ending
-    ensures { (input : Option (List ℕ)) (reads failed : ℕ) → ShowEnds result place.now article.now resolvers (record {
+    ensures ends { (input : Option (List ℕ)) (reads failed : ℕ) → ShowEnds result place.now article.now resolvers (record {
       input = input;
       offers = E.offers outside.old;
       behind = E.offers outside.new;
@@ -172,6 +178,7 @@ pub fn show<O: Sink, E: CommandOutside>(
       reads = reads;
       failed = failed;
     }) }
+    ensures others { SameElsewhere place.now.site place.now.store (E.told outside.old) (E.told outside.new) }
 {
     match read_named(alloc, place, article, resolvers, outside) {
         Ok(publication) => show_site(alloc, &publication, place, article, output, outside),

@@ -1,9 +1,11 @@
 //! The sites of a publication, each at its store of an outside.
 ghost use Rattle.std.specs.Prelude.{◌≡◌, ◌+◌, ◌++◌, ◌∷◌, ◌<◌, [], IfErr, IfOk, List, OnOk, map, sum_by, vec_capacity, vec_len, ℕ};
 ghost use Rattle.merge_types.specs.declared.identifiers.SiteId.{SiteId as Site};
+ghost use Rattle.merge_ports.specs.Opened.{SameElsewhere};
 ghost use Rattle.merge_schema.specs.Valid.{IsValid};
 ghost use Rattle.merge_model.specs.Tables.Publications.{by_site};
 ghost use Rattle.merge_world.specs.Views.{faults_of, site_of};
+ghost use Rattle.merge_program.specs.Elsewhere.{SameAtOthers};
 ghost use Rattle.merge_program.specs.Stores.{AreRooms, IsUnstarted, RoseBy, fresh_publisher, fresh_subscriber, fresh_subscribers};
 
 use crate::ending::{Ending, stopped, unopened};
@@ -16,6 +18,13 @@ use std::alloc::Global;
 
 /// The publisher.
 pub const PUBLISHER: SiteId = SiteId(0);
+
+/// The path of stores for which the program names none.
+pub fn no_path(alloc: Global) -> Words
+    ensures { result ≡ [] }
+{
+    Words::new(String::new(alloc))
+}
 
 // The subscriptions by their sites.
 fn by_site(alloc: Global, publication: &Publication) -> Result<Table<u16, Subscription>, NoMemory>
@@ -41,6 +50,7 @@ fn start_publisher<E: Outside>(
     ensures still { (s : Site) (p : List ℕ) → E.HasRoom outside.old s p → E.HasRoom outside.new s p }
     ensures kept { OnOk result ((E.counts outside.new).stores ≡ (E.counts outside.old).stores) }
     ensures ends { IfErr result (λ ending. IsUnstarted ending (E.counts outside.old).stores (E.counts outside.new).stores) }
+    ensures others { SameElsewhere (record { 0 = 0 }) path.now (E.told outside.old) (E.told outside.new) }
 {
     let keeper = match outside.keeper(PUBLISHER, path) {
         Ok(keeper) => keeper,
@@ -69,6 +79,7 @@ fn start_subscriber<E: Outside>(
     ensures still { (s : Site) (p : List ℕ) → E.HasRoom outside.old s p → E.HasRoom outside.new s p }
     ensures kept { OnOk result ((E.counts outside.new).stores ≡ (E.counts outside.old).stores) }
     ensures ends { IfErr result (λ ending. IsUnstarted ending (E.counts outside.old).stores (E.counts outside.new).stores) }
+    ensures others { SameElsewhere site path.now (E.told outside.old) (E.told outside.new) }
 {
     let publication = publication.copy()?;
     let keeper = match outside.keeper(site, path) {
@@ -116,6 +127,7 @@ fn start_subscribers<E: Outside>(
     ensures still { (s : Site) (p : List ℕ) → E.HasRoom outside.old s p → E.HasRoom outside.new s p }
     ensures kept { OnOk result ((E.counts outside.new).stores ≡ (E.counts outside.old).stores) }
     ensures ends { IfErr result (λ ending. IsUnstarted ending (E.counts outside.old).stores (E.counts outside.new).stores) }
+    ensures others { SameAtOthers path.now (E.told outside.old) (E.told outside.new) }
 {
     let subscriptions = by_site(alloc, publication)?;
     for (_, subscription) in subscriptions.iter() {
@@ -136,7 +148,8 @@ pub fn give_back<E: Outside>(
 )
     requires room { E.HasRoom outside.old (record { 0 = 0 }) path.now }
     requires rooms { AreRooms (E.HasRoom outside.old) path.now (map site_of subscribers.items) }
-    ensures { RoseBy (publisher.faults + sum_by faults_of subscribers.items) (E.counts outside.old).stores (E.counts outside.new).stores }
+    ensures rose { RoseBy (publisher.faults + sum_by faults_of subscribers.items) (E.counts outside.old).stores (E.counts outside.new).stores }
+    ensures others { SameAtOthers path.now (E.told outside.old) (E.told outside.new) }
 {
     outside.keeper_back(PUBLISHER, path, publisher.into_keeper());
     for subscriber in subscribers {
@@ -160,6 +173,7 @@ pub fn start<E: Outside>(
     ensures rooms { IfOk result (λ sites. AreRooms (E.HasRoom outside.new) path.now (map site_of sites.1.items)) }
     ensures kept { OnOk result ((E.counts outside.new).stores ≡ (E.counts outside.old).stores) }
     ensures ends { IfErr result (λ ending. IsUnstarted ending (E.counts outside.old).stores (E.counts outside.new).stores) }
+    ensures others { SameAtOthers path.now (E.told outside.old) (E.told outside.new) }
 {
     let publisher = start_publisher(alloc, outside, path, publication)?;
     let mut subscribers = Vec::new(alloc);

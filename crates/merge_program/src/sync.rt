@@ -1,5 +1,6 @@
 //! A subscriber meets its publisher.
 ghost use Rattle.std.specs.Prelude.{◌≡◌, IfErr, IfOk, List, OnOk, Option, ℕ, false, true};
+ghost use Rattle.merge_ports.specs.Opened.{SameElsewhere};
 ghost use Rattle.merge_schema.specs.Places.{is_subscription};
 ghost use Rattle.merge_schema.specs.Valid.{IsValid};
 ghost use Rattle.merge_wire.specs.Written.{IsVisible};
@@ -80,7 +81,7 @@ pub fn sync<O: Sink, E: CommandOutside>(
     outside: &mut E,
 ) -> Ending
     requires { IsVisible address.now }
-    ensures { (input : Option (List ℕ)) (reads failed : ℕ) → SyncEnds result place.now address.now resolvers (record {
+    ensures ends { (input : Option (List ℕ)) (reads failed : ℕ) → SyncEnds result place.now address.now resolvers (record {
       input = input;
       offers = E.offers outside.old;
       behind = E.offers outside.new;
@@ -95,6 +96,7 @@ pub fn sync<O: Sink, E: CommandOutside>(
       reads = reads;
       failed = failed;
     }) }
+    ensures others { SameElsewhere place.now.site place.now.store (E.told outside.old) (E.told outside.new) }
 {
     match read_subscribed(alloc, place, resolvers, outside) {
         Ok(publication) => {

@@ -1,7 +1,8 @@
 //! The top call.
-ghost use Rattle.std.specs.Prelude.{◌≡◌, IfSome, true, ℕ};
+ghost use Rattle.std.specs.Prelude.{◌≡◌, [], IfSome, false, true, ℕ};
 ghost use Rattle.merge_world.specs.Views.{handed_view};
-ghost use Rattle.merge_program.specs.Commands.{IsMeant, command_of};
+ghost use Rattle.merge_program.specs.Commands.{IsMeant, command_of, reads_input};
+ghost use Rattle.merge_program.specs.Elsewhere.{ChangesItsOwn, SameAtOthers};
 ghost use Rattle.merge_program.specs.Endings.{status_of};
 ghost use Rattle.merge_program.specs.Headline.{PlayRunEnds, WrittenInPart};
 ghost use Rattle.merge_program.specs.Making.{IsMade};
@@ -46,6 +47,7 @@ fn read_and_play<I: Source, O: Sink, E: Outside>(
     ensures part { IfSome (I.left input.old) (λ input. WrittenInPart (handed_view (λ r. says r) (λ r. tally_of r) resolvers.old.items) input
         (record { was = O.written output.old; written = O.written output.new; before = (E.counts outside.old).stores; after = (E.counts outside.new).stores })) }
     ensures silent { is_silent (status_of result) ≡ true → O.written output.new ≡ O.written output.old }
+    ensures others { SameAtOthers [] (E.told outside.old) (E.told outside.new) }
 {
     match read_whole(alloc, input, INPUT_LIMIT) {
         Ok(input) => play_input(alloc, input.as_slice(), resolvers, output, outside),
@@ -82,6 +84,8 @@ fn obey<I: Source, O: Sink, E: CommandOutside>(
     ensures played { command.now ≡ Command.Play → IfSome (I.left input.old) (λ input. WrittenInPart (handed_view (λ r. says r) (λ r. tally_of r) resolvers.old.items) input
         (record { was = O.written output.old; written = O.written output.new; before = (E.counts outside.old).stores; after = (E.counts outside.new).stores })) }
     ensures silent { is_silent (status_of result) ≡ true → O.written output.new ≡ O.written output.old }
+    ensures unread { reads_input (Some command.now) ≡ false → input.new ≡ input.old }
+    ensures others { ChangesItsOwn (Some command.now) (E.told outside.old) (E.told outside.new) }
 {
     let count = resolvers.len();
     match command {
@@ -121,6 +125,8 @@ fn work<I: Source, O: Sink, E: CommandOutside>(
     ensures played { command_of words.now ≡ Some Command.Play → IfSome (I.left input.old) (λ input. WrittenInPart (handed_view (λ r. says r) (λ r. tally_of r) resolvers.old.items) input
         (record { was = O.written output.old; written = O.written output.new; before = (E.counts outside.old).stores; after = (E.counts outside.new).stores })) }
     ensures silent { is_silent (status_of result) ≡ true → O.written output.new ≡ O.written output.old }
+    ensures unread { reads_input (command_of words.now) ≡ false → input.new ≡ input.old }
+    ensures others { ChangesItsOwn (command_of words.now) (E.told outside.old) (E.told outside.new) }
 {
     match command_of(words) {
         Ok(Some(command)) => obey(alloc, &command, input, output, outside, resolvers),
@@ -183,6 +189,8 @@ pub fn run<I: Source, O: Sink, N: Sink, E: CommandOutside>(
           failed = I.count host.new.input;
         })
         (N.written host.old.notes) (N.written host.new.notes) (N.count host.old.notes) (N.count host.new.notes) }
+    ensures unread { reads_input (command_of words.now) ≡ false → host.new.input ≡ host.old.input }
+    ensures others { ChangesItsOwn (command_of words.now) (E.told host.old.outside) (E.told host.new.outside) }
 {
     let ending = work(
         alloc,

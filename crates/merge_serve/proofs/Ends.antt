@@ -1,5 +1,6 @@
 -- A connection that was attended may be closed, and seats grow.
 use Rattle.std.proofs.Common.{◌≡◌, ◌≤◌, ◌+◌, ◌++◌, ◌∙◌, List, ℕ, ap, append_assoc, arith, sym}
+use Rattle.merge_types.specs.declared.identifiers.Moment.{Moment}
 use Rattle.merge_desk.specs.Views.{SeatView}
 use Rattle.merge_ports.specs.Faults.{Rose}
 use Rattle.merge_serve.specs.Attending.{IsAttended, Traffic}
@@ -11,14 +12,14 @@ use Rattle.merge_serve.specs.declared.attending.Attended.TheVariants as attended
 rose-none : (before after : ℕ) → before ≡ 0 → Rose before after → after ≡ before → ⊥
 rose-none before after none rose same = omega (arith, none, same, rose)
 
-served_same : (first a b : Traffic) (s t : SeatView) (done : Attended) → IsFresh first a → IsAttended a b s t done → IsServed first b s t
-served_same first a b s t (attended.Answered status) fresh (answer, due, responds) reads writes =
-    rw (← fresh.same) (answer, (due, responds.1))
-served_same first a b s t attended.ReadFault fresh (rose, written, same) reads writes = absurd (rose-none a.read_faults b.read_faults fresh.unread rose (reads ∙ ap (λ (x : Traffic). x.read_faults) (sym fresh.same)))
-served_same first a b s t attended.WriteFault fresh (answer, due, responds) reads writes = absurd (rose-none a.write_faults b.write_faults fresh.unfailed responds.0 (writes ∙ ap (λ (x : Traffic). x.write_faults) (sym fresh.same)))
+served_same : (now : Moment) (first a b : Traffic) (s t : SeatView) (done : Attended) → IsFresh first a → IsAttended now a b s t done → IsServed first b s t
+served_same now first a b s t (attended.Answered status) fresh (answer, due, responds) reads writes =
+    rw (← fresh.same) (now, answer, (due, responds.1))
+served_same now first a b s t attended.ReadFault fresh (rose, written, same) reads writes = absurd (rose-none a.read_faults b.read_faults fresh.unread rose (reads ∙ ap (λ (x : Traffic). x.read_faults) (sym fresh.same)))
+served_same now first a b s t attended.WriteFault fresh (answer, due, responds) reads writes = absurd (rose-none a.write_faults b.write_faults fresh.unfailed responds.0 (writes ∙ ap (λ (x : Traffic). x.write_faults) (sym fresh.same)))
 
-pub served_by : (first a b : Traffic) (last s t : SeatView) (done : Attended) → last ≡ s → IsFresh first a → IsAttended a b s t done → IsServed first b last t
-served_by first a b last s t done noted fresh done_so = rw noted (served_same first a b s t done fresh done_so)
+pub served_by : (now : Moment) (first a b : Traffic) (last s t : SeatView) (done : Attended) → last ≡ s → IsFresh first a → IsAttended now a b s t done → IsServed first b last t
+served_by now first a b last s t done noted fresh done_so = rw noted (served_same now first a b s t done fresh done_so)
 
 pub later_then : (s t u : SeatView) → IsLater s t → IsLater t u → IsLater s u
 later_then s t u a b = record {

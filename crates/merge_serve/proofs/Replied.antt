@@ -1,6 +1,7 @@
 -- What the desk answers, and what becomes of the seat.
 use Rattle.std.proofs.Common.{◌≡◌, ◌≤◌, ◌+◌, ◌++◌, ◌∷◌, ◌∙◌, [], Bool, List, ℕ, ap, arith, inl, inr, length, refl, sym, true, false, append-nil}
 use Rattle.serde_json.specs.Written.{compact_text}
+use Rattle.merge_types.specs.declared.identifiers.Moment.{Moment}
 use Rattle.merge_batch.specs.declared.reply.Reply.{Reply}
 use Rattle.merge_batch.specs.declared.request.Request.{Request}
 use Rattle.merge_json.specs.WrittenReplies.{reply_data}
@@ -17,9 +18,9 @@ use Rattle.merge_serve.specs.declared.answer.Bare.TheVariants as bare
 use Rattle.merge_serve.specs.declared.attending.Attended.{Attended}
 use Rattle.merge_serve.specs.declared.attending.Attended.TheVariants as attended
 
-pub called_by : (r : Request) (reply : Reply) (s t : SeatView) (mark : Mark) (place : ℕ) → t.told ≡ s.told ++ mark ∷ [] → mark ≡ mark_on place r reply → length t.told ≤ place
-    → t.calls ≡ s.calls + 1 → t.faults ≡ s.faults → IsCalled r reply s t
-called_by r reply s t mark place told is known calls faults = record {
+pub called_by : (now : Moment) (r : Request) (reply : Reply) (s t : SeatView) (mark : Mark) (place : ℕ) → t.told ≡ s.told ++ mark ∷ [] → mark ≡ mark_on place now r reply → length t.told ≤ place
+    → t.calls ≡ s.calls + 1 → t.faults ≡ s.faults → IsCalled now r reply s t
+called_by now r reply s t mark place told is known calls faults = record {
   place = place;
   told = told ∙ ap (λ m. s.told ++ m ∷ []) is;
   known = known;
@@ -27,14 +28,14 @@ called_by r reply s t mark place told is known calls faults = record {
   faults = faults;
 }
 
-pub replied_by : (r : Request) (reply : Reply) (s t : SeatView) (a : Answer) → IsCalled r reply s t → Tells reply a → IsReplied r s t a
-replied_by r reply s t (answer.Told same body) called (is, text) = rw is (called, text)
-replied_by r reply s t (answer.Bare bare.NoMemory) called tells = inr (reply, called)
-replied_by r reply s t (answer.Bare bare.BadRequest) called tells = absurd tells
-replied_by r reply s t (answer.Bare bare.NotFound) called tells = absurd tells
-replied_by r reply s t (answer.Bare bare.MethodNotAllowed) called tells = absurd tells
-replied_by r reply s t (answer.Bare bare.TooLong) called tells = absurd tells
-replied_by r reply s t (answer.Bare bare.StoreFault) called tells = absurd tells
+pub replied_by : (now : Moment) (r : Request) (reply : Reply) (s t : SeatView) (a : Answer) → IsCalled now r reply s t → Tells reply a → IsReplied now r s t a
+replied_by now r reply s t (answer.Told same body) called (is, text) = rw is (called, text)
+replied_by now r reply s t (answer.Bare bare.NoMemory) called tells = inr (reply, called)
+replied_by now r reply s t (answer.Bare bare.BadRequest) called tells = absurd tells
+replied_by now r reply s t (answer.Bare bare.NotFound) called tells = absurd tells
+replied_by now r reply s t (answer.Bare bare.MethodNotAllowed) called tells = absurd tells
+replied_by now r reply s t (answer.Bare bare.TooLong) called tells = absurd tells
+replied_by now r reply s t (answer.Bare bare.StoreFault) called tells = absurd tells
 
 pub later_called : (s t : SeatView) (mark : Mark) → t.number ≡ s.number → t.call_parts ≡ s.call_parts → t.fault_parts ≡ s.fault_parts
     → t.told ≡ s.told ++ mark ∷ [] → t.calls ≡ s.calls + 1 → t.faults ≡ s.faults → IsLater s t
@@ -84,7 +85,7 @@ writable (answer.Bare bare.TooLong) = inr (record { status = refl; method = refl
 writable (answer.Bare bare.StoreFault) = inr (record { status = refl; method = refl; path = refl; host = refl })
 writable (answer.Bare bare.NoMemory) = inr (record { status = refl; method = refl; path = refl; host = refl })
 
-pub attended_by : (a b : Traffic) (s t : SeatView) (answer : Answer) (done : Attended) → IsDueThen a b s t answer → Responds a.written b.written a.write_faults b.write_faults answer done → IsAttended a b s t done
-attended_by a b s t answer (attended.Answered status) due responds = (answer, due, responds)
-attended_by a b s t answer attended.WriteFault due responds = (answer, due, responds)
-attended_by a b s t answer attended.ReadFault due responds = absurd responds
+pub attended_by : (now : Moment) (a b : Traffic) (s t : SeatView) (answer : Answer) (done : Attended) → IsDueThen now a b s t answer → Responds a.written b.written a.write_faults b.write_faults answer done → IsAttended now a b s t done
+attended_by now a b s t answer (attended.Answered status) due responds = (answer, due, responds)
+attended_by now a b s t answer attended.WriteFault due responds = (answer, due, responds)
+attended_by now a b s t answer attended.ReadFault due responds = absurd responds

@@ -1,6 +1,7 @@
 -- What a connection is answered with, and what becomes of the seat.
 use Rattle.std.specs.Prelude.{Bool, List, [], length, ℕ, ◌+◌, ◌++◌, ◌∷◌, ◌≡◌, ◌≤◌, ◌⊎◌, if◌then◌else◌}
 use Rattle.serde_json.specs.Written.{compact_text}
+use Rattle.merge_types.specs.declared.identifiers.Moment.{Moment}
 use Rattle.merge_batch.specs.declared.reply.Reply.{Reply}
 use Rattle.merge_batch.specs.declared.request.Request.{Request}
 use Rattle.merge_json.specs.WrittenReplies.{reply_data}
@@ -36,10 +37,10 @@ body_of (answer.Bare why) = []
 abbrev pub response_of : Answer → Message
 response_of a = record { method = []; path = []; host = []; status = status_of a; body = body_of a }
 
--- the desk answered a request of the seat with this reply, and told it so
-pub record IsCalled (r : Request) (reply : Reply) (s t : SeatView) : Type 0 where
+-- the desk answered a request of the seat at this moment with this reply, and told it so
+pub record IsCalled (now : Moment) (r : Request) (reply : Reply) (s t : SeatView) : Type 0 where
   pub place : ℕ
-  pub told : t.told ≡ s.told ++ mark_on place r reply ∷ []
+  pub told : t.told ≡ s.told ++ mark_on place now r reply ∷ []
   pub known : length t.told ≤ place
   pub calls : t.calls ≡ s.calls + 1
   pub faults : t.faults ≡ s.faults
@@ -56,9 +57,9 @@ Tells reply (answer.Told same body) = (same ≡ reply) × (body ≡ compact_text
 Tells reply (answer.Bare bare.NoMemory) = Unit {0}
 Tells reply (answer.Bare _) = ⊥
 
--- A request was brought to the desk from a seat, and is answered so. Memory may be wanting before the desk answers, and behind.
-abbrev pub IsReplied : Request → SeatView → SeatView → Answer → Type 0
-IsReplied r s t (answer.Told reply body) = IsCalled r reply s t × (body ≡ compact_text (reply_data reply))
-IsReplied r s t (answer.Bare bare.StoreFault) = IsFaulted s t
-IsReplied r s t (answer.Bare bare.NoMemory) = (t ≡ s) ⊎ ((reply : Reply) × IsCalled r reply s t)
-IsReplied r s t (answer.Bare _) = ⊥
+-- A request was brought to the desk from a seat at this moment, and is answered so. Memory may be wanting before the desk answers, and behind.
+abbrev pub IsReplied : Moment → Request → SeatView → SeatView → Answer → Type 0
+IsReplied now r s t (answer.Told reply body) = IsCalled now r reply s t × (body ≡ compact_text (reply_data reply))
+IsReplied now r s t (answer.Bare bare.StoreFault) = IsFaulted s t
+IsReplied now r s t (answer.Bare bare.NoMemory) = (t ≡ s) ⊎ ((reply : Reply) × IsCalled now r reply s t)
+IsReplied now r s t (answer.Bare _) = ⊥

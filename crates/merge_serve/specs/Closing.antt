@@ -1,5 +1,6 @@
 -- How a connection begins, and how it ends.
 use Rattle.std.specs.Prelude.{IfSome, List, [], ℕ, ◌+◌, ◌++◌, ◌≡◌, ◌≤◌}
+use Rattle.merge_types.specs.declared.identifiers.Moment.{Moment}
 use Rattle.merge_desk.specs.Views.{SeatView}
 use Rattle.merge_desk.specs.declared.mark.Mark.{Mark}
 use Rattle.merge_serve.specs.Attending.{Answers, Traffic}
@@ -13,9 +14,9 @@ pub record IsFresh (first now : Traffic) : Type 0 where
   pub unwritten : IfSome now.written (λ bytes. bytes ≡ [])
 
 -- Since a connection began, its whole response was written to the bytes that were taken, unless a read or a write failed. The seat is
--- what this made of it as it was when its last connection was closed.
+-- what this made of it at some moment as it was when its last connection was closed.
 abbrev pub IsServed : Traffic → Traffic → SeatView → SeatView → Type 0
-IsServed first now s t = now.read_faults ≡ first.read_faults → now.write_faults ≡ first.write_faults → (answer : Answer) × Answers first now s t answer
+IsServed first now s t = now.read_faults ≡ first.read_faults → now.write_faults ≡ first.write_faults → (moment : Moment) × (answer : Answer) × Answers moment first now s t answer
 
 -- the same seat, with more calls
 pub record IsLater (s t : SeatView) : Type 0 where

@@ -15,7 +15,7 @@ use merge_types::Moment;
 use merge_wire::write_message;
 use std::alloc::Global;
 use std::sync::Wait;
-use std::sync::ledger::Ledger;
+use std::sync::ledger::{Ledger, Share};
 
 /// How a connection was served.
 #[derive(Clone, Copy, Debug, PartialEq, Eq)]
@@ -27,17 +27,28 @@ pub enum Attended {
 }
 
 // Reads one request and gets its answer.
-fn answer_of<R: Wait, P: DraftingPublisher, L: Ledger, M: Ledger, O: Opening, I: Source, G: Gate>(
+fn answer_of<
+    R: Wait,
+    P: DraftingPublisher,
+    L: Ledger,
+    M: Ledger,
+    N: Ledger,
+    O: Opening,
+    I: Source,
+    G: Gate,
+>(
     rt: &R,
     alloc: Global,
-    desk: &Desk<P, L, M, O>,
+    desk: &Desk<P, L, M, N, O>,
     seat: &mut Seat<L, M>,
+    permit: Share<N>,
     number: u64,
     input: &mut I,
     now: Moment,
     gate: &G,
 ) -> Result<Answer, Failed>
-    ensures due { IfOk result (IsDue (I.left input.old) (I.left input.new) (I.count input.old) (I.count input.new) seat.old seat.new) }
+    requires { permit.amount ≡ 1 }
+    ensures due { IfOk result (IsDue now (I.left input.old) (I.left input.new) (I.count input.old) (I.count input.new) seat.old seat.new) }
     ensures failed { OnErr result (Rose (I.count input.old) (I.count input.new) × (seat.new ≡ seat.old)) }
     ensures later { I.count input.old ≤ I.count input.new }
     ensures grown { IsLater seat.old seat.new }
@@ -45,7 +56,7 @@ fn answer_of<R: Wait, P: DraftingPublisher, L: Ledger, M: Ledger, O: Opening, I:
     match read_asked(alloc, input) {
         Ok(request) => {
             gate.before(number);
-            Ok(bring(rt, alloc, desk, seat, now, &request))
+            Ok(bring(rt, alloc, desk, seat, permit, now, &request))
         }
         Err(Unasked::Declined(why)) => Ok(Answer::Bare(why)),
         Err(Unasked::ReadFault) => Err(Failed),
@@ -67,15 +78,16 @@ fn respond<O: Sink>(alloc: Global, output: &mut O, answer: Answer) -> Attended
     }
 }
 
-/// Serves a connection: reads and decodes one request, passes the gate, calls the desk, and then
-/// encodes the reply and writes the response. What is no request is answered without the desk. A
-/// response for want of memory is written without memory. It may wait.
+/// Serves a connection: reads and decodes one request, passes the gate, calls the desk, for the
+/// connection's permit, and then encodes the reply and writes the response. What is no request is
+/// answered without the desk. A response for want of memory is written without memory. It may wait.
 #[tactic(auto, using(crate::proofs::Replied::attended_by))]
 pub fn attend<
     R: Wait,
     P: DraftingPublisher,
     L: Ledger,
     M: Ledger,
+    N: Ledger,
     O: Opening,
     I: Source,
     W: Sink,
@@ -83,19 +95,21 @@ pub fn attend<
 >(
     rt: &R,
     alloc: Global,
-    desk: &Desk<P, L, M, O>,
+    desk: &Desk<P, L, M, N, O>,
     seat: &mut Seat<L, M>,
+    permit: Share<N>,
     number: u64,
     input: &mut I,
     output: &mut W,
     now: Moment,
     gate: &G,
 ) -> Attended
-    ensures attended { IsAttended (traffic (I.left input.old) (W.written output.old) (I.count input.old) (W.count output.old))
+    requires { permit.amount ≡ 1 }
+    ensures attended { IsAttended now (traffic (I.left input.old) (W.written output.old) (I.count input.old) (W.count output.old))
         (traffic (I.left input.new) (W.written output.new) (I.count input.new) (W.count output.new)) seat.old seat.new result }
     ensures grown { IsLater seat.old seat.new }
 {
-    match answer_of(rt, alloc, desk, seat, number, input, now, gate) {
+    match answer_of(rt, alloc, desk, seat, permit, number, input, now, gate) {
         Ok(answer) => {
             let attended = respond(alloc, output, answer);
             gate.answered(number);

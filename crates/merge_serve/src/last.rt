@@ -5,8 +5,9 @@ use merge_desk::Seat;
 use std::snapshot::Snapshot;
 use std::sync::ledger::Ledger;
 
-/// What the seat of a worker was as its last connection was closed. Contracts alone see it. A worker
-/// makes one before its first connection, and only `note` changes it.
+/// What the seat of a worker was as it was noted last: a worker makes one before its first connection,
+/// and doors note its seat as they close a connection. Contracts alone see it, and only `note` changes
+/// it.
 #[derive(Drop)]
 pub struct LastClosed<L: Ledger, M: Ledger> {
     pub(crate) seat: Snapshot<Seat<L, M>>,

@@ -15,31 +15,43 @@ use merge_draft::DraftingPublisher;
 use merge_link::Clock;
 use std::alloc::Global;
 use std::marker::Brand;
-use std::sync::ledger::Ledger;
+use std::sync::ledger::{Book, Ledger, Share};
 use std::sync::{Mutex, Wait};
 use std::thread;
 use std::thread::Threads;
 
-/// What serving leaves: the seats, how many connections were accepted, and the door.
-pub struct Served<D: Door, L: Ledger, M: Ledger> {
+/// What serving leaves: the seats, how many connections were accepted, the door, and the book of the
+/// permits that were given.
+pub struct Served<D: Door, L: Ledger, M: Ledger, N: Ledger> {
     pub seats: Vec<Seat<L, M>>,
     pub accepted: u64,
     pub door: D,
+    pub given: Book<N>,
 }
 
 // Serves a connection and closes it.
-fn serve_one<R: Wait, P: DraftingPublisher, L: Ledger, M: Ledger, O: Opening, D: Door, G: Gate>(
+fn serve_one<
+    R: Wait,
+    P: DraftingPublisher,
+    L: Ledger,
+    M: Ledger,
+    N: Ledger,
+    O: Opening,
+    D: Door,
+    G: Gate,
+>(
     rt: &R,
     alloc: Global,
-    desk: &Desk<P, L, M, O>,
+    desk: &Desk<P, L, M, N, O>,
     seat: &mut Seat<L, M>,
     last: &mut LastClosed<L, M>,
-    taken: Taken<D::Input, D::Output>,
+    taken: Taken<D::Input, D::Output, N>,
     gate: &G,
 )
     requires fresh { IsFresh
         (traffic (D.Input.left taken.connection.first_input.value) (D.Output.written taken.connection.first_output.value) (D.Input.count taken.connection.first_input.value) (D.Output.count taken.connection.first_output.value))
         (traffic (D.Input.left taken.connection.input) (D.Output.written taken.connection.output) (D.Input.count taken.connection.input) (D.Output.count taken.connection.output)) }
+    requires permit { taken.permit.amount ≡ 1 }
     requires noted { last.old.seat.value ≡ seat.old }
     ensures noted { last.new.seat.value ≡ seat.new }
     ensures grown { IsLater seat.old seat.new }
@@ -48,12 +60,14 @@ fn serve_one<R: Wait, P: DraftingPublisher, L: Ledger, M: Ledger, O: Opening, D:
         mut connection,
         number,
         now,
+        permit,
     } = taken;
     attend(
         rt,
         alloc,
         desk,
         seat,
+        permit,
         number,
         &mut connection.input,
         &mut connection.output,
@@ -64,12 +78,13 @@ fn serve_one<R: Wait, P: DraftingPublisher, L: Ledger, M: Ledger, O: Opening, D:
 }
 
 // The next connection, which is waited for under the lock of the entrance.
-fn take<R: Wait, D: Door, C: Clock, Q: Quota>(
+fn take<R: Wait, D: Door, C: Clock, N: Ledger, Q: Quota>(
     rt: &R,
-    entrance: &Mutex<Entrance<D, C, Q>>,
+    entrance: &Mutex<Entrance<D, C, N, Q>>,
     requests: u64,
-) -> Option<Taken<D::Input, D::Output>>
+) -> Option<Taken<D::Input, D::Output, N>>
     requires { requests ≡ Q.requests }
+    ensures permit { IfSome result (λ taken. taken.permit.amount ≡ 1) }
     ensures fresh { IfSome result (λ taken. IsFresh
         (traffic (D.Input.left taken.connection.first_input.value) (D.Output.written taken.connection.first_output.value) (D.Input.count taken.connection.first_input.value) (D.Output.count taken.connection.first_output.value))
         (traffic (D.Input.left taken.connection.input) (D.Output.written taken.connection.output) (D.Input.count taken.connection.input) (D.Output.count taken.connection.output))) }
@@ -84,6 +99,7 @@ fn work<
     P: DraftingPublisher,
     L: Ledger,
     M: Ledger,
+    N: Ledger,
     O: Opening,
     D: Door,
     C: Clock,
@@ -92,9 +108,9 @@ fn work<
 >(
     rt: &R,
     alloc: Global,
-    desk: &Desk<P, L, M, O>,
+    desk: &Desk<P, L, M, N, O>,
     seat: &mut Seat<L, M>,
-    entrance: &Mutex<Entrance<D, C, Q>>,
+    entrance: &Mutex<Entrance<D, C, N, Q>>,
     requests: u64,
     gate: &G,
 )
@@ -105,7 +121,7 @@ fn work<
     for _ in 0..requests {
         match take(rt, entrance, requests) {
             Some(taken) => {
-                serve_one::<R, P, L, M, O, D, G>(rt, alloc, desk, seat, &mut last, taken, gate);
+                serve_one::<R, P, L, M, N, O, D, G>(rt, alloc, desk, seat, &mut last, taken, gate);
             }
             None => return,
         }
@@ -119,6 +135,7 @@ fn work_rest<
     P: DraftingPublisher,
     L: Ledger,
     M: Ledger,
+    N: Ledger,
     O: Opening,
     D: Door,
     C: Clock,
@@ -127,9 +144,9 @@ fn work_rest<
 >(
     rt: &R,
     alloc: Global,
-    desk: &Desk<P, L, M, O>,
+    desk: &Desk<P, L, M, N, O>,
     seat: &mut Seat<L, M>,
-    entrance: &mut Entrance<D, C, Q>,
+    entrance: &mut Entrance<D, C, N, Q>,
     requests: u64,
     gate: &G,
 )
@@ -141,7 +158,7 @@ fn work_rest<
     for _ in 0..requests {
         match entrance.next(requests) {
             Some(taken) => {
-                serve_one::<R, P, L, M, O, D, G>(rt, alloc, desk, seat, &mut last, taken, gate);
+                serve_one::<R, P, L, M, N, O, D, G>(rt, alloc, desk, seat, &mut last, taken, gate);
             }
             None => return,
         }
@@ -154,6 +171,7 @@ fn work_all<
     P: DraftingPublisher + Send,
     L: Ledger + Send + Sync,
     M: Ledger + Send + Sync,
+    N: Ledger + Send + Sync,
     O: Opening + Send + Sync,
     D: Door + Send,
     C: Clock + Send,
@@ -162,9 +180,9 @@ fn work_all<
 >(
     rt: &R,
     alloc: Global,
-    desk: &Desk<P, L, M, O>,
+    desk: &Desk<P, L, M, N, O>,
     seats: &mut [Seat<L, M>],
-    entrance: &Mutex<Entrance<D, C, Q>>,
+    entrance: &Mutex<Entrance<D, C, N, Q>>,
     requests: u64,
     gate: &G,
 )
@@ -194,6 +212,7 @@ fn serve_within<
     P: DraftingPublisher + Send,
     L: Ledger + Send + Sync,
     M: Ledger + Send + Sync,
+    N: Ledger + Send + Sync,
     O: Opening + Send + Sync,
     D: Door + Send,
     C: Clock + Send,
@@ -202,13 +221,15 @@ fn serve_within<
 >(
     rt: &R,
     alloc: Global,
-    desk: &Desk<P, L, M, O>,
+    desk: &Desk<P, L, M, N, O>,
     seats: &mut [Seat<L, M>],
     requests: u64,
     door: D,
     clock: C,
     gate: &G,
-) -> (u64, D)
+    given: Book<N>,
+    parts: Share<N>,
+) -> (u64, D, Book<N>)
 where
     P::Work: Send,
     D::Input: Send,
@@ -216,13 +237,16 @@ where
     requires some { 0 < length seats.old }
     requires quota { requests ≡ Q.requests }
     requires unopened { IfSome (D.handed door) (λ n. n ≡ 0) }
+    requires ungiven { given.total ≡ 0 }
+    requires room { (Q.requests ≤ parts.parts) × (parts.amount ≡ 0) }
     ensures length { length seats.new ≡ length seats.old }
     ensures grown { (i : ℕ) (d : SeatView) → i < length seats.old → IsLater (slice_index_or seats.old i d) (slice_index_or seats.new i d) }
     ensures few { result.0 ≤ requests }
     ensures handed { IfSome (D.handed result.1) (λ n. n ≡ result.0) }
     ensures whole { result.0 < requests → 0 < D.count result.1 }
+    ensures paid { result.2.total ≡ result.0 }
 {
-    let shared: Mutex<Entrance<D, C, Q>> = Mutex::new(Entrance::new(door, clock));
+    let shared: Mutex<Entrance<D, C, N, Q>> = Mutex::new(Entrance::new(door, clock, given, parts));
     work_all(rt, alloc, desk, seats, &shared, requests, gate);
     let mut entrance = shared.into_inner();
     work_rest(
@@ -238,19 +262,23 @@ where
         door,
         clock: _,
         accepted,
+        given,
+        parts: _,
         of: _,
     } = entrance;
-    (accepted, door)
+    (accepted, door, given)
 }
 
 /// Serves connections of a door until so many were accepted or the door failed: a worker for each
 /// seat, and then the caller what is still wanting. Each connection is served and closed by one
-/// worker, at the moment at which it was accepted. It may wait.
+/// worker, and gets a permit for one call of the desk. Its moment is the clock's as it was accepted, of
+/// which no clause tells. It may wait.
 pub fn serve<
     R: Threads + Wait + Sync,
     P: DraftingPublisher + Send,
     L: Ledger + Send + Sync,
     M: Ledger + Send + Sync,
+    N: Ledger + Send + Sync,
     O: Opening + Send + Sync,
     D: Door + Send,
     C: Clock + Send,
@@ -258,13 +286,15 @@ pub fn serve<
 >(
     rt: &R,
     alloc: Global,
-    desk: &Desk<P, L, M, O>,
+    desk: &Desk<P, L, M, N, O>,
     seats: Vec<Seat<L, M>>,
     requests: u64,
     door: D,
     clock: C,
     gate: &G,
-) -> Served<D, L, M>
+    given: Book<N>,
+    parts: Share<N>,
+) -> Served<D, L, M, N>
 where
     P::Work: Send,
     D::Input: Send,
@@ -272,16 +302,19 @@ where
     requires some { 0 < length seats.items }
     requires unopened { IfSome (D.handed door) (λ n. n ≡ 0) }
     requires unfailed { D.count door ≡ 0 }
+    requires ungiven { given.total ≡ 0 }
+    requires room { (requests ≤ parts.parts) × (parts.amount ≡ 0) }
     ensures few { result.accepted ≤ requests }
     ensures handed { IfSome (D.handed result.door) (λ n. n ≡ result.accepted) }
     ensures whole { result.accepted < requests → 0 < D.count result.door }
+    ensures paid { result.given.total ≡ result.accepted }
     ensures length { length result.seats.items ≡ length seats.items }
     ensures seats { (i : ℕ) (d : SeatView) → i < length seats.items → IsLater (slice_index_or seats.items i d) (slice_index_or result.seats.items i d) }
     ensures calls { sum_by seat_call_parts result.seats.items ≡ sum_by seat_call_parts seats.items }
     ensures faults { sum_by seat_fault_parts result.seats.items ≡ sum_by seat_fault_parts seats.items }
 {
     let mut seats = seats;
-    let (accepted, door) = serve_within::<R, P, L, M, O, D, C, Brand, G>(
+    let (accepted, door, given) = serve_within::<R, P, L, M, N, O, D, C, Brand, G>(
         rt,
         alloc,
         desk,
@@ -290,10 +323,13 @@ where
         door,
         clock,
         gate,
+        given,
+        parts,
     );
     Served {
         seats,
         accepted,
         door,
+        given,
     }
 }

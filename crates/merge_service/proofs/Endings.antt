@@ -7,6 +7,7 @@ use Rattle.merge_schema.specs.declared.publication.Publication.{Publication}
 use Rattle.merge_ports.specs.Entries.{Map}
 use Rattle.merge_model.specs.Publisher.{new_holders}
 use Rattle.merge_model.specs.Tables.{PublisherTables}
+use Rattle.merge_model.specs.World.{Saying}
 use Rattle.merge_keeper.specs.PublisherStart.{publisher_loaded}
 use Rattle.merge_desk.specs.Summary.{summary_text}
 use Rattle.merge_desk.specs.Views.{IsJournal}
@@ -22,31 +23,31 @@ use Rattle.merge_service.specs.declared.stop.Stop.{Stop}
 use Rattle.merge_service.specs.declared.stop.Stop.TheVariants as stop
 use Rattle.merge_service.proofs.Days.{day-of, no-journal}
 
-module _ (publication : Publication) (requests : ℕ) (around : Around) (was written : Option (List ℕ)) (writes refused : ℕ) where
+module _ (publication : Publication) (says : Saying) (requests : ℕ) (around : Around) (was written : Option (List ℕ)) (writes refused : ℕ) where
   abbrev EndsSo : Result Unit Stop → Type 0
-  EndsSo r = Ends publication requests around was written writes refused r
+  EndsSo r = Ends publication says requests around was written writes refused r
 
-  not-started : (s : Stop) → IsUnstarted publication s around.stored around.stores around.stores_after → around.kept ≡ around.stored → written ≡ was → EndsSo (Err s)
-  not-started stop.StoreFault p same silent = (silent, p, same)
-  not-started (stop.Damaged table key) p same silent = (silent, p, same)
-  not-started stop.NoMemory p same silent = (silent, inl same)
-  not-started stop.DoorFault p same silent = absurd p
-  not-started (stop.Differs d) p same silent = absurd p
-  not-started stop.WriteFault p same silent = absurd p
+  not-started : (s : Stop) → IsUnstarted publication s around.stored around.stores around.stores_after → around.kept ≡ around.stored → written ≡ was → around.doors_after ≡ around.doors → EndsSo (Err s)
+  not-started stop.StoreFault p same silent closed = (silent, p, same, closed)
+  not-started (stop.Damaged table key) p same silent closed = (silent, p, same, closed)
+  not-started stop.NoMemory p same silent closed = (silent, inl same)
+  not-started stop.DoorFault p same silent closed = absurd p
+  not-started (stop.Differs d) p same silent closed = absurd p
+  not-started stop.WriteFault p same silent closed = absurd p
 
-  pub not-started-so : (s : Stop) (stored : Option Map) → stored ≡ around.stored → (before : ℕ) → before ≡ around.stores → IsUnstarted publication s stored before around.stores_after → around.kept ≡ stored → written ≡ was → EndsSo (Err s)
-  not-started-so s stored told before first p same silent = not-started s
+  pub not-started-so : (s : Stop) (stored : Option Map) → stored ≡ around.stored → (before : ℕ) → before ≡ around.stores → IsUnstarted publication s stored before around.stores_after → around.kept ≡ stored → written ≡ was → around.doors_after ≡ around.doors → EndsSo (Err s)
+  not-started-so s stored told before first p same silent closed = not-started s
       (subst (λ (n : ℕ). IsUnstarted publication s around.stored n around.stores_after) first (subst (λ (o : Option Map). IsUnstarted publication s o before around.stores_after) told p))
-      (same ∙ told) silent
+      (same ∙ told) silent closed
 
   module _ (old new : PublisherTables) (read : IsRead (publisher_loaded publication (new_holders publication)) around.stored (Ok (publisher_stored old))) (kept : IsKept (records_of new) around.kept) where
     held : {Led : PublisherTables → PublisherTables → Type 0} → Led old new → Held publication around Led
     held led = record { old = old; new = new; read = read; led = led; kept = kept }
 
-    unmoved : new ≡ old → IsSomeDay publication old new
-    unmoved same = ([], subst (λ (t : PublisherTables). IsJournal publication old [] t) (sym same) (no-journal publication old))
+    unmoved : new ≡ old → IsSomeDay publication says old new
+    unmoved same = ([], subst (λ (t : PublisherTables). IsJournal publication says old [] t) (sym same) (no-journal publication says old))
 
-    not-served : (s : Stop) → IsDay publication old new requests around.handed around.doors around.doors_after (Err s) → written ≡ was → EndsSo (Err s)
+    not-served : (s : Stop) → IsDay publication says old new requests around.handed around.doors around.doors_after (Err s) → written ≡ was → EndsSo (Err s)
     not-served stop.DoorFault p silent = (silent, p.0, held p.1)
     not-served (stop.Differs d) p silent = (silent, held p)
     not-served stop.NoMemory p silent = (silent, inr (held (unmoved p)))
@@ -54,9 +55,9 @@ module _ (publication : Publication) (requests : ℕ) (around : Around) (was wri
     not-served (stop.Damaged table key) p silent = absurd p
     not-served stop.WriteFault p silent = absurd p
 
-    module _ (journal : List Entry) (day : IsDay publication old new requests around.handed around.doors around.doors_after (Ok journal)) where
-      served : Served publication requests around journal
-      served = record { held = held day.0; all = day.1 }
+    module _ (journal : List Entry) (day : IsDay publication says old new requests around.handed around.doors around.doors_after (Ok journal)) where
+      served : Served publication says requests around journal
+      served = record { held = held day.0; all = day.1; few = day.2 }
 
       all-served : (slice : List Entry) → slice ≡ journal → Appends was written (summary_text slice) → EndsSo (Ok tt)
       all-served slice is p = (journal, served, subst (λ (l : List Entry). Appends was written (summary_text l)) is p)
@@ -76,13 +77,14 @@ module _ (publication : Publication) (requests : ℕ) (around : Around) (was wri
       summed slice is (Ok done) ok err = all-served slice is ok
       summed slice is (Err s) ok err = unsummed s slice is err
 
-    module _ (p : Publication) (o : PublisherTables) (same : p ≡ publication) (began : o ≡ old) (r : Result (List Entry) Stop) (day : IsDay p o new requests around.handed around.doors around.doors_after r) where
-      pub not-served-so : (s : Stop) → r ≡ Err s → written ≡ was → EndsSo (Err s)
-      not-served-so s is silent = not-served s (day-of p publication o old new requests around.handed around.doors around.doors_after r (Err s) same began is day) silent
+    module _ (p : Publication) (s : Saying) (o : PublisherTables) (same : p ≡ publication) (said : s ≡ says) (began : o ≡ old) (r : Result (List Entry) Stop) (day : IsDay p s o new requests around.handed around.doors around.doors_after r) where
+      pub not-served-so : (why : Stop) → r ≡ Err why → written ≡ was → EndsSo (Err why)
+      not-served-so why is silent = not-served why (day-of p publication s says o old new requests around.handed around.doors around.doors_after r (Err why) same said began is day) silent
 
       pub summed-so : (journal : List Entry) → r ≡ Ok journal → (slice : List Entry) → slice ≡ journal → (w : Result Unit Stop)
-          → OnOk w (Appends was written (summary_text slice)) → IfErr w (λ (s : Stop). IsUnwritten s (summary_text slice) was written writes refused) → EndsSo w
-      summed-so journal is slice same_slice w ok err = summed journal (day-of p publication o old new requests around.handed around.doors around.doors_after r (Ok journal) same began is day) slice same_slice w ok err
+          → OnOk w (Appends was written (summary_text slice)) → IfErr w (λ (why : Stop). IsUnwritten why (summary_text slice) was written writes refused) → EndsSo w
+      summed-so journal is slice same_slice w ok err =
+          summed journal (day-of p publication s says o old new requests around.handed around.doors around.doors_after r (Ok journal) same said began is day) slice same_slice w ok err
 
 -- What a store told, and what it has.
 

@@ -35,12 +35,14 @@ pub(crate) struct Day<P: DraftingPublisher, D: Door> {
 }
 
 /// A desk of this publisher serves connections of a door, in a thread for each seat, until so many
-/// were accepted or the door failed, and is closed. It may wait.
+/// were accepted or the door failed, and is closed. No more calls are answered than connections were
+/// accepted. It may wait.
 pub(crate) fn hold_day<
     R: Threads + Wait + Sync,
     P: DraftingPublisher + Send,
     L: Ledger + Send + Sync,
     M: Ledger + Send + Sync,
+    N: Ledger + Send + Sync,
     O: Opening + Send + Sync,
     D: Door + Send,
     C: Clock + Send,
@@ -54,6 +56,7 @@ pub(crate) fn hold_day<
     clock: C,
     calls: Blank,
     faults: Blank,
+    permits: Blank,
 ) -> Day<P, D>
 where
     P::Work: Send,
@@ -66,11 +69,14 @@ where
     requires count { O.count ≡ (P.view publisher).faults }
     requires calls { (calls.name ≡ L.name) × (calls.parts ≡ L.parts) × (workers ≤ calls.parts) }
     requires faults { (faults.name ≡ M.name) × (faults.parts ≡ M.parts) × (workers ≤ faults.parts) }
+    requires permits { (permits.name ≡ N.name) × (permits.parts ≡ N.parts) × (requests ≤ permits.parts) }
     requires unopened { IfSome (D.handed door) (λ n. n ≡ 0) }
     requires unfailed { D.count door ≡ 0 }
-    ensures { IsOutcome (P.view publisher).publication (P.view publisher).tables (P.view result.publisher).tables requests (D.handed result.door) (D.count result.door) result.outcome }
+    ensures { IsOutcome (P.view publisher).publication (P.view publisher).says (P.view publisher).tables (P.view result.publisher).tables requests (D.handed result.door) (D.count result.door) result.outcome }
 {
-    let started = Desk::<P, L, M, O>::start(alloc, publisher, workers, calls, faults);
+    let (given, mut parts) = permits.open::<N>();
+    let spent = parts.empty();
+    let started = Desk::<P, L, M, N, O>::start(alloc, publisher, workers, calls, faults, spent);
     let (desk, seats) = match started {
         Ok(opened) => opened,
         Err(DeskStart { publisher }) => {
@@ -85,21 +91,35 @@ where
         seats,
         accepted,
         door,
-    } = serve(rt, alloc, &desk, seats, requests, door, clock, &OpenGate);
+        mut given,
+    } = serve(
+        rt, alloc, &desk, seats, requests, door, clock, &OpenGate, given, parts,
+    );
     match desk.close(seats) {
-        Ok(Closed { journal, publisher }) => Day {
-            publisher,
-            door,
-            outcome: Outcome::Closed {
-                journal: Listing::new(journal),
-                accepted,
+        Ok(
+            Closed {
+                journal,
+                publisher,
+                permits,
             },
-        },
+        ) => {
+            let mut spent = permits;
+            given.audit(&mut spent);
+            Day {
+                publisher,
+                door,
+                outcome: Outcome::Closed {
+                    journal: Listing::new(journal),
+                    accepted,
+                },
+            }
+        }
         Err(
             Differs {
                 seat,
                 told,
                 kept,
+                journal: _,
                 publisher,
             },
         ) => Day {

@@ -54,13 +54,13 @@ where
     <T::Opened as Door>::Input: Send,
     <T::Opened as Door>::Output: Send,
     requires workers { (1 ≤ workers) × (workers ≤ 16) }
-    ensures { IsDay (P.view publisher).publication (P.view publisher).tables (P.view result.0).tables requests (T.handed doors.new) (T.count doors.old) (T.count doors.new) result.1 }
+    ensures { IsDay (P.view publisher).publication (P.view publisher).says (P.view publisher).tables (P.view result.0).tables requests (T.handed doors.new) (T.count doors.old) (T.count doors.new) result.1 }
 {
     let door = match doors.door(address) {
         Ok(door) => door,
         Err(fault) => return (publisher, Err(undoored(fault))),
     };
-    let served = hold_day::<R, P, Brand, Brand, Brand, T::Opened, C>(
+    let served = hold_day::<R, P, Brand, Brand, Brand, Brand, T::Opened, C>(
         rt,
         alloc,
         publisher,
@@ -70,6 +70,7 @@ where
         clock,
         Blank::new(workers as u64),
         Blank::new(workers as u64),
+        Blank::new(requests),
     );
     let Day {
         publisher,

@@ -4,6 +4,8 @@ ghost use Rattle.std.specs.declared.option.Option.{Option};
 ghost use Rattle.merge_keeper.specs.PublisherStart.{publisher_loaded};
 ghost use Rattle.merge_model.specs.Publisher.{new_holders};
 ghost use Rattle.merge_ports.specs.Entries.{Map};
+ghost use Rattle.merge_ports.specs.Opened.{SameElsewhere};
+ghost use Rattle.merge_resolve.specs.Asked.{says_at};
 ghost use Rattle.merge_schema.specs.Valid.{IsValid};
 ghost use Rattle.merge_schema.specs.declared.publication.Publication.{Publication as OnePublication};
 ghost use Rattle.merge_site.specs.Loading.{IsRead};
@@ -55,8 +57,8 @@ where
     <T::Opened as Door>::Output: Send,
     requires room { E.HasRoom outside.old site store.now }
     requires workers { (1 ≤ hours.workers) × (hours.workers ≤ 16) }
-    ensures { (publication : OnePublication) (stored : Option Map) (stores : ℕ) → kept.publication ≡ publication → IsRead (publisher_loaded publication (new_holders publication)) stored (Ok (publisher_stored kept.tables))
-        → Ends publication hours.requests (record {
+    ensures ends { (publication : OnePublication) (stored : Option Map) (stores : ℕ) → kept.publication ≡ publication → IsRead (publisher_loaded publication (new_holders publication)) stored (Ok (publisher_stored kept.tables))
+        → Ends publication (says_at (λ r. says r) resolvers.items) hours.requests (record {
           stored = stored;
           kept = E.told outside.new site store.now;
           handed = T.handed doors.new;
@@ -65,6 +67,7 @@ where
           doors = T.count doors.old;
           doors_after = T.count doors.new;
         }) (O.written output.old) (O.written output.new) (O.count output.old) (O.count output.new) result }
+    ensures others { SameElsewhere site store.now (E.told outside.old) (E.told outside.new) }
 {
     let publisher = DraftingSite::new(kept, resolvers);
     let opened = open_day(
@@ -85,10 +88,10 @@ where
     }
 }
 
-/// The publisher starts at its store and serves over a door at an address, in a thread for each
-/// worker, until so many connections were accepted or the door failed. The door and the keeper are
-/// given back. Where all were accepted the summary of the journal is written, and else nothing. It may
-/// wait.
+/// The publisher starts at its store and serves over a door, with its resolvers, until so many
+/// connections were accepted or the door failed. The door and the keeper are given back. Where all were
+/// accepted the summary of the journal is written, and else nothing. The door is opened at the address,
+/// and there is a seat for each worker, which no clause says. It may wait.
 pub fn serve_store<R: Threads + Wait + Sync, O: Sink, E: CommandOutside, T: Doors>(
     rt: &R,
     alloc: Global,
@@ -110,7 +113,7 @@ where
     <T::Opened as Door>::Output: Send,
     requires valid { (resolvers : ℕ) × IsValid resolvers publication.now }
     requires workers { (1 ≤ hours.workers) × (hours.workers ≤ 16) }
-    ensures { Ends publication.now hours.requests (record {
+    ensures ends { Ends publication.now (says_at (λ r. says r) resolvers.items) hours.requests (record {
       stored = E.told outside.old site store.now;
       kept = E.told outside.new site store.now;
       handed = T.handed doors.new;
@@ -119,6 +122,7 @@ where
       doors = T.count doors.old;
       doors_after = T.count doors.new;
     }) (O.written output.old) (O.written output.new) (O.count output.old) (O.count output.new) result }
+    ensures others { SameElsewhere site store.now (E.told outside.old) (E.told outside.new) }
 {
     let clock = outside.clock();
     match start(alloc, outside, site, store, publication) {

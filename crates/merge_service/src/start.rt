@@ -2,6 +2,7 @@
 ghost use Rattle.std.specs.Prelude.{◌≡◌, IfErr, IfOk, Ok, OnErr, OnOk, ℕ};
 ghost use Rattle.merge_keeper.specs.PublisherStart.{publisher_loaded};
 ghost use Rattle.merge_model.specs.Publisher.{new_holders};
+ghost use Rattle.merge_ports.specs.Opened.{SameElsewhere};
 ghost use Rattle.merge_schema.specs.Valid.{IsValid};
 ghost use Rattle.merge_site.specs.Loading.{IsRead};
 ghost use Rattle.merge_site.specs.Publishers.{publisher_stored};
@@ -28,6 +29,7 @@ pub(crate) fn start<E: Outside>(
     ensures room { OnOk result (E.HasRoom outside.new site store.now) }
     ensures stop { IfErr result (λ stop. IsUnstarted publication.now stop (E.told outside.old site store.now) (E.counts outside.old).stores (E.counts outside.new).stores) }
     ensures same { OnErr result (E.told outside.new site store.now ≡ E.told outside.old site store.now) }
+    ensures others { SameElsewhere site store.now (E.told outside.old) (E.told outside.new) }
 {
     let keeper = match outside.keeper(site, store) {
         Ok(keeper) => keeper,

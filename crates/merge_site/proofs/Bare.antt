@@ -1,5 +1,5 @@
 -- What is kept of a site that begins: of its records there is but the state.
-use Rattle.std.proofs.Common.{◌≡◌, ℕ, ◌+◌, ◌^◌, ◌<◌, ◌≤◌, List, [], ◌∷◌, ◌++◌, inr, length, map, filter, refl, sym, ap, subst, arith}
+use Rattle.std.proofs.Common.{◌≡◌, ℕ, ◌+◌, ◌^◌, ◌<◌, ◌≤◌, List, [], ◌∷◌, ◌++◌, inl, inr, length, map, filter, refl, sym, ap, subst, arith}
 use Rattle.std.specs.declared.option.Option.{Option}
 use Rattle.std.specs.declared.option.Option.TheVariants.{None, Some}
 use Rattle.merge_types.specs.declared.identifiers.SiteId.{SiteId}
@@ -22,7 +22,7 @@ use Rattle.merge_keeper.specs.Stored.{IsPublisherKeyed, IsSubscriberKeyed, publi
 use Rattle.merge_sub.specs.Begin.{holders_from}
 use Rattle.merge_sub.proofs.Begun.{holders-ascend, holders-step, with_article}
 use Rattle.merge_site.specs.Beginning.{IsEmptyStore}
-use Rattle.merge_site.specs.Kept.{HasRecords, IsBare, IsKept}
+use Rattle.merge_site.specs.Kept.{HasRecords, IsBare, IsFreshState, IsKept}
 use Rattle.merge_site.specs.Publishers as publisher
 use Rattle.merge_site.specs.Publishers.{IsKeptPublisher, publisher_stored}
 use Rattle.merge_site.specs.Subscribers as subscriber
@@ -47,10 +47,10 @@ pub new_keys : (publication : Publication) → length publication.articles ≤ 3
 new_keys publication few = holders_keys 256 0 publication.articles (omega (arith, few))
 
 -- nothing is stored
-bare_kept : (records : Map) (state : List ℕ) → records ≡ (state_key, state) ∷ [] → (told : Option Map) → IsEmptyStore told → IsKept records told
+bare_kept : (records : Map) (state : List ℕ) → records ≡ (state_key, state) ∷ [] → IsFreshState state → (told : Option Map) → IsEmptyStore told → IsKept records told
 unfolding IsKept HasRecords
-bare_kept records state alone None empty = tt
-bare_kept records state alone (Some stored) empty = inr (record { empty = empty; state = state; alone = alone })
+bare_kept records state alone fresh None empty = tt
+bare_kept records state alone fresh (Some stored) empty = inr (record { empty = empty; state = state; alone = alone; fresh = fresh })
 
 subscriber_keyed : (publication : Publication) (site : SiteId) → length publication.articles ≤ 32 → subscriber.AreKeyed (empty_subscriber publication site)
 unfolding subscriber.AreKeyed
@@ -67,10 +67,13 @@ unfolding subscriber.records_of
 subscriber_alone publication site =
     ap (λ (l : List (ℕ × Holder)). (let m : Map = (state_key, subscriber_state (subscriber_stored (empty_subscriber publication site))) ∷ encoded held_key held_value l in m)) (none_received (identities publication))
 
+subscriber_fresh : (publication : Publication) (site : SiteId) → IsFreshState (subscriber_state (subscriber_stored (empty_subscriber publication site)))
+subscriber_fresh publication site = inr (site, refl)
+
 pub subscriber_begun : (publication : Publication) (site : SiteId) → ((resolvers : ℕ) × IsValid resolvers publication) → (s : SubscriberTables) → s ≡ empty_subscriber publication site → (told : Option Map) → IsEmptyStore told → IsKeptSubscriber s told
 subscriber_begun publication site valid s is told empty =
     let v = valid.1 in
-    rw is (record { keyed = subscriber_keyed publication site v.some_articles.1; kept = bare_kept _ _ (subscriber_alone publication site) told empty; printable = none-printable (λ (row : SubscriberRow). row.version); lost = none-lost })
+    rw is (record { keyed = subscriber_keyed publication site v.some_articles.1; kept = bare_kept _ _ (subscriber_alone publication site) (subscriber_fresh publication site) told empty; printable = none-printable (λ (row : SubscriberRow). row.version); lost = none-lost })
 
 publisher_keyed : (publication : Publication) → length publication.articles ≤ 32 → publisher.AreKeyed (empty_publisher publication)
 unfolding publisher.AreKeyed
@@ -90,7 +93,10 @@ unfolding publisher.records_of
 publisher_alone publication =
     ap (λ (l : List (ℕ × Holder)). (let m : Map = (state_key, publisher_state (publisher_stored (empty_publisher publication))) ∷ (rows_after_all entry_cmp (encoded held_key held_value l) [] ++ []) in m)) (none_received (identities publication))
 
+publisher_fresh : (publication : Publication) → IsFreshState (publisher_state (publisher_stored (empty_publisher publication)))
+publisher_fresh publication = inl refl
+
 pub publisher_begun : (publication : Publication) → ((resolvers : ℕ) × IsValid resolvers publication) → (p : PublisherTables) → p ≡ empty_publisher publication → (told : Option Map) → IsEmptyStore told → IsKeptPublisher p told
 publisher_begun publication valid p is told empty =
     let v = valid.1 in
-    rw is (record { keyed = publisher_keyed publication v.some_articles.1; kept = bare_kept _ _ (publisher_alone publication) told empty; printable = none-printable (λ (row : PublisherRow). row.version); lost = none-lost })
+    rw is (record { keyed = publisher_keyed publication v.some_articles.1; kept = bare_kept _ _ (publisher_alone publication) (publisher_fresh publication) told empty; printable = none-printable (λ (row : PublisherRow). row.version); lost = none-lost })

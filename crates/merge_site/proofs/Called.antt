@@ -13,7 +13,7 @@ module _ {T A : Type 0} (by : Result (T × A) Refusal) (commits : A → Bool) (o
   called-refused why (inr refused) same later = (same, inl (refused, later))
 
   pub called-stopped : (why : Refusal) (done : T × A) → by ≡ Ok done → commits done.1 ≡ true → StopsAs why before after → new ≡ old → before ≤ after → Called by commits old new before after (Err why)
-  called-stopped why done is makes (inl starved) same later = (same, inr (inl (starved, later)))
+  called-stopped why done is makes (inl starved) same later = (same, inr (inl (starved.0, later)))
   called-stopped why done is makes (inr failed) same later = (same, inr (inr (failed.0, (done, is, makes), failed.1)))
 
 -- a fact that holds of every value

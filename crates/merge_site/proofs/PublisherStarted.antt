@@ -49,7 +49,7 @@ use Rattle.merge_pub.specs.Restoring.{CanStand}
 use Rattle.merge_sub.proofs.Begun.{begun-ranged}
 use Rattle.merge_sub.proofs.Standing.{numbers-below, numbers-rise}
 use Rattle.merge_sub.specs.Held.{AreRanged}
-use Rattle.merge_site.specs.Kept.{HasRecords}
+use Rattle.merge_site.specs.Kept.{HasRecords, IsFreshState}
 use Rattle.merge_site.specs.Loading.{IsRead}
 use Rattle.merge_site.specs.Publishers.{AreKeyed, IsKeptPublisher, stored_tables, records_of}
 use Rattle.merge_site.proofs.Bare.{none_received}
@@ -181,10 +181,17 @@ begun-alone publication t is =
     subst (λ (t : PublisherStored). publisher_records t ≡ (state_key, publisher_state t) ∷ []) is
     (ap (λ (l : List (ℕ × Holder)). (let m : Map = (state_key, publisher_state (tables_with (new_holders publication) no_state)) ∷ (rows_after_all entry_cmp (encoded held_key held_value l) [] ++ []) in m)) (none_received (identities publication)))
 
+first-fresh : (publication : Publication) → IsFreshState (publisher_state (tables_with (new_holders publication) no_state))
+first-fresh publication = inl refl
+
+begun-fresh : (publication : Publication) (t : PublisherStored) → tables_with (new_holders publication) no_state ≡ t → IsFreshState (publisher_state t)
+begun-fresh publication t is = subst (λ (t : PublisherStored). IsFreshState (publisher_state t)) is (first-fresh publication)
+
 has-records : (publication : Publication) (entries : Map) → IsMap entries → (t : PublisherStored) → publisher_loaded publication (new_holders publication) entries ≡ Ok t → HasRecords (records_of (stored_tables t)) entries
 unfolding HasRecords records_of
 has-records publication [] is_map t loads =
-    inr (record { empty = refl; state = publisher_state t; alone = begun-alone publication t (ok_is (tables_with (new_holders publication) no_state) t loads) })
+    let begun : tables_with (new_holders publication) no_state ≡ t = ok_is (tables_with (new_holders publication) no_state) t loads in
+    inr (record { empty = refl; state = publisher_state t; alone = begun-alone publication t begun; fresh = begun-fresh publication t begun })
 has-records publication (e ∷ es) is_map t loads =
     let back = loaded_back publication (new_holders publication) e es t is_map (new-beginning publication) loads in
     inl back.records

@@ -34,7 +34,7 @@ use Rattle.merge_keeper.proofs.Fronts.{all_mapped, each_so}
 use Rattle.merge_keeper.proofs.SubscriberBack.{loaded_articles, loaded_back, loaded_keeps, loaded_ordered}
 use Rattle.merge_sub.specs.Restoring.{CanStand, RowCanStand}
 use Rattle.merge_sub.proofs.Standing.{NumberedOn, RunOn, generations-opened, numbers-below, numbers-rise, run-sound}
-use Rattle.merge_site.specs.Kept.{HasRecords}
+use Rattle.merge_site.specs.Kept.{HasRecords, IsFreshState}
 use Rattle.merge_site.specs.Loading.{IsRead}
 use Rattle.merge_site.specs.Subscribers.{AreKeyed, IsKeptSubscriber, records_of, subscriber_stored}
 use Rattle.merge_site.proofs.Bare.{none_received}
@@ -131,10 +131,17 @@ begun-alone publication site t is =
     subst (λ (t : SubscriberStored). subscriber_records t ≡ (state_key, subscriber_state t) ∷ []) is
     (ap (λ (l : List (ℕ × Holder)). (let m : Map = (state_key, subscriber_state (tables_with site (new_holders publication) (no_state site))) ∷ encoded held_key held_value l in m)) (none_received (identities publication)))
 
+first-fresh : (publication : Publication) (site : SiteId) → IsFreshState (subscriber_state (tables_with site (new_holders publication) (no_state site)))
+first-fresh publication site = inr (site, refl)
+
+begun-fresh : (publication : Publication) (site : SiteId) (t : SubscriberStored) → tables_with site (new_holders publication) (no_state site) ≡ t → IsFreshState (subscriber_state t)
+begun-fresh publication site t is = subst (λ (t : SubscriberStored). IsFreshState (subscriber_state t)) is (first-fresh publication site)
+
 has-records : (publication : Publication) (site : SiteId) (entries : Map) → IsMap entries → (s : SubscriberTables) → subscriber_loaded publication site (new_holders publication) entries ≡ Ok (subscriber_stored s) → HasRecords (records_of s) entries
 unfolding HasRecords records_of
 has-records publication site [] is_map s loads =
-    inr (record { empty = refl; state = subscriber_state (subscriber_stored s); alone = begun-alone publication site (subscriber_stored s) (ok_is (tables_with site (new_holders publication) (no_state site)) (subscriber_stored s) loads) })
+    let begun : tables_with site (new_holders publication) (no_state site) ≡ subscriber_stored s = ok_is (tables_with site (new_holders publication) (no_state site)) (subscriber_stored s) loads in
+    inr (record { empty = refl; state = subscriber_state (subscriber_stored s); alone = begun-alone publication site (subscriber_stored s) begun; fresh = begun-fresh publication site (subscriber_stored s) begun })
 has-records publication site (e ∷ es) is_map s loads =
     let back = loaded_back publication site (new_holders publication) e es (subscriber_stored s) is_map (new-beginning publication) loads in
     inl back.records

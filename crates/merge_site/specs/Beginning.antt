@@ -1,8 +1,9 @@
 -- A site begins at a store that has no entry.
-use Rattle.std.specs.Prelude.{IfSome, List, Option, [], ℕ, ◌+◌, ◌≡◌, ◌≢◌, ◌≤◌, ◌⊎◌}
+use Rattle.std.specs.Prelude.{IfSome, List, Option, [], ℕ, ◌≡◌, ◌≢◌, ◌⊎◌}
 use Rattle.merge_batch.specs.declared.refusal.Refusal.{Refusal}
 use Rattle.merge_batch.specs.declared.refusal.Refusal.TheVariants as refusal
 use Rattle.merge_ports.specs.Entries.{Map}
+use Rattle.merge_site.specs.Calls.{StopsAs}
 
 -- nothing is stored, where the keeper tells it
 abbrev pub IsEmptyStore : Option Map → Type 0
@@ -12,6 +13,6 @@ IsEmptyStore told = IfSome told (λ (map : Map). map ≡ [])
 abbrev pub NamesEntry : Refusal → Option Map → Type 0
 NamesEntry why told = ((table : ℕ) × (key : List ℕ) × (why ≡ refusal.Damaged table key)) × IfSome told (λ (map : Map). map ≢ [])
 
--- why a site does not begin: memory was wanting; the store could not be read, which is counted; or it has entries
+-- why a site does not begin: memory was wanting, or the store could not be read, which is counted; or it has entries
 abbrev pub StartsNot : Refusal → Option Map → ℕ → ℕ → Type 0
-StartsNot why told before after = (why ≡ refusal.NoMemory) × (before ≤ after) ⊎ ((why ≡ refusal.StoreFault) × (before + 1 ≤ after) ⊎ NamesEntry why told)
+StartsNot why told before after = StopsAs why before after ⊎ NamesEntry why told

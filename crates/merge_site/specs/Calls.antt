@@ -3,9 +3,9 @@ use Rattle.std.specs.Prelude.{Bool, Err, IfOk, None, Ok, Option, Result, Some, t
 use Rattle.merge_batch.specs.declared.refusal.Refusal.{Refusal}
 use Rattle.merge_batch.specs.declared.refusal.Refusal.TheVariants as refusal
 
--- why a commit is not made: memory was wanting, or the store failed, which is counted
+-- why a commit is not made: memory was wanting, and no fault is counted; or the store failed, which is counted
 abbrev pub StopsAs : Refusal → ℕ → ℕ → Type 0
-StopsAs why before after = (why ≡ refusal.NoMemory) ⊎ (why ≡ refusal.StoreFault) × (before + 1 ≤ after)
+StopsAs why before after = (why ≡ refusal.NoMemory) × (after ≡ before) ⊎ (why ≡ refusal.StoreFault) × (before + 1 ≤ after)
 
 -- a step that is refused is so by the definition, or memory was wanting
 abbrev pub IsRefused : {R : Type 0} → Result R Refusal → Refusal → Type 0

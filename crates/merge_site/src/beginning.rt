@@ -28,6 +28,7 @@ fn first_key(entries: &Entries) -> Result<Option<EntryKey>, NoMemory>
 /// Refuses a store that has an entry.
 pub(crate) fn check_empty<K: Keeper>(keeper: &mut K) -> Result<(), Refusal>
     ensures ok { OnOk result (IsEmptyStore (K.told keeper.new)) }
+    ensures same { K.told keeper.new ≡ K.told keeper.old }
     ensures count { OnOk result (K.count keeper.new ≡ K.count keeper.old) }
     ensures later { K.count keeper.old ≤ K.count keeper.new }
     ensures why { IfErr result (λ why. StartsNot why (K.told keeper.old) (K.count keeper.old) (K.count keeper.new)) }

@@ -11,6 +11,7 @@ use merge_ports::{EntryEdit, KeepFault, Keeper};
 pub(crate) fn commit<K: Keeper>(keeper: &mut K, edits: &[EntryEdit]) -> Result<(), Refusal>
     ensures ok { OnOk result (K.told keeper.new ≡ told_after edits.now (K.told keeper.old)) }
     ensures err { OnErr result (K.told keeper.new ≡ K.told keeper.old) }
+    ensures count { OnOk result (K.count keeper.new ≡ K.count keeper.old) }
     ensures later { K.count keeper.old ≤ K.count keeper.new }
     ensures why { IfErr result (λ why. StopsAs why (K.count keeper.old) (K.count keeper.new)) }
 {

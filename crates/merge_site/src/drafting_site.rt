@@ -89,8 +89,8 @@ impl<K: Keeper> DraftingSite<K> {
 }
 
 impl<K: Keeper> DraftingPublisher for DraftingSite<K> {
-    ghost use Rattle.std.specs.Prelude.{◌≡◌, ◌≤◌, ◌+◌, Err, OnErr, OnOk, map, true, ℕ};
-    ghost use Rattle.merge_ports.specs.declared.keeper.KeepFault.TheVariants.{Failed};
+    ghost use Rattle.std.specs.Prelude.{◌≡◌, ◌≤◌, ◌+◌, Err, IsOk, OnErr, OnOk, false, map, true, ℕ};
+    ghost use Rattle.merge_ports.specs.declared.keeper.KeepFault.TheVariants.{Failed, NoMemory};
     ghost use Rattle.merge_pub.specs.After.{after};
     ghost use Rattle.merge_pub.specs.Held.{publication_of, tables_of};
     ghost use Rattle.merge_resolve.specs.Asked.{says_at};
@@ -118,9 +118,12 @@ impl<K: Keeper> DraftingPublisher for DraftingSite<K> {
         ensures err { OnErr result (tables_of self.new.site.held ≡ tables_of self.old.site.held) }
         ensures later { self.old.site.faults ≤ self.new.site.faults }
         ensures fault { result ≡ Err Failed → (self.old.site.faults + 1 ≤ self.new.site.faults) × (work.commits ≡ true) }
+        ensures count { OnOk result (self.new.site.faults ≡ self.old.site.faults) }
+        ensures starved { result ≡ Err NoMemory → self.new.site.faults ≡ self.old.site.faults }
         ensures tallies { map (λ r. (Resolver-box r).tally_of r.value) self.new.resolvers.items ≡ map (λ r. (Resolver-box r).tally_of r.value) self.old.resolvers.items }
         ensures steady { (k n : ℕ) (asked : _) → says_at (λ r. (Resolver-box r).says r.value) self.new.resolvers.items k n asked ≡ says_at (λ r. (Resolver-box r).says r.value) self.old.resolvers.items k n asked }
         ensures publication { publication_of self.new.site.held ≡ publication_of self.old.site.held }
+        ensures nothing { work.commits ≡ false → IsOk result }
     {
         self.site.settle(work)
     }

@@ -1,7 +1,7 @@
 //! A kept publisher that shows all that it holds, so that contracts can say which drafts fit it.
-ghost use Rattle.std.specs.Prelude.{◌≡◌, ◌≤◌, ◌+◌, ℕ, Err, IfOk, OnErr, OnOk, map, true};
+ghost use Rattle.std.specs.Prelude.{◌≡◌, ◌≢◌, ◌≤◌, ◌+◌, ℕ, Err, IfOk, IsOk, OnErr, OnOk, false, map, true};
 ghost use Rattle.merge_batch.specs.declared.refusal.Refusal.TheVariants.{StoreFault as store_fault};
-ghost use Rattle.merge_ports.specs.declared.keeper.KeepFault.TheVariants.{Failed};
+ghost use Rattle.merge_ports.specs.declared.keeper.KeepFault.TheVariants.{Failed, NoMemory};
 ghost use Rattle.merge_pub.specs.After.{after};
 ghost use Rattle.merge_pub.specs.Held.{IsDrafted, publication_of, tables_of};
 ghost use Rattle.merge_resolve.specs.Asked.{says_at};
@@ -51,7 +51,8 @@ impl<K: Keeper> Model for HeldPublisher<K> {
 
 // Why a commit was not made.
 fn fault_of(why: Refusal) -> KeepFault
-    ensures { result ≡ Failed → why ≡ store_fault }
+    ensures failed { result ≡ Failed → why ≡ store_fault }
+    ensures starved { result ≡ NoMemory → why ≢ store_fault }
 {
     match why {
         Refusal::StoreFault => KeepFault::Failed,
@@ -120,6 +121,8 @@ impl<K: Keeper> HeldPublisher<K> {
         ensures err { OnErr result (tables_of self.new.held ≡ tables_of self.old.held) }
         ensures later { self.old.faults ≤ self.new.faults }
         ensures fault { result ≡ Err Failed → self.old.faults + 1 ≤ self.new.faults }
+        ensures count { OnOk result (self.new.faults ≡ self.old.faults) }
+        ensures starved { result ≡ Err NoMemory → self.new.faults ≡ self.old.faults }
         ensures publication { publication_of self.new.held ≡ publication_of self.old.held }
     {
         match commit_and_settle(self.alloc, &mut self.keeper, &mut self.publisher, draft) {
@@ -135,7 +138,12 @@ impl<K: Keeper> HeldPublisher<K> {
         ensures err { OnErr result (tables_of self.new.held ≡ tables_of self.old.held) }
         ensures later { self.old.faults ≤ self.new.faults }
         ensures fault { result ≡ Err Failed → (self.old.faults + 1 ≤ self.new.faults) × (work.commits ≡ true) }
+        ensures count { OnOk result (self.new.faults ≡ self.old.faults) }
+        ensures starved { result ≡ Err NoMemory → self.new.faults ≡ self.old.faults }
         ensures publication { publication_of self.new.held ≡ publication_of self.old.held }
+
+        // What commits nothing is not refused.
+        ensures nothing { work.commits ≡ false → IsOk result }
     {
         let RequestDraft { draft, commits } = work;
         if commits {

@@ -1,5 +1,5 @@
 //! A publisher with a keeper of its records.
-ghost use Rattle.std.specs.Prelude.{◌≡◌, ◌≤◌, ◌+◌, ◌||◌, ℕ, IfErr, IfOk, Ok, length, nat_lt, true};
+ghost use Rattle.std.specs.Prelude.{◌≡◌, ◌≤◌, ◌+◌, ◌||◌, ℕ, IfErr, IfOk, Ok, OnOk, length, nat_lt, true};
 ghost use Rattle.merge_units.specs.Changes.{ColumnsAscend};
 ghost use Rattle.merge_batch.specs.Articles.{has_article};
 ghost use Rattle.merge_batch.specs.LocalChanges.{article_of, settings_of};
@@ -71,7 +71,9 @@ impl<K: Keeper> KeptPublisher<K> {
         ensures tables { IfOk result (λ p. p.tables ≡ empty_publisher publication.now) }
         ensures publication { IfOk result (λ p. p.publication ≡ publication.now) }
         ensures faults { IfOk result (λ p. p.faults ≡ K.count keeper) }
+        ensures empty { OnOk result (IsEmptyStore (K.told keeper)) }
         ensures err { IfErr result (λ n. StartsNot n.why (K.told keeper) (K.count keeper) (K.count n.keeper)) }
+        ensures back { IfErr result (λ n. (K.told n.keeper ≡ K.told keeper) × (K.count keeper ≤ K.count n.keeper)) }
     {
         let mut keeper = keeper;
         match check_empty(&mut keeper) {
@@ -91,7 +93,7 @@ impl<K: Keeper> KeptPublisher<K> {
         ensures tables { IfOk result (λ p. p.tables ≡ empty_publisher publication.now) }
         ensures publication { IfOk result (λ p. p.publication ≡ publication.now) }
         ensures faults { IfOk result (λ p. p.faults ≡ K.count keeper) }
-        ensures err { IfErr result (λ n. (n.why ≡ no_memory) × (K.count n.keeper ≡ K.count keeper)) }
+        ensures err { IfErr result (λ n. (n.why ≡ no_memory) × (n.keeper ≡ keeper)) }
     {
         match Publisher::new(alloc, publication) {
             Ok(publisher) => Ok(KeptPublisher {

@@ -113,6 +113,7 @@ fn commit_changes<K: Keeper>(
     requires kept { IsKeptPublisher (tables_of publisher.now) (K.told keeper.old) }
     ensures ok { OnOk result (IsKeptPublisher (after_forgetting forgets changes.now (tables_of publisher.now)) (K.told keeper.new)) }
     ensures err { OnErr result (IsKeptPublisher (tables_of publisher.now) (K.told keeper.new)) }
+    ensures count { OnOk result (K.count keeper.new ≡ K.count keeper.old) }
     ensures later { K.count keeper.old ≤ K.count keeper.new }
     ensures why { IfErr result (λ why. StopsAs why (K.count keeper.old) (K.count keeper.new)) }
 {
@@ -135,6 +136,7 @@ pub(crate) fn commit_and_settle<K: Keeper>(
     ensures err { OnErr result (tables_of publisher.new ≡ tables_of publisher.old) }
     ensures kept { IsKeptPublisher (tables_of publisher.new) (K.told keeper.new) }
     ensures publication { publication_of publisher.new ≡ publication_of publisher.old }
+    ensures count { OnOk result (K.count keeper.new ≡ K.count keeper.old) }
     ensures later { K.count keeper.old ≤ K.count keeper.new }
     ensures why { IfErr result (λ why. StopsAs why (K.count keeper.old) (K.count keeper.new)) }
 {
@@ -156,6 +158,7 @@ pub(crate) fn commit_and_purge<K: Keeper>(
     ensures err { OnErr result (tables_of publisher.new ≡ tables_of publisher.old) }
     ensures kept { IsKeptPublisher (tables_of publisher.new) (K.told keeper.new) }
     ensures publication { publication_of publisher.new ≡ publication_of publisher.old }
+    ensures count { OnOk result (K.count keeper.new ≡ K.count keeper.old) }
     ensures later { K.count keeper.old ≤ K.count keeper.new }
     ensures why { IfErr result (λ why. StopsAs why (K.count keeper.old) (K.count keeper.new)) }
 {

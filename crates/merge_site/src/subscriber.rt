@@ -1,5 +1,5 @@
 //! A subscriber with a keeper of its records.
-ghost use Rattle.std.specs.Prelude.{◌≡◌, ◌||◌, ℕ, IfErr, IfOk, nat_lt, true};
+ghost use Rattle.std.specs.Prelude.{◌≡◌, ◌≤◌, ◌||◌, ℕ, IfErr, IfOk, OnOk, nat_lt, true};
 ghost use Rattle.merge_units.specs.Changes.{ColumnsAscend};
 ghost use Rattle.merge_batch.specs.Articles.{has_article};
 ghost use Rattle.merge_batch.specs.LocalChanges.{article_of, settings_of};
@@ -89,7 +89,9 @@ impl<K: Keeper> KeptSubscriber<K> {
         ensures tables { IfOk result (λ s. s.tables ≡ empty_subscriber publication site) }
         ensures publication { IfOk result (λ s. s.publication ≡ publication) }
         ensures faults { IfOk result (λ s. s.faults ≡ K.count keeper) }
+        ensures empty { OnOk result (IsEmptyStore (K.told keeper)) }
         ensures err { IfErr result (λ n. StartsNot n.why (K.told keeper) (K.count keeper) (K.count n.keeper)) }
+        ensures back { IfErr result (λ n. (K.told n.keeper ≡ K.told keeper) × (K.count keeper ≤ K.count n.keeper)) }
     {
         let mut keeper = keeper;
         match check_empty(&mut keeper) {
@@ -110,7 +112,7 @@ impl<K: Keeper> KeptSubscriber<K> {
         ensures tables { IfOk result (λ s. s.tables ≡ empty_subscriber publication site) }
         ensures publication { IfOk result (λ s. s.publication ≡ publication) }
         ensures faults { IfOk result (λ s. s.faults ≡ K.count keeper) }
-        ensures err { IfErr result (λ n. (n.why ≡ no_memory) × (K.count n.keeper ≡ K.count keeper)) }
+        ensures err { IfErr result (λ n. (n.why ≡ no_memory) × (n.keeper ≡ keeper)) }
     {
         match Subscriber::new(alloc, publication, site) {
             Ok(subscriber) => Ok(KeptSubscriber {

@@ -109,6 +109,7 @@ pub(crate) fn commit_and_settle<K: Keeper>(
     ensures kept { IsKeptSubscriber (tables_of subscriber.new) (K.told keeper.new) }
     ensures publication { subscriber.new.publication ≡ subscriber.old.publication }
     ensures site { subscriber.new.site ≡ subscriber.old.site }
+    ensures count { OnOk result (K.count keeper.new ≡ K.count keeper.old) }
     ensures later { K.count keeper.old ≤ K.count keeper.new }
     ensures why { IfErr result (λ why. StopsAs why (K.count keeper.old) (K.count keeper.new)) }
 {

@@ -1,6 +1,6 @@
 //! Two threads with a seat each of one desk.
 ghost use Rattle.std.specs.List.{sum_by};
-ghost use Rattle.std.specs.Prelude.{◌≡◌, ◌≤◌, ◌<◌, ◌+◌, ℕ, None, length, slice_index_or};
+ghost use Rattle.std.specs.Prelude.{◌≡◌, ◌≤◌, ◌<◌, ◌+◌, ℕ, IfSome, None, length, slice_index_or};
 ghost use Rattle.merge_json.specs.Sendable.{IsSendableRequest};
 ghost use Rattle.merge_model.specs.Publisher.{empty_publisher};
 ghost use Rattle.merge_desk.specs.Replay.{no_publication};
@@ -11,10 +11,10 @@ use merge_batch::{Join, Kind, Request};
 use merge_desk::{Closed, Desk, Opening, Seat, summary};
 use merge_types::{Moment, SiteId};
 use std::alloc::Global;
-use std::marker::Brand;
+use std::marker::{Brand, Model};
 use std::process::Abort;
-use std::sync::Wait;
-use std::sync::ledger::{Blank, Ledger};
+use std::sync::ledger::{Blank, Ledger, Share};
+use std::sync::{Mutex, Wait};
 use std::test::*;
 use std::thread;
 use std::thread::Threads;
@@ -40,25 +40,67 @@ const TOLD: [u8; 32] = [
     0x40, 0xf5, 0x5d, 0x06, 0x99, 0x43, 0xd6, 0x25, 0x62, 0xb4, 0x15, 0x27, 0x7c, 0xd1, 0x84, 0x7c,
 ];
 
+// Permits for so many calls.
+#[derive(Drop)]
+struct Till<N: Ledger> {
+    left: u64,
+    permits: Share<N>,
+}
+
+impl<N: Ledger> Model for Till<N> {
+    ghost use Rattle.std.specs.Prelude.{◌≡◌, ℕ};
+
+    ghost Value = { ℕ };
+
+    ghost view = { λ t. t.left };
+
+    ghost invariant = { λ t. (t.permits.parts ≡ t.left) × (t.permits.amount ≡ t.left) };
+}
+
+impl<N: Ledger> Till<N> {
+    fn next(&mut self) -> Option<Share<N>>
+        ensures { IfSome result (λ permit. permit.amount ≡ 1) }
+    {
+        if self.left > 0 {
+            self.left -= 1;
+            return Some(self.permits.split_off(1, 1));
+        }
+        None
+    }
+}
+
+fn take<R: Wait, N: Ledger>(rt: &R, till: &Mutex<Till<N>>) -> Option<Share<N>>
+    ensures { IfSome result (λ permit. permit.amount ≡ 1) }
+{
+    till.lock(rt).next()
+}
+
 // A site's requests, one after the other.
-fn work<R: Wait, L: Ledger, M: Ledger, O: Opening>(
+fn work<R: Wait, L: Ledger, M: Ledger, N: Ledger, O: Opening>(
     rt: &R,
-    desk: &Desk<Nobody, L, M, O>,
+    desk: &Desk<Nobody, L, M, N, O>,
     seat: &mut Seat<L, M>,
+    till: &Mutex<Till<N>>,
 )
     ensures parts { (seat.new.call_parts ≡ seat.old.call_parts) × (seat.new.fault_parts ≡ seat.old.fault_parts) }
 {
     for seq in 0..50u64 {
-        let _receipt = desk.call(rt, seat, Moment(seq), &join(7, seq));
+        match take(rt, till) {
+            Some(permit) => {
+                let _receipt = desk.call(rt, seat, permit, Moment(seq), &join(7, seq));
+            }
+            None => return,
+        }
     }
 }
 
 fn all<
     L: Ledger + Send + Sync,
     M: Ledger + Send + Sync,
+    N: Ledger + Send + Sync,
     O: Opening + Send + Sync,
     R: Threads + Wait + Sync,
->(rt: &R, desk: &Desk<Nobody, L, M, O>, seats: &mut [Seat<L, M>])
+>(rt: &R, desk: &Desk<Nobody, L, M, N, O>, seats: &mut [Seat<L, M>], till: &Mutex<Till<N>>)
     ensures length { length seats.new ≡ length seats.old }
     ensures parts { (i : ℕ) (d : SeatView) → i < length seats.old → ((slice_index_or seats.new i d).call_parts ≡ (slice_index_or seats.old i d).call_parts) × ((slice_index_or seats.new i d).fault_parts ≡ (slice_index_or seats.old i d).fault_parts) }
 {
@@ -68,27 +110,34 @@ fn all<
         2,
         &|_, seat: &mut Seat<L, M>|
             ensures { (seat.exit.now.call_parts ≡ seat.entry.now.call_parts) × (seat.exit.now.fault_parts ≡ seat.entry.now.fault_parts) }
-        { work(rt, desk, seat) },
+        { work(rt, desk, seat, till) },
     );
 }
 
 fn serve<
     L: Ledger + Send + Sync,
     M: Ledger + Send + Sync,
+    N: Ledger + Send + Sync,
     O: Opening + Send + Sync,
     R: Threads + Wait + Sync,
->(rt: &R, desk: &Desk<Nobody, L, M, O>, seats: Vec<Seat<L, M>>) -> Vec<Seat<L, M>>
+>(
+    rt: &R,
+    desk: &Desk<Nobody, L, M, N, O>,
+    seats: Vec<Seat<L, M>>,
+    till: &Mutex<Till<N>>,
+) -> Vec<Seat<L, M>>
     ensures calls { sum_by seat_call_parts result.items ≡ sum_by seat_call_parts seats.items }
     ensures faults { sum_by seat_fault_parts result.items ≡ sum_by seat_fault_parts seats.items }
 {
     let mut seats = seats;
-    all(rt, desk, seats.as_mut_slice());
+    all(rt, desk, seats.as_mut_slice(), till);
     seats
 }
 
 fn day<
     L: Ledger + Send + Sync,
     M: Ledger + Send + Sync,
+    N: Ledger + Send + Sync,
     O: Opening + Send + Sync,
     R: Threads + Wait + Abort + Sync,
 >(
@@ -97,19 +146,29 @@ fn day<
     publisher: Nobody,
     calls: Blank,
     faults: Blank,
-) -> Result<Closed<Nobody>, Fail>
+    permits: Blank,
+) -> Result<Closed<Nobody, N>, Fail>
     requires publication { O.publication ≡ no_publication }
     requires tables { O.tables ≡ empty_publisher no_publication }
     requires says { O.says ≡ (λ place tally asked. None) }
     requires count { O.count ≡ 0 }
     requires calls { (calls.name ≡ L.name) × (calls.parts ≡ L.parts) × (2 ≤ calls.parts) }
     requires faults { (faults.name ≡ M.name) × (faults.parts ≡ M.parts) × (2 ≤ faults.parts) }
+    requires permits { (permits.name ≡ N.name) × (permits.parts ≡ N.parts) × (permits.parts ≡ 100) }
 {
-    let Ok((desk, seats)) = Desk::<Nobody, L, M, O>::start(alloc, publisher, 2, calls, faults)
-    else {
+    let (mut given, mut rest) = permits.open::<N>();
+    let spent = rest.empty();
+    given.add(&mut rest, 100);
+    let till = Mutex::new(Till {
+        left: 100,
+        permits: rest,
+    });
+    let Ok((desk, seats)) = Desk::<Nobody, L, M, N, O>::start(
+        alloc, publisher, 2, calls, faults, spent,
+    ) else {
         return Err(Fail::new("no memory for a desk"));
     };
-    let seats = serve(rt, &desk, seats);
+    let seats = serve(rt, &desk, seats, &till);
     let Ok(closed) = desk.close(seats) else {
         return Err(Fail::new("the journal differs"));
     };
@@ -121,7 +180,15 @@ fn two_threads_are_answered_in_journal_order(rt: HostRuntime) -> Result<(), Fail
     let calls = Blank::new(2);
     let faults = Blank::new(2);
     let nobody = Nobody { asked: 0 };
-    let closed = day::<Brand, Brand, Brand, _>(&rt, rt.alloc(), nobody, calls, faults)?;
+    let permits = Blank::new(100);
+    let closed = day::<Brand, Brand, Brand, Brand, _>(
+        &rt,
+        rt.alloc(),
+        nobody,
+        calls,
+        faults,
+        permits,
+    )?;
     assert_eq!(rt; closed.publisher.asked, 100);
     assert_eq!(rt; closed.journal.len(), 100);
     let mut place = 0u64;

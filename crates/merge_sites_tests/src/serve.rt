@@ -65,13 +65,14 @@ struct Seen {
     calls: u64,
 }
 
-fn serve_one<R: Wait, L: Ledger, M: Ledger, O: Opening>(
+fn serve_one<R: Wait, L: Ledger, M: Ledger, N: Ledger, O: Opening>(
     rt: &R,
     alloc: Global,
     bytes: &[u8],
     failing: (&[u64], &[u64]),
     calls: Blank,
     faults: Blank,
+    permits: Blank,
 ) -> Result<Seen, Fail>
     requires publication { O.publication ≡ no_publication }
     requires tables { O.tables ≡ empty_publisher no_publication }
@@ -79,13 +80,18 @@ fn serve_one<R: Wait, L: Ledger, M: Ledger, O: Opening>(
     requires count { O.count ≡ 0 }
     requires calls { (calls.name ≡ L.name) × (calls.parts ≡ L.parts) × (1 ≤ calls.parts) }
     requires faults { (faults.name ≡ M.name) × (faults.parts ≡ M.parts) × (1 ≤ faults.parts) }
+    requires permits { (permits.name ≡ N.name) × (permits.parts ≡ N.parts) × (1 ≤ permits.parts) }
 {
-    let Ok((desk, seats)) = Desk::<Nobody, L, M, O>::start(
+    let (mut given, mut permit) = permits.open::<N>();
+    let spent = permit.empty();
+    given.add(&mut permit, 1);
+    let Ok((desk, mut seats)) = Desk::<Nobody, L, M, N, O>::start(
         alloc,
         Nobody { asked: 0 },
         1,
         calls,
         faults,
+        spent,
     ) else {
         return Err(Fail::new("no memory for a desk"));
     };
@@ -94,25 +100,26 @@ fn serve_one<R: Wait, L: Ledger, M: Ledger, O: Opening>(
         Listing::new(failing.0.to_vec(alloc)?),
     );
     let mut output = MemorySink::new(alloc, Listing::new(failing.1.to_vec(alloc)?));
-    for mut seat in seats {
-        let attended = attend(
-            rt,
-            alloc,
-            &desk,
-            &mut seat,
-            1,
-            &mut input,
-            &mut output,
-            Moment(7),
-            &OpenGate,
-        );
-        return Ok(Seen {
-            attended,
-            written: output.bytes,
-            calls: seat.told().len() as u64,
-        });
-    }
-    Err(Fail::new("no seat"))
+    let Some(mut seat) = seats.pop() else {
+        return Err(Fail::new("no seat"));
+    };
+    let attended = attend(
+        rt,
+        alloc,
+        &desk,
+        &mut seat,
+        permit,
+        1,
+        &mut input,
+        &mut output,
+        Moment(7),
+        &OpenGate,
+    );
+    Ok(Seen {
+        attended,
+        written: output.bytes,
+        calls: seat.told().len() as u64,
+    })
 }
 
 fn try_one<R: Wait>(
@@ -122,11 +129,12 @@ fn try_one<R: Wait>(
     reads: &[u64],
     writes: &[u64],
 ) -> Result<Seen, Fail> {
-    serve_one::<_, Brand, Brand, Brand>(
+    serve_one::<_, Brand, Brand, Brand, Brand>(
         rt,
         alloc,
         bytes,
         (reads, writes),
+        Blank::new(1),
         Blank::new(1),
         Blank::new(1),
     )
@@ -198,37 +206,50 @@ fn caller(alloc: Global, bytes: &[u8]) -> Result<Caller, Fail> {
 
 // What a day of a desk leaves.
 #[derive(Drop)]
-struct Left {
+struct Left<N: Ledger> {
     accepted: u64,
     faults: u64,
-    closed: Closed<Nobody>,
+    closed: Closed<Nobody, N>,
 }
 
 fn day<
     L: Ledger + Send + Sync,
     M: Ledger + Send + Sync,
+    N: Ledger + Send + Sync,
     O: Opening + Send + Sync,
     R: Threads + Wait + Sync,
     G: Gate + Sync,
->(rt: &R, alloc: Global, requests: u64, gate: &G, calls: Blank, faults: Blank) -> Result<Left, Fail>
+>(
+    rt: &R,
+    alloc: Global,
+    requests: u64,
+    gate: &G,
+    calls: Blank,
+    faults: Blank,
+    permits: Blank,
+) -> Result<Left<N>, Fail>
     requires publication { O.publication ≡ no_publication }
     requires tables { O.tables ≡ empty_publisher no_publication }
     requires says { O.says ≡ (λ place tally asked. None) }
     requires count { O.count ≡ 0 }
     requires calls { (calls.name ≡ L.name) × (calls.parts ≡ L.parts) × (2 ≤ calls.parts) }
     requires faults { (faults.name ≡ M.name) × (faults.parts ≡ M.parts) × (2 ≤ faults.parts) }
+    requires permits { (permits.name ≡ N.name) × (permits.parts ≡ N.parts) × (requests ≤ permits.parts) }
 {
+    let (given, mut parts) = permits.open::<N>();
+    let spent = parts.empty();
     let mut callers = Vec::new(alloc);
     callers.push(caller(alloc, JOIN)?)?;
     callers.push(caller(alloc, SECOND_JOIN)?)?;
     let door = MemoryDoor::new(alloc, callers, Listing::empty(alloc));
     let clock = MemoryClock::new(Listing::empty(alloc));
-    let Ok((desk, seats)) = Desk::<Nobody, L, M, O>::start(
+    let Ok((desk, seats)) = Desk::<Nobody, L, M, N, O>::start(
         alloc,
         Nobody { asked: 0 },
         2,
         calls,
         faults,
+        spent,
     ) else {
         return Err(Fail::new("no memory for a desk"));
     };
@@ -239,7 +260,10 @@ fn day<
         seats,
         accepted,
         door,
-    } = serve(rt, alloc, &desk, seats, requests, door, clock, gate);
+        given: _,
+    } = serve(
+        rt, alloc, &desk, seats, requests, door, clock, gate, given, parts,
+    );
     let Ok(closed) = desk.close(seats) else {
         return Err(Fail::new("the journal differs"));
     };
@@ -257,8 +281,15 @@ fn two_workers_serve_at_once(rt: HostRuntime) -> Result<(), Fail> {
         answered: AtomicU64::new(0),
         opened: AtomicU64::new(0),
     };
-    let blanks = (Blank::new(2), Blank::new(2));
-    let left = day::<Brand, Brand, Brand, _, _>(&rt, rt.alloc(), 2, &gate, blanks.0, blanks.1)?;
+    let left = day::<Brand, Brand, Brand, Brand, _, _>(
+        &rt,
+        rt.alloc(),
+        2,
+        &gate,
+        Blank::new(2),
+        Blank::new(2),
+        Blank::new(2),
+    )?;
     assert_eq!(rt; gate.opened.load(Ordering::SeqCst), 2);
     assert_eq!(rt; (left.accepted, left.faults), (2, 0));
     let told = summary(rt.alloc(), &left.closed.journal)?;
@@ -271,8 +302,15 @@ fn two_workers_serve_at_once(rt: HostRuntime) -> Result<(), Fail> {
 
 #[test]
 fn a_door_that_fails_ends_the_day(rt: HostRuntime) -> Result<(), Fail> {
-    let (calls, faults) = (Blank::new(2), Blank::new(2));
-    let left = day::<Brand, Brand, Brand, _, _>(&rt, rt.alloc(), 3, &OpenGate, calls, faults)?;
+    let left = day::<Brand, Brand, Brand, Brand, _, _>(
+        &rt,
+        rt.alloc(),
+        3,
+        &OpenGate,
+        Blank::new(2),
+        Blank::new(2),
+        Blank::new(3),
+    )?;
     assert_eq!(rt; (left.accepted, left.faults), (2, 1));
     assert_eq!(rt; left.closed.journal.len(), 2);
     Ok(())

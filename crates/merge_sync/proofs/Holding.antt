@@ -76,7 +76,7 @@ module _ (address : List ℕ) (publication : Publication) (site : SiteId) (aroun
     undone-by : (s : Stop) → IsUnstarted publication site s around.stored around.stores around.stores_after → around.kept ≡ around.stored → IfSome around.carried (λ (e : List Exchange). e ≡ []) → Undone address publication site around s
     undone-by stop.StoreFault p same unasked = (p, inl (record { same = same; unasked = unasked }))
     undone-by (stop.Damaged table key) p same unasked = (p, record { same = same; unasked = unasked })
-    undone-by stop.NoMemory p same unasked = inl same
+    undone-by stop.NoMemory p same unasked = inl (record { same = same; unasked = inr unasked })
     undone-by other p same unasked = absurd p
 
     pub undone-so : (s : Stop) (stored : Option Map) → stored ≡ around.stored → (before after : ℕ) → before ≡ around.stores → after ≡ around.stores_after → IsUnstarted own site s stored before after

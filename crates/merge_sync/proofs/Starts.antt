@@ -34,7 +34,7 @@ module _ (publication : Publication) (site : SiteId) (stored : Option Map) where
     By why = IsUnstarted publication site (unstarted why) stored old.stores new.stores
 
     unstarted-by : (why : Refusal) → LoadsNot (subscriber_loaded publication site (new_holders publication)) stored why first count → By why
-    unstarted-by why (inl (inl is)) = subst (λ (w : Refusal). By w) (sym is) tt
+    unstarted-by why (inl (inl (is, still))) = subst (λ (w : Refusal). By w) (sym is) tt
     unstarted-by why (inl (inr (is, more))) = subst (λ (w : Refusal). By w) (sym is) (rose more)
     unstarted-by why (inr (key, is, read)) = subst (λ (w : Refusal). By w) (sym is) (key, refl, read)
 

@@ -9,7 +9,7 @@ use Rattle.merge_ports.specs.Parts.{AppendsFront}
 use Rattle.merge_agent.specs.declared.fault.Done.{Done}
 use Rattle.merge_agent.specs.declared.fault.SessionFault.TheVariants as session
 use Rattle.merge_sync.specs.Stops.{done_text}
-use Rattle.merge_sync.specs.Stores.{Around, Held, IsDamagedAs, Unheld}
+use Rattle.merge_sync.specs.Stores.{Around, Held, IsDamagedAs, Unheld, Unsent}
 use Rattle.merge_sync.specs.declared.stop.Stop.{Stop}
 use Rattle.merge_sync.specs.declared.stop.Stop.TheVariants.{BadReply, Damaged, Expired, LinkFault, NoMemory, Refused, StoreFault, WriteFault}
 
@@ -22,7 +22,7 @@ Undone address publication site around (Expired last_sync now) = Held address pu
 Undone address publication site around (BadReply place) = Held address publication site around (Err (session.BadReply place))
 Undone address publication site around (Refused number) = Held address publication site around (Err (session.Refused number))
 Undone address publication site around WriteFault = ⊥
-Undone address publication site around NoMemory = (around.kept ≡ around.stored) ⊎ Held address publication site around (Err session.NoMemory)
+Undone address publication site around NoMemory = Unsent around ⊎ Held address publication site around (Err session.NoMemory)
 
 -- a session was done, or it was not
 abbrev pub Meets : (address : List ℕ) → Publication → SiteId → Around → Result Done Stop → Type 0

@@ -1,5 +1,5 @@
 -- A session of a subscriber that starts at its store, with a link and a clock that were just opened.
-use Rattle.std.specs.Prelude.{IfSome, List, Ok, Option, Result, [], min, ℕ, ◌+◌, ◌-◌, ◌^◌, ◌≡◌}
+use Rattle.std.specs.Prelude.{IfSome, List, Ok, Option, Result, [], min, ℕ, ◌+◌, ◌-◌, ◌^◌, ◌≡◌, ◌⊎◌}
 use Rattle.merge_types.specs.declared.identifiers.SiteId.{SiteId}
 use Rattle.merge_schema.specs.declared.publication.Publication.{Publication}
 use Rattle.merge_batch.specs.declared.refusal.Refusal.{Refusal}
@@ -20,12 +20,14 @@ use Rattle.merge_agent.specs.declared.fault.SessionFault.{SessionFault}
 use Rattle.merge_sync.specs.declared.stop.Stop.{Stop}
 use Rattle.merge_sync.specs.declared.stop.Stop.TheVariants.{Damaged, NoMemory, StoreFault}
 
--- What is told around a session, each part where it is told: before it the store, and the responses and the moments that are to
--- come; and behind it the store, and what the link carried. And how often stores and links had failed by then.
+-- What is told around a session, each part where it is told: before it the store, the responses and the moments that are to come, and
+-- what the link carried that was given back last; and behind it the store, and what such a link carried. And how often stores and links
+-- had failed by then.
 pub record Around : Type 0 where
   pub stored : Option Map
   pub responses : Option (List (List ℕ))
   pub moments : Option Moments
+  pub was_carried : Option (List Exchange)
   pub stores : ℕ
   pub links : ℕ
   pub kept : Option Map
@@ -75,3 +77,8 @@ IsUnstarted publication site other stored before after = ⊥
 pub record Unheld (around : Around) : Type 0 where
   pub same : around.kept ≡ around.stored
   pub unasked : IfSome around.carried (λ exchanges. exchanges ≡ [])
+
+-- no session was held, and there may have been no link: the store is told as before, and no link was given back, or one that carried nothing
+pub record Unsent (around : Around) : Type 0 where
+  pub same : around.kept ≡ around.stored
+  pub unasked : (around.carried ≡ around.was_carried) ⊎ IfSome around.carried (λ exchanges. exchanges ≡ [])

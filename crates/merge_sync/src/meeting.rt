@@ -1,5 +1,6 @@
 //! A session of a subscriber that starts at its store.
 ghost use Rattle.std.specs.Prelude.{◌≡◌, ℕ};
+ghost use Rattle.merge_ports.specs.Opened.{SameElsewhere};
 ghost use Rattle.merge_schema.specs.Valid.{IsValid};
 ghost use Rattle.merge_wire.specs.Written.{IsVisible};
 ghost use Rattle.merge_sync.specs.Ends.{Meets};
@@ -36,10 +37,11 @@ pub(crate) fn meet<E: CommandOutside>(
 ) -> Result<Done, Stop>
     requires valid { (resolvers : ℕ) × IsValid resolvers publication.now }
     requires visible { IsVisible address.now }
-    ensures { Meets address.now publication.now site (record {
+    ensures meets { Meets address.now publication.now site (record {
       stored = E.told outside.old site store.now;
       responses = (E.offers outside.old).responses;
       moments = (E.offers outside.old).moments;
+      was_carried = (E.offers outside.old).exchanges;
       stores = (E.counts outside.old).stores;
       links = (E.counts outside.old).links;
       kept = E.told outside.new site store.now;
@@ -47,6 +49,7 @@ pub(crate) fn meet<E: CommandOutside>(
       stores_after = (E.counts outside.new).stores;
       links_after = (E.counts outside.new).links;
     }) result }
+    ensures others { SameElsewhere site store.now (E.told outside.old) (E.told outside.new) }
 {
     let own = publication.copy()?;
     // The outside says nothing of what its stores leave of its offers, so the clock and the link are

@@ -1,5 +1,6 @@
 //! A session, and what is written of it.
 ghost use Rattle.std.specs.Prelude.{◌≡◌, ℕ};
+ghost use Rattle.merge_ports.specs.Opened.{SameElsewhere};
 ghost use Rattle.merge_schema.specs.Valid.{IsValid};
 ghost use Rattle.merge_wire.specs.Written.{IsVisible};
 ghost use Rattle.merge_sync.specs.Ends.{Ends};
@@ -26,10 +27,11 @@ pub fn sync<O: Sink, E: CommandOutside>(
 ) -> Result<(), Stop>
     requires valid { (resolvers : ℕ) × IsValid resolvers publication.now }
     requires visible { IsVisible address.now }
-    ensures { Ends address.now publication.now site (record {
+    ensures ends { Ends address.now publication.now site (record {
       stored = E.told outside.old site store.now;
       responses = (E.offers outside.old).responses;
       moments = (E.offers outside.old).moments;
+      was_carried = (E.offers outside.old).exchanges;
       stores = (E.counts outside.old).stores;
       links = (E.counts outside.old).links;
       kept = E.told outside.new site store.now;
@@ -37,6 +39,7 @@ pub fn sync<O: Sink, E: CommandOutside>(
       stores_after = (E.counts outside.new).stores;
       links_after = (E.counts outside.new).links;
     }) (O.written output.old) (O.written output.new) (O.count output.old) (O.count output.new) result }
+    ensures others { SameElsewhere site store.now (E.told outside.old) (E.told outside.new) }
 {
     let done = meet(alloc, outside, publication, site, store, address)?;
     write_done(alloc, publication, &done, output)?;

@@ -1,8 +1,8 @@
 -- Each step's event is the next of the script, and behind the last one the summary is that of all.
 use Rattle.std.proofs.Common.{ap, arith, rules, ◌∙◌}
-use Rattle.std.proofs.lemmas.Result.{IfOk-weaker}
+use Rattle.std.proofs.lemmas.Result.{IfOk-weaker, err_from_is_err_and}
 use Rattle.merge_make.specs.Rest.{rest}
-use Rattle.merge_make.proofs.SoFar.{no-more, one-more, so-far-at-start, so-far-done, so-far-few, so-far-made, so-far-more, so-far-ordered}
+use Rattle.merge_make.proofs.SoFar.{no-more, one-more, so-far-at-start, so-far-cut, so-far-done, so-far-few, so-far-made, so-far-more, so-far-ordered, so-far-unsummed}
 use Rattle.merge_make.proofs.run.play_script.Goals as goal
 
 pub loop-step-init : goal.loop-step-init
@@ -32,3 +32,11 @@ returns-clause-summed g c = IfOk-weaker c.summary.result _ _ (λ text is. so-far
 
 pub returns-clause-stays : goal.returns-clause-stays
 returns-clause-stays g c = c.loop-step.invariant.2.happened.sites
+
+pub returns-in_err-play_step-clause-part : goal.returns-in_err-play_step-clause-part
+returns-in_err-play_step-clause-part g c =
+    let p = err_from_is_err_and c.from_residual.result c.from_residual.ensures.1 in
+    rw p.1 (so-far-cut _ _ _ _ _ _ _ _ _ _ _ (one-more c.loop-step.step-iterator c.next.new.self _ _ c.in-Some.is c.next.ensures.steps) c.loop-step.invariant.2 c.in_err-play_step.ensures.part)
+
+pub returns-clause-part : goal.returns-clause-part
+returns-clause-part g c = so-far-unsummed c.summary.result _ _ _ _ _ _ _ c.loop-step.invariant.2

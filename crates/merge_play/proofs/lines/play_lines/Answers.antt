@@ -19,10 +19,10 @@ loop-rest-preserved g c = let i = c.loop-rest.invariant in let ok = c.in_ok-play
 }
 
 pub returns-in_err-play_line-clause-part : goal.returns-in_err-play_line-clause-part
-returns-in_err-play_line-clause-part g c = so-far-cut _ _ _ _ _ _ _ _ _ _ _ _ _ _ c.in_err-play_line.ensures.later (omega arith) (rw c.cut_line.ensures.line at c.loop-rest.invariant.so_far) c.in_err-play_line.ensures.part
+returns-in_err-play_line-clause-part g c = so-far-cut _ _ _ _ _ _ _ _ _ _ _ _ _ c.in_err-play_line.ensures.later (rw c.cut_line.ensures.line at c.loop-rest.invariant.so_far) c.in_err-play_line.ensures.part
 
 pub returns-clause-part : goal.returns-clause-part
-returns-clause-part g c = so-far-stops _ _ _ _ _ _ _ _ _ _ _ (omega arith) refl c.loop-rest.invariant.so_far
+returns-clause-part g c = so-far-stops _ _ _ _ _ _ _ _ _ _ _ _ refl refl refl c.loop-rest.invariant.so_far
 
 pub returns-in_err-play_line-clause-before : goal.returns-in_err-play_line-clause-before
 returns-in_err-play_line-clause-before g c = λ line word is.
@@ -37,7 +37,7 @@ returns-in_err-play_line-clause-ended g c = λ why is.
 pub returns-in_err-play_line-clause-restart : goal.returns-in_err-play_line-clause-restart
 returns-in_err-play_line-clause-restart g c = λ why is.
     let done = c.in_err-play_line.ensures.ended why (grind (arith, common_steps, is, c.from_residual.ensures)) in
-    so-far-ends _ _ _ _ _ _ _ _ _ _ _ _ _ why c.in_err-play_line.ensures.later (rw c.cut_line.ensures.line at c.loop-rest.invariant.so_far) done
+    so-far-ends _ _ _ _ _ _ _ _ _ _ _ _ _ why c.in_err-play_line.ensures.later (rw c.cut_line.ensures.line at c.loop-rest.invariant.so_far) done (line-lost _ _ _ _ _ why done)
 
 pub returns-clause-done : goal.returns-clause-done
 returns-clause-done g c = so-far-done _ c.loop-rest.rest.now (grind (arith, common_steps, c.is_empty.ensures, c.loop-rest-test.false)) _ _ _ _ _ _ _ c.loop-rest.invariant.so_far

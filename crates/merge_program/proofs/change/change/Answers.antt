@@ -1,10 +1,25 @@
 -- A run ends at its site, or before.
-use Rattle.std.proofs.Common.{ap, refl}
+use Rattle.std.proofs.Common.{List, Option, ap, refl, ℕ, ◌∙◌}
+use Rattle.merge_types.specs.declared.identifiers.SiteId.{SiteId}
+use Rattle.merge_ports.specs.Entries.{Map}
+use Rattle.merge_ports.specs.declared.outside.Counts.{Counts}
+use Rattle.merge_outside.specs.Offers.{Offers}
 use Rattle.merge_program.proofs.Changes.{given-ends, ungiven-ends}
 use Rattle.merge_program.proofs.change.change.Goals as goal
 
-pub returns-in-Ok : goal.returns-in-Ok
-returns-in-Ok g c = given-ends _ _ _ _ _ _ c.as_slice.ensures c.in-Ok.ensures.given _ _ c.in-Ok.ensures.told _ (ap (λ o. o.moments) c.in-Ok.ensures.offers) _ c.in-Ok.ensures.stores c.change_site.ensures
+pub returns-in-Ok-clause-ends : goal.returns-in-Ok-clause-ends
+returns-in-Ok-clause-ends g c =
+    let e = c.in-Ok.ensures in
+    let opened = c.clock-clock.ensures in
+    given-ends _ _ _ _ _ _ c.as_slice.ensures e.given _ _ (opened.stores ∙ e.told) _ (opened.moments ∙ ap (λ (o : Offers). o.moments) e.offers)
+    _ (ap (λ (k : Counts). k.stores) opened.counts ∙ e.stores) c.change_site.ensures.ends
 
-pub returns-in-Err : goal.returns-in-Err
-returns-in-Err g c = ungiven-ends _ _ _ _ c.in-Err.ensures.ends refl c.in-Err.ensures.told
+pub returns-in-Err-clause-ends : goal.returns-in-Err-clause-ends
+returns-in-Err-clause-ends g c = let e = c.in-Err.ensures in ungiven-ends _ _ _ _ e.ends refl e.told e.offers e.links
+
+pub returns-in-Ok-clause-others : goal.returns-in-Ok-clause-others
+returns-in-Ok-clause-others g c = λ s p other.
+    c.change_site.ensures.others s p other ∙ ap (λ (f : SiteId → List ℕ → Option Map). f s p) (c.clock-clock.ensures.stores ∙ c.in-Ok.ensures.told)
+
+pub returns-in-Err-clause-others : goal.returns-in-Err-clause-others
+returns-in-Err-clause-others g c = λ s p other. ap (λ (f : SiteId → List ℕ → Option Map). f s p) c.in-Err.ensures.told

@@ -1,4 +1,5 @@
 -- The file and the input were read, or not.
+use Rattle.std.proofs.Common.{refl}
 use Rattle.std.proofs.lemmas.Result.{err_from_is_err_and}
 use Rattle.merge_program.proofs.Changes.{by-file, by-input, by-site, by-text, is-given}
 use Rattle.merge_program.proofs.change.read_given.Goals as goal
@@ -9,12 +10,12 @@ returns-clause-given g c = is-given _ _ _ _ 0 0 0 0 _ c.in_ok-text.ensures.whole
 pub returns-in_err-text-clause-ends : goal.returns-in_err-text-clause-ends
 returns-in_err-text-clause-ends g c =
     let p = err_from_is_err_and c.from_residual.result c.from_residual.ensures.1 in
-    rw (p.1, p.2) (by-file ((g.E.CommandOutside.offers c.args.outside.now).texts c.args.place.now.publication) (g.I.Source.left c.args.input.now) c.args.resolvers c.args.place.now.site (g.E.Outside.counts c.args.outside.now).texts (g.E.Outside.counts c.read_file.new.outside).texts (g.I.Source.count c.args.input.now) (g.I.Source.count c.args.input.now) _ c.in_err-text.ensures.unread)
+    rw (p.1, p.2) (by-file ((g.E.CommandOutside.offers c.args.outside.now).texts c.args.place.now.publication) (g.I.Source.left c.args.input.now) c.args.resolvers c.args.place.now.site (g.E.Outside.counts c.args.outside.now).texts (g.E.Outside.counts c.read_file.new.outside).texts (g.I.Source.count c.args.input.now) (g.I.Source.count c.args.input.now) _ refl c.in_err-text.ensures.unread)
 
 pub returns-in_err-script-clause-ends : goal.returns-in_err-script-clause-ends
 returns-in_err-script-clause-ends g c =
     let p = err_from_is_err_and c.from_residual-in_err-script.result c.from_residual-in_err-script.ensures.1 in
-    rw (p.1, p.2) (by-input ((g.E.CommandOutside.offers c.args.outside.now).texts c.args.place.now.publication) (g.I.Source.left c.args.input.now) c.args.resolvers c.args.place.now.site (g.E.Outside.counts c.args.outside.now).texts (g.E.Outside.counts c.read_file.new.outside).texts (g.I.Source.count c.args.input.now) (g.I.Source.count c.read_input.new.input) _ c.in_err-script.ensures.unread)
+    rw (p.1, p.2) (by-input ((g.E.CommandOutside.offers c.args.outside.now).texts c.args.place.now.publication) (g.I.Source.left c.args.input.now) c.args.resolvers c.args.place.now.site (g.E.Outside.counts c.args.outside.now).texts (g.E.Outside.counts c.read_file.new.outside).texts (g.I.Source.count c.args.input.now) (g.I.Source.count c.read_input.new.input) _ c.in_ok-text.ensures.whole c.in_ok-text.ensures.fits _ c.in_err-script.ensures.unread)
 
 pub returns-in_err-publication-clause-ends : goal.returns-in_err-publication-clause-ends
 returns-in_err-publication-clause-ends g c =

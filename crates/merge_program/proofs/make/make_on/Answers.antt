@@ -17,5 +17,4 @@ play_script-requires-clause-made g c = ap (λ (v : SitesView). v.publication) c.
 
 pub returns-clause-summary : goal.returns-clause-summary
 returns-clause-summary g c =
-    let alike = c.machine_answers_as_the_model.ensures in
-    IfOk-weaker c.play_script.result _ _ (λ text summed. summary-of c.promises_hold.ensures.model alike.failing_answers alike.failing_tables _ _ _ _ _ text c.requires.fresh summed) c.play_script.ensures.summed
+    IfOk-weaker c.play_script.result _ _ (λ text summed. summary-of c.all_promises_hold.ensures.runs _ _ _ _ _ text c.requires.fresh summed) c.play_script.ensures.summed

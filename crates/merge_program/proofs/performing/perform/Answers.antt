@@ -1,6 +1,6 @@
 -- A publisher serves, or the words are those of another command.
 use Rattle.std.proofs.Common.{refl}
-use Rattle.merge_program.proofs.Serves.{no-order, one-order, some-order, tells-of, wanting}
+use Rattle.merge_program.proofs.Serves.{elsewhere-of, no-order, one-order, some-order, tells-of, wanting}
 use Rattle.merge_program.proofs.performing.perform.Goals as goal
 
 pub returns-in-Ok-Some-clause-statuses : goal.returns-in-Ok-Some-clause-statuses
@@ -18,7 +18,7 @@ returns-in-Ok-Some-clause-noted g c = λ none. let said = rw c.in-Ok-Some.field-
 pub returns-in-Ok-Some-clause-served : goal.returns-in-Ok-Some-clause-served
 returns-in-Ok-Some-clause-served g c = λ order say.
     let said = rw c.in-Ok-Some.field-0-is at c.in-Ok-Some.ensures.ok in
-    tells-of _ _ _ _ _ _ c.status.ensures (c.serve-finish.ensures _ _ _) _ _ _ _ c.tell.ensures order (one-order _ _ _ said say)
+    tells-of _ _ _ _ _ _ _ c.status.ensures (c.serve-finish.ensures.ends _ _ _) _ _ _ _ c.tell.ensures order (one-order _ _ _ said say)
 
 pub returns-in-Ok-None-clause-served : goal.returns-in-Ok-None-clause-served
 returns-in-Ok-None-clause-served g c = λ order say. let said = rw c.in-Ok-None.field-0-is at c.in-Ok-None.ensures.ok in some-order _ _ said say
@@ -36,4 +36,35 @@ pub returns-in-Err-clause-noted : goal.returns-in-Err-clause-noted
 returns-in-Err-clause-noted g c = λ none. absurd (c.in-Err.ensures.err none)
 
 pub returns-in-Err-clause-served : goal.returns-in-Err-clause-served
-returns-in-Err-clause-served g c = λ order say. wanting order _ _ _ _ refl refl refl _ c.status-in-Err.ensures _ _ _ _ c.tell-in-Err.ensures
+returns-in-Err-clause-served g c = λ order say. wanting order _ _ _ _ _ refl refl refl refl _ c.status-in-Err.ensures _ _ _ _ c.tell-in-Err.ensures
+
+pub returns-in-Ok-Some-clause-unread : goal.returns-in-Ok-Some-clause-unread
+returns-in-Ok-Some-clause-unread g c = λ none reads. let said = rw c.in-Ok-Some.field-0-is at c.in-Ok-Some.ensures.ok in no-order _ _ said none
+
+pub returns-in-Ok-Some-clause-closed : goal.returns-in-Ok-Some-clause-closed
+returns-in-Ok-Some-clause-closed g c = λ none. let said = rw c.in-Ok-Some.field-0-is at c.in-Ok-Some.ensures.ok in no-order _ _ said none
+
+pub returns-in-Ok-None-clause-unread : goal.returns-in-Ok-None-clause-unread
+returns-in-Ok-None-clause-unread g c = λ none. c.run.ensures.unread
+
+pub returns-in-Ok-None-clause-unasked : goal.returns-in-Ok-None-clause-unasked
+returns-in-Ok-None-clause-unasked g c = λ order say. let said = rw c.in-Ok-None.field-0-is at c.in-Ok-None.ensures.ok in some-order _ _ said say
+
+pub returns-in-Ok-Some-clause-others : goal.returns-in-Ok-Some-clause-others
+returns-in-Ok-Some-clause-others g c = λ none. let said = rw c.in-Ok-Some.field-0-is at c.in-Ok-Some.ensures.ok in no-order _ _ said none
+
+pub returns-in-Ok-Some-clause-elsewhere : goal.returns-in-Ok-Some-clause-elsewhere
+returns-in-Ok-Some-clause-elsewhere g c = λ order say.
+    let said = rw c.in-Ok-Some.field-0-is at c.in-Ok-Some.ensures.ok in elsewhere-of _ _ _ _ (one-order _ _ _ said say) c.serve-finish.ensures.others
+
+pub returns-in-Ok-None-clause-others : goal.returns-in-Ok-None-clause-others
+returns-in-Ok-None-clause-others g c = λ none. c.run.ensures.others
+
+pub returns-in-Ok-None-clause-elsewhere : goal.returns-in-Ok-None-clause-elsewhere
+returns-in-Ok-None-clause-elsewhere g c = λ order say. let said = rw c.in-Ok-None.field-0-is at c.in-Ok-None.ensures.ok in some-order _ _ said say
+
+pub returns-in-Err-clause-others : goal.returns-in-Err-clause-others
+returns-in-Err-clause-others g c = λ none. absurd (c.in-Err.ensures.err none)
+
+pub returns-in-Err-clause-elsewhere : goal.returns-in-Err-clause-elsewhere
+returns-in-Err-clause-elsewhere g c = λ order say s p other. refl

@@ -14,10 +14,7 @@ play_lines-played-requires-clause-early g c = let start = ap (λ (v : SitesView)
 pub returns-clause-ends : goal.returns-clause-ends
 returns-clause-ends g c = λ before after rose.
     let e = c.play_lines-played.ensures in
-    let alike = c.machine_answers_as_the_model.ensures in
-    play-ends c.promises_hold.ensures.model alike.failing_answers alike.failing_tables _ c.requires.valid _ _ before after rose _ _ _ _ _ _ _ _ c.requires.fresh (omega arith) (omega arith) _ _ c.ending_of.ensures e.whole e.done e.no_event e.before e.write e.ended e.restart
+    play-ends c.all_promises_hold.ensures.runs _ c.requires.valid _ _ before after rose _ _ _ _ _ _ _ _ c.requires.fresh (omega arith) (omega arith) _ _ c.ending_of.ensures e.whole e.done e.no_event e.before e.write e.restart
 
 pub returns-clause-part : goal.returns-clause-part
-returns-clause-part g c = λ before after rose.
-    let alike = c.machine_answers_as_the_model.ensures in
-    in-part c.promises_hold.ensures.model alike.failing_answers alike.failing_tables _ c.requires.valid _ _ before after rose _ _ _ _ c.requires.fresh c.play_lines-played.ensures.part
+returns-clause-part g c = λ before after rose. in-part c.all_promises_hold.ensures.runs _ c.requires.valid _ _ before after rose _ _ _ _ _ _ c.requires.fresh (omega arith) c.play_lines-played.ensures.part

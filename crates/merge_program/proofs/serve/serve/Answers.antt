@@ -1,14 +1,25 @@
 -- A run finishes as the publisher served, or before.
-use Rattle.std.proofs.Common.{length, refl, rules, ◌≡◌}
+use Rattle.std.proofs.Common.{List, Option, ap, length, refl, rules, ℕ, ◌∙◌, ◌≡◌}
+use Rattle.merge_types.specs.declared.identifiers.SiteId.{SiteId}
+use Rattle.merge_ports.specs.Entries.{Map}
+use Rattle.merge_resolve.specs.Asked.{says_at}
 use Rattle.merge_program.proofs.Serves.{ordered-ends, unordered-ends-so}
 use Rattle.merge_program.proofs.serve.serve.Goals as goal
 
-pub returns-in-Err : goal.returns-in-Err
-returns-in-Err g c = λ input reads failed.
+pub returns-in-Err-clause-ends : goal.returns-in-Err-clause-ends
+returns-in-Err-clause-ends g c = λ input reads failed.
     let counted : c.len.result ≡ length c.args.resolvers.now.items = search rules in
-    unordered-ends-so _ _ _ _ _ _ refl _ counted c.in-Err.ensures.ends refl c.in-Err.ensures.told
+    unordered-ends-so _ _ _ _ _ _ _ refl _ counted c.in-Err.ensures.ends refl c.in-Err.ensures.told refl
 
-pub returns : goal.returns
-returns g c = λ input reads failed.
+pub returns-clause-ends : goal.returns-clause-ends
+returns-clause-ends g c = λ input reads failed.
     let counted : c.len.result ≡ length c.args.resolvers.now.items = search rules in
-    ordered-ends _ _ _ _ _ _ c.finish_of.ensures _ _ counted c.in-Ok.ensures.read _ c.in-Ok.ensures.told _ c.in-Ok.ensures.stores c.serve_store-served.ensures
+    let same_items = ap (λ v. v.items) c.replace-handed.ensures.value in
+    let said = ap (says_at (λ r. (goal.Resolver-dyn g (r.vtable, r.value)).says r.value)) same_items in
+    ordered-ends _ _ _ _ _ _ _ c.finish_of.ensures _ _ counted c.in-Ok.ensures.read _ c.in-Ok.ensures.told _ c.in-Ok.ensures.stores _ said c.serve_store-served.ensures.ends
+
+pub returns-in-Err-clause-others : goal.returns-in-Err-clause-others
+returns-in-Err-clause-others g c = λ s p other. ap (λ (f : SiteId → List ℕ → Option Map). f s p) c.in-Err.ensures.told
+
+pub returns-clause-others : goal.returns-clause-others
+returns-clause-others g c = λ s p other. c.serve_store-served.ensures.others s p other ∙ ap (λ (f : SiteId → List ℕ → Option Map). f s p) c.in-Ok.ensures.told

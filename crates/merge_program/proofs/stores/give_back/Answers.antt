@@ -11,15 +11,20 @@ loop-subscriber-init g c =
     let left : into_iter_len c.into_iter-subscriber-iterator.result ≡ vec_len c.args.subscribers = search rules in
     let many : vec_len c.args.subscribers ≡ length c.args.subscribers.items = search rules in
     begins-giving (λ s p. g.E.Outside.HasRoom c.args.outside.now s p) (g.E.Outside.HasRoom c.keeper_back.new.self) _ c.keeper_back.ensures.still _ _ _ same _ (left ∙ many) _ _ _ c.keeper_back.ensures.counts c.into_keeper.ensures.faults c.requires.rooms
+    (g.E.Outside.told c.args.outside.now) (g.E.Outside.told c.keeper_back.new.self) (λ s p other. c.keeper_back.ensures.others s p (λ both. other both.1))
 
 pub loop-subscriber-preserved : goal.loop-subscriber-preserved
 loop-subscriber-preserved g c =
     let step = rw c.in-Some.is at c.next.ensures.steps in
     let fewer = step.1 in
     let less : into_iter_len c.loop-subscriber.subscriber-iterator ≡ into_iter_len c.next.new.self + 1 = omega (arith, fewer) in
-    gives-back (g.E.Outside.HasRoom c.loop-subscriber.outside) (g.E.Outside.HasRoom c.keeper_back-in-loop-subscriber.new.self) _ c.keeper_back-in-loop-subscriber.ensures.still _ _ _ _ c.in-Some.subscriber step.0 _ _ _ _ c.keeper_back-in-loop-subscriber.ensures.counts c.into_keeper-in-loop-subscriber.ensures.faults _ _ less c.loop-subscriber.invariant
+    gives-back (g.E.Outside.HasRoom c.loop-subscriber.outside) (g.E.Outside.HasRoom c.keeper_back-in-loop-subscriber.new.self) _ c.keeper_back-in-loop-subscriber.ensures.still _ _ _ _ c.in-Some.subscriber step.0 _ _ _ _ c.keeper_back-in-loop-subscriber.ensures.counts c.into_keeper-in-loop-subscriber.ensures.faults _ _ less
+    _ (g.E.Outside.told c.loop-subscriber.outside) (g.E.Outside.told c.keeper_back-in-loop-subscriber.new.self) (λ s p other. c.keeper_back-in-loop-subscriber.ensures.others s p (λ both. other both.1)) c.loop-subscriber.invariant
 
-pub returns : goal.returns
-returns g c =
+pub returns-clause-rose : goal.returns-clause-rose
+returns-clause-rose g c =
     let none = rw c.in-None.is at c.next.ensures.steps in
-    all-given (g.E.Outside.HasRoom c.loop-subscriber.outside) _ _ _ _ _ none.0 _ _ c.loop-subscriber.invariant
+    all-given (g.E.Outside.HasRoom c.loop-subscriber.outside) _ _ _ _ _ none.0 _ _ _ _ c.loop-subscriber.invariant
+
+pub returns-clause-others : goal.returns-clause-others
+returns-clause-others g c = c.loop-subscriber.invariant.others

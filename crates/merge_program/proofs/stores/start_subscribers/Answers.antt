@@ -1,5 +1,5 @@
 -- One subscriber more is started, at the next site.
-use Rattle.std.proofs.Common.{◌∙◌}
+use Rattle.std.proofs.Common.{refl, ◌∙◌}
 use Rattle.merge_program.proofs.Rooms.{more-rooms, more-started}
 use Rattle.merge_program.proofs.stores.start_subscribers.Goals as goal
 
@@ -14,4 +14,17 @@ loop-subscription-preserved g c =
           (g.E.Outside.HasRoom c.loop-subscription.outside) (g.E.Outside.HasRoom c.start_subscriber.new.outside) _ made.still made.room i.rooms;
       still = λ s p room. made.still s p (i.still s p room);
       kept = made.kept ∙ i.kept;
+      others = λ s p other. made.others s p (λ both. other both.1) ∙ i.others s p other;
     }
+
+pub returns-in_err-subscriptions-clause-others : goal.returns-in_err-subscriptions-clause-others
+returns-in_err-subscriptions-clause-others g c = λ s p other. refl
+
+pub returns-in_err-make_room-clause-others : goal.returns-in_err-make_room-clause-others
+returns-in_err-make_room-clause-others g c = c.loop-subscription.invariant.others
+
+pub returns-in_err-subscriber-clause-others : goal.returns-in_err-subscriber-clause-others
+returns-in_err-subscriber-clause-others g c = λ s p other. c.in_err-subscriber.ensures.others s p (λ both. other both.1) ∙ c.loop-subscription.invariant.others s p other
+
+pub returns-clause-others : goal.returns-clause-others
+returns-clause-others g c = c.loop-subscription.invariant.others

@@ -14,3 +14,9 @@ returns-in-Err-clause-ends g c = ends-unread _ _ _ _ _ _ _ _ _ c.unread.ensures 
 
 pub returns-in-Err-clause-part : goal.returns-in-Err-clause-part
 returns-in-Err-clause-part g c = nothing-written _ _ _ refl
+
+pub returns-in-Ok-clause-others : goal.returns-in-Ok-clause-others
+returns-in-Ok-clause-others g c = c.play_input.ensures.others
+
+pub returns-in-Err-clause-others : goal.returns-in-Err-clause-others
+returns-in-Err-clause-others g c = λ s p other. refl

@@ -14,3 +14,9 @@ returns-clause-made g c = λ customers make. is-made customers _ _ _ _ _ (as-mad
 
 pub returns-clause-noted : goal.returns-clause-noted
 returns-clause-noted g c = record { ending = c.work-ending.result; status_is = c.status.ensures; ends = c.work-ending.ensures.ends; told = c.tell.ensures }
+
+pub returns-clause-unread : goal.returns-clause-unread
+returns-clause-unread g c = c.work-ending.ensures.unread
+
+pub returns-clause-others : goal.returns-clause-others
+returns-clause-others g c = c.work-ending.ensures.others

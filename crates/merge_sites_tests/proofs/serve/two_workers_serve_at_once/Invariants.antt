@@ -10,5 +10,8 @@ ghosts-day-L-Ledger g a = record { name = a.calls.name; parts = a.calls.parts }
 abbrev pub ghosts-day-M-Ledger : goal.ghosts-day-M-Ledger
 ghosts-day-M-Ledger g a = record { name = a.faults.name; parts = a.faults.parts }
 
+abbrev pub ghosts-day-N-Ledger : goal.ghosts-day-N-Ledger
+ghosts-day-N-Ledger g a = record { name = a.permits.name; parts = a.permits.parts }
+
 abbrev pub ghosts-day-O-Opening : goal.ghosts-day-O-Opening
 ghosts-day-O-Opening g a = record { publication = no_publication; tables = empty_publisher no_publication; says = λ place tally asked. None; count = 0 }

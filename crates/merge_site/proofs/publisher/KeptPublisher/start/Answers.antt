@@ -1,4 +1,5 @@
-use Rattle.std.proofs.Common.{Ok}
+use Rattle.std.proofs.Common.{Ok, ap, inl, ◌∙◌}
+use Rattle.std.proofs.lemmas.Result.{IfErr-weaker}
 use Rattle.merge_keeper.specs.PublisherStart.{publisher_loaded}
 use Rattle.merge_model.specs.Publisher.{new_holders}
 use Rattle.merge_model.specs.Tables.{PublisherTables}
@@ -28,3 +29,7 @@ pub returns-in-Ok-clause-kept : goal.returns-in-Ok-clause-kept
 returns-in-Ok-clause-kept g c =
     let p = started c.args.publication.now c.requires _ c.in-Ok.tables c.in-Ok.ensures.ok in
     ok-same (λ (p : PublisherView). p.tables) (λ (t : PublisherTables). IsKept (records_of t) (g.K.Keeper.told c.args.keeper)) c.resume.result (stored_tables c.in-Ok.tables) p.kept.kept c.resume.ensures.tables
+
+-- a keeper that is given back counts what it counted before
+pub returns-in-Ok-clause-err : goal.returns-in-Ok-clause-err
+returns-in-Ok-clause-err g c = IfErr-weaker c.resume.result _ _ (λ n back. inl (inl (back.0, ap g.K.Keeper.count back.1 ∙ c.in-Ok.ensures.count))) c.resume.ensures.err

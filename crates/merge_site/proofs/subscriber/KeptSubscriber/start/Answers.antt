@@ -1,4 +1,5 @@
-use Rattle.std.proofs.Common.{◌≡◌, Ok, refl}
+use Rattle.std.proofs.Common.{◌≡◌, ◌∙◌, Ok, ap, inl, refl}
+use Rattle.std.proofs.lemmas.Result.{IfErr-weaker}
 use Rattle.merge_keeper.specs.SubscriberStart.{subscriber_loaded}
 use Rattle.merge_model.specs.Publisher.{new_holders}
 use Rattle.merge_model.specs.Tables.{SubscriberTables}
@@ -33,3 +34,7 @@ pub returns-in-Ok-clause-site : goal.returns-in-Ok-clause-site
 returns-in-Ok-clause-site g c =
     let s = started c.args.publication c.requires c.args.site c.number_fits.ensures _ c.in-Ok.tables c.in-Ok.ensures.ok (stored_tables c.in-Ok.tables) refl in
     ok-same (λ (s : SubscriberView). s.tables) (λ (t : SubscriberTables). t.site ≡ c.args.site) c.resume.result (stored_tables c.in-Ok.tables) s.own c.resume.ensures.tables
+
+-- a keeper that is given back counts what it counted before
+pub returns-in-Ok-clause-err : goal.returns-in-Ok-clause-err
+returns-in-Ok-clause-err g c = IfErr-weaker c.resume.result _ _ (λ n back. inl (inl (back.0, ap g.K.Keeper.count back.1 ∙ c.in-Ok.ensures.count))) c.resume.ensures.err
