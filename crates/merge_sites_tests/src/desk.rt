@@ -8,7 +8,7 @@ ghost use Rattle.merge_desk.specs.Views.{SeatView, seat_call_parts, seat_fault_p
 
 use crate::nobody::Nobody;
 use merge_batch::{Join, Kind, Request};
-use merge_desk::{Closed, Desk, Opening, Seat, summary};
+use merge_desk::{Closed, Desk, Entry, Opening, Seat, summary};
 use merge_types::{Moment, SiteId};
 use std::alloc::Global;
 use std::marker::{Brand, Model};
@@ -134,6 +134,13 @@ fn serve<
     seats
 }
 
+// What a day of a desk leaves.
+#[derive(Drop)]
+struct Left {
+    journal: Vec<Entry>,
+    publisher: Nobody,
+}
+
 fn day<
     L: Ledger + Send + Sync,
     M: Ledger + Send + Sync,
@@ -147,7 +154,7 @@ fn day<
     calls: Blank,
     faults: Blank,
     permits: Blank,
-) -> Result<Closed<Nobody, N>, Fail>
+) -> Result<Left, Fail>
     requires publication { O.publication ≡ no_publication }
     requires tables { O.tables ≡ empty_publisher no_publication }
     requires says { O.says ≡ (λ place tally asked. None) }
@@ -172,7 +179,12 @@ fn day<
     let Ok(closed) = desk.close(seats) else {
         return Err(Fail::new("the journal differs"));
     };
-    Ok(closed)
+    let Closed {
+        journal,
+        publisher,
+        permits: _,
+    } = closed;
+    Ok(Left { journal, publisher })
 }
 
 #[test]
@@ -181,7 +193,7 @@ fn two_threads_are_answered_in_journal_order(rt: HostRuntime) -> Result<(), Fail
     let faults = Blank::new(2);
     let nobody = Nobody { asked: 0 };
     let permits = Blank::new(100);
-    let closed = day::<Brand, Brand, Brand, Brand, _>(
+    let left = day::<Brand, Brand, Brand, Brand, _>(
         &rt,
         rt.alloc(),
         nobody,
@@ -189,11 +201,11 @@ fn two_threads_are_answered_in_journal_order(rt: HostRuntime) -> Result<(), Fail
         faults,
         permits,
     )?;
-    assert_eq!(rt; closed.publisher.asked, 100);
-    assert_eq!(rt; closed.journal.len(), 100);
+    assert_eq!(rt; left.publisher.asked, 100);
+    assert_eq!(rt; left.journal.len(), 100);
     let mut place = 0u64;
     let mut first = 0u64;
-    for entry in &closed.journal {
+    for entry in &left.journal {
         place = place.wrapping_add(1);
         assert_eq!(rt; entry.mark.place, place);
         assert_eq!(rt; entry.mark.digest, TOLD);
@@ -206,7 +218,7 @@ fn two_threads_are_answered_in_journal_order(rt: HostRuntime) -> Result<(), Fail
         }
     }
     assert_eq!(rt; first, 50);
-    let told = summary(rt.alloc(), &closed.journal)?;
+    let told = summary(rt.alloc(), &left.journal)?;
     assert_eq!(rt;
         told.as_str(),
         "calls 100 joins 100 uploads 0 ranges 0 downloads 0 refused 100\n"

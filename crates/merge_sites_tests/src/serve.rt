@@ -4,7 +4,7 @@ ghost use Rattle.merge_model.specs.Publisher.{empty_publisher};
 ghost use Rattle.merge_desk.specs.Replay.{no_publication};
 
 use crate::nobody::Nobody;
-use merge_desk::{Closed, Desk, Opening, summary};
+use merge_desk::{Closed, Desk, Entry, Opening, summary};
 use merge_link::MemoryClock;
 use merge_ports::{MemorySink, MemorySource};
 use merge_serve::{Attended, Caller, Gate, MemoryDoor, OpenGate, Served, attend, serve};
@@ -206,10 +206,10 @@ fn caller(alloc: Global, bytes: &[u8]) -> Result<Caller, Fail> {
 
 // What a day of a desk leaves.
 #[derive(Drop)]
-struct Left<N: Ledger> {
+struct Left {
     accepted: u64,
     faults: u64,
-    closed: Closed<Nobody, N>,
+    journal: Vec<Entry>,
 }
 
 fn day<
@@ -227,7 +227,7 @@ fn day<
     calls: Blank,
     faults: Blank,
     permits: Blank,
-) -> Result<Left<N>, Fail>
+) -> Result<Left, Fail>
     requires publication { O.publication ≡ no_publication }
     requires tables { O.tables ≡ empty_publisher no_publication }
     requires says { O.says ≡ (λ place tally asked. None) }
@@ -267,10 +267,15 @@ fn day<
     let Ok(closed) = desk.close(seats) else {
         return Err(Fail::new("the journal differs"));
     };
+    let Closed {
+        journal,
+        publisher: _,
+        permits: _,
+    } = closed;
     Ok(Left {
         accepted,
         faults: door.faults,
-        closed,
+        journal,
     })
 }
 
@@ -292,7 +297,7 @@ fn two_workers_serve_at_once(rt: HostRuntime) -> Result<(), Fail> {
     )?;
     assert_eq!(rt; gate.opened.load(Ordering::SeqCst), 2);
     assert_eq!(rt; (left.accepted, left.faults), (2, 0));
-    let told = summary(rt.alloc(), &left.closed.journal)?;
+    let told = summary(rt.alloc(), &left.journal)?;
     assert_eq!(rt;
         told.as_str(),
         "calls 2 joins 2 uploads 0 ranges 0 downloads 0 refused 2\n"
@@ -312,6 +317,6 @@ fn a_door_that_fails_ends_the_day(rt: HostRuntime) -> Result<(), Fail> {
         Blank::new(3),
     )?;
     assert_eq!(rt; (left.accepted, left.faults), (2, 1));
-    assert_eq!(rt; left.closed.journal.len(), 2);
+    assert_eq!(rt; left.journal.len(), 2);
     Ok(())
 }
