@@ -10,9 +10,9 @@ use merge_types::Exact;
 pub enum ConflictKind {
     /// It was unsent when its subscriber was made anew.
     Discarded,
-    /// Both sides updated the row.
+    /// Both sides updated the row, with row tracking.
     RowUpdate,
-    /// Both sides updated a column.
+    /// Both sides updated the row, with column tracking.
     ColumnUpdate,
     /// An update lost against a delete.
     DeleteWins,

@@ -33,7 +33,7 @@ pub struct ConflictRow {
     pub moment: Moment,
 }
 
-/// Versions that lost, by number.
+/// Versions that lost. The numbers of those in a table rise.
 pub type ConflictRows = Listing<ConflictRow>;
 
 impl Exact for Verdict {

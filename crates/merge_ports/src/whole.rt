@@ -1,8 +1,8 @@
 //! A whole input, and a whole answer.
-ghost use Rattle.std.specs.Prelude.{◌≡◌, ◌≤◌, ◌<◌, length, OnOk, OnErr, IfOk, IfSome};
+ghost use Rattle.std.specs.Prelude.{◌≡◌, ◌+◌, ◌≤◌, ◌<◌, length, OnOk, OnErr, IfOk, IfSome};
 ghost use Rattle.std.specs.Io.KnownBytes.{Appends, IsAtEnd};
 ghost use Rattle.merge_ports.specs.Faults.{HasCause, Rose};
-ghost use Rattle.merge_ports.specs.Parts.{AppendsFront, ConsumesFront};
+ghost use Rattle.merge_ports.specs.Parts.{AppendsFront, ConsumesAtMost};
 
 use crate::{Failed, Sink, Source};
 use merge_types::{NoMemory, Octets};
@@ -45,8 +45,8 @@ impl From<Failed> for ReadFault {
     }
 }
 
-/// Reads a source to its end. One that has more bytes than the limit is refused once so many were
-/// read, and a fault ends the reading at once.
+/// Reads a source to its end. One that has more bytes than the limit is refused, and at most 4096
+/// bytes behind the limit are taken. A fault is answered as one.
 pub fn read_whole<S: Source>(
     alloc: Global,
     source: &mut S,
@@ -57,9 +57,10 @@ pub fn read_whole<S: Source>(
     ensures fits { IfOk result (λ input. length input ≤ limit) }
     ensures long { result ≡ Err ReadFault.TooLong → IfSome (S.left source.old) (λ left. limit < length left) }
     ensures failed { result ≡ Err ReadFault.Failed → Rose (S.count source.old) (S.count source.new) }
-    ensures front { ConsumesFront (S.left source.old) (S.left source.new) }
+    ensures few { ConsumesAtMost (limit + 4096) (S.left source.old) (S.left source.new) }
     ensures later { S.count source.old ≤ S.count source.new }
     ensures kept { OnOk result (S.count source.new ≡ S.count source.old) }
+    ensures counted { (result ≡ Err ReadFault.Failed → ⊥) → S.count source.new ≡ S.count source.old }
 {
     let mut input = Octets::empty(alloc);
     let mut piece = [0; 4096];
@@ -75,7 +76,7 @@ pub fn read_whole<S: Source>(
     }
 }
 
-/// Writes a piece to its end. A fault ends the writing at once, with a front of the piece written.
+/// Writes a piece to its end. After a fault a front of the piece is written.
 pub fn write_whole<S: Sink>(sink: &mut S, piece: &[u8]) -> Result<(), Failed>
     ensures whole { OnOk result (Appends (S.written sink.old) (S.written sink.new) piece.now) }
     ensures front { OnErr result (AppendsFront (S.written sink.old) (S.written sink.new) piece.now) }

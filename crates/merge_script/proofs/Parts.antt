@@ -1,9 +1,10 @@
 -- The first line of a text, and the lines behind it.
-use Rattle.std.proofs.Common.{◌≡◌, ℕ, ◌+◌, ◌<◌, List, [], ◌∷◌, length, take, drop, refl, arith, true, false, cond, not}
+use Rattle.std.proofs.Common.{◌≡◌, ℕ, ◌+◌, ◌<◌, List, [], ◌∷◌, length, take, drop, refl, ap, sym, ◌∙◌, arith, true, false, cond, not}
 use Rattle.std.proofs.lemmas.Bool.Decides.{nat_tests}
+use Rattle.std.proofs.lemmas.List.{drop_all}
 use Rattle.std.proofs.Math.Seq.{drop-length}
 use Rattle.std.proofs.lemmas.List.Splits.{slice_split_first, length-slice_split}
-use Rattle.std.specs.List.{slice_split, position_or_len, onto_first}
+use Rattle.std.specs.List.{slice_split, after_first, position_or_len, onto_first}
 use Rattle.std.specs.Str.Lines.{lines_of_parts, strip_carriage_return}
 use Rattle.merge_script.specs.Lines.{is_line_feed, parts_of, lines_of}
 
@@ -37,3 +38,11 @@ one_line x h = grind (arith, nat_tests)
 -- the one line, where no line feed ends it
 pub only_line : (text : List ℕ) → position_or_len is_line_feed text ≡ length text → 0 < length text → lines_of text ≡ text ∷ lines_of (drop (length text) text)
 only_line text e more = rw (parts_of-none text e, drop-length) (one_line text more)
+
+-- the text behind the first line feed
+pub text_behind : (text : List ℕ) (end : ℕ) → position_or_len is_line_feed text ≡ end → after_first is_line_feed text ≡ drop (end + 1) text
+text_behind text end e = ap (λ (n : ℕ). drop (n + 1) text) e
+
+-- nothing is behind the one line
+pub nothing_behind : (text : List ℕ) → position_or_len is_line_feed text ≡ length text → after_first is_line_feed text ≡ drop (length text) text
+nothing_behind text e = text_behind text (length text) e ∙ drop_all (length text + 1) text (omega arith) ∙ sym (drop_all (length text) text (omega arith))

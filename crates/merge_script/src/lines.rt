@@ -1,6 +1,6 @@
 //! The lines of a text.
 ghost use Rattle.std.specs.Prelude.{◌≡◌, ◌≤◌, ◌<◌, ◌∷◌, ◌↔◌, length, IsTrue};
-ghost use Rattle.std.specs.List.{position_or_len};
+ghost use Rattle.std.specs.List.{after_first, position_or_len};
 ghost use Rattle.std.specs.Str.{IsUtf8, is_utf8};
 ghost use Rattle.std.specs.Str.Lines.{strip_carriage_return};
 ghost use Rattle.merge_script.specs.Lines.{is_line_feed, lines_of};
@@ -31,10 +31,11 @@ pub(crate) fn without_return(line: &[u8]) -> &[u8]
 }
 
 /// The first line of a text, without its end, and the text behind it.
-#[tactic(auto, using(crate::proofs::Parts::first_line, crate::proofs::Parts::only_line))]
+#[tactic(auto, using(crate::proofs::Parts::first_line, crate::proofs::Parts::only_line, crate::proofs::Parts::text_behind, crate::proofs::Parts::nothing_behind))]
 pub fn cut_line(text: &[u8]) -> (&[u8], &[u8])
     requires { 0 < length text.now }
     ensures line { lines_of text.now ≡ result.0.now ∷ lines_of result.1.now }
+    ensures behind { after_first is_line_feed text.now ≡ result.1.now }
     ensures less { length result.1.now < length text.now }
 {
     let end = line_end(text);

@@ -1,5 +1,6 @@
 //! Changes of a table, one at a time and all of a step at once.
-ghost use Rattle.std.specs.Prelude.{◌≡◌, ◌≤◌, ◌*◌, true, length, IsTrue, IsOk, OnOk, OnErr};
+ghost use Rattle.std.specs.Prelude.{◌≡◌, ◌<◌, ◌≤◌, ◌*◌, ℕ, true, length, take, IsTrue, IsOk, OnOk, OnErr};
+ghost use Rattle.std.specs.Map.{keys_of};
 ghost use Rattle.merge_table.specs.Contents.{has_room};
 ghost use Rattle.merge_table.specs.Edits.{rows_after, rows_after_all, slots_for, slots_for_all, is_ready, IsReady};
 
@@ -52,7 +53,7 @@ impl<K: TableKey, V: Drop> Table<K, V> {
 
     /// Takes all memory that the changes need, and makes none of them.
     ///
-    /// After a refusal, room that was made stays as room.
+    /// After a refusal, the room that was made for the first of them stays as room.
     #[tactic(auto, unfolding(crate::specs::Edits::IsReady))]
     pub fn prepare(&mut self, edits: &[Edit<K, V>]) -> Result<(), AllocError>
         ensures rows { self.new.rows ≡ self.old.rows }
@@ -60,6 +61,7 @@ impl<K: TableKey, V: Drop> Table<K, V> {
         ensures ready { OnOk result (IsReady K.cmp self.new.slots edits.now) }
         ensures kept { (key : K) → IsTrue (has_room K.cmp self.old.slots key) → IsTrue (has_room K.cmp self.new.slots key) }
         ensures succeeds { IsReady K.cmp self.old.slots edits.now → IsOk result }
+        ensures refused { OnErr result ((n : ℕ) × (self.new.slots ≡ slots_for_all K.cmp self.old.slots (take n edits.now))) }
     {
         for edit in edits {
             self.make_room_for(edit)?;
@@ -79,11 +81,13 @@ impl<K: TableKey, V: Drop> Table<K, V> {
         }
     }
 
-    /// The same, and lets go of room once it is the most.
+    /// The same, and lets go of all room where it is the most.
     pub fn apply_and_sweep(&mut self, edits: Vec<Edit<K, V>>)
         requires { IsReady K.cmp self.old.slots edits.items }
         ensures rows { self.new.rows ≡ rows_after_all K.cmp self.old.rows edits.items }
         ensures spare { length self.new.slots ≤ 2 * length self.new.rows }
+        ensures early { length self.old.slots ≤ 2 * length self.new.rows → self.new.slots ≡ self.old.slots }
+        ensures due { 2 * length self.new.rows < length self.old.slots → self.new.slots ≡ keys_of self.new.rows }
     {
         self.apply(edits);
         self.sweep_if_due();

@@ -23,7 +23,8 @@ use std::ops::RangeBounds;
 /// Contracts see its `rows`, and its `slots`: the keys that have a slot, with a row or without.
 /// A type that shows its table as the `rows` alone shows nothing of its room.
 ///
-/// A look-up and a change at one key cost the logarithm of the number of slots.
+/// A look-up and a change at one key cost the logarithm of the number of slots, which is measured
+/// and not proved.
 #[derive(Debug, Drop)]
 pub struct Table<K: TableKey, V: Drop> {
     slots: BTreeMap<K, Option<V>>,
@@ -214,11 +215,14 @@ impl<K: TableKey, V: Drop> Table<K, V> {
         drop_room(&mut self.slots);
     }
 
-    /// Lets go of the slots that have no row once these are the most, so that a table is never more
-    /// than half room, and each sweep is paid for by the changes that made it due.
+    /// Lets go of the slots that have no row where these are the most, so that a table is never more
+    /// than half room. Where they are not, it keeps all slots: each sweep is paid for by the changes
+    /// that made it due.
     pub fn sweep_if_due(&mut self)
         ensures rows { self.new.rows ≡ self.old.rows }
         ensures spare { length self.new.slots ≤ 2 * length self.new.rows }
+        ensures early { length self.old.slots ≤ 2 * length self.old.rows → self.new.slots ≡ self.old.slots }
+        ensures due { 2 * length self.old.rows < length self.old.slots → self.new.slots ≡ keys_of self.old.rows }
     {
         if self.spare() > self.len() {
             self.sweep();

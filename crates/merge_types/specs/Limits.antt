@@ -37,10 +37,6 @@ counter_limit = 2 ^ 61
 abbrev pub number_limit : ℕ
 number_limit = 2 ^ 62
 
--- the most bytes of an input
-abbrev pub input_limit : ℕ
-input_limit = 67_108_864
-
 -- the most bytes of a name
 abbrev pub name_limit : ℕ
 name_limit = 64

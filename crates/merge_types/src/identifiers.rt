@@ -19,8 +19,9 @@ pub struct Dot {
     pub number: u64,
 }
 
-/// A row, by its UUID of version 8 (RFC 9562): `custom_a` is the site that made the row,
-/// `custom_b` is 0, and `custom_c` is the number of the change there that made it.
+/// A row, by a UUID. A site makes one of version 8 (RFC 9562): `custom_a` is the site that made the
+/// row, `custom_b` is 0, and `custom_c` is the number of the change there that made it. `maker`
+/// answers whether one is of this form.
 #[derive(Clone, Copy, Debug, PartialEq, Eq, PartialOrd, Ord)]
 pub struct RowId(pub u128);
 

@@ -30,9 +30,6 @@ pub const COUNTER_LIMIT: u64 = 1 << 61;
 /// The numbers that sites send one another lie below this.
 pub const NUMBER_LIMIT: u64 = 1 << 62;
 
-/// The most bytes of an input.
-pub const INPUT_LIMIT: usize = 67_108_864;
-
 /// The most bytes of a name.
 pub const NAME_LIMIT: usize = 64;
 

@@ -23,7 +23,8 @@ pub struct Column {
     pub ty: ColumnType,
 }
 
-/// A value of a column. A day counts from 1970-01-01 and lies in the years 0001 to 9999.
+/// A value of a column. A day counts from 1970-01-01, and is proper in the years 0001 to 9999
+/// (`is_proper`).
 ///
 /// Values are ordered by type, in the order of the variants, and then by what they hold: texts and
 /// bytes by their bytes.

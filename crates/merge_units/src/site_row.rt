@@ -11,7 +11,7 @@ pub struct PublisherRow {
 }
 
 /// A row at a subscriber, with the generations in which this site changed it and that the publisher
-/// has not taken, in ascending order.
+/// has not taken. A stored row has them in ascending order.
 #[derive(Debug, Drop)]
 pub struct SubscriberRow {
     pub version: Version,

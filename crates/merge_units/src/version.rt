@@ -41,7 +41,7 @@ pub struct RowVersion {
     pub version: Version,
 }
 
-/// Rows, by article and row.
+/// Rows of articles, in a list.
 pub type RowList = Listing<RowVersion>;
 
 impl Clone for Cell {
