@@ -94,8 +94,7 @@ fn or_of(left: Truth, right: Truth) -> Truth
     }
 }
 
-/// What a tree says of a row. The right side of an AND or an OR is not looked at where the left one
-/// decides.
+/// What a tree says of a row.
 pub fn node_truth(node: &Node, row: &[Value], host: &HostName) -> Truth
     requires { width (syntax node.now) ≤ length row.now }
     ensures { result ≡ truth (syntax node.now) row.now host.now }

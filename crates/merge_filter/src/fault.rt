@@ -28,8 +28,8 @@ pub enum FilterFault {
 }
 
 impl FilterFault {
-    /// The number under which notes tell the fault, and none for want of memory, which is no fault
-    /// of the text.
+    /// The number of the fault in the filter language, and none for want of memory, which is no fault
+    /// of the text. A publication is refused for its filter without it.
     pub fn number(&self) -> Option<u8>
         ensures { result ≡ number_of self.now }
     {

@@ -3,7 +3,7 @@ use Rattle.std.specs.Prelude.{◌++◌, ◌∷◌, List, ℕ, Option, Some, None
 use Rattle.std.specs.Fmt.{decimal}
 use Rattle.merge_types.specs.Names.{shown_text}
 use Rattle.merge_schema.specs.declared.fault.SchemaFault.{SchemaFault}
-use Rattle.merge_schema.specs.declared.fault.SchemaFault.TheVariants.{NotToml, Missing, BadValue, Duplicate, UnknownArticle, JoinCycle, JoinTypes, TooMany, NotBuilt, NoMemory}
+use Rattle.merge_schema.specs.declared.fault.SchemaFault.TheVariants.{NotToml, Missing, BadValue, Duplicate, UnknownArticle, JoinCycle, JoinTypes, TooMany, NoMemory}
 
 abbrev pub number_of : SchemaFault → Option ℕ
 number_of NotToml = Some 1
@@ -14,7 +14,6 @@ number_of (UnknownArticle name) = Some 5
 number_of (JoinCycle article) = Some 6
 number_of (JoinTypes article) = Some 7
 number_of (TooMany what number) = Some 8
-number_of (NotBuilt key) = Some 9
 number_of NoMemory = None
 
 -- What notes say of a fault. A key or a name that is no name is in quotes; what stands twice is as the text has it.
@@ -27,5 +26,4 @@ words_of (UnknownArticle name) = codes "unknown article " ++ shown_text name
 words_of (JoinCycle article) = codes "join cycle " ++ shown_text article
 words_of (JoinTypes article) = codes "join types " ++ shown_text article
 words_of (TooMany what number) = codes "too many " ++ shown_text what ++ 32 ∷ decimal number
-words_of (NotBuilt key) = codes "not built " ++ shown_text key
 words_of NoMemory = codes "no memory"

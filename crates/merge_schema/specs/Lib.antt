@@ -13,7 +13,6 @@ pub mod ValidTables
 pub mod ValidityLaws
 pub mod Building
 pub mod Answers
-pub mod Built
 pub mod EvaluationOrder
 pub mod Faults
 pub mod Partition

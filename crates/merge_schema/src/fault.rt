@@ -27,8 +27,6 @@ pub enum SchemaFault {
     JoinTypes { article: Words },
     /// The array at this key has so many tables, which is more than it may have.
     TooMany { what: Words, number: u64 },
-    /// The program does not have this part yet. `read` never answers it.
-    NotBuilt { key: Words },
     NoMemory,
 }
 
@@ -52,7 +50,6 @@ impl fmt::Display for SchemaFault {
                 let what = what.shown();
                 write!(f, "too many {what} {number}")
             }
-            SchemaFault::NotBuilt { key } => write!(f, "not built {}", key.shown()),
             SchemaFault::NoMemory => f.write_str("no memory"),
         }
     }
@@ -75,7 +72,6 @@ impl SchemaFault {
             SchemaFault::JoinCycle { .. } => Some(6),
             SchemaFault::JoinTypes { .. } => Some(7),
             SchemaFault::TooMany { .. } => Some(8),
-            SchemaFault::NotBuilt { .. } => Some(9),
             SchemaFault::NoMemory => None,
         }
     }

@@ -3,6 +3,7 @@ ghost use Rattle.std.specs.Prelude.{◌≡◌, option_copied, find, not, string_
 ghost use Rattle.std.specs.BTreeMap.{keys};
 ghost use Rattle.toml.specs.View.{table_view};
 ghost use Rattle.merge_schema.specs.Keys.{is_key, known_only};
+ghost use Rattle.merge_schema.specs.declared.keys.Shape.TheVariants.{Top, Article, Column, Identity, Join, Subscription};
 ghost use Rattle.merge_schema.specs.Steps.{Gives};
 
 use crate::fault::SchemaFault;
@@ -21,39 +22,69 @@ pub enum Shape {
     Subscription,
 }
 
+// Whether the publication's own table may have the key.
+fn is_top_key(key: &str) -> bool
+    ensures { result ≡ is_key Top key.now }
+{
+    key == "name"
+        || key == "retention_days"
+        || key == "conflict_retention_days"
+        || key == "article"
+        || key == "subscription"
+}
+
+// Whether an article may have the key.
+fn is_article_key(key: &str) -> bool
+    ensures { result ≡ is_key Article key.now }
+{
+    key == "name"
+        || key == "tracking"
+        || key == "filter"
+        || key == "resolver"
+        || key == "resolver_column"
+        || key == "column"
+        || key == "join"
+}
+
+// Whether a column may have the key.
+fn is_column_key(key: &str) -> bool
+    ensures { result ≡ is_key Column key.now }
+{
+    key == "name" || key == "type" || key == "identity"
+}
+
+// Whether the table of an identity column may have the key.
+fn is_identity_key(key: &str) -> bool
+    ensures { result ≡ is_key Identity key.now }
+{
+    key == "seed" || key == "range" || key == "pub_range" || key == "threshold" || key == "greatest"
+}
+
+// Whether a join may have the key.
+fn is_join_key(key: &str) -> bool
+    ensures { result ≡ is_key Join key.now }
+{
+    key == "column" || key == "parent" || key == "parent_column"
+}
+
+// Whether a subscription may have the key.
+fn is_subscription_key(key: &str) -> bool
+    ensures { result ≡ is_key Subscription key.now }
+{
+    key == "site" || key == "host" || key == "kind" || key == "priority"
+}
+
 // Whether a table of this kind may have the key.
 fn is_key(shape: Shape, key: &str) -> bool
     ensures { result ≡ is_key shape key.now }
 {
     match shape {
-        Shape::Top => {
-            key == "name"
-                || key == "retention_days"
-                || key == "conflict_retention_days"
-                || key == "article"
-                || key == "subscription"
-        }
-        Shape::Article => {
-            key == "name"
-                || key == "tracking"
-                || key == "filter"
-                || key == "resolver"
-                || key == "resolver_column"
-                || key == "column"
-                || key == "join"
-        }
-        Shape::Column => key == "name" || key == "type" || key == "identity",
-        Shape::Identity => {
-            key == "seed"
-                || key == "range"
-                || key == "pub_range"
-                || key == "threshold"
-                || key == "greatest"
-        }
-        Shape::Join => key == "column" || key == "parent" || key == "parent_column",
-        Shape::Subscription => {
-            key == "site" || key == "host" || key == "kind" || key == "priority"
-        }
+        Shape::Top => is_top_key(key),
+        Shape::Article => is_article_key(key),
+        Shape::Column => is_column_key(key),
+        Shape::Identity => is_identity_key(key),
+        Shape::Join => is_join_key(key),
+        Shape::Subscription => is_subscription_key(key),
     }
 }
 

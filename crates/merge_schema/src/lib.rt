@@ -2,7 +2,6 @@
 #![tactic(auto)]
 
 mod building;
-mod built;
 mod checks;
 mod choices;
 mod draft;
@@ -18,7 +17,6 @@ mod reading;
 mod tables;
 mod values;
 
-pub use built::is_built;
 pub use fault::SchemaFault;
 pub use laws::{ancestor_laws, partition_laws, validity_laws};
 pub use merge_types::Tracking;

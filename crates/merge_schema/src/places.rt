@@ -1,7 +1,6 @@
 //! Places in a publication, by name and by site.
-ghost use Rattle.std.specs.Prelude.{◌≡◌, ◌<◌, ◌==◌, IfSome, bytes_eq, length, option_copied, position};
+ghost use Rattle.std.specs.Prelude.{◌≡◌, ◌<◌, IfSome, bytes_eq, length, option_copied, position};
 ghost use Rattle.merge_schema.specs.declared.publication.Article.{Article};
-ghost use Rattle.merge_schema.specs.declared.publication.Subscription.{Subscription};
 ghost use Rattle.merge_schema.specs.Lookups.{column_place};
 ghost use Rattle.merge_schema.specs.Places.{article_at, is_subscription};
 
@@ -36,17 +35,6 @@ impl Publication {
         subscriptions
             .iter()
             .any(|subscription| subscription.site.0 == site.0)
-    }
-
-    /// The place of the subscription of a site, and none where it does not subscribe.
-    pub fn subscription_place(&self, site: SiteId) -> Option<usize>
-        ensures place { result ≡ position (λ (subscription : Subscription). subscription.site.0 == site.0) self.now.subscriptions }
-        ensures within { IfSome result (λ place. place < length self.now.subscriptions) }
-    {
-        let subscriptions = self.subscriptions.as_slice();
-        subscriptions
-            .iter()
-            .position(|subscription| subscription.site.0 == site.0)
     }
 }
 

@@ -122,7 +122,7 @@ fn integer_from(
     }
 }
 
-// A number that fits 32 bits and is none below 0.
+// A number from 0 on.
 fn natural(number: i64) -> Option<u64>
     ensures { result ≡ natural number }
 {
