@@ -2,12 +2,12 @@
 ghost use Rattle.std.specs.Prelude.{◌≡◌, ◌+◌, ◌≤◌, ◌<◌, ◌↔◌, [], nat_lt, nat_le, IsTrue, count_by, length, IfOk, IsOk, OnOk, OnErr};
 ghost use Rattle.merge_types.specs.Limits.{entry_limit};
 ghost use Rattle.merge_gens.specs.Filling.{generations_of, closed};
-ghost use Rattle.merge_gens.specs.Book.{IsSound, NeverFall, moved_to, entered, closed_now, moment_of, purged, forgotten, last_before};
+ghost use Rattle.merge_gens.specs.Book.{IsSound, moved_to, entered, closed_now, moment_of, purged, forgotten, last_before};
 ghost use Rattle.merge_gens.specs.Plan.{settled, IsPrepared, AreAllowed, answers_of, book_after_all};
 
 use crate::closings::{
     add_closings, append, count_before, each_closed, generations_rise, keep_above, keep_from,
-    last_before, moment_at, moments_never_fall,
+    last_before, moment_at,
 };
 use crate::{Closing, Closings, Filling, GenerationAnswers, GenerationChange, GenerationPlan};
 use merge_types::limits::ENTRY_LIMIT;
@@ -210,6 +210,7 @@ impl GenerationBook {
         ensures closings { result.now ≡ self.now.book.closings }
         ensures sound { IsSound self.now.book }
     {
+        // A field that is read tells the proof that the book is sound.
         let _ = &self.filling;
         self.closings.as_slice()
     }
@@ -249,14 +250,6 @@ impl GenerationBook {
         ensures { result ≡ count_by (λ c. nat_lt c.moment.0 cutoff.0) self.now.book.closings }
     {
         count_before(&self.closings, cutoff)
-    }
-
-    /// Whether no kept generation closed at an earlier moment than one before it. At a subscriber
-    /// the moments are change numbers, which don't fall.
-    pub fn never_falls(&self) -> bool
-        ensures { IsTrue result ↔ NeverFall self.now.book.closings }
-    {
-        moments_never_fall(&self.closings)
     }
 
     // Where the book takes its memory from.

@@ -1,7 +1,7 @@
 //! Closed generations.
 ghost use Rattle.std.specs.Prelude.{◌≡◌, ◌+◌, ◌≤◌, ◌<◌, ◌++◌, ◌↔◌, nat_lt, nat_le, count_by, filter, length, All, AllPairs, IsTrue, OnOk, IsOk, vec_len};
 ghost use Rattle.std.specs.Vec.{vec_capacity};
-ghost use Rattle.merge_gens.specs.Book.{closings_between, moment_of, last_before, NeverFall};
+ghost use Rattle.merge_gens.specs.Book.{closings_between, moment_of, last_before};
 
 use merge_types::{Exact, Listing, Moment, NoMemory};
 
@@ -19,7 +19,7 @@ impl Exact for Closing {
     ghost exact = { Prim.search rules };
 }
 
-/// Closed generations in ascending order.
+/// Closed generations. Those of a book ascend.
 pub type Closings = Listing<Closing>;
 
 // Adds the generations behind one, up to another.
@@ -120,11 +120,4 @@ pub(crate) fn each_closed(closings: &[Closing], last_closed: u64) -> bool
     closings
         .iter()
         .all(|closing| closing.generation <= last_closed)
-}
-
-// Whether no moment is below one before it.
-pub(crate) fn moments_never_fall(closings: &[Closing]) -> bool
-    ensures { IsTrue result ↔ NeverFall closings.now }
-{
-    closings.is_sorted_by(|before, behind| before.moment.0 <= behind.moment.0)
 }

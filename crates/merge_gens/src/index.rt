@@ -8,6 +8,7 @@ ghost use Rattle.merge_types.specs.RowKeys.{key_cmp};
 ghost use Rattle.merge_types.specs.declared.row_key.RowKey.{RowKey as OneRow};
 ghost use Rattle.merge_table.specs.Contents.{has_room};
 ghost use Rattle.merge_table.specs.Edits.{rows_after_all, slots_for_all, IsReady};
+ghost use Rattle.merge_gens.specs.declared.index.IndexEntry.{IndexEntry as OneEntry};
 ghost use Rattle.merge_gens.specs.Entries.{entry_cmp, entry_of, row_of, is_between};
 ghost use Rattle.merge_gens.specs.Index.{AddsRowsBetween, IsCompact, entries_after_all};
 
@@ -97,22 +98,14 @@ impl GenerationIndex {
         Ok(())
     }
 
-    /// Takes the generation of the row away, where it is there. Spare memory goes back, also that
-    /// of a plan which is not settled yet.
-    pub fn take(&mut self, generation: u64, key: RowKey)
-        ensures entries { self.new.entries ≡ set.remove self.old.entries (entry_of generation key) }
-        ensures compact { IsCompact self.new }
-    {
-        self.entries.remove(&IndexEntry { generation, key });
-        self.entries.sweep_if_due();
-    }
-
-    /// Takes the memory for several changes, and gives the plan. The index stays as it is.
+    /// Takes the memory for several changes, and gives the plan. The index stays as it is, and keeps
+    /// all memory that it had.
     pub fn prepare(&mut self, changes: IndexChanges) -> Result<IndexPlan, NoMemory>
         ensures plan { IfOk result (λ plan. plan.changes ≡ changes) }
         ensures ready { IfOk result (λ plan. IsReady entry_cmp self.new.slots plan.changes) }
         ensures slots { OnOk result (self.new.slots ≡ slots_for_all entry_cmp self.old.slots changes) }
         ensures same { self.new.entries ≡ self.old.entries }
+        ensures kept { (entry : OneEntry) → IsTrue (has_room entry_cmp self.old.slots entry) → IsTrue (has_room entry_cmp self.new.slots entry) }
 
         // What takes no memory is not refused.
         ensures room { IsReady entry_cmp self.old.slots changes → IsOk result }
@@ -121,8 +114,9 @@ impl GenerationIndex {
         Ok(IndexPlan { changes })
     }
 
-    /// Makes the changes of a plan in their order, which is the last one that was prepared. No
-    /// memory is taken, and spare memory goes back.
+    /// Makes the changes of a plan in their order. The memory for them is there still, as it is where
+    /// nothing was settled since they were prepared. None is taken, and what is there for more than
+    /// twice the entries goes back.
     pub fn settle(&mut self, plan: IndexPlan)
         requires { IsReady entry_cmp self.old.slots plan.changes }
         ensures entries { self.new.entries ≡ entries_after_all self.old.entries plan.changes }

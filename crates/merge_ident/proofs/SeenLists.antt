@@ -1,5 +1,5 @@
 -- What was seen of grants tells whether another one can follow.
-use Rattle.std.proofs.Common.{◌≡◌, ℕ, ◌+◌, ◌<◌, ◌≤◌, Bool, true, false, cond, not, ◌&&◌, ◌||◌, List, [], ◌∷◌, ◌++◌, ℤ, ◌<ℤ◌, ◌≤ℤ◌, int_lt, get_or, length, take, Option, Some, None, refl, sym, ap, subst, ◌∙◌, arith}
+use Rattle.std.proofs.Common.{◌≡◌, ℕ, ◌+◌, ◌<◌, ◌≤◌, Bool, true, false, cond, not, ◌&&◌, ◌||◌, List, [], ◌∷◌, ◌++◌, ℤ, ◌<ℤ◌, ◌≤ℤ◌, int_lt, Option, Some, None, refl, sym, ap, subst, ◌∙◌, arith}
 use Rattle.std.specs.Prelude.{◌==◌}
 use Rattle.std.specs.BTreeMap.{insert_entry, is_at}
 use Rattle.std.specs.BTreeMap.Range.{entries_between, range_contains}
@@ -18,7 +18,7 @@ use Rattle.merge_ident.specs.declared.seen_grants.Taker.{Taker}
 use Rattle.merge_ident.specs.Grants.{granted_to, is_of}
 use Rattle.merge_ident.specs.Stored.{can_follow, has_next_number, has_values, is_clear}
 use Rattle.merge_ident.specs.Seen.{AreApart, IsSeen, StandsBefore, Stretch, end_cmp, ending_from, ends_below, ends_for, first_is_behind, fits, is_apart, is_behind, last_at, last_of, number_of, stretch_of, taker_cmp, taker_of}
-use Rattle.merge_ident.proofs.Stored.{Follows, and-first, and-second, both_true, count_by-push, follows_from_test, one_more}
+use Rattle.merge_ident.proofs.Stored.{Follows, and-first, and-second, both_true, count_by-push, follows_from_test}
 
 -- Where the first range from the grant on is behind it, all are apart from it.
 
@@ -308,7 +308,3 @@ seen-made ranges ranges' lasts lasts' before g end taker made seen follows end_i
     (λ q. lasts_are q
     ∙ ap (λ (t : Taker). (let found : Option LastGrant = cond (is_at (taker_cmp t) q) (Some made) (lookup (is_at (taker_cmp q)) lasts) in found)) taker_is
     ∙ ap (λ (l : LastGrant). (let found : Option LastGrant = cond (is_at (taker_cmp (taker_of g)) q) (Some l) (lookup (is_at (taker_cmp q)) lasts) in found)) made_is)
-
--- the walk over stored grants goes on
-pub seen-next : (ranges : List Stretch) (lasts : List (Taker × LastGrant)) (grants : List Grant) (at : ℕ) (d : Grant) → at < length grants → IsSeen ranges lasts (take at grants ++ get_or grants at d ∷ []) → IsSeen ranges lasts (take (at + 1) grants)
-seen-next ranges lasts grants at d within seen = subst (IsSeen ranges lasts) (sym (one_more grants at d within)) seen

@@ -1,7 +1,6 @@
 -- Grants of a book with one more behind.
-use Rattle.std.proofs.Common.{◌≡◌, ℕ, ◌+◌, ◌<◌, ◌≤◌, Bool, true, false, cond, not, ◌&&◌, ◌||◌, nat_eq, nat_le, if◌then◌else◌, List, [], ◌∷◌, ◌++◌, ℤ, pos, ◌<ℤ◌, ◌≤ℤ◌, int_le, int_lt, length, get_or, take, count_by, zero, suc, ◌⊎◌, inl, inr, refl, sym, ap, subst, ◌∙◌, add-one, arith}
+use Rattle.std.proofs.Common.{◌≡◌, ℕ, ◌+◌, ◌<◌, ◌≤◌, Bool, true, false, cond, not, ◌&&◌, ◌||◌, nat_eq, nat_le, if◌then◌else◌, List, [], ◌∷◌, ◌++◌, ℤ, pos, ◌<ℤ◌, ◌≤ℤ◌, int_le, int_lt, length, get_or, count_by, zero, suc, ◌⊎◌, inl, inr, refl, sym, ap, subst, ◌∙◌, arith}
 use Rattle.std.specs.List.{All, Contains, list_all}
-use Rattle.std.proofs.Math.Seq.{take-suc}
 use Rattle.std.proofs.lemmas.Int.{ints}
 use Rattle.std.proofs.lemmas.Bool.Decides.{nat_tests}
 use Rattle.std.proofs.lemmas.List.{get_or_default}
@@ -9,7 +8,7 @@ use Rattle.std.proofs.lemmas.List.Elements.{All-push, All-tail}
 use Rattle.std.proofs.lemmas.List.Sums.{get_or-le-sum_by}
 use Rattle.merge_ident.specs.declared.grants.Grant.{Grant}
 use Rattle.merge_ident.specs.Grants.{gives, granted_to, is_of, is_numbered, AreDisjoint, AreGrants, AreNumbered, AreRising, IsGranted}
-use Rattle.merge_ident.specs.Stored.{can_follow, has_next_number, has_values, is_clear, IsFirstBad}
+use Rattle.merge_ident.specs.Stored.{can_follow, has_next_number, has_values, is_clear}
 use Rattle.merge_ident.proofs.Added.{count_by-cons}
 use Rattle.merge_ident.proofs.Order.{Gives, gives_from_test, numbered-by_test, numbers_le}
 
@@ -74,7 +73,7 @@ follows_from_test xs g passes =
       clear = all_tested (is_clear g) xs (and-second (has_values g && has_next_number xs g) (list_all (is_clear g) xs) passes);
     }
 
-test_from_follows : (xs : List Grant) (g : Grant) → Follows xs g → can_follow xs g ≡ true
+pub test_from_follows : (xs : List Grant) (g : Grant) → Follows xs g → can_follow xs g ≡ true
 test_from_follows xs g follows =
     let values : has_values g ≡ true = grind (arith, ints, nat_tests, follows.values.from_one, follows.values.some) in
     let number : has_next_number xs g ≡ true = grind (arith, nat_tests, follows.number) in
@@ -222,23 +221,4 @@ no_grants = record {
   disjoint = λ article value. omega arith;
   numbered = λ article site number. grind (arith, nat_tests);
   rising = λ x y here there article site below. absurd (omega (arith, here.1));
-}
-
-pub one_more : (grants : List Grant) (at : ℕ) (d : Grant) → at < length grants → take (at + 1) grants ≡ take at grants ++ get_or grants at d ∷ []
-one_more grants at d within = rw add-one (take-suc grants at d within)
-
--- the walk goes on over a grant that can follow
-pub first_next : (grants : List Grant) (at : ℕ) (d : Grant) → at < length grants → AreGrants (take at grants) → can_follow (take at grants) (get_or grants at d) ≡ true → AreGrants (take (at + 1) grants)
-first_next grants at d within so_far passes = rw (one_more grants at d within) (grants-push (take at grants) (get_or grants at d) so_far (follows_from_test (take at grants) (get_or grants at d) passes))
-
--- and ends at one that can't
-pub first_found : (grants : List Grant) (at : ℕ) (d : Grant) → at < length grants → AreGrants (take at grants) → can_follow (take at grants) (get_or grants at d) ≡ false → IsFirstBad grants at
-first_found grants at d within so_far fails = record {
-  within = within;
-  before = so_far;
-  broken = λ all.
-      let more : AreGrants (take at grants ++ get_or grants at d ∷ []) = rw (one_more grants at d within) at all in
-      let passes = test_from_follows (take at grants) (get_or grants at d) (follows_last (take at grants) (get_or grants at d) so_far more) in
-      let never : false ≡ true = sym fails ∙ passes in
-      absurd cc;
 }

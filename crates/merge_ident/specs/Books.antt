@@ -12,7 +12,7 @@ pub record Book : Type 0 where
   pub grants : List Grant
   pub room : ℕ
 
--- values begin at 1, and a range has some
+-- values are from 1 on, and a range has some
 pub record IsRule (rule : Rule) : Type 0 where
   pub seed : pos 1 ≤ℤ rule.seed
   pub range : 1 ≤ rule.range

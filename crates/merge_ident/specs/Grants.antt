@@ -33,7 +33,7 @@ gives article value grant = (grant.article == article) && is_in value grant.rang
 abbrev pub is_granted : ℕ → ℕ → ℤ → List Grant → Bool
 is_granted article site value grants = list_any (λ (grant : Grant). is_of article site grant && is_in value grant.range) grants
 
--- the values begin at 1 and are some
+-- the values are from 1 on, and are some
 pub record IsGranted (grant : Grant) : Type 0 where
   pub from_one : pos 1 ≤ℤ grant.range.begin
   pub some : grant.range.begin ≤ℤ grant.range.end

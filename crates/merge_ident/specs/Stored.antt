@@ -1,14 +1,8 @@
 -- Whether stored grants are those of a book, one after the other.
-use Rattle.std.specs.Prelude.{◌≡◌, ℕ, ◌+◌, ◌<◌, Bool, ◌&&◌, ◌||◌, ◌==◌, not, pos, int_lt, int_le, List, length, take}
+use Rattle.std.specs.Prelude.{◌+◌, Bool, ◌&&◌, ◌||◌, ◌==◌, not, pos, int_lt, int_le, List}
 use Rattle.std.specs.List.{list_all}
 use Rattle.merge_ident.specs.declared.grants.Grant.{Grant}
-use Rattle.merge_ident.specs.Grants.{granted_to, AreGrants}
-
--- the place is the first where the grants up to it are no grants of a book
-pub record IsFirstBad (grants : List Grant) (at : ℕ) : Type 0 where
-  pub within : at < length grants
-  pub before : AreGrants (take at grants)
-  pub broken : AreGrants (take (at + 1) grants) → ⊥
+use Rattle.merge_ident.specs.Grants.{granted_to}
 
 abbrev pub has_values : Grant → Bool
 has_values grant = int_le (pos 1) grant.range.begin && int_le grant.range.begin grant.range.end

@@ -97,6 +97,7 @@ impl RangeBook {
         ensures ready { IfOk result (λ plan. IsReady self.new (plan ∷ [])) }
         ensures memory { OnErr result (NeedsMemory (answer_of self.old.rules self.old.grants ask)) }
         ensures room { OnErr result (self.old.room ≡ 0) }
+        ensures room_stays { self.old.room ≤ self.new.room }
         ensures grants { self.new.grants ≡ self.old.grants }
         ensures rules { self.new.rules ≡ self.old.rules }
     {
@@ -123,6 +124,7 @@ impl RangeBook {
         requires { All (λ ask. IsSome (rule_of self.old.rules ask.article)) asks.now }
         ensures plans { IfOk result (λ plans. plans ≡ plans_of self.old.rules self.old.grants asks.now) }
         ensures ready { IfOk result (λ plans. IsReady self.new plans) }
+        ensures room { self.old.room ≤ self.new.room }
         ensures grants { self.new.grants ≡ self.old.grants }
         ensures rules { self.new.rules ≡ self.old.rules }
 

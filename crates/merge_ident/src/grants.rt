@@ -1,7 +1,4 @@
 //! Ranges, the grants of them, and what is asked and answered.
-ghost use Rattle.std.specs.Prelude.{◌≡◌, ◌↔◌, IsTrue};
-ghost use Rattle.merge_ident.specs.Books.{IsRule};
-
 use merge_types::{Exact, Listing, NoMemory, SiteId};
 use thiserror::Error;
 
@@ -33,16 +30,6 @@ pub struct Rule {
     pub range: u32,
     pub pub_range: u32,
     pub greatest: i64,
-}
-
-impl Rule {
-    /// Whether a book can have the rule: values begin at 1 and do not end below, and ranges have
-    /// some.
-    pub fn is_sound(&self) -> bool
-        ensures { IsTrue result ↔ IsRule self.now }
-    {
-        self.seed >= 1 && self.range >= 1 && self.pub_range >= 1 && self.greatest >= 1
-    }
 }
 
 /// The rules of the articles that have an identity column.

@@ -6,7 +6,6 @@
 
 mod asks;
 mod book;
-mod first_bad;
 mod grants;
 mod halving;
 pub mod laws;
@@ -15,7 +14,6 @@ mod seen_grants;
 mod slots;
 
 pub use book::RangeBook;
-pub use first_bad::{can_follow, first_bad_grant};
 pub use grants::{
     Answer, Ask, Grant, GrantAnswer, GrantPlan, GrantPlans, Grants, IdentityFault, Range, Rule,
     Rules,

@@ -56,7 +56,8 @@ impl SeenGrants {
         self.fits(grant)
     }
 
-    /// Takes up a grant that can come behind those that were seen.
+    /// Takes up a grant that can come behind those that were seen. Once memory was wanting the grants
+    /// are to be let go: this one may be taken up in part.
     pub fn add(&mut self, grant: Grant) -> Result<(), NoMemory>
         ensures { OnOk result ((before : List OneGrant) → IsSeen self.old.ranges.entries self.old.lasts.entries before → can_follow before grant ≡ true → IsSeen self.new.ranges.entries self.new.lasts.entries (before ++ grant ∷ [])) }
     {
@@ -146,8 +147,8 @@ fn is_next(grant: Grant, last: Option<LastGrant>) -> bool
     }
 }
 
-/// Whether the grant has values, from 1 on.
-pub fn has_values(grant: Grant) -> bool
+// Whether the grant has values, from 1 on.
+fn has_values(grant: Grant) -> bool
     ensures { result ≡ has_values grant }
 {
     1 <= grant.range.begin && grant.range.begin <= grant.range.end

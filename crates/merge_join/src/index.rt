@@ -6,9 +6,10 @@ ghost use Rattle.std.specs.BTreeMap.{is_at};
 ghost use Rattle.std.specs.BTreeSet.{insert_key};
 ghost use Rattle.std.specs.Set.{remove_key};
 ghost use Rattle.merge_table.specs.Contents.{has_room};
-ghost use Rattle.merge_table.specs.Edits.{IsReady};
+ghost use Rattle.merge_table.specs.Edits.{IsReady, slots_for_all};
 ghost use Rattle.merge_join.specs.Entries.{entry_cmp};
 ghost use Rattle.merge_join.specs.Index.{of_value, set_after_all};
+ghost use Rattle.merge_join.specs.declared.entry.JoinEntry.{JoinEntry as OneEntry};
 
 use crate::{JoinChange, JoinEntry};
 use merge_table::{Rows, Table};
@@ -39,7 +40,8 @@ impl Model for JoinIndex {
 impl JoinIndex {
     /// No entry.
     pub fn new(alloc: Global) -> Self
-        ensures { result.set ≡ [] }
+        ensures set { result.set ≡ [] }
+        ensures slots { result.room ≡ [] }
     {
         JoinIndex {
             entries: Table::new(alloc),
@@ -84,7 +86,8 @@ impl JoinIndex {
     /// Puts the entry in, whether it is there or not.
     pub fn insert(&mut self, entry: JoinEntry) -> Result<(), NoMemory>
         ensures ok { OnOk result (self.new.set ≡ insert_key entry_cmp self.old.set entry) }
-        ensures err { OnErr result (self.new.set ≡ self.old.set) }
+        ensures slots { OnOk result (self.new.room ≡ insert_key entry_cmp self.old.room entry) }
+        ensures err { OnErr result (self.new ≡ self.old) }
 
         // What takes no memory is not refused.
         ensures room { IsTrue (has_room entry_cmp self.old.room entry) → IsOk result }
@@ -93,17 +96,21 @@ impl JoinIndex {
         Ok(())
     }
 
-    /// Takes the entry out, where it is there.
+    /// Takes the entry out, where it is there, and its room.
     pub fn remove(&mut self, entry: &JoinEntry)
-        ensures { self.new.set ≡ remove_key (is_at (entry_cmp entry.now)) self.old.set }
+        ensures set { self.new.set ≡ remove_key (is_at (entry_cmp entry.now)) self.old.set }
+        ensures slots { self.new.room ≡ remove_key (is_at (entry_cmp entry.now)) self.old.room }
     {
         self.entries.remove(entry);
     }
 
-    /// Takes the memory for several changes. The entries stay as they are.
+    /// Takes the memory for several changes. The entries stay as they are. After a refusal, room that
+    /// was made stays as room.
     pub fn prepare(&mut self, changes: &[JoinChange]) -> Result<(), NoMemory>
         ensures same { self.new.set ≡ self.old.set }
         ensures ready { OnOk result (IsReady entry_cmp self.new.room changes.now) }
+        ensures slots { OnOk result (self.new.room ≡ slots_for_all entry_cmp self.old.room changes.now) }
+        ensures kept { (entry : OneEntry) → IsTrue (has_room entry_cmp self.old.room entry) → IsTrue (has_room entry_cmp self.new.room entry) }
 
         // What takes no memory is not refused.
         ensures room { IsReady entry_cmp self.old.room changes.now → IsOk result }

@@ -1,5 +1,5 @@
 -- What contracts see of a membership.
-use Rattle.std.specs.Prelude.{List}
+use Rattle.std.specs.Prelude.{◌*◌, ◌≤◌, List, length}
 use Rattle.std.specs.Coded.{Coded}
 use Rattle.merge_filter.specs.declared.filters.Filter.{Filter}
 use Rattle.merge_filter.specs.Code.{syntax_code}
@@ -60,3 +60,10 @@ pub record IsPrepared (view : View) (plan : Plan) : Type 0 where
   pub children : IsReady entry_cmp view.index.children.room plan.children
   pub parents : IsReady entry_cmp view.index.parents.room plan.parents
   pub kept : IsKept view.publication view.rules.links (set_after_all view.index.children.set plan.children) (set_after_all view.index.parents.set plan.parents) (rows_after_all key_cmp view.held.rows.rows plan.rows) (rows_after_all key_cmp view.held.marks.rows plan.marks)
+
+-- the memory that is kept is at most for twice what is held
+pub record IsCompact (view : View) : Type 0 where
+  pub rows : length view.held.rows.slots ≤ 2 * length view.held.rows.rows
+  pub marks : length view.held.marks.slots ≤ 2 * length view.held.marks.rows
+  pub children : length view.index.children.room ≤ 2 * length view.index.children.set
+  pub parents : length view.index.parents.room ≤ 2 * length view.index.parents.set

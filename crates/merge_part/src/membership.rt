@@ -17,7 +17,7 @@ ghost use Rattle.merge_part.specs.Rule.{Meets};
 ghost use Rattle.merge_part.specs.Settling.{AllMeet, pends, ParentsComeFirst, NoneFollowsItself};
 ghost use Rattle.merge_schema.specs.Valid.{IsValid};
 ghost use Rattle.merge_schema.specs.ValidityLaws.{FiltersFit};
-ghost use Rattle.merge_part.specs.View.{live_in, live_after_plan, IsPrepared};
+ghost use Rattle.merge_part.specs.View.{live_in, live_after_plan, IsCompact, IsPrepared};
 
 use crate::change::{Moves, RowChange};
 use crate::draft::{Draft, Held, RowEdit, marks_held};
@@ -141,11 +141,12 @@ impl Membership {
     }
 
     /// Makes the changes of a plan, which is the last one that was prepared. No memory is taken,
-    /// and spare memory may go back.
+    /// and spare memory goes back once it is the most.
     pub fn make(&mut self, plan: MembershipPlan)
         requires { IsPrepared self.old plan }
         ensures publication { self.new.publication ≡ self.old.publication }
         ensures live { live_in self.new ≡ live_after_plan self.old plan }
+        ensures compact { IsCompact self.new }
     {
         let MembershipPlan {
             rows,
@@ -173,6 +174,7 @@ impl Membership {
         ensures moves { IfOk result (λ moves. AreMoves self.old.publication (live_rows (live_in self.old)) (live_rows (live_in self.new)) moves) }
         ensures ok { OnOk result (live_in self.new ≡ live_after_all (live_in self.old) changes.now) }
         ensures err { OnErr result (live_in self.new ≡ live_in self.old) }
+        ensures compact { OnOk result (IsCompact self.new) }
         ensures publication { self.new.publication ≡ self.old.publication }
         ensures cost { steps.new ≤ steps.old + length self.old.publication.subscriptions * living changes.now }
     {

@@ -1,10 +1,7 @@
 -- One object is asked.
-use Rattle.std.proofs.Common.{◌≡◌, ℕ, zero, suc, ◌+◌, ◌-◌, ◌<◌, ◌^◌, min, List, [], ◌∷◌, ◌++◌, append_assoc, length, get_or, set, map, take, Option, Some, slice_index, refl, ap, sym, ◌∙◌, arith}
-use Rattle.std.proofs.lemmas.List.{map-set, map-append}
-use Rattle.std.proofs.lemmas.Grind.{common_steps}
-use Rattle.merge_resolve.specs.declared.asking.Question.{Question}
-use Rattle.merge_resolve.specs.Questions.{question_of}
-use Rattle.merge_resolve.specs.Asked.{raised, says_at, decisions_of, tallies_after}
+use Rattle.std.proofs.Common.{◌≡◌, ℕ, zero, suc, ◌+◌, ◌-◌, ◌<◌, ◌^◌, min, List, [], ◌∷◌, ◌++◌, length, get_or, set, map, Some, slice_index, refl, ap, sym, ◌∙◌, arith}
+use Rattle.std.proofs.lemmas.List.{map-set}
+use Rattle.merge_resolve.specs.Asked.{raised, says_at, tallies_after}
 
 module _ {X Q D : Type 0} (says : X → ℕ → Q → D) where
   -- an object that says the same in its place
@@ -41,16 +38,3 @@ module _ {X Q D : Type 0} (says : X → ℕ → Q → D) (tally : X → ℕ) whe
 pub tallies_after-append : {Q : Type 0} (tallies : List ℕ) (xs ys : List (ℕ × Q)) → tallies_after tallies (xs ++ ys) ≡ tallies_after (tallies_after tallies xs) ys
 tallies_after-append tallies [] ys = refl
 tallies_after-append tallies (x ∷ xs) ys = tallies_after-append (raised tallies x.0) xs ys
-
--- one more question is asked
-pub asked_next : (first now new : List ℕ) (questions : List Question) (i : ℕ) (item : Question) → i < length questions → item ≡ get_or questions i item
-    → now ≡ tallies_after first (map question_of (take i questions)) → new ≡ raised now item.place → new ≡ tallies_after first (map question_of (take (i + 1) questions))
-asked_next first now new questions i item in_range read before is =
-    let more : take (i + 1) questions ≡ take i questions ++ item ∷ [] = grind (arith, common_steps, read) in
-    rw (more, map-append, tallies_after-append first (map question_of (take i questions)) (question_of item ∷ []), ← before) is
-
--- one more decision is told
-pub told_next : {Q D : Type 0} (says : ℕ → ℕ → Q → Option D) (now new : List ℕ) (done : List D) (d : D) (q : ℕ × Q) (left : List (ℕ × Q)) (all : List (Option D))
-    → map Some done ++ decisions_of says now (q ∷ left) ≡ all → Some d ≡ says q.0 (slice_index now q.0) q.1 → new ≡ raised now q.0
-    → map Some (done ++ d ∷ []) ++ decisions_of says new left ≡ all
-told_next says now new done d q left all told is counted = rw counted (simp (map-append, append_assoc) (rw is told))

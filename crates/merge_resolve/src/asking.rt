@@ -1,7 +1,6 @@
 //! Asking the resolvers of a list.
-ghost use Rattle.std.specs.Prelude.{◌≡◌, ◌<◌, ◌≤◌, ◌+◌, ◌^◌, ◌-◌, ◌≢◌, ℕ, min, IfOk, length, slice_get, slice_index, map, take, All, OnOk, IsOk, [], Some};
-ghost use Rattle.merge_resolve.specs.Asked.{raised, says_at, decisions_of, tallies_after};
-ghost use Rattle.merge_resolve.specs.Questions.{question_of};
+ghost use Rattle.std.specs.Prelude.{◌≡◌, ◌<◌, ◌+◌, ◌^◌, ◌-◌, ℕ, min, IfOk, length, slice_index, map, Some};
+ghost use Rattle.merge_resolve.specs.Asked.{raised, says_at};
 ghost use Rattle.merge_resolve.specs.Changes.{ChangesAt};
 
 use crate::{ConflictCase, Handed};
@@ -25,9 +24,6 @@ pub struct Question {
 
 /// The types of columns, in order.
 pub type ColumnTypes = Listing<ColumnType>;
-
-/// The decisions on questions, in their order.
-pub type Decisions = Listing<Decision>;
 
 /// Asks the resolver once.
 pub fn ask(resolver: &mut Handed, alloc: Global, case: &ConflictCase) -> Result<Decision, NoMemory>
@@ -56,32 +52,4 @@ pub fn ask_at(
 {
     let resolver = &mut resolvers[at];
     ask(resolver, alloc, case)
-}
-
-/// Asks about each conflict once, in order.
-pub fn ask_all(
-    alloc: Global,
-    resolvers: &mut Vec<Handed>,
-    questions: &[Question],
-) -> Result<Decisions, NoMemory>
-    requires { All (λ question. question.place < length resolvers.old.items) questions.now }
-    ensures decisions { IfOk result (λ decisions. map Some decisions
-        ≡ decisions_of (says_at (λ r. says r) resolvers.old.items) (map (λ r. tally_of r) resolvers.old.items) (map question_of questions.now)) }
-    ensures tallies { OnOk result (map (λ r. tally_of r) resolvers.new.items
-        ≡ tallies_after (map (λ r. tally_of r) resolvers.old.items) (map question_of questions.now)) }
-
-    // Where memory is wanting, some first questions were asked.
-    ensures asked { (n : ℕ) × (n ≤ length questions.now) × (map (λ r. tally_of r) resolvers.new.items
-        ≡ tallies_after (map (λ r. tally_of r) resolvers.old.items) (map question_of (take n questions.now))) }
-    ensures steady { (k n : ℕ) (asked : _) → says_at (λ r. says r) resolvers.new.items k n asked ≡ says_at (λ r. says r) resolvers.old.items k n asked }
-    ensures len { length resolvers.new.items ≡ length resolvers.old.items }
-
-    // Of nothing no memory is taken.
-    ensures free { questions.now ≡ [] → IsOk result }
-{
-    let mut decisions = Decisions::empty(alloc);
-    for question in questions {
-        decisions.push(ask_at(alloc, resolvers, question.place as usize, &question.case)?)?;
-    }
-    Ok(decisions)
 }

@@ -11,7 +11,7 @@ pub type Places = Listing<u8>;
 pub enum CaseKind {
     /// Updates of one row, with row tracking.
     ByRow,
-    /// Updates of one column, with column tracking.
+    /// Updates of one row, with column tracking.
     ByColumn,
     /// An update and a delete, whichever wins.
     Delete,

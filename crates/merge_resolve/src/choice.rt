@@ -1,6 +1,6 @@
 //! The rules that an article may choose.
 ghost use Rattle.std.specs.Prelude.{◌≡◌};
-ghost use Rattle.merge_resolve.specs.Choices.{place_of, choice_at};
+ghost use Rattle.merge_resolve.specs.Choices.{place_of};
 
 /// A rule that comes with the product. A program hands its objects in in this order, and its own
 /// behind them.
@@ -24,20 +24,6 @@ impl ResolverChoice {
             ResolverChoice::Minimum => 2,
             ResolverChoice::Additive => 3,
             ResolverChoice::SubscriberWins => 4,
-        }
-    }
-
-    /// The rule at a place, where there is one.
-    pub fn at(place: u8) -> Option<ResolverChoice>
-        ensures { result ≡ choice_at place }
-    {
-        match place {
-            0 => Some(ResolverChoice::Priority),
-            1 => Some(ResolverChoice::Maximum),
-            2 => Some(ResolverChoice::Minimum),
-            3 => Some(ResolverChoice::Additive),
-            4 => Some(ResolverChoice::SubscriberWins),
-            _ => None,
         }
     }
 }

@@ -1,5 +1,5 @@
 //! What a decision counts as.
-ghost use Rattle.std.specs.Prelude.{◌≡◌, ◌-◌, ◌^◌, ◌==◌, ◌&&◌, IsTrue, false, IsOk, min, nat_le, IfOk, length, if◌then◌else◌, slice_set, slice_get};
+ghost use Rattle.std.specs.Prelude.{◌≡◌, ◌-◌, ◌^◌, ◌==◌, ◌&&◌, IsTrue, false, None, IsOk, min, nat_le, IfOk, length, if◌then◌else◌, slice_set, slice_get};
 ghost use Rattle.std.specs.Option.{option_copied};
 ghost use Rattle.merge_types.specs.Fitting.{fits_column};
 ghost use Rattle.merge_types.specs.Length.{row_length};
@@ -24,8 +24,9 @@ pub fn counted_decision(
 ) -> Result<Decision, NoMemory>
     ensures counted { IfOk result (λ counted. counted ≡ counted_decision types.now identity sides.now case.now decision) }
 
-    // Without a list no memory is taken.
+    // Without a list no memory is taken, nor where no identity column keeps its value.
     ensures free { is_custom decision ≡ false → IsOk result }
+    ensures plain { identity ≡ None → IsOk result }
 {
     match decision {
         Decision::KeepPublisher => Ok(Decision::KeepPublisher),
@@ -42,7 +43,8 @@ fn counted_list(
     case: &ConflictCase,
     values: Values,
 ) -> Result<Decision, NoMemory>
-    ensures { IfOk result (λ counted. counted ≡ counted_list types.now identity sides.now case.now case.now.publisher case.now.incoming values) }
+    ensures counted { IfOk result (λ counted. counted ≡ counted_list types.now identity sides.now case.now case.now.publisher case.now.incoming values) }
+    ensures plain { identity ≡ None → IsOk result }
 {
     match (&case.publisher, &case.incoming) {
         (Body::Live(ours), Body::Live(theirs)) => {
@@ -127,7 +129,8 @@ fn with_own(
     values: Values,
 ) -> Result<Values, NoMemory>
     requires { is_by_row case.now.kind ≡ false → length case.now.cells ≡ length values }
-    ensures { IfOk result (λ kept. kept ≡ with_own case.now identity (option_copied own.entry) values) }
+    ensures kept { IfOk result (λ kept. kept ≡ with_own case.now identity (option_copied own.entry) values) }
+    ensures plain { identity ≡ None → IsOk result }
 {
     match (identity, own) {
         (Some(identity), Some(own)) => {

@@ -1,5 +1,5 @@
 //! The version with the greater value wins, or the one with the smaller.
-ghost use Rattle.std.specs.Prelude.{◌≡◌, ℕ, int_lt};
+ghost use Rattle.std.specs.Prelude.{◌≡◌, ℕ, ◌+◌, ◌-◌, ◌^◌, min, int_lt, IfOk, IsOk};
 ghost use Rattle.merge_resolve.specs.declared.choice.ResolverChoice.TheVariants as choice;
 ghost use Rattle.merge_resolve.specs.Choices.{rule_of};
 ghost use Rattle.std.specs.Option.{option_copied};
@@ -59,7 +59,13 @@ impl Resolver for Maximum {
 
     ghost tally_of = { λ it. it.asked };
 
-    fn decide(&mut self, _alloc: Global, case: &ConflictCase) -> Result<Decision, NoMemory> {
+    fn decide(&mut self, _alloc: Global, case: &ConflictCase) -> Result<Decision, NoMemory>
+        ensures decision { IfOk result (λ decision. decision ≡ rule_of choice.Maximum case.now) }
+        ensures counted { self.new.asked ≡ min (self.old.asked + 1) (2 ^ 64 - 1) }
+
+        // No memory is taken.
+        ensures free { IsOk result }
+    {
         self.asked = self.asked.saturating_add(1);
         Ok(decision_by(Extreme::Greatest, case))
     }
@@ -77,7 +83,13 @@ impl Resolver for Minimum {
 
     ghost tally_of = { λ it. it.asked };
 
-    fn decide(&mut self, _alloc: Global, case: &ConflictCase) -> Result<Decision, NoMemory> {
+    fn decide(&mut self, _alloc: Global, case: &ConflictCase) -> Result<Decision, NoMemory>
+        ensures decision { IfOk result (λ decision. decision ≡ rule_of choice.Minimum case.now) }
+        ensures counted { self.new.asked ≡ min (self.old.asked + 1) (2 ^ 64 - 1) }
+
+        // No memory is taken.
+        ensures free { IsOk result }
+    {
         self.asked = self.asked.saturating_add(1);
         Ok(decision_by(Extreme::Least, case))
     }

@@ -15,7 +15,7 @@ mod resolver;
 mod values;
 
 pub use additive::Additive;
-pub use asking::{ColumnTypes, Decisions, Question, ask, ask_all, ask_at};
+pub use asking::{ColumnTypes, Question, ask, ask_at};
 pub use case::{CaseKind, ConflictCase, Places};
 pub use choice::ResolverChoice;
 pub use counted::counted_decision;

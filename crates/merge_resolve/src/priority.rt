@@ -1,5 +1,6 @@
 //! The priority of the sites decides, or the subscriber wins whatever the priorities are.
-ghost use Rattle.std.specs.Prelude.{◌≡◌, ℕ};
+ghost use Rattle.std.specs.Prelude.{◌≡◌, ℕ, ◌+◌, ◌-◌, ◌^◌, min, IfOk, IsOk};
+ghost use Rattle.merge_units.specs.declared.result.Decision.TheVariants as decided;
 ghost use Rattle.merge_resolve.specs.declared.choice.ResolverChoice.TheVariants as choice;
 ghost use Rattle.merge_resolve.specs.Choices.{rule_of};
 ghost use Rattle.merge_resolve.specs.Rules.{take_if, by_priority};
@@ -48,7 +49,13 @@ impl Resolver for Priority {
 
     ghost tally_of = { λ it. it.asked };
 
-    fn decide(&mut self, _alloc: Global, case: &ConflictCase) -> Result<Decision, NoMemory> {
+    fn decide(&mut self, _alloc: Global, case: &ConflictCase) -> Result<Decision, NoMemory>
+        ensures decision { IfOk result (λ decision. decision ≡ rule_of choice.Priority case.now) }
+        ensures counted { self.new.asked ≡ min (self.old.asked + 1) (2 ^ 64 - 1) }
+
+        // No memory is taken.
+        ensures free { IsOk result }
+    {
         self.asked = self.asked.saturating_add(1);
         Ok(by_priority(case))
     }
@@ -65,7 +72,13 @@ impl Resolver for SubscriberWins {
 
     ghost tally_of = { λ it. it.asked };
 
-    fn decide(&mut self, _alloc: Global, _case: &ConflictCase) -> Result<Decision, NoMemory> {
+    fn decide(&mut self, _alloc: Global, _case: &ConflictCase) -> Result<Decision, NoMemory>
+        ensures decision { IfOk result (λ decision. decision ≡ decided.TakeSubscriber) }
+        ensures counted { self.new.asked ≡ min (self.old.asked + 1) (2 ^ 64 - 1) }
+
+        // No memory is taken.
+        ensures free { IsOk result }
+    {
         self.asked = self.asked.saturating_add(1);
         Ok(Decision::TakeSubscriber)
     }
