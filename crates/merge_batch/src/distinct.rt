@@ -37,7 +37,7 @@ impl OfArticle for RangeGrant {
 }
 
 // Whether no article comes twice. As there are at most 256 places of articles, one of the first 257
-// members is found again, so that the work is linear.
+// members is found again, so that the work is linear: this is said by no clause.
 pub fn articles_differ<T: OfArticle>(members: &[T]) -> bool
     ensures { result ≡ are_distinct (map T.place members.now) }
 {

@@ -5,7 +5,8 @@ ghost use Rattle.merge_ident.specs.Grants.{granted_to, is_granted};
 use merge_gens::SiteState;
 use merge_types::{RowId, SiteId};
 
-/// The tables of the publisher. Each answer is to take no longer than a look-up.
+/// The tables of the publisher. It is asked for each item of a message, so an answer should take no
+/// longer than a look-up. No clause says so.
 pub trait Holdings {
     ghost use Rattle.merge_batch.specs.Known.{Known};
 

@@ -35,4 +35,4 @@ pub use request::{
 };
 pub use rules::BrokenRule;
 pub use standing::Standing;
-pub use upload::upload_fault;
+pub use upload::{identity_value, upload_fault};

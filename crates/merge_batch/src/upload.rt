@@ -236,8 +236,9 @@ fn identity_is_right<H: Holdings>(
     }
 }
 
-// The identity value of a live row, where its article has an identity column.
-fn identity_value(publication: &Publication, place: u8, body: &Body) -> Option<i64>
+/// The identity value of a live row, where its article has an identity column. None where the row was
+/// deleted.
+pub fn identity_value(publication: &Publication, place: u8, body: &Body) -> Option<i64>
     ensures { result ≡ identity_value publication.now place body.now }
 {
     let article = publication.article_at(place)?;

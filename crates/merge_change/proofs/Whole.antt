@@ -1,6 +1,6 @@
 -- A change that is allowed makes a row that fits its article.
 use Rattle.std.proofs.Common.{◌≡◌, ◌≤◌, ◌<◌, ◌+◌, ◌&&◌, ◌==◌, ℕ, ℤ, zero, suc, Bool, true, false, List, [], ◌∷◌, ◌++◌, length, map, Option, Some, None, option_map, unwrap_or, slice_get, is_some, if◌then◌else◌, pos, refl, sym, ap, ◌∙◌, subst, arith}
-use Rattle.std.specs.Prelude.{nat_lt, nat_le, not}
+use Rattle.std.specs.Prelude.{nat_lt, nat_le, not, IsSome}
 use Rattle.std.specs.List.{enumerate_from, list_any}
 use Rattle.std.specs.Option.{option_and_then, option_map_or}
 use Rattle.std.proofs.lemmas.Bool.Decides.{nat_tests}
@@ -35,7 +35,7 @@ use Rattle.merge_batch.proofs.Firsts.{all-at}
 use Rattle.merge_types.specs.Fitting.{has_type}
 use Rattle.merge_schema.specs.Places.{article_at}
 use Rattle.merge_batch.specs.Articles.{body_fits, cells_fit, cells_fit_tracking, fits_article, has_article, has_one_value, identity_is_set, is_set, row_values, values_fit}
-use Rattle.merge_batch.specs.LocalChanges.{article_of, identity_column, long_row, long_value, new_value, new_values, refused_if, sets_identity, settings_of, tracking_at, types_at, version_after, wrong_type}
+use Rattle.merge_batch.specs.LocalChanges.{article_of, identity_column, long_row, long_value, new_value, new_values, no_row, refused_if, sets_identity, settings_of, tracking_at, types_at, version_after, wrong_type}
 use Rattle.merge_batch.specs.declared.refusal.Refusal.{Refusal}
 use Rattle.merge_change.specs.Allowed.{CanBeAsked, FitsColumns, FitsHeld, HasIdentity, IsAllowed, IsIdentity}
 use Rattle.merge_change.proofs.FitsAfter.{IdentityFits, kept-set, new-fit, new-ones, new-set, new-values, updated-fit, updated-ones, updated-values}
@@ -207,3 +207,11 @@ version-fits publication (Update article row settings) (Some version) asked allo
     updated-fits publication article settings allowed.columns.types allowed.columns.values allowed.columns.identity version.body (lives-from _ _ allowed.columns.row) asked.fits dot (low-from _ _ (allowed.length dot))
 version-fits publication (Delete article row) None asked allowed identity whole dot = tt
 version-fits publication (Delete article row) (Some version) asked allowed identity whole dot = dead-fits publication article (article_at publication article) refl asked.place dot
+
+-- a change of a row that lives leaves a version
+pub version-there : (publication : Publication) (change : Change) (held : Option Version) → no_row change held ≡ None → (identity : Value) (dot : Dot) → IsSome (version_after publication dot identity change held)
+version-there publication (Insert article settings) held lives identity dot = refl
+version-there publication (Update article row settings) None lives identity dot = absurd cc
+version-there publication (Update article row settings) (Some version) lives identity dot = refl
+version-there publication (Delete article row) None lives identity dot = absurd cc
+version-there publication (Delete article row) (Some version) lives identity dot = refl

@@ -5,7 +5,7 @@ ghost use Rattle.merge_batch.specs.LocalChanges.{identity_column, tracking_at, t
 use merge_schema::{Article, Publication};
 use merge_types::{ColumnType, Tracking};
 
-// How versions of the article's rows are compared.
+/// How versions of the article's rows are compared: as rows where there is no such article.
 pub fn tracking(publication: &Publication, place: u8) -> Tracking
     ensures { result ≡ tracking_at publication.now place }
 {

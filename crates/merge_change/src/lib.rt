@@ -10,7 +10,7 @@ mod refusal;
 mod settings;
 mod version;
 
-pub use article::identity_column;
+pub use article::{identity_column, tracking};
 pub use checks::{check_change, check_counters};
 pub use kept::table_of;
 pub use settings::key_of;

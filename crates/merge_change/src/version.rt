@@ -1,5 +1,5 @@
 //! The version of a row after a local change.
-ghost use Rattle.std.specs.Prelude.{◌≡◌, IfOk, true, false};
+ghost use Rattle.std.specs.Prelude.{◌≡◌, IfOk, IsSome, true, false};
 ghost use Rattle.std.specs.List.{enumerate_from};
 ghost use Rattle.std.specs.Option.{option_copied};
 ghost use Rattle.merge_lineage.specs.Lineage.{knows};
@@ -25,7 +25,7 @@ pub struct Making<'a> {
 }
 
 /// The version after a change of the row that is held. An insert makes a new row, whatever is held.
-/// None comes only for an update or a delete of a row that is not held.
+/// There is always one: an update and a delete that are allowed are of a row that is held.
 pub fn version_after(
     alloc: Global,
     publication: &Publication,
@@ -36,6 +36,7 @@ pub fn version_after(
     requires allowed { IsAllowed publication.now making.now.change.now (option_copied held) }
     requires new { IsNewAt making.now.dot (option_copied held) }
     ensures version { IfOk result (λ after. after ≡ version_after publication.now making.now.dot making.now.identity making.now.change.now (option_copied held.entry)) }
+    ensures there { IfOk result (λ after. IsSome after) }
     ensures fits { IfOk result (λ after. HasIdentity publication.now making.now.change.now making.now.identity → FitsHeld publication.now (article_of making.now.change.now) after) }
 {
     let after = next_version(alloc, publication, making, held)?;

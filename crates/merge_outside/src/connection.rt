@@ -30,7 +30,8 @@ pub(crate) fn open_connection(
     to_answer: Duration,
 ) -> io::Result<TimedStream>
     ensures fresh { IfOk result (λ connection. ⟦<TimedStream as Source>⟧.count connection ≡ 0) }
-    ensures within { IfOk result (λ connection. connection.in_all ≡ to_answer) }
+    ensures at_once { IfOk result (λ connection. connection.at_once ≡ to_answer) }
+    ensures in_all { IfOk result (λ connection. connection.in_all ≡ to_answer) }
 {
     let stream = connect(rt, address, to_connect)?;
     let started = Instant::now(rt)?;

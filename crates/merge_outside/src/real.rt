@@ -1,6 +1,9 @@
 //! The program's outside.
-ghost use Rattle.std.specs.Prelude.{◌≡◌, [], Some, None, IfOk, OnErr};
-ghost use Rattle.merge_outside.specs.Offers.{nothing_told};
+ghost use Rattle.std.specs.Prelude.{◌≡◌, ◌*◌, [], Some, None, IfOk, IsErrOf, IsOk, OnErr, OnOk};
+ghost use Rattle.std.specs.Duration.{as_nanos};
+ghost use Rattle.merge_ports.specs.Opened.{HasStoreCause, SameElsewhere, with_faults};
+ghost use Rattle.merge_ports.specs.declared.outside.OpenFault.TheVariants.{Failed as failed};
+ghost use Rattle.merge_outside.specs.Offers.{HasTextCause, nothing_told, with_text_faults};
 ghost use Rattle.merge_outside.specs.Slots.{HasSlot, KeepsOthers, KeepsSlots, kept_in, told_in, told_or, told_unkept};
 
 use crate::clock::SystemClock;
@@ -29,6 +32,7 @@ pub struct RealOutside {
 impl RealOutside {
     /// An outside that opened nothing yet.
     pub fn new(rt: HostRuntime) -> Self
+        ensures runtime { result.rt ≡ rt }
         ensures counts { result.counts ≡ record { texts = 0; stores = 0; links = 0 } }
         ensures none { result.slots.items ≡ [] }
     {
@@ -61,6 +65,7 @@ fn file_store(rt: &HostRuntime, path: &Words) -> Result<RealStore, OpenFault>
 fn new_store(rt: &HostRuntime, path: &Words) -> Result<RealStore, OpenFault>
     ensures told { IfOk result (λ store. ⟦<RealStore as Keeper>⟧.told store ≡ told_unkept path.now) }
     ensures fresh { IfOk result (λ store. ⟦<RealStore as Keeper>⟧.count store ≡ 0) }
+    ensures memory { path.now ≡ [] → IsOk result }
 {
     if path.is_empty() {
         return Ok(RealStore::in_memory(rt.alloc()));
@@ -79,6 +84,7 @@ fn open_slot(
     ensures map { IfOk result (λ store. ⟦<RealStore as Keeper>⟧.told store ≡ told_in ⟦<RealStore as Keeper>⟧.told slots.old.items site path.now) }
     ensures fresh { IfOk result (λ store. ⟦<RealStore as Keeper>⟧.count store ≡ 0) }
     ensures err { OnErr result (kept_in slots.new.items site path.now ≡ kept_in slots.old.items site path.now) }
+    ensures memory { path.now ≡ [] → kept_in slots.old.items site path.now ≡ None → IsOk result }
     ensures others { KeepsOthers site path.now slots.old.items slots.new.items }
     ensures still { KeepsSlots slots.old.items slots.new.items }
 {
@@ -111,7 +117,17 @@ impl Outside for RealOutside {
 
     ghost counts = { λ o. o.counts };
 
-    fn keeper(&mut self, site: SiteId, path: &Words) -> Result<RealStore, OpenFault> {
+    fn keeper(&mut self, site: SiteId, path: &Words) -> Result<RealStore, OpenFault>
+        ensures map { IfOk result (λ store. ⟦<RealStore as Keeper>⟧.told store ≡ told_in ⟦<RealStore as Keeper>⟧.told self.old.slots.items site path.now) }
+        ensures fresh { IfOk result (λ store. ⟦<RealStore as Keeper>⟧.count store ≡ 0) }
+        ensures open { OnOk result (HasSlot self.new.slots.items site path.now) }
+        ensures others { SameElsewhere site path.now (told_in ⟦<RealStore as Keeper>⟧.told self.old.slots.items) (told_in ⟦<RealStore as Keeper>⟧.told self.new.slots.items) }
+        ensures err { OnErr result (told_in ⟦<RealStore as Keeper>⟧.told self.new.slots.items site path.now ≡ told_in ⟦<RealStore as Keeper>⟧.told self.old.slots.items site path.now) }
+        ensures still { KeepsSlots self.old.slots.items self.new.slots.items }
+        ensures cause { HasStoreCause self.old.counts self.new.counts result }
+        ensures memory { path.now ≡ [] → kept_in self.old.slots.items site path.now ≡ None → IsErrOf result failed → ⊥ }
+        ensures counted { IsErrOf result failed → self.new.counts ≡ with_faults 1 self.old.counts }
+    {
         make_slot(self.alloc, &mut self.slots, site, path)?;
         let opened = open_slot(&self.rt, &mut self.slots, site, path);
         if let Err(OpenFault::Failed) = opened {
@@ -139,19 +155,34 @@ impl CommandOutside for RealOutside {
 
     ghost offers = { λ o. nothing_told };
 
-    fn text(&mut self, path: &Words) -> Result<FileText, OpenFault> {
-        let opened = open_text(&self.rt, path.as_str());
-        if let Err(OpenFault::Failed) = opened {
-            self.counts.texts = self.counts.texts.saturating_add(1);
+    fn text(&mut self, path: &Words) -> Result<FileText, OpenFault>
+        ensures fresh { IfOk result (λ text. text.reading.faults ≡ 0) }
+        ensures cause { HasTextCause self.old.counts self.new.counts result }
+        ensures counted { IsErrOf result failed → self.new.counts ≡ with_text_faults 1 self.old.counts }
+        ensures kept { self.new ≡ record self.old { counts = self.new.counts } }
+    {
+        match open_text(&self.rt, path.as_str()) {
+            Ok(text) => Ok(text),
+            Err(OpenFault::NoMemory) => Err(OpenFault::NoMemory),
+            Err(OpenFault::Failed) => {
+                self.counts.texts = self.counts.texts.saturating_add(1);
+                Err(OpenFault::Failed)
+            }
         }
-        opened
     }
 
     fn text_back(&mut self, text: FileText) {
         self.counts.texts = self.counts.texts.saturating_add(text.faults());
     }
 
-    fn link(&mut self, address: &Words) -> Result<TcpLink, NoMemory> {
+    fn link(&mut self, address: &Words) -> Result<TcpLink, NoMemory>
+        ensures runtime { IfOk result (λ link. link.rt ≡ self.old.rt) }
+        ensures asks { IfOk result (λ link. link.address ≡ address.now) }
+        ensures connect { IfOk result (λ link. as_nanos link.waits.to_connect ≡ 30 * 1_000_000_000) }
+        ensures answer { IfOk result (λ link. as_nanos link.waits.to_answer ≡ 300 * 1_000_000_000) }
+        ensures fresh { IfOk result (λ link. link.faults ≡ 0) }
+        ensures kept { self.new ≡ self.old }
+    {
         let address = Words::of(self.alloc, address.as_str())?;
         Ok(TcpLink::new(self.rt, address, Waits::usual()))
     }
@@ -160,7 +191,10 @@ impl CommandOutside for RealOutside {
         self.counts.links = self.counts.links.saturating_add(link.faults());
     }
 
-    fn clock(&mut self) -> SystemClock {
+    fn clock(&mut self) -> SystemClock
+        ensures made { result ≡ record { rt = self.old.rt; last = record { 0 = 0 } } }
+        ensures kept { self.new ≡ self.old }
+    {
         SystemClock::new(self.rt)
     }
 }

@@ -1,5 +1,10 @@
 //! Keepers of stores in memory and in files.
-ghost use Rattle.std.specs.Prelude.{◌≡◌, [], None, Some, IfOk, true};
+ghost use Rattle.std.specs.Prelude.{◌≡◌, [], None, Some, IfOk, IsErrOf, true};
+ghost use Rattle.sqlite.specs.Files.{over_files};
+ghost use Rattle.merge_ports.specs.Faults.{one_more};
+ghost use Rattle.merge_ports.specs.Keeping.{HasKeepCause};
+ghost use Rattle.merge_ports.specs.declared.keeper.KeepFault.TheVariants.{Failed as failed};
+ghost use Rattle.merge_sqlite.specs.Keeping.{HasCommitted, HasLoaded};
 
 use merge_keeper::MemoryKeeper;
 use merge_ports::{Entries, EntryEdit, KeepFault, Keeper};
@@ -45,7 +50,8 @@ impl<M: Keeper, F: Keeper> Keeper for Store<M, F> {
     }
 }
 
-/// The keeper of a SQLite file that the system has. It tells nothing of its map.
+/// The keeper of a SQLite file that the system has. It tells nothing of its map, and promises what
+/// that of the file does.
 ///
 /// Its name has no parameters, so a proof of what is called with it looks into no database.
 #[derive(Drop)]
@@ -70,11 +76,21 @@ impl Keeper for FileKeeper {
 
     ghost count = { λ k. ⟦<SqliteKeeper<FileStore<File>> as Keeper>⟧.count k.keeper };
 
-    fn load(&mut self) -> Result<Entries, KeepFault> {
+    fn load(&mut self) -> Result<Entries, KeepFault>
+        ensures cause { HasKeepCause self.old.keeper.count self.new.keeper.count result }
+        ensures counted { IsErrOf result failed → self.new.keeper.count ≡ one_more self.old.keeper.count }
+        ensures loaded { HasLoaded over_files self.old.keeper.all.text self.old.keeper.conn self.new.keeper.conn result }
+        ensures kept { self.new.keeper ≡ record self.old.keeper { conn = self.new.keeper.conn; count = self.new.keeper.count } }
+    {
         self.keeper.load()
     }
 
-    fn commit(&mut self, edits: &[EntryEdit]) -> Result<(), KeepFault> {
+    fn commit(&mut self, edits: &[EntryEdit]) -> Result<(), KeepFault>
+        ensures cause { HasKeepCause self.old.keeper.count self.new.keeper.count result }
+        ensures counted { IsErrOf result failed → self.new.keeper.count ≡ one_more self.old.keeper.count }
+        ensures committed { HasCommitted over_files self.old.keeper.put.text self.old.keeper.take.text edits.now self.old.keeper.conn self.new.keeper.conn result }
+        ensures kept { self.new.keeper ≡ record self.old.keeper { conn = self.new.keeper.conn; count = self.new.keeper.count } }
+    {
         self.keeper.commit(edits)
     }
 
@@ -123,16 +139,38 @@ impl RealStore {
 }
 
 impl Keeper for RealStore {
+    ghost use Rattle.std.specs.Prelude.{IfSome, OnErr, OnOk};
+    ghost use Rattle.merge_ports.specs.Entries.{told_after};
+    ghost use Rattle.merge_outside.specs.Stores.{OnFile};
+
     ghost told = { λ s. ⟦<Store<MemoryKeeper, FileKeeper> as Keeper>⟧.told s.kept };
 
     ghost count = { λ s. ⟦<Store<MemoryKeeper, FileKeeper> as Keeper>⟧.count s.kept };
 
-    fn load(&mut self) -> Result<Entries, KeepFault> {
-        self.kept.load()
+    fn load(&mut self) -> Result<Entries, KeepFault>
+        ensures ok { IfOk result (λ entries. IfSome (⟦<Store<MemoryKeeper, FileKeeper> as Keeper>⟧.told self.old.kept) (λ map. entries ≡ map)) }
+        ensures same { ⟦<Store<MemoryKeeper, FileKeeper> as Keeper>⟧.told self.new.kept ≡ ⟦<Store<MemoryKeeper, FileKeeper> as Keeper>⟧.told self.old.kept }
+        ensures cause { HasKeepCause (⟦<Store<MemoryKeeper, FileKeeper> as Keeper>⟧.count self.old.kept) (⟦<Store<MemoryKeeper, FileKeeper> as Keeper>⟧.count self.new.kept) result }
+        ensures counted { IsErrOf result failed → OnFile self.old.kept self.new.kept (λ before after. after.keeper.count ≡ one_more before.keeper.count) }
+        ensures file { OnFile self.old.kept self.new.kept (λ before after. HasLoaded over_files before.keeper.all.text before.keeper.conn after.keeper.conn result) }
+    {
+        match &mut self.kept {
+            Store::Memory(keeper) => keeper.load(),
+            Store::File(keeper) => keeper.load(),
+        }
     }
 
-    fn commit(&mut self, edits: &[EntryEdit]) -> Result<(), KeepFault> {
-        self.kept.commit(edits)
+    fn commit(&mut self, edits: &[EntryEdit]) -> Result<(), KeepFault>
+        ensures ok { OnOk result (⟦<Store<MemoryKeeper, FileKeeper> as Keeper>⟧.told self.new.kept ≡ told_after edits.now (⟦<Store<MemoryKeeper, FileKeeper> as Keeper>⟧.told self.old.kept)) }
+        ensures err { OnErr result (⟦<Store<MemoryKeeper, FileKeeper> as Keeper>⟧.told self.new.kept ≡ ⟦<Store<MemoryKeeper, FileKeeper> as Keeper>⟧.told self.old.kept) }
+        ensures cause { HasKeepCause (⟦<Store<MemoryKeeper, FileKeeper> as Keeper>⟧.count self.old.kept) (⟦<Store<MemoryKeeper, FileKeeper> as Keeper>⟧.count self.new.kept) result }
+        ensures counted { IsErrOf result failed → OnFile self.old.kept self.new.kept (λ before after. after.keeper.count ≡ one_more before.keeper.count) }
+        ensures file { OnFile self.old.kept self.new.kept (λ before after. HasCommitted over_files before.keeper.put.text before.keeper.take.text edits.now before.keeper.conn after.keeper.conn result) }
+    {
+        match &mut self.kept {
+            Store::Memory(keeper) => keeper.commit(edits),
+            Store::File(keeper) => keeper.commit(edits),
+        }
     }
 
     fn faults(&self) -> u64 {

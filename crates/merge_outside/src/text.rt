@@ -1,6 +1,9 @@
 //! Texts in files.
-ghost use Rattle.std.specs.Prelude.{◌≡◌, ◌≢◌, IfOk};
+ghost use Rattle.std.specs.Prelude.{◌≡◌, ◌≢◌, IfOk, OnErr};
+ghost use Rattle.std.specs.Io.{ReadsAtMost};
+ghost use Rattle.std.specs.Io.KnownBytes.{ReadConsumes};
 ghost use Rattle.std.specs.IoError.{error_kind};
+ghost use Rattle.merge_ports.specs.Faults.{HasCause, one_more};
 
 use merge_ports::{Failed, OpenFault, Reading, Source};
 use std::fs::File;
@@ -19,7 +22,12 @@ impl Source for FileText {
 
     ghost count = { λ t. t.reading.faults };
 
-    fn read(&mut self, piece: &mut [u8]) -> Result<usize, Failed> {
+    fn read(&mut self, piece: &mut [u8]) -> Result<usize, Failed>
+        ensures bound { ReadsAtMost result piece.new }
+        ensures bytes { ReadConsumes None None result piece.new }
+        ensures cause { HasCause self.old.reading.faults self.new.reading.faults result }
+        ensures counted { OnErr result (self.new.reading.faults ≡ one_more self.old.reading.faults) }
+    {
         self.reading.read(piece)
     }
 

@@ -1,7 +1,9 @@
 //! A stream over TCP whose reads and writes end in time.
-ghost use Rattle.std.specs.Prelude.{◌≡◌, ◌<◌, ◌≤◌, IfOk};
+ghost use Rattle.std.specs.Prelude.{◌≡◌, ◌<◌, ◌≤◌, length, IfOk, OnErr};
 ghost use Rattle.std.specs.Duration.{as_nanos};
 ghost use Rattle.std.specs.Io.{ReadsAtMost, WritesAtMost};
+ghost use Rattle.std.specs.Io.KnownBytes.{ReadConsumes, WriteAppends};
+ghost use Rattle.merge_ports.specs.Faults.{HasCause, one_more};
 
 use merge_ports::{Failed, Sink, Source};
 use std::io;
@@ -21,8 +23,9 @@ pub(crate) fn left_of(rt: &HostRuntime, started: &Instant, whole: Duration) -> i
     }
 }
 
-/// A stream, each of whose reads and writes ends in a time of its own, and all of which end within a
-/// time from when it was started. It counts each that fails, and tells none of its bytes.
+/// A stream that asks the system to end each of its reads and writes in a time of its own, and all of
+/// them within a time from when it was started. It counts each that fails, and tells none of its bytes.
+/// Its times stay as they were given; what is asked of the system is in no clause.
 #[derive(Drop)]
 pub struct TimedStream {
     rt: HostRuntime,
@@ -44,7 +47,7 @@ impl TimedStream {
     ) -> Self
         ensures fresh { ⟦<TimedStream as Source>⟧.count result ≡ 0 }
         ensures unwritten { ⟦<TimedStream as Sink>⟧.count result ≡ 0 }
-        ensures within { result.in_all ≡ in_all }
+        ensures made { result ≡ record { rt = rt; stream = stream; started = started; at_once = at_once; in_all = in_all; faults = 0 } }
     {
         TimedStream {
             rt,
@@ -56,8 +59,10 @@ impl TimedStream {
         }
     }
 
-    /// The stream itself, whose reads and writes no longer end in time.
-    pub fn into_stream(self) -> TcpStream {
+    /// The stream itself, of whose reads and writes nothing is asked from now on.
+    pub fn into_stream(self) -> TcpStream
+        ensures { result ≡ self.stream }
+    {
         let TimedStream { stream, .. } = self;
         stream
     }
@@ -76,7 +81,7 @@ impl TimedStream {
 
     fn read_in_time(&mut self, piece: &mut [u8]) -> io::Result<usize>
         ensures bound { ReadsAtMost result piece.new }
-        ensures same { self.new.faults ≡ self.old.faults }
+        ensures kept { self.new ≡ record self.old { stream = self.new.stream } }
     {
         self.stream.set_read_timeout(Some(self.wait()?))?;
         self.stream.read(piece)
@@ -84,7 +89,7 @@ impl TimedStream {
 
     fn write_in_time(&mut self, piece: &[u8]) -> io::Result<usize>
         ensures bound { WritesAtMost result piece.now }
-        ensures same { self.new.faults ≡ self.old.faults }
+        ensures kept { self.new ≡ record self.old { stream = self.new.stream } }
     {
         self.stream.set_write_timeout(Some(self.wait()?))?;
         self.stream.write(piece)
@@ -98,7 +103,13 @@ impl Source for TimedStream {
 
     ghost count = { λ s. s.faults };
 
-    fn read(&mut self, piece: &mut [u8]) -> Result<usize, Failed> {
+    fn read(&mut self, piece: &mut [u8]) -> Result<usize, Failed>
+        ensures bound { ReadsAtMost result piece.new }
+        ensures bytes { ReadConsumes None None result piece.new }
+        ensures cause { HasCause self.old.faults self.new.faults result }
+        ensures counted { OnErr result (self.new.faults ≡ one_more self.old.faults) }
+        ensures kept { self.new ≡ record self.old { stream = self.new.stream; faults = self.new.faults } }
+    {
         match self.read_in_time(piece) {
             Ok(taken) => Ok(taken),
             Err(_) => {
@@ -120,7 +131,14 @@ impl Sink for TimedStream {
 
     ghost count = { λ s. s.faults };
 
-    fn write(&mut self, piece: &[u8]) -> Result<usize, Failed> {
+    fn write(&mut self, piece: &[u8]) -> Result<usize, Failed>
+        ensures bound { IfOk result (λ taken. taken ≤ length piece.now) }
+        ensures some { 0 < length piece.now → IfOk result (λ taken. 0 < taken) }
+        ensures bytes { WriteAppends None None result piece.now }
+        ensures cause { HasCause self.old.faults self.new.faults result }
+        ensures counted { OnErr result (self.new.faults ≡ one_more self.old.faults) }
+        ensures kept { self.new ≡ record self.old { stream = self.new.stream; faults = self.new.faults } }
+    {
         match self.write_in_time(piece) {
             Ok(taken) if taken > 0 || piece.is_empty() => Ok(taken),
             _ => {
