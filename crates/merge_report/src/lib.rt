@@ -4,6 +4,7 @@
 mod answers;
 mod conflicts;
 mod generations;
+mod lines;
 mod names;
 mod ranges;
 mod refusals;

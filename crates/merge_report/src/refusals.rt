@@ -1,8 +1,10 @@
 //! Refusals, by their numbers and words.
-ghost use Rattle.std.specs.Prelude.{◌≡◌, ◌++◌, ◌∷◌, List, ℕ, OnOk, drop, option_copied, string_bytes};
+ghost use Rattle.std.specs.Prelude.{◌≡◌, ◌++◌, ◌∷◌, [], List, ℕ, OnOk, drop, option_copied, string_bytes};
+ghost use Rattle.std.specs.Fmt.{signed_decimal};
 ghost use Rattle.merge_model.specs.Script.Text.{refusal_words};
 ghost use Rattle.merge_report.specs.Words.{called, first_word, spaced};
 
+use crate::lines::{add_field, add_pair};
 use crate::names::column_name;
 use merge_batch::Refusal;
 use merge_types::{Column, NoMemory};
@@ -45,6 +47,22 @@ fn add_column(text: &mut String, columns: Option<&[Column]>, place: u8) -> Resul
     Ok(())
 }
 
+// Adds where a range ends, with a blank before it.
+fn add_end(text: &mut String, end: i64) -> Result<(), NoMemory>
+    ensures { OnOk result (string_bytes text.new ≡ string_bytes text.old ++ spaced (signed_decimal end ∷ [])) }
+{
+    write!(text, " {end}")?;
+    Ok(())
+}
+
+// Adds a name with a blank before it.
+fn add_name(text: &mut String, name: &str) -> Result<(), NoMemory>
+    ensures { OnOk result (string_bytes text.new ≡ string_bytes text.old ++ spaced (name.now ∷ [])) }
+{
+    write!(text, " {name}")?;
+    Ok(())
+}
+
 /// Adds the fields of a refusal, with a blank before each.
 pub fn add_fields(
     text: &mut String,
@@ -54,26 +72,25 @@ pub fn add_fields(
     ensures { OnOk result (string_bytes text.new ≡ string_bytes text.old ++ spaced (drop 1 (refusal_words (called (option_copied columns.entry)) refusal.now))) }
 {
     match refusal {
-        Refusal::UnknownSite { site } => write!(text, " {}", site.0)?,
-        Refusal::Expired { last_sync, now } => write!(text, " {} {}", last_sync.0, now.0)?,
-        Refusal::Stale { seq, joined_at } => write!(text, " {seq} {joined_at}")?,
-        Refusal::Gap { from, received } => write!(text, " {from} {received}")?,
-        Refusal::BadBatch { item, rule } => write!(text, " {item} {rule}")?,
-        Refusal::WrongWatermark { from, last } => write!(text, " {from} {last}")?,
+        Refusal::UnknownSite { site } => add_field(text, u64::from(site.0)),
+        Refusal::Expired { last_sync, now } => add_pair(text, last_sync.0, now.0),
+        Refusal::Stale { seq, joined_at } => add_pair(text, *seq, *joined_at),
+        Refusal::Gap { from, received } => add_pair(text, *from, *received),
+        Refusal::BadBatch { item, rule } => add_pair(text, *item, u64::from(*rule)),
+        Refusal::WrongWatermark { from, last } => add_pair(text, *from, *last),
         Refusal::WrongType { column } | Refusal::IdentityColumn { column } => {
-            add_column(text, columns, *column)?;
+            add_column(text, columns, *column)
         }
-        Refusal::RowTooLong { length } => write!(text, " {length}")?,
-        Refusal::IdentityUsedUp { end } => write!(text, " {end}")?,
-        Refusal::TooManyRows { count } => write!(text, " {count}")?,
-        Refusal::Damaged { table, .. } => write!(text, " {table}")?,
-        Refusal::CounterEnd { value } => write!(text, " {value}")?,
-        Refusal::UnknownName { name } => write!(text, " {name}")?,
+        Refusal::RowTooLong { length } => add_field(text, *length),
+        Refusal::IdentityUsedUp { end } => add_end(text, *end),
+        Refusal::TooManyRows { count } => add_field(text, *count),
+        Refusal::Damaged { table, .. } => add_field(text, u64::from(*table)),
+        Refusal::CounterEnd { value } => add_field(text, *value),
+        Refusal::UnknownName { name } => add_name(text, name.as_str()),
         Refusal::StoreFault
         | Refusal::NoRow
         | Refusal::Joining
         | Refusal::NotJoined
-        | Refusal::NoMemory => {}
+        | Refusal::NoMemory => Ok(()),
     }
-    Ok(())
 }

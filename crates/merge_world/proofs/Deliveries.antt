@@ -24,9 +24,9 @@ use Rattle.merge_model.specs.declared.letter.Message.TheVariants.{Asks, Replies}
 use Rattle.merge_model.specs.declared.outcome.Outcome.{Outcome}
 use Rattle.merge_model.specs.declared.outcome.Outcome.TheVariants.{NoLetter, Posted, Refuses, Took}
 use Rattle.merge_model.specs.declared.outcome.Taken.{Taken}
-use Rattle.merge_model.proofs.Failing.Calling.{calls, outcome_by}
+use Rattle.merge_model.proofs.Failing.Calling.{acts-all, calls, outcome_by}
 use Rattle.merge_world.specs.Views.{Does, HandedView, IsOrdered, Moves, PublisherCall, PublisherView, SitesView, SubscriberCall, SubscriberView, faults_of, sites_view, world_of}
-use Rattle.merge_world.proofs.Doing.{acts-all, both-rise}
+use Rattle.merge_world.proofs.Doing.{both-rise}
 use Rattle.merge_world.proofs.Finding.{found-place, is_of, placed, publication-place, unfound}
 use Rattle.merge_world.proofs.Locals.{does-at, made-here, wants-room}
 

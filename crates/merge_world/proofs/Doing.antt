@@ -5,31 +5,25 @@ use Rattle.std.proofs.lemmas.List.Sums.{sum_by-set}
 use Rattle.std.proofs.Math.Seq.{map-set_same}
 use Rattle.merge_types.specs.declared.identifiers.Moment.{Moment}
 use Rattle.merge_types.specs.declared.identifiers.SiteId.{SiteId}
-use Rattle.merge_schema.specs.declared.publication.Publication.{Publication}
 use Rattle.merge_batch.specs.declared.refusal.Refusal.{Refusal}
-use Rattle.merge_model.specs.Failing.{Slips, commits, faulty}
+use Rattle.merge_model.specs.Failing.{commits}
 use Rattle.merge_model.specs.Tables.Keys.{put_number}
-use Rattle.merge_model.specs.Failing.Reach.{Acts, Reaches, stepping, with_outcome}
+use Rattle.merge_model.specs.Failing.Reach.{Acts}
 use Rattle.merge_model.specs.World.Steps.{Action, step, unless_refused}
 use Rattle.merge_model.specs.Tables.{PublisherTables, SubscriberTables}
-use Rattle.merge_model.specs.World.{Saying, World, subscriber_at, with_publisher, with_subscriber}
+use Rattle.merge_model.specs.World.{Saying, subscriber_at, with_publisher, with_subscriber}
 use Rattle.merge_model.specs.declared.letter.Letter.{Letter}
 use Rattle.merge_model.specs.declared.outcome.Outcome.{Outcome}
-use Rattle.merge_model.proofs.Failing.Calling.{calls-plainly, outcome_by, takes}
+use Rattle.merge_model.proofs.Failing.Calling.{acts-all, calls-plainly, outcome_by, takes}
 use Rattle.merge_model.proofs.Lists.Places.{found-in-place, put-in-place}
 use Rattle.merge_world.specs.Views.{Does, IsOrdered, PublisherCall, PublisherView, SitesView, Stays, SubscriberCall, SubscriberView, entry_of, faults_of, publication_of, site_of, sites_view, world_of}
-
--- the faults of one site rise by as many as those of all
-rises : {A : Type 0} (x y : Slips → A) (a b c d : ℕ) → b + c ≤ a + d → Reaches x y a b → Reaches x y c d
-rises x y a b c d le r = record { slips = r.slips; goes = r.goes; few = let few = r.few in omega (arith, le, few) }
-
-pub acts-all : (p : Publication) (says : Saying) (action : Action) (w v : World) (outcome : Outcome) (a b c d : ℕ) → b + c ≤ a + d → Acts p says action w v outcome a b → Acts p says action w v outcome c d
-unfolding Acts
-acts-all p says action w v outcome a b c d le r = rises (λ l. (stepping p says).act (faulty w l) action) (with_outcome p says v outcome) a b c d le r
 
 -- sums and orders, over plain numbers
 pub same-count : (n : ℕ) → n ≤ n
 same-count n = omega arith
+
+pub both-same : (a b c : ℕ) → b + (a + c) ≡ a + (b + c)
+both-same a b c = omega arith
 
 pub both-rise : (a b c : ℕ) → b + (a + c) ≤ a + (b + c)
 both-rise a b c = omega arith
@@ -96,6 +90,10 @@ module _ (p : PublisherView) (pool : List Letter) (moment : Moment) where
   }
 
   -- its faults are among those of all
+  pub faults-same : (ss : List SubscriberView) (i : ℕ) (s s' : SubscriberView) → i < length ss → s ≡ get_or ss i s
+      → s'.faults + (p.faults + sum_by faults_of ss) ≡ s.faults + (p.faults + sum_by faults_of (set ss i s'))
+  faults-same ss i s s' lt here = let sums = sum_by-set faults_of ss i s' s lt in let old = ap faults_of here in omega (arith, sums, old)
+
   pub faults-at : (ss : List SubscriberView) (i : ℕ) (s s' : SubscriberView) → i < length ss → s ≡ get_or ss i s
       → s'.faults + (p.faults + sum_by faults_of ss) ≤ s.faults + (p.faults + sum_by faults_of (set ss i s'))
   faults-at ss i s s' lt here = let sums = sum_by-set faults_of ss i s' s lt in let old = ap faults_of here in omega (arith, sums, old)

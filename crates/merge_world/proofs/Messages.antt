@@ -24,10 +24,10 @@ use Rattle.merge_model.specs.declared.letter.Letter.{Letter}
 use Rattle.merge_model.specs.declared.letter.Message.TheVariants.{Asks}
 use Rattle.merge_model.specs.declared.outcome.Outcome.{Outcome}
 use Rattle.merge_model.specs.declared.outcome.Outcome.TheVariants.{NoPost, Posted, Refuses}
-use Rattle.merge_model.proofs.Failing.Calling.{sends-message}
+use Rattle.merge_model.proofs.Failing.Calling.{acts-all, sends-message}
 use Rattle.merge_world.specs.Messages.{always, as_request, requested}
 use Rattle.merge_world.specs.Views.{Does, IsOrdered, PublisherView, SitesView, SubscriberCall, SubscriberView, entry_of, sites_view, world_of}
-use Rattle.merge_world.proofs.Doing.{acts-all, faults-at, put-at, put-back, stays-at}
+use Rattle.merge_world.proofs.Doing.{faults-at, put-at, put-back, stays-at}
 use Rattle.merge_world.proofs.Finding.{at-place, found-place, is_of, placed, unfound, within}
 use Rattle.merge_world.proofs.Locals.{made-here}
 

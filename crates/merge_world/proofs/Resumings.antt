@@ -17,7 +17,8 @@ use Rattle.merge_model.specs.declared.answer.Answer.{Answer}
 use Rattle.merge_model.specs.declared.answer.Answer.TheVariants.{Fine, Refused}
 use Rattle.merge_model.specs.declared.event.Event.TheVariants as event
 use Rattle.merge_model.specs.declared.letter.Letter.{Letter}
-use Rattle.merge_world.proofs.Doing.{both-rise, faults-at, same-count, stays-at}
+use Rattle.merge_model.proofs.Failing.Calling.{stayed}
+use Rattle.merge_world.proofs.Doing.{both-same, faults-same, stays-at}
 use Rattle.merge_world.proofs.Finding.{at-place, is_of, placed, within}
 use Rattle.merge_world.proofs.Happenings.{looks-on, so-refused, unknown-site, wants-on, where-if}
 use Rattle.merge_world.proofs.Locals.{stays-same}
@@ -31,22 +32,22 @@ lost-among : (why : Refusal) (a b c d : ℕ) → b + c ≤ a + d → IsLost why 
 lost-among why a b c d le (inl (is, more)) = inl (is, omega (arith, le, more))
 lost-among why a b c d le (inr (is, more)) = inr (is, omega (arith, le, more))
 
-restarted-among : {T U : Type 0} (old new : T) (old' new' : U) → (new ≡ old → new' ≡ old') → (a b c d : ℕ) → b + c ≤ a + d → (r : Result Unit Refusal) → Restarted old new a b r → Restarted old' new' c d r
-restarted-among old new old' new' same a b c d le (Ok done) (is, more) = (same is, omega (arith, le, more))
-restarted-among old new old' new' same a b c d le (Err why) (inl (wants, is, more)) = inl (wants, same is, omega (arith, le, more))
-restarted-among old new old' new' same a b c d le (Err why) (inr lost) = inr (lost-among why a b c d le lost)
+restarted-among : {T U : Type 0} (old new : T) (old' new' : U) → (new ≡ old → new' ≡ old') → (a b c d : ℕ) → b + c ≡ a + d → (r : Result Unit Refusal) → Restarted old new a b r → Restarted old' new' c d r
+restarted-among old new old' new' same a b c d all (Ok done) (is, still) = (same is, omega (arith, all, still))
+restarted-among old new old' new' same a b c d all (Err why) (is, inl (wants, still)) = (same is, inl (wants, omega (arith, all, still)))
+restarted-among old new old' new' same a b c d all (Err why) (is, inr lost) = (same is, inr (lost-among why a b c d (omega (arith, all)) lost))
 
 pub resumes-publisher : (ss : List SubscriberView) (pool : List Letter) (moment : Moment) (p p' : PublisherView) → p'.publication ≡ p.publication → (r : Result Unit Refusal) → Restarted p.tables p'.tables p.faults p'.faults r
     → Resumes (sites_view p ss pool moment) (sites_view p' ss pool moment) r
 resumes-publisher ss pool moment p p' same r restarted = record {
   restarted = λ tallies. restarted-among p.tables p'.tables (world_of (sites_view p ss pool moment) tallies) (world_of (sites_view p' ss pool moment) tallies)
       (ap (λ (t : PublisherTables). record (world_of (sites_view p ss pool moment) tallies) { publisher = t })) p.faults p'.faults (sites_view p ss pool moment).faults (sites_view p' ss pool moment).faults
-      (both-rise p.faults p'.faults (sum_by faults_of ss)) r restarted;
+      (both-same p.faults p'.faults (sum_by faults_of ss)) r restarted;
   stays = record { publication = same; sites = refl; publications = refl; moment = refl };
 }
 
 pub resumes-nowhere : (v : SitesView) → Resumes v v (Ok tt)
-resumes-nowhere v = record { restarted = λ tallies. (refl, same-count v.faults); stays = stays-same v }
+resumes-nowhere v = record { restarted = λ tallies. (refl, refl); stays = stays-same v }
 
 module _ (p : PublisherView) (pool : List Letter) (moment : Moment) where
   abbrev all : List SubscriberView → SitesView
@@ -60,7 +61,7 @@ module _ (p : PublisherView) (pool : List Letter) (moment : Moment) where
   among ss i t t' lt here same_site same_publication r restarted = record {
     restarted = λ tallies. restarted-among t.tables t'.tables (world_of (all ss) tallies) (world_of (all (set ss i t')) tallies)
         (λ same. ap (λ (l : List (ℕ × SubscriberTables)). record (world_of (all ss) tallies) { subscribers = l }) (map-set_same entry_of ss i t' t (entry-same t t' same ∙ ap entry_of here)))
-        t.faults t'.faults (all ss).faults (all (set ss i t')).faults (faults-at p pool moment ss i t t' lt here) r restarted;
+        t.faults t'.faults (all ss).faults (all (set ss i t')).faults (faults-same p pool moment ss i t t' lt here) r restarted;
     stays = stays-at p pool moment ss i t t' pool here same_site same_publication;
   }
 
@@ -79,12 +80,12 @@ module _ (site : SiteId) (u v : SitesView) where
   at-known known says tallies l = ap (where-if u.publication says site (faulty (world_of u tallies) l) (looking u.publication (stepping u.publication says) (λ (w : Faulty World). Fine))) known
 
   pub restart-fine : Resumes u v (Ok tt) → is_site u.publication site ≡ true → (h : HandedView) → Happened (event.Restart site) u v h h Fine
-  restart-fine resumes known h = looks-on (event.Restart site) u Fine refl (λ says w. Fine) (λ says tallies l. refl) (at-known known) v (λ tallies. (resumes.restarted tallies).0) (resumes.restarted []).1 resumes.stays h
+  restart-fine resumes known h = looks-on (event.Restart site) u Fine refl (λ says w. Fine) (λ says tallies l. refl) (at-known known) v (λ tallies. (resumes.restarted tallies).0) (stayed u.faults v.faults (resumes.restarted []).1) resumes.stays h
 
   wanted : {T : Type 0} (old new : T) (a b : ℕ) (why : Refusal) → why ≡ NoMemory → Restarted old new a b (Err why) → (new ≡ old) × (a ≤ b)
-  wanted old new a b why wants (inl (is, same, le)) = (same, le)
-  wanted old new a b why wants (inr (inl (is, le))) = absurd (cc (is, wants))
-  wanted old new a b why wants (inr (inr ((table, key, is), le))) = absurd (cc (is, wants))
+  wanted old new a b why wants (same, inl (is, still)) = (same, stayed a b still)
+  wanted old new a b why wants (same, inr (inl (is, more))) = absurd (cc (is, wants))
+  wanted old new a b why wants (same, inr (inr ((table, key, is), later))) = absurd (cc (is, wants))
 
   want-of : (tallies : List ℕ) (why : Refusal) → why ≡ NoMemory → Resumes u v (Err why) → (world_of v tallies ≡ world_of u tallies) × (u.faults ≤ v.faults)
   want-of tallies why wants resumes = wanted (world_of u tallies) (world_of v tallies) u.faults v.faults why wants (resumes.restarted tallies)
@@ -94,8 +95,8 @@ module _ (site : SiteId) (u v : SitesView) where
       (λ tallies. (want-of tallies why wants resumes).0) (want-of [] why wants resumes).1 resumes.stays h
 
   lost-of : {T : Type 0} (old new : T) (a b : ℕ) (why : Refusal) → (why ≡ NoMemory → ⊥) → Restarted old new a b (Err why) → IsLost why a b
-  lost-of old new a b why other (inl (is, same, le)) = absurd (other is)
-  lost-of old new a b why other (inr lost) = lost
+  lost-of old new a b why other (same, inl (is, still)) = absurd (other is)
+  lost-of old new a b why other (same, inr lost) = lost
 
   restart-ends : (why : Refusal) → (why ≡ NoMemory → ⊥) → Resumes u v (Err why) → is_site u.publication site ≡ true → EndsRun (event.Restart site) u v why
   restart-ends why other resumes known = record {
@@ -103,6 +104,7 @@ module _ (site : SiteId) (u v : SitesView) where
     restarts = refl;
     known = known;
     lost = lost-of (world_of u []) (world_of v []) u.faults v.faults why other (resumes.restarted []);
+    same = λ tallies. (resumes.restarted tallies).0;
     stays = resumes.stays;
   }
 

@@ -7,7 +7,7 @@ use Rattle.merge_batch.specs.declared.refusal.Refusal.TheVariants.{Damaged, NoMe
 abbrev pub IsLost : Refusal → ℕ → ℕ → Type 0
 IsLost why before after = ((why ≡ StoreFault) × (before + 1 ≤ after)) ⊎ (((table : ℕ) × (key : List ℕ) × (why ≡ Damaged table key)) × (before ≤ after))
 
--- its tables are as they were, and so they are where memory is wanting
+-- its tables are as they were, however it ends, and no fault is counted where it is seen again or memory is wanting
 abbrev pub Restarted : {T : Type 0} → T → T → ℕ → ℕ → Result Unit Refusal → Type 0
-Restarted old new before after (Ok done) = (new ≡ old) × (before ≤ after)
-Restarted old new before after (Err why) = ((why ≡ NoMemory) × (new ≡ old) × (before ≤ after)) ⊎ IsLost why before after
+Restarted old new before after (Ok done) = (new ≡ old) × (after ≡ before)
+Restarted old new before after (Err why) = (new ≡ old) × ((why ≡ NoMemory) × (after ≡ before) ⊎ IsLost why before after)

@@ -12,10 +12,11 @@ pub record Resumes (old new : SitesView) (result : Result Unit Refusal) : Type 0
   pub restarted : (tallies : List ℕ) → Restarted (world_of old tallies) (world_of new tallies) old.faults new.faults result
   pub stays : Stays old new
 
--- a run ends where a site that is restarted is not seen again
+-- a run ends where a site that is restarted is not seen again, and all that there was stays as it was
 pub record EndsRun (e : Event) (old new : SitesView) (why : Refusal) : Type 0 where
   pub site : SiteId
   pub restarts : e ≡ event.Restart site
   pub known : is_site old.publication site ≡ true
   pub lost : IsLost why old.faults new.faults
+  pub same : (tallies : List ℕ) → world_of new tallies ≡ world_of old tallies
   pub stays : Stays old new

@@ -34,12 +34,24 @@ use Rattle.merge_batch.specs.declared.reply.Ranged.{Ranged}
 use Rattle.merge_batch.specs.declared.reply.Uploaded.{Uploaded}
 use Rattle.merge_model.specs.declared.letter.Letter.{Letter}
 use Rattle.merge_model.specs.declared.letter.Message.TheVariants.{Asks, Replies}
-use Rattle.merge_model.specs.Failing.Reach.{Acts, stepping}
+use Rattle.merge_model.specs.Failing.Reach.{Acts, Reaches, stepping, with_outcome}
 use Rattle.merge_model.specs.World.Calls.{Called, Counted, always_commits, as_reply, closing_commits, handled, message_commits, message_or_none, questions_on, reply_commits, request_commits, taken_commits}
 use Rattle.merge_model.specs.World.Parts.{after_result, pooled, world_of}
 use Rattle.merge_resolve.specs.declared.case.ConflictCase.{ConflictCase}
 use Rattle.merge_model.specs.declared.letter.Message.{Message}
 use Rattle.merge_model.specs.Failing.{Slips}
+
+-- a count that stayed did not fall
+pub stayed : (before after : ℕ) → after ≡ before → before ≤ after
+stayed before after same = omega (arith, same)
+
+-- a count rises by as many at least
+rises : {A : Type 0} (x y : Slips → A) (a b c d : ℕ) → b + c ≤ a + d → Reaches x y a b → Reaches x y c d
+rises x y a b c d le r = record { slips = r.slips; goes = r.goes; few = let few = r.few in omega (arith, le, few) }
+
+pub acts-all : (p : Publication) (says : Saying) (action : Action) (w v : World) (outcome : Outcome) (a b c d : ℕ) → b + c ≤ a + d → Acts p says action w v outcome a b → Acts p says action w v outcome c d
+unfolding Acts
+acts-all p says action w v outcome a b c d le r = rises (λ l. (stepping p says).act (faulty w l) action) (with_outcome p says v outcome) a b c d le r
 
 -- whether an action takes one of the slips
 abbrev pub takes : Action → Bool
@@ -151,7 +163,7 @@ module _ (p : Publication) (says : Saying) where
   pub calls : (w : World) (number : ℕ) (site : SiteId) (m : Request) (new : PublisherTables) (tallies : List ℕ) (a b : ℕ) (r : Result Reply Refusal) → letter_at w number ≡ Some (record { site = site; message = Asks m })
       → Called (handled p says w.tallies w.moment m w.publisher) (request_commits p w.moment m w.publisher) w.publisher new a b r → Counted (handled p says w.tallies w.moment m w.publisher) (questions_on p w.moment m w.publisher) w.tallies tallies r
       → Acts p says (Deliver number) w (after_result r site w new tallies).0 (after_result r site w new tallies).1 a b
-  calls w number site m new tallies a b (Ok done) found called counted = made p says (Deliver number) refl w (after_result (Ok done) site w new tallies).0 (Posted (length w.pool + 1)) a b called.1
+  calls w number site m new tallies a b (Ok done) found called counted = made p says (Deliver number) refl w (after_result (Ok done) site w new tallies).0 (Posted (length w.pool + 1)) a b (stayed a b called.1)
       (delivers w number site m found ∙ (ap (after_call site m w) called.0 ∙ ap (λ (t : List ℕ). (record w { publisher = new; tallies = t; pool = w.pool ++ record { site = site; message = Replies done } ∷ [] }, Posted (length w.pool + 1))) (sym counted)))
   calls w number site m new tallies a b (Err why) found called counted = fails-by (handled p says w.tallies w.moment m w.publisher) refl called.1
     where
@@ -170,17 +182,24 @@ module _ (p : Publication) (says : Saying) where
           ∙ (ap (λ (letter : Option Letter). posting_by p w letter (length w.pool + 1)) found ∙ commit)
 
       fails-by : (by : Result (PublisherTables × Reply) Refusal) → handled p says w.tallies w.moment m w.publisher ≡ by
-          → ((by ≡ Err why) × (a ≤ b) ⊎ ((why ≡ refusal.NoMemory) × (a ≤ b) ⊎ (why ≡ refusal.StoreFault) × ((done : PublisherTables × Reply) × (by ≡ Ok done) × (request_commits p w.moment m w.publisher done.1 ≡ true)) × (a + 1 ≤ b)))
+          → ((by ≡ Err why) × (b ≡ a) ⊎ ((why ≡ refusal.NoMemory) × (b ≡ a) ⊎ (why ≡ refusal.StoreFault) × ((done : PublisherTables × Reply) × (by ≡ Ok done) × (request_commits p w.moment m w.publisher done.1 ≡ true)) × (a + 1 ≤ b)))
           → Acts p says (Deliver number) w (after_result (Err why) site w new tallies).0 (after_result (Err why) site w new tallies).1 a b
       fails-by by is (inl refused) = let same = refused-from w.tallies (counted.1 why (is ∙ refused.0)) in
-          made p says (Deliver number) refl w (record w { publisher = new; tallies = tallies }) (Refuses why) a b refused.1
+          made p says (Deliver number) refl w (record w { publisher = new; tallies = tallies }) (Refuses why) a b (stayed a b refused.1)
           (delivers w number site m found ∙ (ap (after_call site m w) (is ∙ refused.0) ∙ ap (λ (u : World). (u, Refuses why)) (sym same)))
       fails-by (Ok done) is (inr (inl wanted)) = subst (λ (r : Refusal). Acts p says (Deliver number) w (record w { publisher = new; tallies = tallies }) (Refuses r) a b) (sym wanted.0)
-          (wants p says (Deliver number) refl w (record w { publisher = new; tallies = tallies }) counted.0.0 a b wanted.1 (asks-here done is))
+          (wants p says (Deliver number) refl w (record w { publisher = new; tallies = tallies }) counted.0.0 a b (stayed a b wanted.1) (asks-here done is))
       fails-by (Err other) is (inr (inl wanted)) = subst (λ (r : Refusal). Acts p says (Deliver number) w (record w { publisher = new; tallies = tallies }) (Refuses r) a b) (sym wanted.0)
-          (wants p says (Deliver number) refl w (record w { publisher = new; tallies = tallies }) 0 a b wanted.1 (refused-from w.tallies (counted.1 other is)))
+          (wants p says (Deliver number) refl w (record w { publisher = new; tallies = tallies }) 0 a b (stayed a b wanted.1) (refused-from w.tallies (counted.1 other is)))
       fails-by by is (inr (inr fault)) = subst (λ (r : Refusal). Acts p says (Deliver number) w (record w { publisher = new; tallies = tallies }) (Refuses r) a b) (sym fault.0)
           (faults p says (Deliver number) refl w (record w { publisher = new; tallies = tallies }) counted.0.0 a b fault.2 (commits-here fault.1.0 (is ∙ fault.1.1) fault.1.2) (asks-here fault.1.0 (is ∙ fault.1.1)))
+
+  -- the same, whatever is counted since
+  pub calls-since : (w : World) (number : ℕ) (site : SiteId) (m : Request) (new : PublisherTables) (tallies : List ℕ) (a b n : ℕ) (r : Result Reply Refusal) → letter_at w number ≡ Some (record { site = site; message = Asks m })
+      → Called (handled p says w.tallies w.moment m w.publisher) (request_commits p w.moment m w.publisher) w.publisher new a b r → b ≤ n → Counted (handled p says w.tallies w.moment m w.publisher) (questions_on p w.moment m w.publisher) w.tallies tallies r
+      → Acts p says (Deliver number) w (after_result r site w new tallies).0 (after_result r site w new tallies).1 a n
+  calls-since w number site m new tallies a b n r found called later counted =
+      acts-all p says (Deliver number) w (after_result r site w new tallies).0 (after_result r site w new tallies).1 a b a n (omega (arith, later)) (calls w number site m new tallies a b r found called counted)
 
 -- The same of the parts of a program's world.
 module _ {P S R : Type 0} (tables : P → PublisherTables) (subscriber_tables : S → SubscriberTables) (tally : R → ℕ) where
@@ -239,15 +258,15 @@ module _ (p : Publication) (says : Saying) where
   pub calls-anyhow : {T A : Type 0} (action : Action) → takes action ≡ true → (w : World) (put : T → A → World) (back : T → World) (old new : T) → back old ≡ w → (by : Result (T × A) Refusal) (out : A → Outcome) (is_commit : A → Bool)
       → ((x : A) → is_commit x ≡ true → commits p w action (out x) ≡ true) → next p says w action ≡ leads w put out by → (a b : ℕ) (r : Result A Refusal) → Called by is_commit old new a b r
       → Acts p says action w (world_by put back new r) (outcome_by out r) a b
-  calls-anyhow action is w put back old new same by out is_commit commit step a b (Ok done) called = made p says action is w (put new done) (out done) a b called.1 (step ∙ ap (leads w put out) called.0)
+  calls-anyhow action is w put back old new same by out is_commit commit step a b (Ok done) called = made p says action is w (put new done) (out done) a b (stayed a b called.1) (step ∙ ap (leads w put out) called.0)
   calls-anyhow {T} {A} action is w put back old new same by out is_commit commit step a b (Err why) called = of by refl called.1
     where
       kept : back new ≡ w
       kept = ap back called.0 ∙ same
 
-      of : (by' : Result (T × A) Refusal) → by ≡ by' → ((by' ≡ Err why) × (a ≤ b) ⊎ ((why ≡ refusal.NoMemory) × (a ≤ b) ⊎ (why ≡ refusal.StoreFault) × ((done : T × A) × (by' ≡ Ok done) × (is_commit done.1 ≡ true)) × (a + 1 ≤ b))) → Acts p says action w (back new) (Refuses why) a b
-      of by' e (inl refused) = made p says action is w (back new) (Refuses why) a b refused.1 (step ∙ (ap (leads w put out) (e ∙ refused.0) ∙ ap (λ (u : World). (u, Refuses why)) (sym kept)))
-      of by' e (inr (inl wanted)) = subst (λ (r : Refusal). Acts p says action w (back new) (Refuses r) a b) (sym wanted.0) (wants p says action is w (back new) 0 a b wanted.1 kept)
+      of : (by' : Result (T × A) Refusal) → by ≡ by' → ((by' ≡ Err why) × (b ≡ a) ⊎ ((why ≡ refusal.NoMemory) × (b ≡ a) ⊎ (why ≡ refusal.StoreFault) × ((done : T × A) × (by' ≡ Ok done) × (is_commit done.1 ≡ true)) × (a + 1 ≤ b))) → Acts p says action w (back new) (Refuses why) a b
+      of by' e (inl refused) = made p says action is w (back new) (Refuses why) a b (stayed a b refused.1) (step ∙ (ap (leads w put out) (e ∙ refused.0) ∙ ap (λ (u : World). (u, Refuses why)) (sym kept)))
+      of by' e (inr (inl wanted)) = subst (λ (r : Refusal). Acts p says action w (back new) (Refuses r) a b) (sym wanted.0) (wants p says action is w (back new) 0 a b (stayed a b wanted.1) kept)
       of by' e (inr (inr fault)) = subst (λ (r : Refusal). Acts p says action w (back new) (Refuses r) a b) (sym fault.0)
           (faults p says action is w (back new) 0 a b fault.2 (ap (λ (x : World × Outcome). commits p w action x.1) (step ∙ ap (leads w put out) (e ∙ fault.1.1)) ∙ commit fault.1.0.1 fault.1.2) kept)
 

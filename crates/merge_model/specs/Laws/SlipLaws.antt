@@ -1,6 +1,6 @@
 -- What holds of runs in which steps may fail.
 use Rattle.std.specs.List.{list_any}
-use Rattle.std.specs.Prelude.{Bool, List, Result, Some, false, true, ℕ, ◌≡◌}
+use Rattle.std.specs.Prelude.{Bool, List, Result, Some, false, true, ℕ, ◌≡◌, ◌≤◌}
 use Rattle.merge_types.specs.declared.identifiers.SiteId.{SiteId}
 use Rattle.merge_schema.specs.declared.publication.Publication.{Publication}
 use Rattle.merge_batch.specs.declared.refusal.Refusal.{Refusal}
@@ -68,10 +68,12 @@ NoneFailsInModel = (publication : Publication) (says : Saying) (m : Model) (slip
     → (answers publication (failing publication (model publication says)) (faulty m slips) events ≡ answers publication (model publication says) m events)
     × ((after publication (failing publication (model publication says)) (faulty m slips) events).world ≡ after publication (model publication says) m events)
 
--- A call of the publisher that makes a request, or fails, is a step of a world that may fail, whatever else is in it.
+-- A call of the publisher that makes a request, or fails, is a step of a world that may fail, whatever else is in it and
+-- whatever faults are counted since.
 abbrev pub CallsAreSteps : Type 0
-CallsAreSteps = (publication : Publication) (says : Saying) (w : World) (number : ℕ) (site : SiteId) (m : Request) (new : PublisherTables) (tallies : List ℕ) (before after : ℕ) (result : Result Reply Refusal)
+CallsAreSteps = (publication : Publication) (says : Saying) (w : World) (number : ℕ) (site : SiteId) (m : Request) (new : PublisherTables) (tallies : List ℕ) (before now after : ℕ) (result : Result Reply Refusal)
     → letter_at w number ≡ Some (record { site = site; message = Asks m })
-    → Called (handled publication says w.tallies w.moment m w.publisher) (request_commits publication w.moment m w.publisher) w.publisher new before after result
+    → Called (handled publication says w.tallies w.moment m w.publisher) (request_commits publication w.moment m w.publisher) w.publisher new before now result
+    → now ≤ after
     → Counted (handled publication says w.tallies w.moment m w.publisher) (questions_on publication w.moment m w.publisher) w.tallies tallies result
     → Acts publication says (Deliver number) w (after_result result site w new tallies).0 (after_result result site w new tallies).1 before after

@@ -107,10 +107,14 @@ reply_commits m taken = taken_commits taken
 -- `before` and `after` count the faults of the store.
 
 -- The call made its step. Or it failed, and no table changed: the step is refused, memory was wanting, or the commit
--- failed, which is counted. That comes only where this very call commits.
+-- failed. That comes only where this very call commits, and is counted; nothing else is.
 abbrev pub Called : {T A : Type 0} → Result (T × A) Refusal → (A → Bool) → T → T → ℕ → ℕ → Result A Refusal → Type 0
-Called by commits old new before after (Ok done) = (by ≡ Ok (new, done)) × (before ≤ after)
-Called {T} {A} by commits old new before after (Err why) = (new ≡ old) × ((by ≡ Err why) × (before ≤ after) ⊎ ((why ≡ refusal.NoMemory) × (before ≤ after) ⊎ (why ≡ refusal.StoreFault) × ((done : T × A) × (by ≡ Ok done) × (commits done.1 ≡ true)) × (before + 1 ≤ after)))
+Called by commits old new before after (Ok done) = (by ≡ Ok (new, done)) × (after ≡ before)
+Called {T} {A} by commits old new before after (Err why) = (new ≡ old) × ((by ≡ Err why) × (after ≡ before) ⊎ ((why ≡ refusal.NoMemory) × (after ≡ before) ⊎ (why ≡ refusal.StoreFault) × ((done : T × A) × (by ≡ Ok done) × (commits done.1 ≡ true)) × (before + 1 ≤ after)))
+
+-- A call that takes no memory is refused for nothing but what the definition refuses.
+abbrev pub RefusesOnlyAs : {A B : Type 0} → Result A Refusal → Result B Refusal → Type 0
+RefusesOnlyAs by result = (why : Refusal) → result ≡ Err why → by ≡ Err why
 
 -- How often resolvers were asked: all questions by a call that is made, none by one that is refused, the first few by one that fails.
 abbrev pub Counted : {T A Q : Type 0} → Result (T × A) Refusal → List (ℕ × Q) → List ℕ → List ℕ → Result A Refusal → Type 0
