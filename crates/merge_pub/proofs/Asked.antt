@@ -80,6 +80,13 @@ joined-acts publication now m p p' state new latest none is order moment made sa
     ∙ ap (λ (s : SiteState). (let done : Result (PublisherTables × Joined) Refusal = Ok (without_left m.site (with_state m.site s (record p { latest = latest })), record { seq = m.seq }) in done)) (ap (joined_state m latest) (sym is) ∙ sym made)
     ∙ ap (λ (q : PublisherTables). (let done : Result (PublisherTables × Joined) Refusal = Ok (q, record { seq = m.seq }) in done)) (sym same)
 
+-- a join behind the last one that did acts
+pub acts-behind : (m : Join) (p : PublisherTables) (state : SiteState) → state ≡ state_of p m.site → state.joined_at < m.seq → join_acts m p ≡ false → ⊥
+acts-behind m p state is order still =
+    let does : join_acts m p ≡ true = acts (state_of p m.site).joined_at m.seq (subst (λ (s : SiteState). s.joined_at < m.seq) is order) in
+    let no : true ≡ false = sym does ∙ still in
+    cc
+
 -- A request for ranges.
 
 pub ranges-refused : (publication : Publication) (now : Moment) (m : RangeAsk) (p : PublisherTables) (why : Refusal) → Some why ≡ ranges_refusal publication (by_numbers p) now m p → ranges publication (by_numbers p) now m p ≡ Err why

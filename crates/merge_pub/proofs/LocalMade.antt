@@ -1,5 +1,5 @@
 -- A local change, put together from its parts.
-use Rattle.std.specs.Prelude.{◌≡◌, ◌⊎◌, ◌==◌, ◌+◌, ◌≤◌, ℕ, ℤ, List, [], ◌∷◌, ◌++◌, Bool, true, false, Option, Some, None, Result, Ok, Err, refl, cond, is_some, length, max, nat_le, map, nat_lt, option_map, unwrap_or}
+use Rattle.std.specs.Prelude.{◌≡◌, ◌⊎◌, ◌==◌, ◌+◌, ◌≤◌, ℕ, ℤ, List, [], ◌∷◌, ◌++◌, Bool, true, false, Option, Some, None, Result, Ok, Err, refl, cond, is_some, length, max, nat_le, map, nat_lt, option_map, unwrap_or, IsErrAnd}
 use Rattle.std.specs.BTreeMap.{is_at}
 use Rattle.std.specs.List.{AllByRecursion}
 use Rattle.std.specs.Option.{option_to_list}
@@ -32,12 +32,12 @@ use Rattle.merge_model.specs.Judge.ByNumbers.{by_numbers}
 use Rattle.merge_model.specs.Publisher.Entries.{Changing, changed_by}
 use Rattle.merge_model.specs.Tables.Keys.{at_number, row_at}
 use Rattle.merge_model.specs.Publisher.{at_moment, counters, last_closed, later}
-use Rattle.merge_model.specs.Publisher.PublisherLocal.{Drawn, changing_locally, drawn, local, local_refusal, next_dot, with_draw}
+use Rattle.merge_model.specs.Publisher.PublisherLocal.{Drawn, changing_locally, drawn, local, local_refusal, made_locally, next_dot, with_draw}
 use Rattle.merge_model.specs.Tables.{PublisherTables}
 use Rattle.merge_model.proofs.Lists.Finding.{some_same}
 use Rattle.merge_model.proofs.Lists.KeyLookUps.{keys-exact}
 use Rattle.merge_pub.specs.After.{after}
-use Rattle.merge_steps.specs.Drawing.{Draws, KeepsHeld, drawn_by}
+use Rattle.merge_steps.specs.Drawing.{Draws, Gives, KeepsHeld, drawn_by}
 use Rattle.merge_steps.specs.Keeps.{FitsHere, KeepsRules, RowFits}
 use Rattle.merge_pub.specs.Local.{Refuses, changed_version, held_version, rows_refusal, versions_after}
 use Rattle.merge_pub.specs.Held.{Held, IsSound, publication_of, tables_of}
@@ -89,6 +89,27 @@ draw-refused : (publication : Publication) (now : Moment) (change : Change) (p :
     → Draws publication change p.grants p.held (Err refusal) → local publication (by_numbers p) now change p ≡ Err refusal
 unfolding Draws
 draw-refused publication now change p refusal allowed draws = rw (local, allowed, draws p) refl
+
+counter-refused : (publication : Publication) (change : Change) (p : PublisherTables) (refusal : Refusal) → counter_end (counters p) ≡ Some refusal → local_refusal publication change p ≡ Some refusal
+counter-refused publication change p refusal end = rw end refl
+
+local-passes : (publication : Publication) (now : Moment) (change : Change) (p : PublisherTables) (d : Drawn) → local_refusal publication change p ≡ None → Draws publication change p.grants p.held (Ok d)
+    → local publication (by_numbers p) now change p ≡ Ok (made_locally publication (by_numbers p) change d (at_moment now p))
+unfolding Draws
+local-passes publication now change p d allowed draws = rw (local, allowed, draws p) refl
+
+-- A step has one answer.
+
+never-refused : {A : Type 0} (r : Result A Refusal) (done : A) (refusal : Refusal) → r ≡ Ok done → r ≡ Err refusal → ⊥
+never-refused r done refusal made refused = cc
+
+same-refusal : {A : Type 0} (r : Result A Refusal) (found refusal : Refusal) → r ≡ Err found → r ≡ Err refusal → found ≡ refusal
+same-refusal r found refusal one other = cc
+
+-- what a call is refused for, handed on
+pub err-by : {A : Type 0} (r : Result A Refusal) (found refusal : Refusal) → IsErrAnd r (λ e. e ≡ found) → found ≡ refusal → r ≡ Err refusal
+err-by (Ok done) found refusal is same = absurd is
+err-by (Err e) found refusal is same = (let first : e ≡ found = is in cc)
 
 -- The row that is held.
 
@@ -204,18 +225,71 @@ pub new-here : (h : Held) → IsSound h → (dot : Dot) (change : Change) → do
 new-here h sound dot change numbered =
     is-new (publication_of h) h.changes h.rows.rows sound.keeps.rows dot (ap (λ (d : Dot). d.site.0) numbered) (ap (λ (d : Dot). d.number) numbered) change
 
+refused-draw : (publication : Publication) (moment : Moment) (change : Change) (p : PublisherTables) (refusal : Refusal) → local_refusal publication change p ≡ None → Gives (Draws publication change p.grants p.held) p.grants p.held (Err refusal)
+    → (refusal ≡ NoMemory) ⊎ (local publication (by_numbers p) moment change p ≡ Err refusal)
+refused-draw publication moment change p refusal allowed (inl wants) = inl wants.1
+refused-draw publication moment change p refusal allowed (inr draws) = inr (draw-refused publication moment change p refusal allowed draws)
+
 refused-by : (publication : Publication) (moment : Moment) (change : Change) (p : PublisherTables) (refusal : Refusal) → counter_end (counters p) ≡ None → Refuses publication (next_dot p) change p.rows p.grants p.held refusal
     → (refusal ≡ NoMemory) ⊎ (local publication (by_numbers p) moment change p ≡ Err refusal)
-refused-by publication moment change p refusal low (inl none) = inl none
-refused-by publication moment change p refusal low (inr (inl rows)) = inr (change-refused publication moment change p refusal (refused-rows publication change p refusal low rows))
-refused-by publication moment change p refusal low (inr (inr draws)) = inr (draw-refused publication moment change p refusal (passes publication change p low draws.0) draws.1)
+refused-by publication moment change p refusal low (inl rows) = inr (change-refused publication moment change p refusal (refused-rows publication change p refusal low rows))
+refused-by publication moment change p refusal low (inr behind) = refused-draw publication moment change p refusal (passes publication change p low behind.0) behind.1
+
+here-refuses : (h : Held) (publication : Publication) (dot : Dot) (change : Change) (found : Refusal) → Refuses publication dot change h.rows.rows h.grants.grants h.held.rows found → publication ≡ publication_of h → dot ≡ next_dot (tables_of h)
+    → Refuses (publication_of h) (next_dot (tables_of h)) change h.rows.rows h.grants.grants h.held.rows found
+here-refuses h publication dot change found refuses here numbered =
+    subst (λ (d : Dot). Refuses (publication_of h) d change h.rows.rows h.grants.grants h.held.rows found) numbered
+    (subst (λ (x : Publication). Refuses x dot change h.rows.rows h.grants.grants h.held.rows found) here refuses)
 
 pub refused-here : (h now : Held) → h ≡ now → (publication : Publication) (moment : Moment) (dot : Dot) (change : Change) (found refusal : Refusal) → Refuses publication dot change h.rows.rows h.grants.grants h.held.rows found → found ≡ refusal
     → publication ≡ publication_of h → dot ≡ next_dot (tables_of h) → (last : ℕ) → last ≡ last_closed (tables_of h) → counter_end (h.changes ∷ last ∷ h.conflict_count ∷ []) ≡ None
     → (refusal ≡ NoMemory) ⊎ (local (publication_of now) (by_numbers (tables_of now)) moment change (tables_of now) ≡ Err refusal)
 refused-here h now is publication moment dot change found refusal refuses same here numbered last closed low =
     subst (λ (x : Held). (refusal ≡ NoMemory) ⊎ (local (publication_of x) (by_numbers (tables_of x)) moment change (tables_of x) ≡ Err refusal)) is
-    (refused-by (publication_of h) moment change (tables_of h) refusal (rw closed at low) (rw (same, here, numbered) at refuses))
+    (refused-by (publication_of h) moment change (tables_of h) refusal (rw closed at low)
+    (subst (λ (r : Refusal). Refuses (publication_of h) (next_dot (tables_of h)) change h.rows.rows h.grants.grants h.held.rows r) same (here-refuses h publication dot change found refuses here numbered)))
+
+-- What the definition refuses is refused for the same.
+
+refuses-draw : (publication : Publication) (moment : Moment) (change : Change) (p : PublisherTables) (found refusal : Refusal) → local_refusal publication change p ≡ None → Gives (Draws publication change p.grants p.held) p.grants p.held (Err found)
+    → local publication (by_numbers p) moment change p ≡ Err refusal → found ≡ refusal
+refuses-draw publication moment change p found refusal allowed (inl wants) defined =
+    absurd (never-refused (local publication (by_numbers p) moment change p) (made_locally publication (by_numbers p) change wants.0 (at_moment moment p)) refusal (local-passes publication moment change p wants.0 allowed wants.2) defined)
+refuses-draw publication moment change p found refusal allowed (inr draws) defined =
+    same-refusal (local publication (by_numbers p) moment change p) found refusal (draw-refused publication moment change p found allowed draws) defined
+
+refuses-by : (publication : Publication) (moment : Moment) (change : Change) (p : PublisherTables) (found refusal : Refusal) → counter_end (counters p) ≡ None → Refuses publication (next_dot p) change p.rows p.grants p.held found
+    → local publication (by_numbers p) moment change p ≡ Err refusal → found ≡ refusal
+refuses-by publication moment change p found refusal low (inl rows) defined =
+    same-refusal (local publication (by_numbers p) moment change p) found refusal (change-refused publication moment change p found (refused-rows publication change p found low rows)) defined
+refuses-by publication moment change p found refusal low (inr behind) defined = refuses-draw publication moment change p found refusal (passes publication change p low behind.0) behind.1 defined
+
+-- the definition refuses, said of what was held when the change came
+abbrev IsLocalRefused : Moment → Change → Refusal → Held → Type 0
+IsLocalRefused moment change refusal h = local (publication_of h) (by_numbers (tables_of h)) moment change (tables_of h) ≡ Err refusal
+
+pub counter-here : (h now : Held) → h ≡ now → (moment : Moment) (change : Change) (found : Refusal) (last : ℕ) → last ≡ last_closed (tables_of h) → counter_end (h.changes ∷ last ∷ h.conflict_count ∷ []) ≡ Some found
+    → (refusal : Refusal) → local (publication_of now) (by_numbers (tables_of now)) moment change (tables_of now) ≡ Err refusal → found ≡ refusal
+counter-here h now is moment change found last closed end refusal defined =
+    same-refusal (local (publication_of h) (by_numbers (tables_of h)) moment change (tables_of h)) found refusal
+    (change-refused (publication_of h) moment change (tables_of h) found (counter-refused (publication_of h) change (tables_of h) found (rw closed at end)))
+    (subst (IsLocalRefused moment change refusal) (sym is) defined)
+
+pub refuses-here : (h now : Held) → h ≡ now → (publication : Publication) (moment : Moment) (dot : Dot) (change : Change) (found : Refusal) → Refuses publication dot change h.rows.rows h.grants.grants h.held.rows found
+    → publication ≡ publication_of h → dot ≡ next_dot (tables_of h) → (last : ℕ) → last ≡ last_closed (tables_of h) → counter_end (h.changes ∷ last ∷ h.conflict_count ∷ []) ≡ None
+    → (refusal : Refusal) → local (publication_of now) (by_numbers (tables_of now)) moment change (tables_of now) ≡ Err refusal → found ≡ refusal
+refuses-here h now is publication moment dot change found refuses here numbered last closed low refusal defined =
+    refuses-by (publication_of h) moment change (tables_of h) found refusal (rw closed at low) (here-refuses h publication dot change found refuses here numbered)
+    (subst (IsLocalRefused moment change refusal) (sym is) defined)
+
+-- where the change is let pass and its value is drawn, the definition refuses nothing
+pub passed-here : (h now : Held) → h ≡ now → (publication : Publication) (moment : Moment) (dot : Dot) (change : Change) (d : Drawn) → rows_refusal publication dot change h.rows.rows ≡ None → Draws publication change h.grants.grants h.held.rows (Ok d)
+    → publication ≡ publication_of h → dot ≡ next_dot (tables_of h) → (last : ℕ) → last ≡ last_closed (tables_of h) → counter_end (h.changes ∷ last ∷ h.conflict_count ∷ []) ≡ None
+    → (refusal : Refusal) → local (publication_of now) (by_numbers (tables_of now)) moment change (tables_of now) ≡ Err refusal → ⊥
+passed-here h now is publication moment dot change d allowed draws here numbered last closed low refusal defined =
+    never-refused (local (publication_of h) (by_numbers (tables_of h)) moment change (tables_of h)) (made_locally (publication_of h) (by_numbers (tables_of h)) change d (at_moment moment (tables_of h))) refusal
+    (local-passes (publication_of h) moment change (tables_of h) d (passes (publication_of h) change (tables_of h) (rw closed at low) (rw (here, numbered) at allowed)) (rw here at draws))
+    (subst (IsLocalRefused moment change refusal) (sym is) defined)
 
 -- the versions fit what is held
 pub fit-here : (h : Held) → IsSound h → (publication other : Publication) (dot : Dot) (change : Change) (identity : Value) (versions : List (Key × Version)) (changes : ℕ)

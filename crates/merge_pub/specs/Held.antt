@@ -1,5 +1,5 @@
 -- What a publisher holds, and when a draft of a step fits it.
-use Rattle.std.specs.Prelude.{◌≡◌, ℕ, Option, Some, None}
+use Rattle.std.specs.Prelude.{◌≡◌, ◌*◌, ◌≤◌, ℕ, Option, Some, None, length}
 use Rattle.std.specs.Ordering.{nat_cmp}
 use Rattle.merge_types.specs.RowKeys.{key_cmp}
 use Rattle.merge_types.specs.declared.identifiers.Moment.{Moment}
@@ -9,7 +9,7 @@ use Rattle.merge_table.specs.Contents.{Contents}
 use Rattle.merge_table.specs.Edits.{IsReady, rows_after_all}
 use Rattle.merge_gens.specs.Book.{BookWithRoom}
 use Rattle.merge_gens.specs.Entries.{entry_cmp}
-use Rattle.merge_gens.specs.Index.{Index, entries_after_all}
+use Rattle.merge_gens.specs.Index.{Index, IsCompact as IsCompactIndex, entries_after_all}
 use Rattle.merge_gens.specs.Moves.{row_site_cmp}
 use Rattle.merge_gens.specs.Plan as gens
 use Rattle.merge_gens.specs.declared.moves.Mapping.{Mapping}
@@ -76,6 +76,13 @@ pub record IsSound (h : Held) : Type 0 where
   pub indexed : AreIndexed h.rows.rows h.changed.entries
   pub moved : AreMoved h.mappings.rows h.moved.rows
   pub keeps : KeepsRules h.membership.publication (tables_of h)
+
+-- the memory that is kept for rows, mappings and entries is at most for twice those that there are
+pub record IsCompact (h : Held) : Type 0 where
+  pub rows : length h.rows.slots ≤ 2 * length h.rows.rows
+  pub mappings : length h.mappings.slots ≤ 2 * length h.mappings.rows
+  pub changed : IsCompactIndex h.changed
+  pub moved : length h.moved.slots ≤ 2 * length h.moved.rows
 
 -- the live rows after a plan, where there is one
 abbrev pub live_after_any : View → Option Plan → Live

@@ -10,11 +10,10 @@ use Rattle.merge_units.specs.declared.version.Version.{Version}
 use Rattle.merge_schema.specs.declared.publication.Publication.{Publication}
 use Rattle.merge_batch.specs.LocalChanges.{change_refusal, key_of, version_after}
 use Rattle.merge_batch.specs.declared.refusal.Refusal.{Refusal}
-use Rattle.merge_batch.specs.declared.refusal.Refusal.TheVariants.{NoMemory}
 use Rattle.merge_ident.specs.Holders.{Holder}
 use Rattle.merge_ident.specs.declared.grants.Grant.{Grant}
 use Rattle.merge_model.specs.Tables.Keys.{row_at}
-use Rattle.merge_steps.specs.Drawing.{Draws}
+use Rattle.merge_steps.specs.Drawing.{Draws, Gives}
 
 -- the version of a row that is held
 abbrev pub held_version : List (Key × PublisherRow) → Key → Option Version
@@ -33,8 +32,7 @@ abbrev pub versions_after : Publication → Dot → Value → Change → List (K
 versions_after publication dot identity change rows =
     map (λ (version : Version). (key_of dot change, version)) (option_to_list (version_after publication dot identity change (changed_version dot change rows)))
 
--- why a change is refused, by the rows or where its identity value is drawn; memory may be wanting
+-- why a change is refused: by the rows, or behind them where its identity value is drawn, or for want of memory where both let it pass
 abbrev pub Refuses : Publication → Dot → Change → List (Key × PublisherRow) → List Grant → List (ℕ × Holder) → Refusal → Type 0
-Refuses publication dot change rows grants held refusal = (refusal ≡ NoMemory)
-    ⊎ ((rows_refusal publication dot change rows ≡ Some refusal)
-    ⊎ ((rows_refusal publication dot change rows ≡ None) × Draws publication change grants held (Err refusal)))
+Refuses publication dot change rows grants held refusal = (rows_refusal publication dot change rows ≡ Some refusal)
+    ⊎ ((rows_refusal publication dot change rows ≡ None) × Gives (Draws publication change grants held) grants held (Err refusal))

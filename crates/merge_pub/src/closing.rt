@@ -4,6 +4,7 @@ ghost use Rattle.merge_batch.specs.LocalChanges.{counter_end};
 ghost use Rattle.merge_batch.specs.declared.refusal.Refusal.{Refusal as OneRefusal};
 ghost use Rattle.merge_batch.specs.declared.refusal.Refusal.TheVariants.{NoMemory as no_memory};
 ghost use Rattle.merge_model.specs.Publisher.{close_generation, later};
+ghost use Rattle.merge_model.specs.World.Calls.{RefusesOnlyAs};
 ghost use Rattle.merge_pub.specs.After.{after};
 ghost use Rattle.merge_pub.specs.Held.{IsDrafted, publication_of, tables_of};
 ghost use Rattle.merge_pub.specs.Refused.{RefusesAs};
@@ -83,6 +84,9 @@ impl Publisher {
         ensures refuses { RefusesAs (close_generation now (tables_of self.old)) result }
         ensures same { tables_of self.new ≡ tables_of self.old }
         ensures publication { publication_of self.new ≡ publication_of self.old }
+
+        // Where nothing is filled it takes no memory.
+        ensures nothing { (tables_of self.old).gens.filling.filled ≡ 0 → RefusesOnlyAs (close_generation now (tables_of self.old)) result }
     {
         counters_go_on(self.changes, self.gens.last_closed(), self.conflict_count)?;
         let latest = later(now, self.latest);

@@ -1,11 +1,12 @@
 //! A site joins.
-ghost use Rattle.std.specs.Prelude.{◌≡◌, ◌⊎◌, ◌++◌, ◌∷◌, [], Err, IfOk, Ok, OnOk, filter, if◌then◌else◌, map};
+ghost use Rattle.std.specs.Prelude.{◌≡◌, ◌⊎◌, ◌++◌, ◌∷◌, [], Err, IfOk, Ok, OnOk, false, filter, if◌then◌else◌, map};
 ghost use Rattle.merge_batch.specs.declared.refusal.Refusal.{Refusal as OneRefusal};
 ghost use Rattle.merge_batch.specs.declared.refusal.Refusal.TheVariants.{NoMemory as no_memory};
 ghost use Rattle.merge_gens.specs.Moves.{row_site_cmp};
 ghost use Rattle.merge_table.specs.Edits.{rows_after_all};
 ghost use Rattle.merge_model.specs.Publisher.{state_of, with_state};
-ghost use Rattle.merge_model.specs.Publisher.PublisherJoin.{join, join_refusal, joined_state, without_left};
+ghost use Rattle.merge_model.specs.Publisher.PublisherJoin.{join, join_acts, join_refusal, joined_state, without_left};
+ghost use Rattle.merge_model.specs.World.Calls.{RefusesOnlyAs};
 ghost use Rattle.merge_pub.specs.After.{after};
 ghost use Rattle.merge_pub.specs.Forgetting.{is_left_at, take_at};
 ghost use Rattle.merge_pub.specs.Held.{IsDrafted, publication_of, tables_of};
@@ -153,6 +154,9 @@ impl Publisher {
         ensures refuses { RefusesAs (join (publication_of self.old) now m.now (tables_of self.old)) result }
         ensures same { tables_of self.new ≡ tables_of self.old }
         ensures publication { publication_of self.new ≡ publication_of self.old }
+
+        // One that does not act takes no memory.
+        ensures nothing { join_acts m.now (tables_of self.old) ≡ false → RefusesOnlyAs (join (publication_of self.old) now m.now (tables_of self.old)) result }
     {
         let state = self.check_join(m)?;
         let latest = self.moment_at(now);

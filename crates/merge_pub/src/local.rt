@@ -17,6 +17,7 @@ ghost use Rattle.merge_steps.specs.Drawing.{Draws, KeepsHeld, drawn_by};
 ghost use Rattle.merge_pub.specs.Held.{IsDrafted, publication_of, tables_of};
 ghost use Rattle.merge_steps.specs.Keeps.{AreHeard, HaveColumns};
 ghost use Rattle.merge_pub.specs.Local.{Refuses, changed_version, held_version, rows_refusal, versions_after};
+ghost use Rattle.merge_pub.specs.Refused.{RefusesAs};
 
 use crate::closing::{counters_go_on, later};
 use crate::publisher::Publisher;
@@ -167,6 +168,7 @@ impl Publisher {
         ensures made { IfOk result (λ d. local (publication_of self.old) (by_numbers (tables_of self.old)) now change.now (tables_of self.old) ≡ Ok (after d.0.changes (tables_of self.old), d.1)) }
         ensures ready { IfOk result (λ d. IsDrafted self.new d.0) }
         ensures refused { (refusal : OneRefusal) → result ≡ Err refusal → (refusal ≡ no_memory) ⊎ (local (publication_of self.old) (by_numbers (tables_of self.old)) now change.now (tables_of self.old) ≡ Err refusal) }
+        ensures refuses { RefusesAs (local (publication_of self.old) (by_numbers (tables_of self.old)) now change.now (tables_of self.old)) result }
         ensures same { tables_of self.new ≡ tables_of self.old }
         ensures publication { publication_of self.new ≡ publication_of self.old }
         ensures cost { steps.new ≤ steps.old + length (publication_of self.old).subscriptions }

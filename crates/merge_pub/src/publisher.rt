@@ -1,12 +1,12 @@
 //! The publisher.
-ghost use Rattle.std.specs.Prelude.{◌≡◌, Option};
+ghost use Rattle.std.specs.Prelude.{◌≡◌, ◌*◌, ◌≤◌, OnSome, Option, length};
 ghost use Rattle.merge_table.specs.Edits.{IsReady, rows_after_all};
 ghost use Rattle.merge_gens.specs.Entries.{entry_cmp};
-ghost use Rattle.merge_gens.specs.Index.{entries_after_all};
-ghost use Rattle.merge_part.specs.View.{live_in};
+ghost use Rattle.merge_gens.specs.Index.{IsCompact as IsCompactIndex, entries_after_all};
+ghost use Rattle.merge_part.specs.View.{IsCompact as IsCompactView, live_in};
 ghost use Rattle.merge_steps.specs.MoveEntries.{move_entry_cmp};
 ghost use Rattle.merge_pub.specs.After.{after};
-ghost use Rattle.merge_pub.specs.Held.{IsDrafted, IsAnyPrepared, live_after_any, publication_of, tables_of};
+ghost use Rattle.merge_pub.specs.Held.{IsAnyPrepared, IsCompact, IsDrafted, live_after_any, publication_of, tables_of};
 
 use merge_conflict::ConflictTable;
 use merge_gens::{GenerationBook, GenerationIndex, Mapping, RowSite, SiteState};
@@ -63,11 +63,14 @@ impl Publisher {
         self.membership.publication()
     }
 
-    /// Makes the changes of a draft, which is the last one that was made. No memory is taken.
+    /// Makes the changes of a draft, which is the last one that was made. No memory is taken, and
+    /// spare memory goes back once it is the most.
     pub fn settle(&mut self, draft: Draft)
         requires { IsDrafted self.old draft }
         ensures tables { tables_of self.new ≡ after draft.changes (tables_of self.old) }
         ensures publication { publication_of self.new ≡ publication_of self.old }
+        ensures compact { IsCompact self.new }
+        ensures members { OnSome draft.plan (IsCompactView self.new.membership) }
     {
         let Draft {
             changes,
@@ -88,8 +91,8 @@ impl Publisher {
             grants,
             held,
         } = changes;
-        self.rows.apply(rows.into_vec());
-        self.mappings.apply(mappings.into_vec());
+        self.rows.apply_and_sweep(rows.into_vec());
+        self.mappings.apply_and_sweep(mappings.into_vec());
         self.sites.apply(sites.into_vec());
         self.held.apply(held.into_vec());
         self.gens.settle(gens);
@@ -106,6 +109,7 @@ fn make_plan(membership: &mut Membership, plan: Option<MembershipPlan>)
     requires { IsAnyPrepared membership.old plan }
     ensures publication { membership.new.publication ≡ membership.old.publication }
     ensures live { live_in membership.new ≡ live_after_any membership.old plan }
+    ensures compact { OnSome plan (IsCompactView membership.new) }
 {
     if let Some(plan) = plan {
         membership.make(plan);
@@ -122,6 +126,8 @@ fn make_entries(
     requires moved { IsReady move_entry_cmp moved.old.slots index.moved }
     ensures changed { changed.new.entries ≡ entries_after_all changed.old.entries index.changed.changes }
     ensures moved { moved.new.rows ≡ rows_after_all move_entry_cmp moved.old.rows index.moved }
+    ensures compact { IsCompactIndex changed.new }
+    ensures spare { length moved.new.slots ≤ 2 * length moved.new.rows }
 {
     let IndexChanges {
         changed: plan,

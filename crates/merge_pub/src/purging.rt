@@ -5,7 +5,7 @@ ghost use Rattle.merge_gens.specs.Book.{purged};
 ghost use Rattle.merge_model.specs.Publisher.PublisherPurge.{cutoff, purge};
 ghost use Rattle.merge_pub.specs.After.{after};
 ghost use Rattle.merge_pub.specs.Forgetting.{LeavesAll};
-ghost use Rattle.merge_pub.specs.Held.{IsDrafted, publication_of, tables_of};
+ghost use Rattle.merge_pub.specs.Held.{IsCompact, IsDrafted, publication_of, tables_of};
 ghost use Rattle.merge_pub.specs.PurgeDrafts.{after_purge};
 ghost use Rattle.merge_steps.specs.Purging.{is_old_mapping, is_old_row};
 
@@ -95,11 +95,13 @@ impl Publisher {
         Ok((PurgeDraft { draft, cutoff }, forgotten))
     }
 
-    /// Makes the changes of a purge, whose draft is the last one that was made. No memory is taken.
+    /// Makes the changes of a purge, whose draft is the last one that was made. No memory is taken,
+    /// and spare memory goes back once it is the most.
     pub fn settle_purge(&mut self, purge: PurgeDraft)
         requires { IsDrafted self.old purge.draft }
         ensures tables { tables_of self.new ≡ after_purge purge (tables_of self.old) }
         ensures publication { publication_of self.new ≡ publication_of self.old }
+        ensures compact { IsCompact self.new }
     {
         let PurgeDraft { draft, cutoff } = purge;
         self.settle(draft);
@@ -110,6 +112,7 @@ impl Publisher {
     fn forget_closings(&mut self, cutoff: Moment)
         ensures tables { tables_of self.new ≡ record (tables_of self.old) { gens = purged (tables_of self.old).gens cutoff } }
         ensures publication { publication_of self.new ≡ publication_of self.old }
+        ensures compact { IsCompact self.old → IsCompact self.new }
     {
         self.gens.purge(cutoff);
     }

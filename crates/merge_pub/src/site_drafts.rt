@@ -1,5 +1,5 @@
 //! Drafts that change no row and no mapping.
-ghost use Rattle.std.specs.Prelude.{◌≡◌, ◌<◌, ◌∷◌, ◌^◌, [], IfOk, None};
+ghost use Rattle.std.specs.Prelude.{◌≡◌, ◌<◌, ◌∷◌, ◌^◌, [], IfOk, IsOk, None};
 ghost use Rattle.merge_table.specs.declared.edit.Edit.TheVariants.{Put};
 ghost use Rattle.merge_ident.specs.Books as granting;
 ghost use Rattle.merge_model.specs.Publisher.{closed, with_state};
@@ -103,6 +103,9 @@ impl Publisher {
         ensures ready { IfOk result (λ d. IsDrafted self.new d) }
         ensures same { tables_of self.new ≡ tables_of self.old }
         ensures publication { publication_of self.new ≡ publication_of self.old }
+
+        // What takes no memory is not refused.
+        ensures nothing { IsOk result }
     {
         let (_, gens) = self.gens.prepare(&[])?;
         Ok(still(self.alloc, self.changes, self.conflict_count, latest, gens))
@@ -122,6 +125,7 @@ impl Publisher {
         ensures ready { IfOk result (λ d. IsDrafted self.new d) }
         ensures same { tables_of self.new ≡ tables_of self.old }
         ensures publication { publication_of self.new ≡ publication_of self.old }
+        ensures nothing { IsOk result }
     {
         let (_, gens) = self.gens.prepare(&[])?;
         Ok(grant_draft(

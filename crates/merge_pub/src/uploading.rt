@@ -18,7 +18,7 @@ ghost use Rattle.merge_model.specs.Publisher.PublisherUpload.{too_many_new, uplo
 ghost use Rattle.merge_model.specs.World.Steps.{kept_decisions};
 ghost use Rattle.merge_pub.specs.After.{after};
 ghost use Rattle.merge_pub.specs.Held.{IsDrafted, publication_of, tables_of};
-ghost use Rattle.merge_pub.specs.Refused.{refusal_of};
+ghost use Rattle.merge_pub.specs.Refused.{RefusesAs, refusal_of};
 ghost use Rattle.merge_pub.specs.Uploaded.{IsActed, acted_tables, arrival_of, asked_on, decided_on, known_in, none_acted, taken_tables, upload_by};
 ghost use Rattle.merge_steps.specs.Uploading.{AskedSome, after_items, known_of, makes_row_in, pass_at, questions_in};
 
@@ -353,6 +353,7 @@ impl Publisher {
         ensures decided { IfOk result (λ d. d.decisions ≡ decided_on (publication_of self.old) (says_at (λ r. says r) resolvers.old.items) (map (λ r. tally_of r) resolvers.old.items) now upload.now (tables_of self.old)) }
         ensures ready { IfOk result (λ d. IsDrafted self.new d.draft) }
         ensures refused { (refusal : OneRefusal) → result ≡ Err refusal → (refusal ≡ no_memory) ⊎ (upload_by (publication_of self.old) (says_at (λ r. says r) resolvers.old.items) (map (λ r. tally_of r) resolvers.old.items) now upload.now (tables_of self.old) ≡ Err refusal) }
+        ensures refuses { RefusesAs (upload_by (publication_of self.old) (says_at (λ r. says r) resolvers.old.items) (map (λ r. tally_of r) resolvers.old.items) now upload.now (tables_of self.old)) result }
 
         // Each resolver is asked all its questions where the upload is made, none where it is
         // refused, and else the first few.

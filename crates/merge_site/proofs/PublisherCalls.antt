@@ -1,10 +1,10 @@
 -- A call of the publisher, by the step that was worked out for it and by what became of that.
-use Rattle.std.proofs.Common.{◌≡◌, ◌∙◌, ◌||◌, ◌≤◌, ℕ, Bool, true, false, nat_lt, sym, ap, subst}
+use Rattle.std.proofs.Common.{◌≡◌, ◌∙◌, ◌||◌, ℕ, Bool, true, false, nat_lt, sym, ap, subst}
 use Rattle.std.specs.Prelude.{Err, IfOk, Ok, Option, Result}
 use Rattle.merge_types.specs.declared.identifiers.Moment.{Moment}
 use Rattle.merge_schema.specs.declared.publication.Publication.{Publication}
 use Rattle.merge_batch.specs.declared.refusal.Refusal.{Refusal}
-use Rattle.merge_model.specs.World.Calls.{Called, always_commits, is_later}
+use Rattle.merge_model.specs.World.Calls.{Called, RefusesOnlyAs, always_commits, is_later}
 use Rattle.merge_model.specs.Publisher.{close_generation}
 use Rattle.merge_model.proofs.Failing.Quiet.{closings-quiet}
 use Rattle.merge_model.specs.Publisher.PublisherPurge.{purge}
@@ -19,6 +19,7 @@ use Rattle.merge_pub.specs.declared.purging.PurgeDraft.{PurgeDraft}
 use Rattle.merge_world.specs.Views.{PublisherCall, PublisherView}
 use Rattle.merge_site.specs.Calls.{IsRefused, WorkedOut}
 use Rattle.merge_site.specs.Publishers.{IsKeptPublisher, drafted}
+use Rattle.merge_site.proofs.Called.{none-filled}
 
 abbrev pub view_of : Held → ℕ → PublisherView
 view_of h faults = record { publication = publication_of h; tables = tables_of h; faults = faults }
@@ -57,9 +58,20 @@ closing-still h now moment (Ok worked) commits same is made = λ quiet.
     subst (λ (t : PublisherTables). after worked.0.changes t ≡ t) (sym same) (closings-quiet moment (tables_of h) (drafted (tables_of h) worked) made (sym is ∙ quiet))
 
 -- a purge that was worked out and made
-pub purge-made : (old : PublisherView) (h now new : Held) (before after' : ℕ) (moment : Moment) → view_of h before ≡ old → tables_of now ≡ tables_of h → before ≤ after' → (d : PurgeDraft) (forgotten : Forgotten) → purge (publication_of h) moment (tables_of h) ≡ (after_purge d (tables_of h), forgotten) → tables_of new ≡ after_purge d (tables_of now)
+pub purge-made : (old : PublisherView) (h now new : Held) (before after' : ℕ) (moment : Moment) → view_of h before ≡ old → tables_of now ≡ tables_of h → after' ≡ before → (d : PurgeDraft) (forgotten : Forgotten) → purge (publication_of h) moment (tables_of h) ≡ (after_purge d (tables_of h), forgotten) → tables_of new ≡ after_purge d (tables_of now)
     → PublisherCall (Ok (purge old.publication moment old.tables)) always_commits old (view_of new after') (Ok forgotten)
-purge-made old h now new before after' moment seen same later d forgotten made settled =
+purge-made old h now new before after' moment seen same still d forgotten made settled =
     let is : tables_of new ≡ after_purge d (tables_of h) = settled ∙ ap (λ (t : PublisherTables). after_purge d t) same in
     subst (λ (v : PublisherView). PublisherCall (Ok (purge v.publication moment v.tables)) always_commits v (view_of new after') (Ok forgotten)) seen
-    (ap (λ (done : PublisherTables × Forgotten). (let r : Result (PublisherTables × Forgotten) Refusal = Ok done in r)) (made ∙ ap (λ (t : PublisherTables). (let done : PublisherTables × Forgotten = (t, forgotten) in done)) (sym is)), later)
+    (ap (λ (done : PublisherTables × Forgotten). (let r : Result (PublisherTables × Forgotten) Refusal = Ok done in r)) (made ∙ ap (λ (t : PublisherTables). (let done : PublisherTables × Forgotten = (t, forgotten) in done)) (sym is)), still)
+
+-- and takes no memory, so it is refused as the definition refuses it
+pub closing-nothing : (old : PublisherView) (h : Held) (before : ℕ) → view_of h before ≡ old → (moment : Moment) (commits : Bool) (worked : Result (Draft × ℕ) Refusal) (result : Result ℕ Refusal)
+    → commits ≡ (is_later moment (tables_of h).latest || nat_lt 0 (tables_of h).gens.filling.filled)
+    → ((tables_of h).gens.filling.filled ≡ 0 → RefusesOnlyAs (close_generation moment (tables_of h)) worked) → (commits ≡ false → RefusesOnlyAs worked result)
+    → (is_later moment old.tables.latest || nat_lt 0 old.tables.gens.filling.filled) ≡ false → RefusesOnlyAs (close_generation moment old.tables) result
+closing-nothing old h before seen moment commits worked result is empty fails quiet =
+    let still : (is_later moment (tables_of h).latest || nat_lt 0 (tables_of h).gens.filling.filled) ≡ false =
+    subst (λ (v : PublisherView). (is_later moment v.tables.latest || nat_lt 0 v.tables.gens.filling.filled) ≡ false) (sym seen) quiet in
+    λ why was. subst (λ (v : PublisherView). close_generation moment v.tables ≡ Err why) seen
+    (empty (none-filled (is_later moment (tables_of h).latest) (tables_of h).gens.filling.filled still) why (fails (is ∙ still) why was))

@@ -1,13 +1,18 @@
 -- A call of a subscriber, by the step that was worked out for it and by what became of that.
-use Rattle.std.proofs.Common.{◌≡◌, ◌∙◌, ◌||◌, ℕ, Bool, true, false, nat_lt, sym, ap, subst}
-use Rattle.std.specs.Prelude.{Err, IfOk, Ok, Option, Result, Some}
+use Rattle.std.proofs.Common.{◌≡◌, ◌∙◌, ◌||◌, ◌⊎◌, ℕ, Bool, true, false, nat_lt, inl, inr, sym, ap, subst}
+use Rattle.std.specs.Prelude.{Err, IfOk, None, Ok, Option, Result, Some, if◌then◌else◌}
+use Rattle.std.proofs.lemmas.Result.{IfOk-at_ok}
 use Rattle.merge_types.specs.declared.identifiers.Moment.{Moment}
 use Rattle.merge_schema.specs.declared.publication.Publication.{Publication}
 use Rattle.merge_batch.specs.declared.refusal.Refusal.{Refusal}
 use Rattle.merge_batch.specs.declared.reply.Reply.{Reply}
+use Rattle.merge_batch.specs.declared.request.Join.{Join}
+use Rattle.merge_batch.specs.declared.request.Outstanding.TheVariants as ask
 use Rattle.merge_model.specs.Judge.ByNumbers.{by_rows}
-use Rattle.merge_model.specs.World.Calls.{Called, is_later, message_commits, message_or_none, reply_commits}
-use Rattle.merge_model.specs.Subscriber.{close_subscriber_generation}
+use Rattle.merge_model.specs.World.Calls.{Called, RefusesOnlyAs, is_later, message_commits, message_or_none, reply_commits}
+use Rattle.merge_model.specs.Subscriber.{close_subscriber_generation, subscriber_counters}
+use Rattle.merge_model.specs.Subscriber.Sending.{join_of, make_join, with_message}
+use Rattle.merge_model.specs.Tables.Refusals.{counter_end, unless}
 use Rattle.merge_model.specs.Tables.{SubscriberTables}
 use Rattle.merge_model.specs.Subscriber.Taking.{take_reply}
 use Rattle.merge_model.specs.declared.outcome.Taken.{Taken}
@@ -19,7 +24,7 @@ use Rattle.merge_sub.specs.declared.changes.Draft.{Draft}
 use Rattle.merge_world.specs.Views.{SubscriberCall, SubscriberView}
 use Rattle.merge_site.specs.Calls.{IsRefused, WorkedOut}
 use Rattle.merge_site.specs.Subscribers.{IsKeptSubscriber}
-use Rattle.merge_site.proofs.Called.{ok-all}
+use Rattle.merge_site.proofs.Called.{none-filled, ok-all}
 
 abbrev pub view_of : Held → ℕ → SubscriberView
 view_of h faults = record { publication = h.publication; tables = tables_of h; faults = faults }
@@ -72,3 +77,46 @@ reply-still h now moment m draft taken commits same is made quiet =
 -- a reply that is taken has the draft that there is
 pub reply-made : {A : Type 0} (by : Result (SubscriberTables × A) Refusal) (s : SubscriberTables) (draft : Option Draft) (made : Draft) (answer : A) → draft ≡ Some made → by ≡ Ok (after_if_any draft s, answer) → by ≡ Ok (after made.changes s, answer)
 reply-made by s draft made answer is by_is = subst (λ (d : Option Draft). by ≡ Ok (after_if_any d s, answer)) is by_is
+
+-- Calls that take no memory are refused as the definition refuses them.
+
+-- a closing that commits nothing
+pub closing-nothing : (old : SubscriberView) (h : Held) (before : ℕ) → view_of h before ≡ old → (moment : Moment) (commits : Bool) (worked : Result (Draft × ℕ) Refusal) (result : Result ℕ Refusal)
+    → commits ≡ (is_later moment (tables_of h).latest || nat_lt 0 (tables_of h).gens.filling.filled)
+    → ((tables_of h).gens.filling.filled ≡ 0 → RefusesOnlyAs (close_subscriber_generation moment (tables_of h)) worked) → (commits ≡ false → RefusesOnlyAs worked result)
+    → (is_later moment old.tables.latest || nat_lt 0 old.tables.gens.filling.filled) ≡ false → RefusesOnlyAs (close_subscriber_generation moment old.tables) result
+closing-nothing old h before seen moment commits worked result is empty fails quiet =
+    let still : (is_later moment (tables_of h).latest || nat_lt 0 (tables_of h).gens.filling.filled) ≡ false =
+    subst (λ (v : SubscriberView). (is_later moment v.tables.latest || nat_lt 0 v.tables.gens.filling.filled) ≡ false) (sym seen) quiet in
+    λ why was. subst (λ (v : SubscriberView). close_subscriber_generation moment v.tables ≡ Err why) seen
+    (empty (none-filled (is_later moment (tables_of h).latest) (tables_of h).gens.filling.filled still) why (fails (is ∙ still) why was))
+
+-- a joined site makes no join
+none-made : {A : Type 0} (refused : Option Refusal) (made : A) → (let none : Option A = None in unless refused none) ≡ Ok (Some made) → ⊥
+none-made None made is = cc
+none-made (Some why) made is = cc
+
+no-join : (s : SubscriberTables) → s.is_joined ≡ true → (made : SubscriberTables × Join) → make_join s ≡ Ok (Some made) → ⊥
+no-join s joined made is =
+    none-made (counter_end (subscriber_counters s)) made
+    (ap (λ (b : Bool). (let makes : Option (SubscriberTables × Join) = if b then None else Some (with_message ask.Join s, join_of s) in unless (counter_end (subscriber_counters s)) makes)) (sym joined) ∙ is)
+
+joined-refused : (s : SubscriberTables) (worked : Result (Option (Draft × Join)) Refusal) → IfOk worked (λ made. make_join s ≡ Ok (drafted_if_any s made)) → RefusesOnlyAs (make_join s) worked → s.is_joined ≡ true
+    → (why : Refusal) → (worked ≡ Err why) ⊎ ((made : Draft × Join) × (worked ≡ Ok (Some made))) → make_join s ≡ Err why
+joined-refused s worked done refused joined why (inl was) = refused why was
+joined-refused s worked done refused joined why (inr (made, was)) = absurd (no-join s joined (drafted s made) (IfOk-at_ok (λ d. make_join s ≡ Ok (drafted_if_any s d)) was done))
+
+pub join-nothing : (old : SubscriberView) (h : Held) (before : ℕ) → view_of h before ≡ old → (worked : Result (Option (Draft × Join)) Refusal) (result : Result (Option Join) Refusal)
+    → IfOk worked (λ made. make_join (tables_of h) ≡ Ok (drafted_if_any (tables_of h) made)) → RefusesOnlyAs (make_join (tables_of h)) worked
+    → ((why : Refusal) → result ≡ Err why → (worked ≡ Err why) ⊎ ((made : Draft × Join) × (worked ≡ Ok (Some made)))) → old.tables.is_joined ≡ true → RefusesOnlyAs (make_join old.tables) result
+join-nothing old h before seen worked result done refused fails joined =
+    let here : (tables_of h).is_joined ≡ true = subst (λ (v : SubscriberView). v.tables.is_joined ≡ true) (sym seen) joined in
+    λ why was. subst (λ (v : SubscriberView). make_join v.tables ≡ Err why) seen (joined-refused (tables_of h) worked done refused here why (fails why was))
+
+-- a reply is taken in one way
+abbrev taken_in : Result (SubscriberTables × Taken) Refusal → Taken → Taken
+taken_in (Ok done) other = done.1
+taken_in (Err why) other = other
+
+pub taken-same : (by : Result (SubscriberTables × Taken) Refusal) (s t : SubscriberTables) (a b : Taken) → by ≡ Ok (s, a) → by ≡ Ok (t, b) → a ≡ b
+taken-same by s t a b one other = ap (λ (r : Result (SubscriberTables × Taken) Refusal). taken_in r a) (sym one ∙ other)

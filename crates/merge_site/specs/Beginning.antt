@@ -13,6 +13,7 @@ IsEmptyStore told = IfSome told (λ (map : Map). map ≡ [])
 abbrev pub NamesEntry : Refusal → Option Map → Type 0
 NamesEntry why told = ((table : ℕ) × (key : List ℕ) × (why ≡ refusal.Damaged table key)) × IfSome told (λ (map : Map). map ≢ [])
 
--- why a site does not begin: memory was wanting, or the store could not be read, which is counted; or it has entries
+-- why a site does not begin: memory was wanting, or the store could not be read, which is counted; or it has entries, and no fault
+-- is counted
 abbrev pub StartsNot : Refusal → Option Map → ℕ → ℕ → Type 0
-StartsNot why told before after = StopsAs why before after ⊎ NamesEntry why told
+StartsNot why told before after = StopsAs why before after ⊎ (after ≡ before) × NamesEntry why told

@@ -29,6 +29,7 @@ pub record IsRead {T : Type 0} (load : Map → Loaded T) (told : Option Map) (lo
 abbrev pub IsDamage : {T : Type 0} → (Map → Loaded T) → Option Map → Refusal → Type 0
 IsDamage load told why = (key : EntryKey) × (why ≡ damage key) × IsRead load told (Err key)
 
--- why a store does not load: memory was wanting, or it could not be read, which is counted; or it is damaged
+-- why a store does not load: memory was wanting, or it could not be read, which is counted; or it is damaged, and no fault is
+-- counted
 abbrev pub LoadsNot : {T : Type 0} → (Map → Loaded T) → Option Map → Refusal → ℕ → ℕ → Type 0
-LoadsNot load told why before after = StopsAs why before after ⊎ IsDamage load told why
+LoadsNot load told why before after = StopsAs why before after ⊎ (after ≡ before) × IsDamage load told why

@@ -1,11 +1,11 @@
 //! A publisher with a keeper of its records.
-ghost use Rattle.std.specs.Prelude.{◌≡◌, ◌≤◌, ◌+◌, ◌||◌, ℕ, IfErr, IfOk, Ok, OnOk, length, nat_lt, true};
+ghost use Rattle.std.specs.Prelude.{◌≡◌, ◌≤◌, ◌+◌, ◌||◌, ℕ, IfErr, IfOk, Ok, OnOk, false, length, nat_lt, true};
 ghost use Rattle.merge_units.specs.Changes.{ColumnsAscend};
 ghost use Rattle.merge_batch.specs.Articles.{has_article};
 ghost use Rattle.merge_batch.specs.LocalChanges.{article_of, settings_of};
 ghost use Rattle.merge_batch.specs.declared.refusal.Refusal.TheVariants.{NoMemory as no_memory};
 ghost use Rattle.merge_model.specs.Judge.ByNumbers.{by_numbers};
-ghost use Rattle.merge_model.specs.World.Calls.{always_commits, closing_commits, is_later};
+ghost use Rattle.merge_model.specs.World.Calls.{RefusesOnlyAs, always_commits, closing_commits, is_later};
 ghost use Rattle.merge_model.specs.Publisher.{close_generation, empty_publisher};
 ghost use Rattle.merge_model.specs.Publisher.PublisherLocal.{local};
 ghost use Rattle.merge_model.specs.Publisher.PublisherPurge.{purge};
@@ -165,6 +165,9 @@ impl<K: Keeper> KeptPublisher<K> {
     pub fn close_generation(&mut self, now: Moment) -> Result<u64, Refusal>
         ensures called { PublisherCall (close_generation now self.old.tables) (closing_commits now self.old.tables.latest self.old.tables.gens) self.old self.new result }
         ensures publication { self.new.publication ≡ self.old.publication }
+
+        // One that commits nothing takes no memory.
+        ensures nothing { (is_later now self.old.tables.latest || nat_lt 0 self.old.tables.gens.filling.filled) ≡ false → RefusesOnlyAs (close_generation now self.old.tables) result }
     {
         let commits = closing_commits(&self.publisher, now);
         let worked = self.publisher.draft_close(now);
@@ -189,8 +192,8 @@ impl<K: Keeper> KeptPublisher<K> {
     }
 
     /// Reads the records that are kept, and tests that they load. The site goes on with the tables
-    /// that it has, which are those that were committed: it is lost where a record is damaged, or the
-    /// store cannot be read.
+    /// that it has, which are those that were committed. Where the store is told to have failed, or a
+    /// record to be damaged, the caller has lost it.
     pub fn restart(&mut self) -> Result<(), Refusal>
         ensures restarted { Restarted self.old.tables self.new.tables self.old.faults self.new.faults result }
         ensures publication { self.new.publication ≡ self.old.publication }

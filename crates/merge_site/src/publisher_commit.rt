@@ -5,7 +5,7 @@ ghost use Rattle.merge_conflict.specs.Table as conflicts;
 ghost use Rattle.merge_gens.specs.Plan.{IsPrepared};
 ghost use Rattle.merge_ident.specs.Books as grants;
 ghost use Rattle.merge_keeper.specs.Edits.{ArePublisherShort};
-ghost use Rattle.merge_model.specs.World.Calls.{Called};
+ghost use Rattle.merge_model.specs.World.Calls.{Called, RefusesOnlyAs};
 ghost use Rattle.merge_model.specs.Tables.{PublisherTables};
 ghost use Rattle.merge_pub.specs.After.{after};
 ghost use Rattle.merge_pub.specs.Held.{IsDrafted, publication_of, tables_of};
@@ -185,6 +185,9 @@ pub(crate) fn finish<K: Keeper, A: Drop>(
     ensures worked { OnOk result (IsOk worked) }
     ensures kept { IsKeptPublisher (tables_of publisher.new) (K.told keeper.new) }
     ensures publication { publication_of publisher.new ≡ publication_of publisher.old }
+
+    // Where nothing is committed nothing else refuses it.
+    ensures nothing { commits ≡ false → RefusesOnlyAs worked result }
 {
     let (draft, answer) = worked?;
     if commits {

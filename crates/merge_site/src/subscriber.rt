@@ -1,16 +1,18 @@
 //! A subscriber with a keeper of its records.
-ghost use Rattle.std.specs.Prelude.{◌≡◌, ◌≤◌, ◌||◌, ℕ, IfErr, IfOk, OnOk, nat_lt, true};
+ghost use Rattle.std.specs.Prelude.{◌≡◌, ◌≤◌, ◌||◌, ℕ, IfErr, IfOk, IsOk, Ok, OnOk, false, nat_lt, true};
 ghost use Rattle.merge_units.specs.Changes.{ColumnsAscend};
 ghost use Rattle.merge_batch.specs.Articles.{has_article};
 ghost use Rattle.merge_batch.specs.LocalChanges.{article_of, settings_of};
 ghost use Rattle.merge_model.specs.Judge.ByNumbers.{by_rows};
 ghost use Rattle.merge_batch.specs.declared.refusal.Refusal.TheVariants.{NoMemory as no_memory};
-ghost use Rattle.merge_model.specs.World.Calls.{always_commits, closing_commits, is_later, message_commits, message_or_none, reply_commits};
+ghost use Rattle.merge_model.specs.World.Calls.{RefusesOnlyAs, always_commits, closing_commits, is_later, message_commits, message_or_none, reply_commits};
 ghost use Rattle.merge_model.specs.Subscriber.Reinit.{reinitialise};
 ghost use Rattle.merge_model.specs.World.Reports.{marks_of, unsent_count};
 ghost use Rattle.merge_model.specs.Subscriber.Sending.{make_ask, make_join, make_ranges, make_upload};
 ghost use Rattle.merge_model.specs.Subscriber.{close_subscriber_generation, empty_subscriber, subscriber_local};
 ghost use Rattle.merge_model.specs.Subscriber.Taking.{take_reply};
+ghost use Rattle.merge_model.specs.Tables.{SubscriberTables};
+ghost use Rattle.merge_model.specs.declared.outcome.Taken.{Taken as OneTaken};
 ghost use Rattle.merge_schema.specs.Valid.{IsValid};
 ghost use Rattle.merge_sub.specs.Held.{tables_of};
 ghost use Rattle.merge_world.specs.Printable.{AreLostPrintable, ArePrintable};
@@ -150,6 +152,9 @@ impl<K: Keeper> KeptSubscriber<K> {
         ensures called { SubscriberCall (close_subscriber_generation now self.old.tables) (closing_commits now self.old.tables.latest self.old.tables.gens) self.old self.new result }
         ensures publication { self.new.publication ≡ self.old.publication }
         ensures site { self.new.tables.site ≡ self.old.tables.site }
+
+        // One that commits nothing takes no memory.
+        ensures nothing { (is_later now self.old.tables.latest || nat_lt 0 self.old.tables.gens.filling.filled) ≡ false → RefusesOnlyAs (close_subscriber_generation now self.old.tables) result }
     {
         let commits = closing_commits(&self.subscriber, now);
         let worked = self.subscriber.draft_close(now);
@@ -167,6 +172,9 @@ impl<K: Keeper> KeptSubscriber<K> {
         ensures called { SubscriberCall (message_or_none self.old.tables (make_join self.old.tables)) message_commits self.old self.new result }
         ensures publication { self.new.publication ≡ self.old.publication }
         ensures site { self.new.tables.site ≡ self.old.tables.site }
+
+        // Where the site has joined it takes no memory.
+        ensures nothing { self.old.tables.is_joined ≡ true → RefusesOnlyAs (make_join self.old.tables) result }
     {
         let worked = self.subscriber.draft_join();
         finish_message(self.alloc, &mut self.keeper, &mut self.subscriber, worked)
@@ -213,6 +221,9 @@ impl<K: Keeper> KeptSubscriber<K> {
         ensures called { SubscriberCall (take_reply self.old.publication (by_rows self.old.tables) now reply.now self.old.tables) (reply_commits reply.now) self.old self.new result }
         ensures publication { self.new.publication ≡ self.old.publication }
         ensures site { self.new.tables.site ≡ self.old.tables.site }
+
+        // One that changes no record takes no memory.
+        ensures nothing { (s : SubscriberTables) (taken : OneTaken) → take_reply self.old.publication (by_rows self.old.tables) now reply.now self.old.tables ≡ Ok (s, taken) → reply_commits reply.now taken ≡ false → IsOk result }
     {
         let (draft, taken) = self.subscriber.draft_reply(reply, now)?;
         let acts = reply_commits(reply, taken);
@@ -245,8 +256,8 @@ impl<K: Keeper> KeptSubscriber<K> {
     }
 
     /// Reads the records that are kept, and tests that they load. The site goes on with the tables
-    /// that it has, which are those that were committed: it is lost where a record is damaged, or the
-    /// store cannot be read.
+    /// that it has, which are those that were committed. Where the store is told to have failed, or a
+    /// record to be damaged, the caller has lost it.
     pub fn restart(&mut self) -> Result<(), Refusal>
         ensures restarted { Restarted self.old.tables self.new.tables self.old.faults self.new.faults result }
         ensures publication { self.new.publication ≡ self.old.publication }

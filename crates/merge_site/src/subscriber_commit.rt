@@ -1,14 +1,15 @@
 //! A step of a subscriber is committed, and only then put in place.
-ghost use Rattle.std.specs.Prelude.{◌≡◌, ◌≤◌, Bool, IfErr, IfOk, Ok, OnErr, OnOk, Option, Result as OneResult, Some, false, true};
+ghost use Rattle.std.specs.Prelude.{◌≡◌, ◌≤◌, ◌⊎◌, Bool, Err, IfErr, IfOk, Ok, OnErr, OnOk, Option, Result as OneResult, Some, false, true};
 ghost use Rattle.merge_batch.specs.declared.refusal.Refusal.{Refusal as OneRefusal};
 ghost use Rattle.merge_conflict.specs.Table as conflicts;
 ghost use Rattle.merge_gens.specs.Plan.{IsPrepared};
 ghost use Rattle.merge_keeper.specs.Edits.{AreSubscriberShort};
 ghost use Rattle.merge_keeper.specs.Stored.{FitSubscriber};
-ghost use Rattle.merge_model.specs.World.Calls.{Called, message_commits, message_or_none};
+ghost use Rattle.merge_model.specs.World.Calls.{Called, RefusesOnlyAs, message_commits, message_or_none};
 ghost use Rattle.merge_model.specs.Tables.{SubscriberTables};
 ghost use Rattle.merge_sub.specs.Drafts.{IsDrafted, IsDraftedIfAny, after, drafted, drafted_if_any};
 ghost use Rattle.merge_sub.specs.Held.{tables_of};
+ghost use Rattle.merge_sub.specs.declared.changes.Draft.{Draft as OneDraft};
 ghost use Rattle.merge_world.specs.Printable.{AreLostPrintable, ArePrintable};
 ghost use Rattle.merge_site.specs.Calls.{StopsAs, WorkedOut};
 ghost use Rattle.merge_site.specs.Kept.{LeadTo};
@@ -136,6 +137,9 @@ pub(crate) fn finish<K: Keeper, A: Drop>(
     ensures kept { IsKeptSubscriber (tables_of subscriber.new) (K.told keeper.new) }
     ensures publication { subscriber.new.publication ≡ subscriber.old.publication }
     ensures site { subscriber.new.site ≡ subscriber.old.site }
+
+    // Where nothing is committed nothing else refuses it.
+    ensures nothing { commits ≡ false → RefusesOnlyAs worked result }
 {
     let (draft, answer) = worked?;
     if commits {
@@ -180,6 +184,9 @@ pub(crate) fn finish_message<K: Keeper, A: Drop>(
     ensures kept { IsKeptSubscriber (tables_of subscriber.new) (K.told keeper.new) }
     ensures publication { subscriber.new.publication ≡ subscriber.old.publication }
     ensures site { subscriber.new.site ≡ subscriber.old.site }
+
+    // Where no message was made nothing else refuses it.
+    ensures nothing { (why : OneRefusal) → result ≡ Err why → (worked ≡ Err why) ⊎ ((made : OneDraft × A) × (worked ≡ Ok (Some made))) }
 {
     match worked? {
         None => Ok(None),

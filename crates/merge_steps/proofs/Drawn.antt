@@ -1,9 +1,10 @@
 -- What an insert draws: the definitions, by how a range is taken from, and what stays of the ranges.
-use Rattle.std.specs.Prelude.{◌≡◌, ◌==◌, ◌&&◌, ◌+◌, ℕ, ℤ, List, [], ◌∷◌, Bool, true, false, Option, Some, None, Result, Ok, Err, refl, cond, count_by, is_some, IfOk, IsSome}
+use Rattle.std.specs.Prelude.{◌≡◌, ◌==◌, ◌&&◌, ◌+◌, ◌-◌, ◌<◌, ◌≤◌, ℕ, ℤ, List, [], ◌∷◌, ◌++◌, Bool, true, false, Option, Some, None, Result, Ok, Err, refl, cond, count_by, is_some, length, IfOk, IsOk, IsSome}
 use Rattle.std.specs.BTreeMap.{is_at}
 use Rattle.std.specs.Ordering.{nat_cmp}
 use Rattle.std.proofs.Common.{arith, sym, ap, ◌∙◌, subst, inl, inr}
 use Rattle.std.proofs.lemmas.Bool.Decides.{nat_tests}
+use Rattle.std.proofs.lemmas.List.{length-append, length-drop}
 use Rattle.merge_types.specs.declared.changes.Change.{Change}
 use Rattle.merge_types.specs.declared.changes.Change.TheVariants.{Insert, Update, Delete}
 use Rattle.merge_types.specs.declared.changes.Setting.{Setting}
@@ -12,9 +13,9 @@ use Rattle.merge_types.specs.declared.values.Value.{Value}
 use Rattle.merge_types.specs.declared.values.Value.TheVariants.{Bit, Bytes, Day, Guid, Int, Null, Text}
 use Rattle.merge_table.specs.declared.edit.Edit.{Edit}
 use Rattle.merge_table.specs.declared.edit.Edit.TheVariants.{Put}
-use Rattle.merge_ident.specs.Answers.{Answer, answer_of, ask_of, grants_after, grants_with_all, plan_of, rule_of}
+use Rattle.merge_ident.specs.Answers.{Answer, NeedsMemory, answer_of, ask_of, grants_after, grants_with_all, plan_of, rule_of}
 use Rattle.merge_ident.specs.Grants.{granted_to, is_of, with_grant}
-use Rattle.merge_ident.specs.Holders.{Holder, after_receive, after_take, answer_to_take}
+use Rattle.merge_ident.specs.Holders.{Holder, Received, after_receive, after_take, answer_by_held, answer_to_take, held_after_receive, next_of, unused}
 use Rattle.merge_ident.specs.declared.grants.Grant.{Grant}
 use Rattle.merge_ident.specs.declared.grants.GrantAnswer.TheVariants.{Granted, Kept, NotDue}
 use Rattle.merge_ident.specs.declared.grants.IdentityFault.{IdentityFault}
@@ -25,7 +26,8 @@ use Rattle.merge_ident.specs.declared.ranges.IdentityUsedUp.{IdentityUsedUp as I
 use Rattle.merge_ident.proofs.Added.{count_by-with_grant}
 use Rattle.merge_schema.specs.declared.publication.Publication.{Publication}
 use Rattle.merge_batch.specs.declared.refusal.Refusal.{Refusal}
-use Rattle.merge_batch.specs.declared.refusal.Refusal.TheVariants.{IdentityUsedUp}
+use Rattle.merge_batch.specs.LocalChanges.{is_insert}
+use Rattle.merge_batch.specs.declared.refusal.Refusal.TheVariants.{IdentityUsedUp, NoMemory}
 use Rattle.merge_change.specs.Allowed.{HasIdentity, IsIdentity}
 use Rattle.merge_model.specs.Tables.Keys.{at_number, put_number}
 use Rattle.merge_model.specs.Tables.Publications.{identity_column, rules_of}
@@ -78,6 +80,65 @@ none-taken : (rules : List Rule) (grants : List Grant) (held : List (ℕ × Hold
 unfolding TakesGranted
 none-taken rules grants held article holder plan by is none takes =
     none-by grants held article holder by (answer_of rules grants (ask_of (record { 0 = 0 }) article (granted_to article 0 grants) true)) (subst (λ (x : GrantPlan). granted_range x.answer ≡ None) is none) takes
+
+-- Where memory is wanting for what is drawn.
+
+some-taken : (after : List Grant) (held : List (ℕ × Holder)) (article : ℕ) (holder : Holder) (value : ℤ) → answer_to_take holder ≡ Ok value
+    → Takes after held article holder (Ok (record { value = Int value; held = put_number held article (after_take holder); grants = after }))
+unfolding Takes
+some-taken after held article holder value is = λ p. rw is refl
+
+-- memory is wanting for a value that there is
+pub take-wants : (before : List Grant) (held : List (ℕ × Holder)) (article : ℕ) (holder : Holder) (value : ℤ) (plans : List GrantPlan) → answer_to_take holder ≡ Ok value
+    → Gives (Takes (grants_with_all before plans) held article holder) before held (Err NoMemory)
+take-wants before held article holder value plans is =
+    let draw : Drawn = record { value = Int value; held = put_number held article (after_take holder); grants = grants_with_all before plans } in
+    inl (draw, refl, some-taken (grants_with_all before plans) held article holder value is)
+
+first-value : (last : ℤ) (held : List Received) → 0 < length held → (value : ℤ) × (answer_by_held last held ≡ Ok value)
+first-value last [] some = absurd (omega arith)
+first-value last (first ∷ rest) some = (next_of first, refl)
+
+received-some : (held : List Received) (range : Range) → 0 < length (held_after_receive held range)
+received-some held range = omega (arith, length-drop (length (held ++ unused range ∷ []) - 2) (held ++ unused range ∷ []), length-append held (unused range ∷ []))
+
+-- a holder has a value behind a range that came
+received-value : (holder : Holder) (range : Range) → (value : ℤ) × (answer_to_take (after_receive holder range) ≡ Ok value)
+received-value holder range = first-value range.end (held_after_receive holder.held range) (received-some holder.held range)
+
+grant-draws : (grants : List Grant) (held : List (ℕ × Holder)) (article : ℕ) (holder : Holder) (answer : Answer) → NeedsMemory answer
+    → (draw : Drawn) × ((p : PublisherTables) → after_answer (with_held grants held p) article holder answer ≡ Ok draw)
+grant-draws grants held article holder (Ok (Granted number range)) needs =
+    let value = received-value holder range in
+    let after = grants_after grants (ask_of (record { 0 = 0 }) article (granted_to article 0 grants) true) (Ok (Granted number range)) in
+    let draw : Drawn = record { value = Int value.0; held = put_number held article (after_take (after_receive holder range)); grants = after } in
+    (draw, granted-by grants held article holder number range (Ok draw) (Ok (Granted number range)) refl (some-taken after held article (after_receive holder range) value.0 value.1))
+grant-draws grants held article holder (Ok (Kept number range)) needs = absurd needs
+grant-draws grants held article holder (Ok NotDue) needs = absurd needs
+grant-draws grants held article holder (Err fault) needs = absurd needs
+
+-- memory is wanting for a range that is granted
+pub grant-wants : (rules : List Rule) (grants : List Grant) (held : List (ℕ × Holder)) (article : ℕ) (holder : Holder) (have : ℕ) → have ≡ granted_to article 0 grants
+    → NeedsMemory (answer_of rules grants (ask_of (record { 0 = 0 }) article have true)) → Gives (TakesGranted rules grants held article holder) grants held (Err NoMemory)
+unfolding TakesGranted
+grant-wants rules grants held article holder have is needs =
+    let draws = grant-draws grants held article holder (answer_of rules grants (ask_of (record { 0 = 0 }) article (granted_to article 0 grants) true))
+    (subst (λ (n : ℕ). NeedsMemory (answer_of rules grants (ask_of (record { 0 = 0 }) article n true))) is needs) in
+    inl (draws.0, refl, draws.1)
+
+needs-by : (answer : Answer) (number : ℕ) (range : Range) → granted_range answer ≡ Some (number, range) → NeedsMemory answer
+needs-by (Ok (Granted n r)) number range is = tt
+needs-by (Ok (Kept n r)) number range is = absurd cc
+needs-by (Ok NotDue) number range is = absurd cc
+needs-by (Err fault) number range is = absurd cc
+
+-- the same, where the range is planned
+pub plan-wants : (rules : List Rule) (grants : List Grant) (held : List (ℕ × Holder)) (article : ℕ) (holder : Holder) (plan : GrantPlan) (number : ℕ) (range : Range)
+    → plan ≡ plan_of rules grants (ask_of (record { 0 = 0 }) article (granted_to article 0 grants) true) → granted_range plan.answer ≡ Some (number, range)
+    → Gives (TakesGranted rules grants held article holder) grants held (Err NoMemory)
+plan-wants rules grants held article holder plan number range is granted =
+    grant-wants rules grants held article holder (granted_to article 0 grants) refl
+    (needs-by (answer_of rules grants (ask_of (record { 0 = 0 }) article (granted_to article 0 grants) true)) number range (subst (λ (x : GrantPlan). granted_range x.answer ≡ Some (number, range)) is granted))
 
 -- Of a holder with values, and of one without.
 
@@ -189,7 +250,7 @@ kept-granted rules grants held article holder plan number range d is granted hea
 
 gives-more : (Says More : Result Drawn Refusal → Type 0) (grants : List Grant) (held : List (ℕ × Holder)) → ((by : Result Drawn Refusal) → Says by → More by) → (r : Result Draw Refusal) → Gives Says grants held r → Gives More grants held r
 gives-more Says More grants held more (Ok d) says = more (Ok (drawn_by grants held d)) says
-gives-more Says More grants held more (Err refusal) (inl none) = inl none
+gives-more Says More grants held more (Err refusal) (inl wants) = inl (wants.0, wants.1, more (Ok wants.0) wants.2)
 gives-more Says More grants held more (Err refusal) (inr says) = inr (more (Err refusal) says)
 
 pub take-made : (before : List Grant) (held : List (ℕ × Holder)) (article : ℕ) (holder : Holder) (value taken : ℤ) (edits : List (Edit ℕ Holder)) (plans : List GrantPlan) → answer_to_take holder ≡ Ok value → taken ≡ value → edits ≡ Put article (after_take holder) ∷ []
@@ -255,6 +316,10 @@ pub delete-drawn : (publication : Publication) (grants : List Grant) (held : Lis
 unfolding Draws
 delete-drawn publication grants held change article row d is none = rw (is, none) (λ p. refl)
 
+-- only an insert takes memory
+pub not-insert : (change : Change) (article : ℕ) (values : List Setting) (r : Result Draw Refusal) → change ≡ Insert article values → is_insert change ≡ false → IsOk r
+not-insert change article values r is other = (let insert : true ≡ false = ap (λ (c : Change). is_insert c) (sym is) ∙ other in absurd cc)
+
 -- What stays of the ranges after a call.
 
 pub next-keeps : (grants : List Grant) (held : List (ℕ × Holder)) (article : ℕ) (holder : Holder) (plans : List GrantPlan) (r : Result Draw Refusal) → AreHeard grants held → at_number held article ≡ Some holder
@@ -268,6 +333,14 @@ pub granted-keeps : (rules : List Rule) (grants : List Grant) (held : List (ℕ 
 granted-keeps rules grants held article holder now plan plans number range (Ok d) heard there takes grant is granted are received =
     kept-granted rules grants held article holder plan number range d is granted heard there (subst (λ (h : Holder). d.held ≡ Put article (after_take h) ∷ []) received takes) (grant ∙ are)
 granted-keeps rules grants held article holder now plan plans number range (Err refusal) heard there takes grant is granted are received = tt
+
+-- the ranges of one article change
+one-put : (article : ℕ) (holder : Holder) (edits : List (Edit ℕ Holder)) → edits ≡ Put article holder ∷ [] → length edits ≤ 1
+one-put article holder edits is = rw is (omega arith)
+
+pub one-held : (article : ℕ) (holder : Holder) (r : Result Draw Refusal) → IfOk r (λ d. d.held ≡ Put article holder ∷ []) → IfOk r (λ d. length d.held ≤ 1)
+one-held article holder (Ok d) is = one-put article holder d.held is
+one-held article holder (Err refusal) is = tt
 
 -- The value.
 

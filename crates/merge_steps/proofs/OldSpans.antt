@@ -1,14 +1,14 @@
 -- Generations that closed before a moment lie from the first that is kept, up to the last one that did.
-use Rattle.std.specs.Prelude.{◌≡◌, ◌<◌, ◌≤◌, ◌==◌, ℕ, suc, AllPairs, Bool, true, false, List, [], ◌∷◌, Option, Some, None, refl, cond, find, if◌then◌else◌, length, nat_lt, slice_index_or}
+use Rattle.std.specs.Prelude.{◌≡◌, ◌<◌, ◌≤◌, ◌==◌, ℕ, suc, AllPairs, Bool, true, false, List, [], ◌∷◌, Option, Some, None, refl, cond, find, if◌then◌else◌, nat_lt, slice_get}
 use Rattle.std.specs.List.{AllByRecursion}
 use Rattle.std.specs.Option.{option_map, option_or}
-use Rattle.std.proofs.Common.{arith, sym, ◌∙◌, subst}
+use Rattle.std.proofs.Common.{ap, arith, sym, ◌∙◌, subst}
 use Rattle.std.proofs.lemmas.Bool.Decides.{nat_tests}
 use Rattle.std.proofs.lemmas.List.Elements.{recursion_from_All}
 use Rattle.merge_types.specs.declared.identifiers.Moment.{Moment}
 use Rattle.merge_gens.specs.Book.{closed_before, last_before}
 use Rattle.merge_gens.specs.declared.closings.Closing.{Closing}
-use Rattle.merge_steps.specs.OldSpans.{IsSpan}
+use Rattle.merge_steps.specs.OldSpans.{IsSpan, span_by, span_of}
 use Rattle.merge_steps.specs.Purging.{is_old_at}
 use Rattle.merge_steps.specs.declared.old_spans.Span.{Span}
 
@@ -97,14 +97,20 @@ module _ (cutoff : Moment) where
         subst (λ (o : Option ℕ). IsUpTo o g) (sym is) (old-up_to g (c ∷ cs) rises found),
       )
 
-  pub span-none : (cs : List Closing) (span : Span) → AllPairs (λ (a b : Closing). a.generation < b.generation) cs → None ≡ last_before cutoff cs → IsSpan cs cutoff span
+  span-none : (cs : List Closing) (span : Span) → AllPairs (λ (a b : Closing). a.generation < b.generation) cs → None ≡ last_before cutoff cs → IsSpan cs cutoff span
   span-none cs span pairs is = λ g old.
       absurd (subst (λ (o : Option ℕ). IsUpTo o g) (sym is) (old-up_to g cs (rising cs pairs) (sym (old-is cs g) ∙ old)))
 
-  pub span-at : (cs : List Closing) (last : ℕ) (d : Closing) → 1 ≤ length cs → AllPairs (λ (a b : Closing). a.generation < b.generation) cs → Some last ≡ last_before cutoff cs → IsSpan cs cutoff (record { first = (slice_index_or cs 0 d).generation; last = last })
-  span-at [] last d some pairs is = absurd (omega (arith, some))
-  span-at (c ∷ cs) last d some pairs is = span-is c cs last pairs is
+  span-up_to : (c : Closing) (cs : List Closing) (last : Option ℕ) → last ≡ last_before cutoff (c ∷ cs) → AllPairs (λ (a b : Closing). a.generation < b.generation) (c ∷ cs) → IsSpan (c ∷ cs) cutoff (span_by (Some c) last)
+  span-up_to c cs None is pairs = span-none (c ∷ cs) (span_by (Some c) None) pairs is
+  span-up_to c cs (Some last) is pairs = span-is c cs last pairs is
 
-  pub span-empty : (cs : List Closing) (span : Span) → length cs < 1 → IsSpan cs cutoff span
-  span-empty [] span none = λ g old. absurd cc
-  span-empty (c ∷ cs) span none = absurd (omega (arith, none))
+  pub span-within : (cs : List Closing) → AllPairs (λ (a b : Closing). a.generation < b.generation) cs → IsSpan cs cutoff (span_of cs cutoff)
+  span-within [] pairs = λ g old. absurd cc
+  span-within (c ∷ cs) pairs = span-up_to c cs (last_before cutoff (c ∷ cs)) refl pairs
+
+-- the span of the closed generations that are kept, by its parts
+pub span-made : (closings kept : List Closing) (cutoff : Moment) (first : Option Closing) (last : Option ℕ) (span : Span) → kept ≡ closings → first ≡ slice_get kept 0 → last ≡ last_before cutoff closings → span ≡ span_by first last
+    → span ≡ span_of closings cutoff
+span-made closings kept cutoff first last span same one other is =
+    is ∙ ap (λ (o : Option Closing). span_by o last) one ∙ ap (λ (o : Option ℕ). span_by (slice_get kept 0) o) other ∙ ap (λ (cs : List Closing). span_by (slice_get cs 0) (last_before cutoff closings)) same

@@ -5,7 +5,7 @@ use Rattle.std.specs.List.{AllByRecursion, zip}
 use Rattle.std.specs.List.Sorted.{IsStrictlySortedBy}
 use Rattle.std.specs.Map.{keys_of}
 use Rattle.std.proofs.Common.{arith, sym, ap, ◌∙◌, subst}
-use Rattle.std.proofs.lemmas.List.FromFn.{length-map-range_with_len}
+use Rattle.std.proofs.lemmas.List.FromFn.{length-map-range_with_len, take-map-range_with_len}
 use Rattle.std.proofs.lemmas.List.Elements.{recursion_from_All}
 use Rattle.merge_types.specs.declared.identifiers.Moment.{Moment}
 use Rattle.merge_units.specs.declared.version.Version.{Version}
@@ -14,6 +14,7 @@ use Rattle.merge_table.specs.Edits.{rows_after_all}
 use Rattle.merge_gens.specs.Book.{Book, entered}
 use Rattle.merge_gens.specs.Entries.{entry_cmp}
 use Rattle.merge_gens.specs.declared.filling.Filling.{Filling}
+use Rattle.merge_gens.specs.declared.index.IndexEntry.{IndexEntry}
 use Rattle.merge_gens.specs.Filling.{generation_of, generations_of}
 use Rattle.merge_gens.specs.Index.{entries_after_all}
 use Rattle.merge_gens.specs.Plan.{settled}
@@ -33,7 +34,7 @@ use Rattle.merge_types.specs.RowKeys.{key_cmp}
 use Rattle.merge_gens.specs.Moves.{row_site_cmp}
 use Rattle.merge_steps.specs.LiveRows.{live_pairs}
 use Rattle.merge_steps.specs.Rows.{mapping_edits, moved_edits}
-use Rattle.merge_steps.specs.Step.{Indexes, IndexesMoves, IsStep, SeesLeft, Subscribes}
+use Rattle.merge_steps.specs.Step.{EditsMappings, Indexes, IndexesMoves, IsStep, SeesLeft, Subscribes}
 use Rattle.merge_types.specs.declared.row_key.RowKey.{RowKey as Key}
 use Rattle.merge_gens.specs.declared.moves.Mapping.{Mapping}
 use Rattle.merge_gens.specs.declared.moves.MoveKind.{MoveKind}
@@ -167,6 +168,44 @@ step-indexed rows versions ns w once same row_edits index = λ entries indexed.
 pub took : (filling : Filling) (n m : ℕ) → length (take n (generations_of filling (n + m))) ≡ n
 took filling n m = length-took n m (generations_of filling (n + m)) (length-map-range_with_len (generation_of filling) 0 (n + m))
 
+-- The edits are no more than the step's.
+
+-- the generations of the first entries are the same, however many come behind
+first-generations : (filling : Filling) (n m : ℕ) → take n (generations_of filling (n + m)) ≡ generations_of filling n
+first-generations filling n m = take-map-range_with_len (generation_of filling) 0 (n + m) n (omega arith)
+
+pub step-rows : (filling : Filling) (versions : List (Key × Version)) (m : ℕ) (edits : List (Edit Key PublisherRow)) → edits ≡ version_edits versions (take (length versions) (generations_of filling (length versions + m)))
+    → edits ≡ version_edits versions (generations_of filling (length versions))
+step-rows filling versions m edits are = are ∙ ap (λ (ns : List ℕ). version_edits versions ns) (first-generations filling (length versions) m)
+
+pub step-indexing : (filling : Filling) (rows : List (Key × PublisherRow)) (versions : List (Key × Version)) (m : ℕ) (edits : List (Edit IndexEntry (Unit {0})))
+    → edits ≡ all_indexing rows (zip versions (take (length versions) (generations_of filling (length versions + m)))) → edits ≡ all_indexing rows (zip versions (generations_of filling (length versions)))
+step-indexing filling rows versions m edits are = are ∙ ap (λ (ns : List ℕ). all_indexing rows (zip versions ns)) (first-generations filling (length versions) m)
+
+pub step-mappings : (publication : Publication) (before after : List LiveRow) (changing : Changing) (filling : Filling) (mappings : List (RowSite × Mapping)) (moves : List Move) → AreMoves publication before after moves
+    → (changed : List Key) → changed ≡ keys_in changing.versions → (entries : List (RowSite × MoveKind)) → entries ≡ found_entries publication before changing moves
+    → (edits : List (Edit RowSite Mapping)) → edits ≡ mapping_edits entries (drop (length changing.versions) (generations_of filling (length changing.versions + length entries))) (returns mappings changed moves)
+    → EditsMappings publication before after changing filling mappings edits
+step-mappings publication before after changing filling mappings moves are changed keys entries found edits mapped = record {
+  moves = moves;
+  are = are;
+  edits_are =
+      mapped
+      ∙ ap (λ (ks : List Key). mapping_edits entries (drop (length changing.versions) (generations_of filling (length changing.versions + length entries))) (returns mappings ks moves)) keys
+      ∙ ap (λ (es : List (RowSite × MoveKind)). mapping_edits es (drop (length changing.versions) (generations_of filling (length changing.versions + length es))) (returns mappings (keys_in changing.versions) moves)) found;
+}
+
+pub step-apart : (publication : Publication) (changing : Changing) (before after : List LiveRow) (mappings : List (RowSite × Mapping)) (moves : List Move) → AreMoves publication before after moves
+    → (changed : List Key) → changed ≡ keys_in changing.versions → (entries : List (RowSite × MoveKind)) → entries ≡ found_entries publication before changing moves
+    → (generations : List ℕ) (edits : List (Edit RowSite Mapping)) → edits ≡ mapping_edits entries generations (returns mappings changed moves) → AreApart (places_of edits)
+step-apart publication changing before after mappings moves are own keys entries found generations edits mapped =
+    let versions = keys_in changing.versions in
+    let all = all_told versions changing.uploader (outs_of publication changing.uploader after changing.acted) moves in
+    let made : edits ≡ mapping_edits all generations (returns mappings versions moves) =
+    mapped ∙ ap (λ (ks : List Key). mapping_edits entries generations (returns mappings ks moves)) keys
+    ∙ ap (λ (es : List (RowSite × MoveKind)). mapping_edits es generations (returns mappings versions moves)) (found ∙ entries-found publication before after changing moves are) in
+    subst (λ (es : List (Edit RowSite Mapping)). AreApart (places_of es)) (sym made) (edits-apart publication before after versions changing.acted changing.uploader mappings moves are generations)
+
 -- The index of mappings.
 
 pub step-moved : (publication : Publication) (changing : Changing) (before after : List LiveRow) (mappings : List (RowSite × Mapping)) → IsStrictlySortedBy row_site_cmp (keys_of mappings)
@@ -174,11 +213,6 @@ pub step-moved : (publication : Publication) (changing : Changing) (before after
     → (generations : List ℕ) (w : Worked) → w.mappings ≡ mapping_edits entries generations (returns mappings changed moves) → w.moved ≡ moved_edits mappings w.mappings → IndexesMoves mappings w
 unfolding IndexesMoves
 step-moved publication changing before after mappings sorted moves are own keys entries found generations w mapped moved = λ index ordered indexed.
-    let versions = keys_in changing.versions in
-    let all = all_told versions changing.uploader (outs_of publication changing.uploader after changing.acted) moves in
-    let edits : w.mappings ≡ mapping_edits all generations (returns mappings versions moves) =
-    mapped ∙ ap (λ (ks : List Key). mapping_edits entries generations (returns mappings ks moves)) keys
-    ∙ ap (λ (es : List (RowSite × MoveKind)). mapping_edits es generations (returns mappings versions moves)) (found ∙ entries-found publication before after changing moves are) in
-    let apart : AreApart (places_of w.mappings) = subst (λ (es : List (Edit RowSite Mapping)). AreApart (places_of es)) (sym edits) (edits-apart publication before after versions changing.acted changing.uploader mappings moves are generations) in
+    let apart : AreApart (places_of w.mappings) = step-apart publication changing before after mappings moves are own keys entries found generations w.mappings mapped in
     subst (λ (es : List (Edit MoveEntry (Unit {0}))). AreMoved (rows_after_all row_site_cmp mappings w.mappings) (rows_after_all move_entry_cmp index es)) (sym moved)
     (moves-follow mappings w.mappings mappings index apart (λ q there. refl) sorted ordered indexed)

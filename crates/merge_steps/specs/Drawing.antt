@@ -53,10 +53,10 @@ abbrev pub granted_range : Answer → Option (ℕ × Range)
 granted_range (Ok (Granted number range)) = Some (number, range)
 granted_range answer = None
 
--- a call draws what a definition says, or memory is wanting
+-- a call draws what a definition says, and is refused for what it says, or for want of memory where it draws
 abbrev pub Gives : (Result Drawn Refusal → Type 0) → List Grant → List (ℕ × Holder) → Result Draw Refusal → Type 0
 Gives Says grants held (Ok d) = Says (Ok (drawn_by grants held d))
-Gives Says grants held (Err refusal) = (refusal ≡ NoMemory) ⊎ Says (Err refusal)
+Gives Says grants held (Err refusal) = ((draw : Drawn) × (refusal ≡ NoMemory) × Says (Ok draw)) ⊎ Says (Err refusal)
 
 -- a whole number
 abbrev pub is_whole : Value → Bool

@@ -1,11 +1,12 @@
 -- Which generations all lie between that closed before a moment, and which rows and mappings are found between them.
-use Rattle.std.specs.Prelude.{◌≡◌, ◌<◌, ◌≤◌, ℕ, true, List, Option, Some, None}
+use Rattle.std.specs.Prelude.{◌≡◌, ◌<◌, ◌≤◌, ℕ, true, List, Option, Some, None, slice_get}
 use Rattle.std.specs.BTreeMap.{is_at}
 use Rattle.std.specs.List.{list_any}
 use Rattle.merge_types.specs.RowKeys.{key_cmp}
 use Rattle.merge_types.specs.declared.identifiers.Moment.{Moment}
 use Rattle.merge_types.specs.declared.row_key.RowKey.{RowKey as Key}
 use Rattle.merge_units.specs.declared.site_row.PublisherRow.{PublisherRow}
+use Rattle.merge_gens.specs.Book.{last_before}
 use Rattle.merge_gens.specs.Moves.{row_site_cmp}
 use Rattle.merge_gens.specs.declared.closings.Closing.{Closing}
 use Rattle.merge_gens.specs.declared.moves.RowSite.{RowSite}
@@ -18,6 +19,15 @@ use Rattle.merge_steps.specs.declared.old_spans.Span.{Span}
 
 abbrev pub IsWithin : Span → ℕ → Type 0
 IsWithin span generation = (span.first ≤ generation) × (generation ≤ span.last)
+
+-- from the one to the other, where there are both; no generation is within where there are not
+abbrev pub span_by : Option Closing → Option ℕ → Span
+span_by (Some first) (Some last) = record { first = first.generation; last = last }
+span_by first last = record { first = 1; last = 0 }
+
+-- from the first generation that is kept, up to the last one that closed before the moment
+abbrev pub span_of : List Closing → Moment → Span
+span_of closings cutoff = span_by (slice_get closings 0) (last_before cutoff closings)
 
 -- each generation that closed before the moment is within
 abbrev pub IsSpan : List Closing → Moment → Span → Type 0

@@ -49,7 +49,7 @@ pub struct Acting {
     pub conflict_count: u64,
 }
 
-// The row of an item.
+/// The row of an item.
 pub fn key_of_item(item: &UploadItem) -> RowKey
     ensures { result ≡ key_of_item item.now }
 {
@@ -59,14 +59,14 @@ pub fn key_of_item(item: &UploadItem) -> RowKey
     }
 }
 
-// Whether the item's generation has not acted.
+/// Whether the item's generation has not acted.
 pub fn acts_in(arrival: Arrival, item: &UploadItem) -> bool
     ensures { result ≡ acts_in arrival item.now }
 {
     item.generation > arrival.received
 }
 
-// Whether the uploader made the row with a change that has not acted.
+/// Whether the uploader made the row with a change that has not acted.
 pub fn is_made_by(arrival: Arrival, key: RowKey) -> bool
     ensures { result ≡ is_made_by arrival key }
 {
@@ -291,7 +291,7 @@ fn act_if_due(
 }
 
 /// The items act that have not, in their order. Where memory is wanting, some first questions were
-/// asked.
+/// asked, and what is gathered is of no use.
 pub fn act_on_all(
     alloc: Global,
     publication: &Publication,

@@ -1,10 +1,11 @@
 //! The identity value of a new row.
-ghost use Rattle.std.specs.Prelude.{◌≡◌, ◌∷◌, ℕ, List, [], Some, IfOk, IsSome, true};
+ghost use Rattle.std.specs.Prelude.{◌≡◌, ◌∷◌, ◌≤◌, ℕ, List, [], Some, IfOk, IsOk, IsSome, false, length, true};
 ghost use Rattle.std.specs.BTreeMap.{is_at};
 ghost use Rattle.std.specs.Map.{lookup};
 ghost use Rattle.std.specs.Ordering.{nat_cmp};
 ghost use Rattle.merge_types.specs.declared.values.Value.TheVariants.{Null};
 ghost use Rattle.merge_table.specs.declared.edit.Edit.TheVariants.{Put as put};
+ghost use Rattle.merge_batch.specs.LocalChanges.{is_insert};
 ghost use Rattle.merge_ident.specs.Answers.{grants_with_all, rule_of};
 ghost use Rattle.merge_ident.specs.Books.{IsReady};
 ghost use Rattle.merge_ident.specs.Grants.{granted_to};
@@ -80,6 +81,7 @@ fn take_granted(
     ensures drawn { (held : List (ℕ × Holder)) → Gives (TakesGranted book.old.rules book.old.grants held article ranges) book.old.grants held result }
     ensures value { IfOk result (λ d. is_whole d.value ≡ true) }
     ensures ready { IfOk result (λ d. IsReady book.new d.grants) }
+    ensures one { IfOk result (λ d. length d.held ≤ 1) }
     ensures heard { (held : List (ℕ × Holder)) → AreHeard book.old.grants held → lookup (is_at (nat_cmp article)) held ≡ Some ranges → IfOk result (λ d. KeepsHeld book.old.grants held d) }
     ensures same { book.new.grants ≡ book.old.grants }
     ensures rules { book.new.rules ≡ book.old.rules }
@@ -126,6 +128,7 @@ fn take_next(
     ensures drawn { (held : List (ℕ × Holder)) → Gives (TakesNext book.old.rules book.old.grants held article ranges) book.old.grants held result }
     ensures value { IfOk result (λ d. is_whole d.value ≡ true) }
     ensures ready { IfOk result (λ d. IsReady book.new d.grants) }
+    ensures one { IfOk result (λ d. length d.held ≤ 1) }
     ensures heard { (held : List (ℕ × Holder)) → AreHeard book.old.grants held → lookup (is_at (nat_cmp article)) held ≡ Some ranges → IfOk result (λ d. KeepsHeld book.old.grants held d) }
     ensures same { book.new.grants ≡ book.old.grants }
     ensures rules { book.new.rules ≡ book.old.rules }
@@ -137,7 +140,8 @@ fn take_next(
 }
 
 /// The identity value of the row that the change makes, where its article has an identity column.
-/// The memory for a grant is taken.
+/// The memory for a grant is taken. The ranges of no other article change. Where no value is left,
+/// that is the refusal, whatever memory there is.
 pub fn draw_value(
     alloc: Global,
     publication: &Publication,
@@ -152,8 +156,12 @@ pub fn draw_value(
     ensures value { IfOk result (λ d. HasIdentity publication.now change.now d.value) }
     ensures ready { IfOk result (λ d. IsReady book.new d.grants) }
     ensures keeps { IfOk result (λ d. KeepsHeld book.old.grants held.now.rows d) }
+    ensures one { IfOk result (λ d. length d.held ≤ 1) }
     ensures same { book.new.grants ≡ book.old.grants }
     ensures rules { book.new.rules ≡ book.old.rules }
+
+    // What takes no memory is not refused.
+    ensures nothing { is_insert change.now ≡ false → IsOk result }
 {
     match change {
         Change::Insert { article, .. } => match held.get(article) {

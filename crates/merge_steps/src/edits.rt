@@ -15,7 +15,7 @@ use merge_types::{Listing, NoMemory, RowKey, Values};
 use merge_units::{Body, PublisherRow};
 use std::alloc::Global;
 
-// The values of a live row.
+/// The values of a live row.
 pub fn live_values(alloc: Global, body: &Body) -> Result<Option<Values>, NoMemory>
     ensures { IfOk result (λ values. values ≡ values_in body.now) }
 {
@@ -125,7 +125,7 @@ fn moved_edit(
     Ok(edits)
 }
 
-// The entry of a mapping.
+/// The entry of a mapping.
 pub fn move_entry(place: RowSite, generation: u64) -> MoveEntry
     ensures { result ≡ move_entry place generation }
 {

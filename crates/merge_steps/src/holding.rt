@@ -1,16 +1,14 @@
 //! What the publisher holds, as the rules of an upload ask for it.
-ghost use Rattle.std.specs.Prelude.{◌≡◌, slice_get, option_copied};
-ghost use Rattle.merge_batch.specs.Articles.{row_values};
-ghost use Rattle.merge_batch.specs.Uploads.{identity_value, whole_number};
+ghost use Rattle.std.specs.Prelude.{◌≡◌};
 ghost use Rattle.merge_steps.specs.Uploading.{identity_held};
 
-use merge_batch::Holdings;
+use merge_batch::{Holdings, identity_value};
 use merge_gens::SiteState;
 use merge_ident::RangeBook;
 use merge_schema::Publication;
 use merge_table::Table;
-use merge_types::{RowId, RowKey, SiteId, Value};
-use merge_units::{Body, Cell, PublisherRow};
+use merge_types::{RowId, RowKey, SiteId};
+use merge_units::PublisherRow;
 
 /// The tables of the publisher that the rules of an upload ask for.
 #[derive(Clone, Copy)]
@@ -61,41 +59,4 @@ fn identity_held(
         Some(held) => identity_value(publication, article, &held.version.body),
         None => None,
     }
-}
-
-// The identity value of a row, none where it was deleted or its article has no identity column.
-fn identity_value(publication: &Publication, place: u8, body: &Body) -> Option<i64>
-    ensures { result ≡ identity_value publication.now place body.now }
-{
-    let article = publication.article_at(place)?;
-    let identity = article.identity?;
-    match body {
-        Body::Live(cells) => match value_at(cells.as_slice(), identity.column as usize) {
-            Some(Value::Int(value)) => Some(*value),
-            _ => None,
-        },
-        Body::Dead(_) => None,
-    }
-}
-
-// The value of a column, where the cells have it.
-fn value_at(cells: &[Cell], column: usize) -> Option<&Value>
-    ensures { option_copied result ≡ slice_get (row_values cells.now) column }
-{
-    let mut left = column;
-    for cell in cells {
-        let count = cell.values.len();
-        if left < count {
-            return value_of(cell, left);
-        }
-        left -= count;
-    }
-    None
-}
-
-// The value at a place of a cell.
-fn value_of(cell: &Cell, place: usize) -> Option<&Value>
-    ensures { option_copied result ≡ slice_get cell.now.values place }
-{
-    cell.values.as_slice().get(place)
 }

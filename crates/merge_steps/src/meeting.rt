@@ -16,12 +16,13 @@ ghost use Rattle.merge_steps.specs.Uploading.{AskedSome, Grows, KeepsFits, after
 
 use crate::acting::{Acting, Arrival, key_of_item};
 use merge_batch::UploadItem;
+use merge_change::tracking;
 use merge_conflict::{Conflict, ConflictRows, losing_rows};
 use merge_resolve::{
     Handed, Meeting, Question, ask_at, counted_decision, incoming_priority, publisher_priority,
 };
 use merge_schema::Publication;
-use merge_types::{Dot, NoMemory, SiteId, Tracking};
+use merge_types::{Dot, NoMemory, SiteId};
 use merge_units::{Case, Decision, Version, classify};
 use std::alloc::Global;
 
@@ -129,16 +130,6 @@ fn decide(
         return Ok(decision);
     }
     Ok(Decision::KeepPublisher)
-}
-
-// How the article's rows are compared.
-fn tracking(publication: &Publication, article: u8) -> Tracking
-    ensures { result ≡ tracking_at publication.now article }
-{
-    match publication.article_at(article) {
-        Some(article) => article.tracking,
-        None => Tracking::Row,
-    }
 }
 
 // What loses by a decision.

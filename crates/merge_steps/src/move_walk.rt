@@ -6,8 +6,9 @@ use crate::site_moves::MoveEntry;
 use merge_table::Table;
 use merge_types::{NoMemory, RowId, RowKey};
 
-// Adds the rows that moved last for a site in the generations from one on, up to another where one
-// is given, behind a list. The time grows with these rows, and with the logarithm of all entries.
+/// Adds the rows that moved last for a site in the generations from one on, up to another where one
+/// is given, behind a list. After a refusal some of them were added. The time grows with these rows,
+/// and with the logarithm of all entries.
 pub fn add_moved(
     moved: &Table<MoveEntry, ()>,
     site: u16,

@@ -1,7 +1,7 @@
 //! Between which generations all lies that is old.
-ghost use Rattle.std.specs.Prelude.{◌≡◌, ◌<◌, AllPairs};
-ghost use Rattle.merge_gens.specs.Book.{last_before};
-ghost use Rattle.merge_steps.specs.OldSpans.{IsSpan};
+ghost use Rattle.std.specs.Prelude.{◌≡◌};
+ghost use Rattle.std.specs.Option.{option_copied};
+ghost use Rattle.merge_steps.specs.OldSpans.{IsSpan, span_by, span_of};
 
 use merge_gens::{Closing, GenerationBook};
 use merge_types::Moment;
@@ -16,26 +16,24 @@ pub struct Span {
 /// Generations among which all stand that closed before the moment: from the first that is kept, up
 /// to the last one that did.
 pub fn old_span(gens: &GenerationBook, cutoff: Moment) -> Span
-    ensures { IsSpan gens.now.book.closings cutoff result }
+    ensures span { result ≡ span_of gens.now.book.closings cutoff }
+    ensures within { IsSpan gens.now.book.closings cutoff result }
 {
-    span_up_to(gens.closings(), cutoff, gens.last_before(cutoff))
+    span_by(gens.closings().first(), gens.last_before(cutoff))
 }
 
-// From the first that is kept, up to the last one that closed before the moment.
-fn span_up_to(closings: &[Closing], cutoff: Moment, last: Option<u64>) -> Span
-    requires ascending { AllPairs (λ a b. a.generation < b.generation) closings.now }
-    requires last { last ≡ last_before cutoff closings.now }
-    ensures { IsSpan closings.now cutoff result }
+// From the one to the other, where there are both.
+fn span_by(first: Option<&Closing>, last: Option<u64>) -> Span
+    ensures { result ≡ span_by (option_copied first.entry) last }
 {
-    let _ = cutoff;
-    match last {
-        None => Span { first: 1, last: 0 },
-        Some(last) => match closings {
-            [first, ..] => Span {
+    match first {
+        Some(first) => match last {
+            Some(last) => Span {
                 first: first.generation,
                 last,
             },
-            [] => Span { first: 1, last: 0 },
+            None => Span { first: 1, last: 0 },
         },
+        None => Span { first: 1, last: 0 },
     }
 }

@@ -62,14 +62,15 @@ fn state_with(arrival: Arrival, upload: &Upload, site: u16, state: SiteState) ->
     }
 }
 
-/// What the upload makes of all that is remembered of sites.
+/// What the upload makes of all that is remembered of sites: one edit for each of them.
 pub fn site_edits(
     alloc: Global,
     sites: &Table<u16, SiteState>,
     arrival: Arrival,
     upload: &Upload,
 ) -> Result<Listing<Edit<u16, SiteState>>, NoMemory>
-    ensures { IfOk result (λ edits. rows_after_all nat_cmp sites.now.rows edits ≡ sites_with arrival upload.now sites.now.rows) }
+    ensures edits { IfOk result (λ edits. edits ≡ put_all (sites_with arrival upload.now sites.now.rows)) }
+    ensures after { IfOk result (λ edits. rows_after_all nat_cmp sites.now.rows edits ≡ sites_with arrival upload.now sites.now.rows) }
 {
     let edits = state_edits(alloc, sites, arrival, upload)?;
     Ok(edits)

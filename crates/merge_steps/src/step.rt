@@ -13,7 +13,7 @@ ghost use Rattle.merge_schema.specs.Valid.{IsValid};
 ghost use Rattle.merge_types.specs.RowKeys.{key_cmp};
 ghost use Rattle.merge_steps.specs.LiveRows.{live_pairs};
 ghost use Rattle.merge_steps.specs.Rows as row;
-ghost use Rattle.merge_steps.specs.Step.{Indexes, IndexesMoves, IsStep, KeepsFitting, Subscribes, changing};
+ghost use Rattle.merge_steps.specs.Step.{EditsMappings, Indexes, IndexesMoves, IsStep, KeepsFitting, Subscribes, changing};
 ghost use Rattle.merge_steps.specs.Working as work;
 
 use crate::edits::{mapping_edits, moved_edits};
@@ -184,6 +184,15 @@ pub fn draft_step<L: Ledger>(
     ensures made { IfOk result (λ w. IsStep membership.old.publication (changing versions.items acted.now site) rows.now.rows mappings.now.rows gens.old.book latest w) }
     ensures index { IfOk result (λ w. Indexes rows.now.rows w) }
     ensures moved { IfOk result (λ w. IndexesMoves mappings.now.rows w) }
+
+    // There is no edit but these: one for each version, those of its entry in the index, one for each
+    // mapping that the moves make or take, and those of this mapping's entry.
+    ensures rows { IfOk result (λ w. w.rows ≡ work.version_edits versions.items (generations_of gens.old.book.filling (length versions.items))) }
+    ensures indexing { IfOk result (λ w. w.index ≡ work.all_indexing rows.now.rows (zipped versions.items (generations_of gens.old.book.filling (length versions.items)))) }
+    ensures mappings { IfOk result (λ w. EditsMappings membership.old.publication (listed (live_in membership.old)) (listed (live_after_all (live_in membership.old) (map work.row_change versions.items))) (changing versions.items acted.now site) gens.old.book.filling mappings.now.rows w.mappings) }
+    ensures apart { IfOk result (λ w. work.AreApart (work.places_of w.mappings)) }
+    ensures moving { IfOk result (λ w. w.moved ≡ row.moved_edits mappings.now.rows w.mappings) }
+
     ensures follows { IfOk result (λ w. live_after_plan membership.new w.plan ≡ live_pairs (rows_after_all key_cmp rows.now.rows w.rows)) }
     ensures kept { IfOk result (λ w. KeepsFitting membership.old.publication versions.items rows.now.rows w) }
     ensures planned { IfOk result (λ w. IsPrepared membership.new w.plan) }

@@ -23,6 +23,7 @@ use Rattle.merge_batch.specs.declared.rules.BrokenRule.{BrokenRule}
 use Rattle.merge_batch.specs.declared.standing.Standing.{Standing}
 use Rattle.merge_batch.proofs.AllMet.{all_good, none_first, none_second}
 use Rattle.merge_model.specs.Judge.ByNumbers.{by_rows}
+use Rattle.merge_model.specs.World.Calls.{reply_commits}
 use Rattle.merge_model.specs.World.Faults.{fault_of, heard_by, reply_fault, standing_of}
 use Rattle.merge_model.specs.Judge.{SubscriberJudge}
 use Rattle.merge_model.specs.Publisher.{later}
@@ -162,3 +163,36 @@ pub reply-drafted : (old now : Held) → old ≡ now → (moment : Moment) (m : 
 reply-drafted old now view moment m seq own sent is out same fits latest late c done =
     reply-taken now.publication (by_rows (tables_of now)) moment m (tables_of now) seq own sent is (subst (λ (x : Held). x.state.outstanding ≡ Some (own, sent)) view out) same fits
     latest (subst (λ (x : Held). latest ≡ later moment x.state.latest) view late) (after c (tables_of now)) done
+
+-- Which replies change a record, and which are refused.
+
+-- a reply with a number that acts changes a record
+pub acted-commits : (m : Reply) (seq : ℕ) → answered_seq m ≡ Some seq → reply_commits m Acted ≡ true
+acted-commits (reply.Joined m) seq is = refl
+acted-commits (reply.Uploaded m) seq is = refl
+acted-commits (reply.Ranged m) seq is = refl
+acted-commits (reply.Downloaded m) seq is = refl
+acted-commits (reply.Refused number values) seq is = absurd cc
+
+abbrev taken_in : Result (SubscriberTables × Taken) Refusal → Taken
+taken_in (Ok done) = done.1
+taken_in (Err why) = Acted
+
+module _ (old now : Held) (view : old ≡ now) (moment : Moment) (m : Reply) (seq own : ℕ) (sent : Outstanding) (is : answered_seq m ≡ Some seq) (out : old.state.outstanding ≡ Some (own, sent)) (same : own ≡ seq) where
+  reply-meets : take_reply now.publication (by_rows (tables_of now)) moment m (tables_of now) ≡ unless (reply_fault now.publication sent m (tables_of now)) (taken (by_rows (tables_of now)) moment m (tables_of now), Acted)
+  reply-meets = reply-here now.publication (by_rows (tables_of now)) moment m (tables_of now) seq own sent is (subst (λ (x : Held). x.state.outstanding ≡ Some (own, sent)) view out) same
+
+  -- one that fits and answers the outstanding message acts
+  pub reply-commits : reply_fault now.publication sent m (tables_of now) ≡ None → (s : SubscriberTables) (done : Taken) → take_reply now.publication (by_rows (tables_of now)) moment m (tables_of now) ≡ Ok (s, done) → reply_commits m done ≡ true
+  reply-commits fits s done took =
+      let acts : take_reply now.publication (by_rows (tables_of now)) moment m (tables_of now) ≡ Ok (taken (by_rows (tables_of now)) moment m (tables_of now), Acted) =
+      reply-meets ∙ ap (λ (why : Option Refusal). unless why (taken (by_rows (tables_of now)) moment m (tables_of now), Acted)) fits in
+      subst (λ (t : Taken). reply_commits m t ≡ true) (ap taken_in (sym acts ∙ took)) (acted-commits m seq is)
+
+  -- and one that does not fit is not taken
+  pub reply-broken : (why : Refusal) → reply_fault now.publication sent m (tables_of now) ≡ Some why → (s : SubscriberTables) (done : Taken) → take_reply now.publication (by_rows (tables_of now)) moment m (tables_of now) ≡ Ok (s, done) → ⊥
+  reply-broken why broken s done took =
+      let breaks : take_reply now.publication (by_rows (tables_of now)) moment m (tables_of now) ≡ Err why =
+      reply-meets ∙ ap (λ (other : Option Refusal). unless other (taken (by_rows (tables_of now)) moment m (tables_of now), Acted)) broken in
+      let no = sym took ∙ breaks in
+      cc

@@ -3,6 +3,7 @@ ghost use Rattle.std.specs.Prelude.{◌≡◌, ◌⊎◌, Err, IfOk, Ok};
 ghost use Rattle.merge_batch.specs.declared.refusal.Refusal.{Refusal as OneRefusal};
 ghost use Rattle.merge_batch.specs.declared.refusal.Refusal.TheVariants.{NoMemory as no_memory};
 ghost use Rattle.merge_model.specs.Subscriber.{close_subscriber_generation};
+ghost use Rattle.merge_model.specs.World.Calls.{RefusesOnlyAs};
 ghost use Rattle.merge_sub.specs.Drafts.{IsDrafted, drafted};
 ghost use Rattle.merge_sub.specs.Held.{tables_of};
 
@@ -20,6 +21,9 @@ impl Subscriber {
         ensures refused { (refusal : OneRefusal) → result ≡ Err refusal → (refusal ≡ no_memory) ⊎ (close_subscriber_generation now (tables_of self.old) ≡ Err refusal) }
         ensures same { tables_of self.new ≡ tables_of self.old }
         ensures publication { self.new.publication ≡ self.old.publication }
+
+        // Where nothing is filled it takes no memory.
+        ensures nothing { (tables_of self.old).gens.filling.filled ≡ 0 → RefusesOnlyAs (close_subscriber_generation now (tables_of self.old)) result }
     {
         self.check_counters()?;
         let state = State {

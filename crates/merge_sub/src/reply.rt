@@ -1,13 +1,18 @@
 //! A reply is taken.
-ghost use Rattle.std.specs.Prelude.{◌≡◌, ◌≤◌, ◌++◌, ◌⊎◌, Err, IfErr, IfOk, None, Ok, OnOk, Some, filter, All, filter_map, map, nat_le, nat_lt, true};
+ghost use Rattle.std.specs.Prelude.{◌≡◌, ◌≤◌, ◌++◌, ◌⊎◌, Err, IfErr, IfOk, IsOk, None, Ok, OnOk, Some, false, filter, All, filter_map, map, nat_le, nat_lt, true};
 ghost use Rattle.std.specs.List.{flat_map};
 ghost use Rattle.merge_batch.specs.Replies.{grant_fits, ranged_fits};
 ghost use Rattle.merge_batch.specs.declared.refusal.Refusal.{Refusal as OneRefusal};
 ghost use Rattle.merge_batch.specs.declared.refusal.Refusal.TheVariants.{NoMemory as no_memory};
+ghost use Rattle.merge_batch.specs.declared.reply.Joined.{Joined as OneJoined};
+ghost use Rattle.merge_batch.specs.declared.reply.Reply.TheVariants.{Joined as a_joined};
 ghost use Rattle.merge_model.specs.Judge.ByNumbers.{by_rows};
 ghost use Rattle.merge_batch.specs.declared.request.Outstanding.{Outstanding as OneMessage};
+ghost use Rattle.merge_model.specs.World.Calls.{RefusesOnlyAs, reply_commits};
 ghost use Rattle.merge_model.specs.World.Faults.{heard_by, reply_fault};
 ghost use Rattle.merge_model.specs.Subscriber.Taking.{after_reply, take_reply, with_grants};
+ghost use Rattle.merge_model.specs.Tables.{SubscriberTables};
+ghost use Rattle.merge_model.specs.declared.outcome.Taken.{Taken as OneTaken};
 ghost use Rattle.merge_sub.specs.Drafts.{IsDrafted, IsDraftedIfNeeded, after, after_if_any};
 ghost use Rattle.merge_sub.specs.Held.{tables_of};
 ghost use Rattle.merge_sub.specs.Local.{take_entry};
@@ -62,6 +67,11 @@ impl Subscriber {
         ensures refused { (refusal : OneRefusal) → result ≡ Err refusal → (refusal ≡ no_memory) ⊎ (take_reply self.old.publication (by_rows (tables_of self.old)) now reply.now (tables_of self.old) ≡ Err refusal) }
         ensures same { tables_of self.new ≡ tables_of self.old }
         ensures publication { self.new.publication ≡ self.old.publication }
+
+        // Where it does nothing there is no draft, and no memory is taken; nor is it for a join's reply.
+        ensures none { IfOk result (λ made. reply_commits reply.now made.1 ≡ false → made.0 ≡ None) }
+        ensures nothing { (s : SubscriberTables) (taken : OneTaken) → take_reply self.old.publication (by_rows (tables_of self.old)) now reply.now (tables_of self.old) ≡ Ok (s, taken) → reply_commits reply.now taken ≡ false → IsOk result }
+        ensures joined { (joined : OneJoined) → reply.now ≡ a_joined joined → RefusesOnlyAs (take_reply self.old.publication (by_rows (tables_of self.old)) now reply.now (tables_of self.old)) result }
     {
         let Some(seq) = reply.seq() else {
             return Ok((None, Taken::Acted));
@@ -117,6 +127,7 @@ impl Subscriber {
         ensures ready { IfOk result (λ draft. IsDrafted self.new draft) }
         ensures same { tables_of self.new ≡ tables_of self.old }
         ensures publication { self.new.publication ≡ self.old.publication }
+        ensures joined { (joined : OneJoined) → reply.now ≡ a_joined joined → IsOk result }
     {
         let state = State {
             latest,
@@ -158,6 +169,9 @@ impl Subscriber {
         ensures ready { IfOk result (λ draft. IsDrafted self.new draft) }
         ensures same { tables_of self.new ≡ tables_of self.old }
         ensures publication { self.new.publication ≡ self.old.publication }
+
+        // What takes no memory is not refused.
+        ensures nothing { IsOk result }
     {
         let (_, gens) = self.gens.prepare(&[])?;
         let _ = self.conflicts.rows();

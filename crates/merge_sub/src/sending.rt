@@ -1,9 +1,10 @@
 //! The messages that change no list: a join, and what asks for ranges and for rows.
-ghost use Rattle.std.specs.Prelude.{◌≡◌, ◌<◌, ◌⊎◌, Err, IfOk, Ok, map};
+ghost use Rattle.std.specs.Prelude.{◌≡◌, ◌<◌, ◌⊎◌, Err, IfOk, IsOk, Ok, map};
 ghost use Rattle.merge_types.specs.Limits.{counter_limit};
 ghost use Rattle.merge_batch.specs.declared.refusal.Refusal.{Refusal as OneRefusal};
 ghost use Rattle.merge_batch.specs.declared.refusal.Refusal.TheVariants.{NoMemory as no_memory};
 ghost use Rattle.merge_model.specs.Subscriber.Sending.{make_ask, make_join, make_ranges, want_of, with_message};
+ghost use Rattle.merge_model.specs.World.Calls.{RefusesOnlyAs};
 ghost use Rattle.merge_sub.specs.Drafts.{IsDrafted, IsDraftedIfAny, after, drafted, drafted_if_any};
 ghost use Rattle.merge_sub.specs.Held.{tables_of};
 
@@ -16,11 +17,12 @@ use merge_types::{Listing, NoMemory};
 use std::alloc::Global;
 
 impl Subscriber {
-    /// Works out a join, which says how far the site is. None where the site has joined.
+    /// Works out a join, which says how far the site is. None where the site has joined. It takes no
+    /// memory.
     pub fn draft_join(&mut self) -> Result<Option<(Draft, Join)>, Refusal>
         ensures made { IfOk result (λ made. make_join (tables_of self.old) ≡ Ok (drafted_if_any (tables_of self.old) made)) }
         ensures ready { IfOk result (λ made. IsDraftedIfAny self.new made) }
-        ensures refused { (refusal : OneRefusal) → result ≡ Err refusal → (refusal ≡ no_memory) ⊎ (make_join (tables_of self.old) ≡ Err refusal) }
+        ensures refused { RefusesOnlyAs (make_join (tables_of self.old)) result }
         ensures same { tables_of self.new ≡ tables_of self.old }
         ensures publication { self.new.publication ≡ self.old.publication }
     {
@@ -58,11 +60,12 @@ impl Subscriber {
         Ok(Some((self.draft_message(Outstanding::Ranges)?, ask)))
     }
 
-    /// Works out what the site asks for: the rows that changed above its watermark.
+    /// Works out what the site asks for: the rows that changed above its watermark. It takes no
+    /// memory.
     pub fn draft_ask(&mut self) -> Result<(Draft, Download), Refusal>
         ensures made { IfOk result (λ made. make_ask (tables_of self.old) ≡ Ok (drafted (tables_of self.old) made)) }
         ensures ready { IfOk result (λ made. IsDrafted self.new made.0) }
-        ensures refused { (refusal : OneRefusal) → result ≡ Err refusal → (refusal ≡ no_memory) ⊎ (make_ask (tables_of self.old) ≡ Err refusal) }
+        ensures refused { RefusesOnlyAs (make_ask (tables_of self.old)) result }
         ensures same { tables_of self.new ≡ tables_of self.old }
         ensures publication { self.new.publication ≡ self.old.publication }
     {
@@ -84,6 +87,9 @@ impl Subscriber {
         ensures ready { IfOk result (λ draft. IsDrafted self.new draft) }
         ensures same { tables_of self.new ≡ tables_of self.old }
         ensures publication { self.new.publication ≡ self.old.publication }
+
+        // What takes no memory is not refused.
+        ensures nothing { IsOk result }
     {
         let seq = self.state.seq + 1;
         let state = State {

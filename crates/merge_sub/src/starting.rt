@@ -25,8 +25,7 @@ pub struct Kept {
     pub site: SiteId,
     pub state: State,
     pub filling: Filling,
-    /// The closed generations that the publisher has not taken, with the numbers of the last changes
-    /// in them.
+    /// The closed generations that are kept, with the numbers of the last changes in them.
     pub closings: Closings,
     pub rows: Listing<(RowKey, SubscriberRow)>,
     pub conflicts: ConflictRows,
@@ -84,7 +83,7 @@ impl Subscriber {
         let _ = self.conflicts.rows();
     }
 
-    /// The closed generations that the publisher has not taken, in ascending order.
+    /// The closed generations that are kept, in ascending order.
     pub fn closings(&self) -> &[Closing]
         ensures { result.now ≡ (tables_of self.now).gens.closings }
     {

@@ -7,7 +7,7 @@ returns-in-Ok-clause-called g c =
     let old = g.P.DraftingPublisher.view c.args.publisher.now in
     let made = handled-by old.publication old.says old.tallies c.args.now c.args.request.now old.tables _ _ c.in_ok-work.ensures.made c.in_ok-work.ensures.decisions in
     let left = c.in-Ok.ensures.ok ∙ ap (g.P.DraftingPublisher.after c.in_ok-work.field-0.work) c.draft.ensures.tables in
-    (made ∙ ap (λ t. Ok (t, c.in_ok-work.field-0.reply)) (sym left), omega (arith, c.settle.ensures.later, c.draft.ensures.faults))
+    (made ∙ ap (λ t. Ok (t, c.in_ok-work.field-0.reply)) (sym left), c.in-Ok.ensures.count ∙ c.draft.ensures.faults)
 
 pub returns-in-Err-Failed-clause-called : goal.returns-in-Err-Failed-clause-called
 returns-in-Err-Failed-clause-called g c =

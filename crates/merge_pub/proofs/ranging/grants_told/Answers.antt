@@ -5,4 +5,4 @@ use Rattle.merge_pub.proofs.ranging.grants_told.Goals as goal
 
 pub loop-plan-preserved : goal.loop-plan-preserved
 loop-plan-preserved c =
-    given-step (λ (plan : GrantPlan). granted_by plan.ask.article plan.answer) _ _ _ _ _ c.loop-plan-test.true c.loop-plan.invariant (rw c.granted_by.ensures at c.in_ok-push_some.ensures)
+    given-step (λ (plan : GrantPlan). granted_by plan.ask.article plan.answer) _ _ _ _ _ c.loop-plan-test.true c.loop-plan.invariant (rw c.granted_by.ensures at c.in_ok-push_some.ensures.ok)

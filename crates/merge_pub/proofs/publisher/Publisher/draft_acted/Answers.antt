@@ -30,7 +30,7 @@ pub returns-clause-made : goal.returns-clause-made
 returns-clause-made g c =
     let there = c.in_ok-plan.ensures in
     let besides = c.besides_of-besides in
-    acted-made (publication_of c.args.self.now) (tables_of c.args.self.now) c.args.upload.now c.args.arrival c.args.acting c.in_ok-sites.sites c.in_ok-plan.plan _ there.plan (rw c.held_sites.ensures at c.in_ok-sites.ensures)
+    acted-made (publication_of c.args.self.now) (tables_of c.args.self.now) c.args.upload.now c.args.arrival c.args.acting c.in_ok-sites.sites c.in_ok-plan.plan _ there.plan (rw c.held_sites.ensures at c.in_ok-sites.ensures.after)
     (made-at (publication_of c.prepare_lost.new.self) (publication_of c.args.self.now) besides.result (besides_with c.args.arrival c.args.acting c.in_ok-sites.sites c.in_ok-plan.plan) (tables_of c.prepare_lost.new.self) (tables_of c.args.self.now)
     _ c.args.acting.versions _ c.args.acting.acted c.args.upload.now.site.0 _ there.publication besides.ensures there.same c.into_vec.ensures c.as_slice.ensures c.in_ok-draft.ensures.made)
 

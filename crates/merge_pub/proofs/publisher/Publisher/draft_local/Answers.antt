@@ -1,6 +1,6 @@
 use Rattle.std.proofs.Common.{refl, rules}
 use Rattle.merge_pub.proofs.Costs.{local-cost}
-use Rattle.merge_pub.proofs.LocalMade.{asked-here, dot_after, fit-here, keeps-here, made-here, new-here, refused-here}
+use Rattle.merge_pub.proofs.LocalMade.{asked-here, counter-here, dot_after, err-by, fit-here, keeps-here, made-here, new-here, passed-here, refused-here, refuses-here}
 use Rattle.merge_pub.proofs.publisher.Publisher.draft_local.Goals as goal
 
 pub change_row-requires-clause-asked : goal.change_row-requires-clause-asked
@@ -14,6 +14,27 @@ pub returns-in_err-versions-clause-refused : goal.returns-in_err-versions-clause
 returns-in_err-versions-clause-refused g c = λ refusal same.
     refused-here _ _ c.self.view_is c.publication.result.now c.args.now (dot_after c.self.inside.changes) c.args.change.now c.in_err-versions.field-0.0 refusal c.in_err-versions.ensures.refused (search rules)
     c.publication.ensures.publication refl c.last_closed.result (search rules) c.in_ok-counters_go_on.ensures.ok
+
+pub returns-in_err-counters_go_on-clause-refuses : goal.returns-in_err-counters_go_on-clause-refuses
+returns-in_err-counters_go_on-clause-refuses g c = λ refusal defined.
+    err-by c.from_residual.result c.in_err-counters_go_on.field-0.0 refusal c.from_residual.ensures.1
+    (counter-here _ _ c.self.view_is c.args.now c.args.change.now c.in_err-counters_go_on.field-0.0 c.last_closed.result (search rules) c.in_err-counters_go_on.ensures.err refusal defined)
+
+pub returns-in_err-versions-clause-refuses : goal.returns-in_err-versions-clause-refuses
+returns-in_err-versions-clause-refuses g c = λ refusal defined.
+    err-by c.from_residual-in_err-versions.result c.in_err-versions.field-0.0 refusal c.from_residual-in_err-versions.ensures.1
+    (refuses-here _ _ c.self.view_is c.publication.result.now c.args.now (dot_after c.self.inside.changes) c.args.change.now c.in_err-versions.field-0.0 c.in_err-versions.ensures.refused
+    c.publication.ensures.publication refl c.last_closed.result (search rules) c.in_ok-counters_go_on.ensures.ok refusal defined)
+
+pub returns-in_err-draft-clause-refuses : goal.returns-in_err-draft-clause-refuses
+returns-in_err-draft-clause-refuses g c = λ refusal defined.
+    absurd (passed-here _ _ c.self.view_is c.publication.result.now c.args.now (dot_after c.self.inside.changes) c.args.change.now _ c.in_ok-versions.ensures.allowed c.in_ok-versions.ensures.draws
+    c.publication.ensures.publication refl c.last_closed.result (search rules) c.in_ok-counters_go_on.ensures.ok refusal defined)
+
+pub returns-clause-refuses : goal.returns-clause-refuses
+returns-clause-refuses g c = λ refusal defined.
+    absurd (passed-here _ _ c.self.view_is c.publication.result.now c.args.now (dot_after c.self.inside.changes) c.args.change.now _ c.in_ok-versions.ensures.allowed c.in_ok-versions.ensures.draws
+    c.publication.ensures.publication refl c.last_closed.result (search rules) c.in_ok-counters_go_on.ensures.ok refusal defined)
 
 pub draft_versions-requires-clause-rows : goal.draft_versions-requires-clause-rows
 draft_versions-requires-clause-rows g c =

@@ -1,4 +1,4 @@
-use Rattle.std.proofs.Common.{rules}
+use Rattle.std.proofs.Common.{◌≡◌, false, refl, rules, true}
 use Rattle.std.proofs.lemmas.List.{append-nil}
 use Rattle.merge_table.specs.Edits.{IsReady}
 use Rattle.merge_pub.proofs.publisher.Publisher.draft_moment.Goals as goal
@@ -27,3 +27,7 @@ returns-clause-ready c = record {
     heard = c.self.invariant.keeps.heard;
   });
 }
+
+-- what takes no memory is not refused
+pub returns-in_err-gens-clause-nothing : goal.returns-in_err-gens-clause-nothing
+returns-in_err-gens-clause-nothing c = let no : false ≡ true = c.in_err-gens.ensures.nothing refl in absurd cc

@@ -45,6 +45,15 @@ returns-in_err-acting-clause-none g c = λ refusal refused. absurd (upload-allow
 pub returns-in_err-arrival-clause-none : goal.returns-in_err-arrival-clause-none
 returns-in_err-arrival-clause-none g c = λ refusal refused. refl
 
+pub returns-clause-refuses : goal.returns-clause-refuses
+returns-clause-refuses g c = λ refusal refused. absurd (upload-allowed (publication_of c.args.self.now) c.args.now c.args.upload.now (tables_of c.args.self.now) (says_at (λ r. (goal.Resolver-dyn g (r.vtable, r.value)).says r.value) c.args.resolvers.now.items) (map (λ r. (goal.Resolver-dyn g (r.vtable, r.value)).tally_of r.value) c.args.resolvers.now.items) refusal c.in_ok-arrival.ensures.refusal refused)
+
+pub returns-in_err-draft-clause-refuses : goal.returns-in_err-draft-clause-refuses
+returns-in_err-draft-clause-refuses g c = λ refusal refused. absurd (upload-allowed (publication_of c.args.self.now) c.args.now c.args.upload.now (tables_of c.args.self.now) (says_at (λ r. (goal.Resolver-dyn g (r.vtable, r.value)).says r.value) c.args.resolvers.now.items) (map (λ r. (goal.Resolver-dyn g (r.vtable, r.value)).tally_of r.value) c.args.resolvers.now.items) refusal c.in_ok-arrival.ensures.refusal refused)
+
+pub returns-in_err-acting-clause-refuses : goal.returns-in_err-acting-clause-refuses
+returns-in_err-acting-clause-refuses g c = λ refusal refused. absurd (upload-allowed (publication_of c.args.self.now) c.args.now c.args.upload.now (tables_of c.args.self.now) (says_at (λ r. (goal.Resolver-dyn g (r.vtable, r.value)).says r.value) c.args.resolvers.now.items) (map (λ r. (goal.Resolver-dyn g (r.vtable, r.value)).tally_of r.value) c.args.resolvers.now.items) refusal c.in_ok-arrival.ensures.refusal refused)
+
 pub returns-clause-cost : goal.returns-clause-cost
 returns-clause-cost g c = within-more _ _ _ _ _ c.in_ok-acting.ensures.few c.draft_taken.ensures.cost
 

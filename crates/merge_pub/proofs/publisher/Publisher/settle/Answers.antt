@@ -11,3 +11,14 @@ invariant_of-self c = record {
   moved = search rules;
   keeps = kept-as _ _ _ _ (search rules) (search rules) c.requires.keeps;
 }
+
+pub returns-clause-compact : goal.returns-clause-compact
+returns-clause-compact c = record {
+  rows = c.apply_and_sweep.ensures.spare;
+  mappings = c.apply_and_sweep-2.ensures.spare;
+  changed = c.make_entries.ensures.compact;
+  moved = c.make_entries.ensures.spare;
+}
+
+pub returns-clause-members : goal.returns-clause-members
+returns-clause-members c = c.make_plan.ensures.compact
