@@ -14,6 +14,7 @@ use Rattle.merge_json.specs.Sendable.{IsSendableRequest}
 use Rattle.merge_model.specs.World.Calls.{message_commits, message_or_none}
 use Rattle.merge_model.specs.World.Steps.{Sending}
 use Rattle.merge_model.specs.Tables.{SubscriberTables}
+use Rattle.merge_model.proofs.Failing.Calling.{stayed}
 use Rattle.merge_ports.specs.Faults.{Rose}
 use Rattle.merge_world.specs.Messages.{requested}
 use Rattle.merge_world.specs.Printable.{ArePrintable}
@@ -72,8 +73,8 @@ had-message sending made s t None e commits = absurd (cc)
 had-message sending made s t (Some m) e commits = (t, m, some-made s t m (requested sending made s) e)
 
 pub made-not : (sending : Sending) (made : Moment) (v w : SubscriberView) (why : Refusal) → Calls sending made v w (Err why) → Makes sending made v w (Err (fault_of why))
-made-not sending made v w why (same, inl (refused, later)) = (same, inl (refused-as v.tables (requested sending made v.tables) why refused, later))
-made-not sending made v w why (same, inr (inl (memory, later))) = (same, inr (inl (ap fault_of memory, later)))
+made-not sending made v w why (same, inl (refused, still)) = (same, inl (refused-as v.tables (requested sending made v.tables) why refused, still))
+made-not sending made v w why (same, inr (inl (memory, still))) = (same, inr (inl (ap fault_of memory, still)))
 made-not sending made v w why (same, inr (inr (store, there, rose))) = (same, inr (inr (ap fault_of store, had-message sending made v.tables there.0.0 there.0.1 there.1 there.2, rose)))
 
 -- and what it made can be written
@@ -117,20 +118,20 @@ told-by sending made s (Err refused) why e f = subst IsTold (ap (fault_in why) f
 module _ (address : List ℕ) (sending : Sending) (made : Moment) (v w : SubscriberView) (co : Option (List (List ℕ))) (xo : Option (List Exchange)) (lo : ℕ) (mo mn : Option Moments) (publication : w.publication ≡ v.publication) (gave : Gives mo (made ∷ []) mn) where
   -- there was no message to make
   pub skips : Makes sending made v w (Ok None) → Skips sending (meeting v co xo lo mo) (meeting w co xo lo mn)
-  skips m = record { made = made; none = m.0; same = m.1; passes = passes-still v w co co xo xo lo lo mo mn (made ∷ []) publication m.2 refl refl (omega arith) gave }
+  skips m = record { made = made; none = m.0; same = m.1; passes = passes-still v w co co xo xo lo lo mo mn (made ∷ []) publication (stayed v.faults w.faults m.2) refl refl (omega arith) gave }
 
   -- none was made
   pub unmade : (why : SessionFault) → Makes sending made v w (Err why) → Broke address sending (meeting v co xo lo mo) (meeting w co xo lo mn) why
-  unmade why (same, inl (refused, later)) = record {
+  unmade why (same, inl (refused, still)) = record {
     at = Unmade made;
     breaks = (same, inl refused);
-    passes = passes-still v w co co xo xo lo lo mo mn (made ∷ []) publication later refl refl (omega arith) gave;
+    passes = passes-still v w co co xo xo lo lo mo mn (made ∷ []) publication (stayed v.faults w.faults still) refl refl (omega arith) gave;
     causes = causes-told _ _ why (told-by sending made v.tables (requested sending made v.tables) why refl refused);
   }
-  unmade why (same, inr (inl (memory, later))) = record {
+  unmade why (same, inr (inl (memory, still))) = record {
     at = Unmade made;
     breaks = (same, inr (inl memory));
-    passes = passes-still v w co co xo xo lo lo mo mn (made ∷ []) publication later refl refl (omega arith) gave;
+    passes = passes-still v w co co xo xo lo lo mo mn (made ∷ []) publication (stayed v.faults w.faults still) refl refl (omega arith) gave;
     causes = causes-memory _ _ why memory;
   }
   unmade why (same, inr (inr (store, there, rose))) = record {
@@ -146,7 +147,7 @@ module _ (address : List ℕ) (sending : Sending) (made : Moment) (v w : Subscri
     unwritten why memory = record {
       at = Unanswered made;
       breaks = ((request, makes.0), inl memory);
-      passes = passes-still v w co co xo xo lo lo mo mn (made ∷ []) publication makes.1 refl refl (omega arith) gave;
+      passes = passes-still v w co co xo xo lo lo mo mn (made ∷ []) publication (stayed v.faults w.faults makes.1) refl refl (omega arith) gave;
       causes = causes-memory _ _ why memory;
     }
 
@@ -155,13 +156,13 @@ module _ (address : List ℕ) (sending : Sending) (made : Moment) (v w : Subscri
     uncarried cn xn ln link.Failed coming exchanges cause = record {
       at = Unanswered made;
       breaks = ((request, makes.0), inr refl);
-      passes = passes-still v w co cn xo xn lo ln mo mn (made ∷ []) publication makes.1 coming exchanges cause.later gave;
+      passes = passes-still v w co cn xo xn lo ln mo mn (made ∷ []) publication (stayed v.faults w.faults makes.1) coming exchanges cause.later gave;
       causes = causes-link _ _ fault.LinkFault refl (cause.failed refl);
     }
     uncarried cn xn ln link.NoMemory coming exchanges cause = record {
       at = Unanswered made;
       breaks = ((request, makes.0), inl refl);
-      passes = passes-still v w co cn xo xn lo ln mo mn (made ∷ []) publication makes.1 coming exchanges cause.later gave;
+      passes = passes-still v w co cn xo xn lo ln mo mn (made ∷ []) publication (stayed v.faults w.faults makes.1) coming exchanges cause.later gave;
       causes = causes-memory _ _ fault.NoMemory refl;
     }
 
@@ -191,16 +192,16 @@ module _ (address : List ℕ) (sending : Sending) (made : Moment) (v w : Subscri
 
         -- what it tells was not taken
         pub untaken : (why : SessionFault) → Stepped {A = Reply} (taken_by w.publication now told w.tables) w.tables u.tables w.faults u.faults (Err why) → Broke address sending (meeting v co xo lo mo) (meeting u cn xn ln ml) why
-        untaken why (kept, inl (refused, later)) = record {
+        untaken why (kept, inl (refused, still)) = record {
           at = Untaken made turn;
           breaks = record { request = request; is_made = is_made kept; text = refl; by = inr (told, tells, left kept why (inl refused)) };
-          passes = over u same later;
+          passes = over u same (stayed w.faults u.faults still);
           causes = causes-told _ _ why (taken-told w.publication now told w.tables why refused);
         }
-        untaken why (kept, inr (inl (memory, later))) = record {
+        untaken why (kept, inr (inl (memory, still))) = record {
           at = Untaken made turn;
           breaks = record { request = request; is_made = is_made kept; text = refl; by = inl memory };
-          passes = over u same later;
+          passes = over u same (stayed w.faults u.faults still);
           causes = causes-memory _ _ why memory;
         }
         untaken why (kept, inr (inr (store, done, rose))) = record {
@@ -221,7 +222,7 @@ module _ (address : List ℕ) (sending : Sending) (made : Moment) (v w : Subscri
             meets = record { request = request; is_made = makes.0; text = refl; tells = tells };
             taken = subst (λ (p : Publication). taken_by p now told w.tables ≡ Ok (u.tables, m)) publication stepped.0;
           };
-          passes = over u same stepped.1;
+          passes = over u same (stayed w.faults u.faults stepped.1);
         }
 
         pub advances : (m : Reply) → Stepped (taken_by w.publication now told w.tables) w.tables u.tables w.faults u.faults (Ok m) → (v.tables.seq < counter_limit) × (v.tables.seq + 1 ≤ u.tables.seq)

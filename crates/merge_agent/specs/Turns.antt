@@ -44,10 +44,10 @@ taken_by publication now (Spoiled place) s = Err (fault.BadReply place)
 taken_by publication now (Declined number) s = Err (fault.Refused number)
 
 -- A step of the site was made. Or it failed and no table changed: the definition refuses it, memory was wanting, or the
--- store failed, which is counted and comes only where the definition makes the step.
+-- store failed, which is counted and comes only where the definition makes the step. Nothing else is counted.
 abbrev pub Stepped : {A : Type 0} → Result (SubscriberTables × A) SessionFault → SubscriberTables → SubscriberTables → ℕ → ℕ → Result A SessionFault → Type 0
-Stepped by old new before after (Ok x) = (by ≡ Ok (new, x)) × (before ≤ after)
-Stepped {A} by old new before after (Err why) = (new ≡ old) × ((by ≡ Err why) × (before ≤ after) ⊎ ((why ≡ fault.NoMemory) × (before ≤ after) ⊎ (why ≡ fault.StoreFault) × ((done : SubscriberTables × A) × (by ≡ Ok done)) × (before + 1 ≤ after)))
+Stepped by old new before after (Ok x) = (by ≡ Ok (new, x)) × (after ≡ before)
+Stepped {A} by old new before after (Err why) = (new ≡ old) × ((by ≡ Err why) × (after ≡ before) ⊎ ((why ≡ fault.NoMemory) × (after ≡ before) ⊎ (why ≡ fault.StoreFault) × ((done : SubscriberTables × A) × (by ≡ Ok done)) × (before + 1 ≤ after)))
 
 -- an exchange of the link, and the moment behind it
 pub record Turn : Type 0 where
@@ -62,11 +62,12 @@ IsMade sending made old sent request = requested sending made old ≡ Ok (Some (
 abbrev pub HasMessage : Sending → Moment → SubscriberTables → Type 0
 HasMessage sending made old = (sent : SubscriberTables) × (request : Request) × IsMade sending made old sent request
 
--- What a site did that was told to make a message. Its store fails only where there is one to make.
+-- What a site did that was told to make a message. Its store fails only where there is one to make, which is counted, and
+-- nothing else is.
 abbrev pub Makes : Sending → Moment → SubscriberView → SubscriberView → Result (Option Request) SessionFault → Type 0
-Makes sending made old new (Ok None) = (requested sending made old.tables ≡ Ok None) × (new.tables ≡ old.tables) × (old.faults ≤ new.faults)
-Makes sending made old new (Ok (Some request)) = IsMade sending made old.tables new.tables request × (old.faults ≤ new.faults)
-Makes sending made old new (Err why) = (new.tables ≡ old.tables) × ((with_fault (requested sending made old.tables) ≡ Err why) × (old.faults ≤ new.faults) ⊎ ((why ≡ fault.NoMemory) × (old.faults ≤ new.faults) ⊎ (why ≡ fault.StoreFault) × HasMessage sending made old.tables × (old.faults + 1 ≤ new.faults)))
+Makes sending made old new (Ok None) = (requested sending made old.tables ≡ Ok None) × (new.tables ≡ old.tables) × (new.faults ≡ old.faults)
+Makes sending made old new (Ok (Some request)) = IsMade sending made old.tables new.tables request × (new.faults ≡ old.faults)
+Makes sending made old new (Err why) = (new.tables ≡ old.tables) × ((with_fault (requested sending made old.tables) ≡ Err why) × (new.faults ≡ old.faults) ⊎ ((why ≡ fault.NoMemory) × (new.faults ≡ old.faults) ⊎ (why ≡ fault.StoreFault) × HasMessage sending made old.tables × (old.faults + 1 ≤ new.faults)))
 
 -- the message was made, the link carried it, and the response tells this
 pub record Meets (address : List ℕ) (sending : Sending) (made : Moment) (turn : Turn) (old sent : SubscriberTables) (told : Told) : Type 0 where

@@ -55,7 +55,6 @@ module _ (handed : HandedView) (input : List ℕ) (sides : Sides) (writes refuse
     refused-ends (schema.JoinCycle article) answer = record { fits = fits; read = answer (λ e. absurd (cc e)); known = λ e. absurd (cc e) }
     refused-ends (schema.JoinTypes article) answer = record { fits = fits; read = answer (λ e. absurd (cc e)); known = λ e. absurd (cc e) }
     refused-ends (schema.TooMany what number) answer = record { fits = fits; read = answer (λ e. absurd (cc e)); known = λ e. absurd (cc e) }
-    refused-ends (schema.NotBuilt key) answer = record { fits = fits; read = answer (λ e. absurd (cc e)); known = λ e. absurd (cc e) }
 
     pub refused-by : (fault : SchemaFault) (ending : Ending) → ending ≡ refused_for fault → (resolvers : ℕ) → resolvers ≡ length handed.tallies → (text : List ℕ) → text ≡ publication_of input
         → ((fault ≡ schema.NoMemory → ⊥) → IsAnswer resolvers text (Err fault)) → Input ending

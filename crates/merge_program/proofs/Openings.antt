@@ -35,7 +35,7 @@ module _ {T : Type 0} (load : Map → Loaded T) (stored : Option Map) where
     stopped-by : (why : Refusal) → LoadsNot load stored why first count → IsUnopenedFor load (stopped_by why) stored old.stores new.stores
     stopped-by why (inl (inl (is, still))) = subst (λ (w : Refusal). IsUnopenedFor load (stopped_by w) stored old.stores new.stores) (sym is) tt
     stopped-by why (inl (inr (is, more))) = subst (λ (w : Refusal). IsUnopenedFor load (stopped_by w) stored old.stores new.stores) (sym is) (rose more)
-    stopped-by why (inr (key, is, read)) = subst (λ (w : Refusal). IsUnopenedFor load (stopped_by w) stored old.stores new.stores) (sym is) (key, refl, read)
+    stopped-by why (inr (still, (key, is, read))) = subst (λ (w : Refusal). IsUnopenedFor load (stopped_by w) stored old.stores new.stores) (sym is) (key, refl, read)
 
     pub stopped-so : (map kept told : Option Map) (why : Refusal) (ending : Ending) → ending ≡ stopped_by why → told ≡ stored → LoadsNot load told why first count → map ≡ kept → kept ≡ told → IsUnopened load ending stored map old.stores new.stores
     stopped-so map kept told why ending is same not given unchanged = record {

@@ -1,5 +1,5 @@
 -- What is read of files and of the input, and why not.
-use Rattle.std.proofs.Common.{Err, List, None, Ok, Option, Result, Some, ap, arith, min, refl, subst, sym, ℕ, ◌+◌, ◌-◌, ◌^◌, ◌≡◌}
+use Rattle.std.proofs.Common.{Err, List, None, Ok, Option, Result, Some, ap, arith, min, refl, subst, sym, ℕ, ◌+◌, ◌-◌, ◌^◌, ◌∙◌, ◌≡◌, ◌≢◌}
 use Rattle.std.proofs.lemmas.Result.{IfErr-weaker}
 use Rattle.std.specs.Prelude.{IfErr, IfOk, IfSome}
 use Rattle.merge_outside.specs.Offers.{HasTextCause, with_text_faults}
@@ -27,6 +27,14 @@ module _ (told : Option (List ℕ)) (reads failed : ℕ) where
 
   pub unread-so : (fault : Unread) (ending : Ending) → ending ≡ unread fault → (fault ≡ reading.TooLong → IsLong told) → (fault ≡ reading.Failed → Rose reads failed) → IsUnread ending told reads failed
   unread-so fault ending is long rose = subst (λ (e : Ending). IsUnread e told reads failed) (sym is) (unread-by fault long rose)
+
+-- what holds unless a fault of the input was counted holds unless the run ends by it
+pub counted-by : (fault : Unread) (ending : Ending) → ending ≡ unread fault → (kept : Type 0) → (fault ≢ reading.Failed → kept) → ending ≢ ReadFault → kept
+counted-by fault ending is kept by other = by (λ failed. other (is ∙ ap unread failed))
+
+-- and by each call through which its ending is passed
+pub counted-through : {T U : Type 0} (kept : Type 0) (ending : Ending) (r : Result T Ending) (s : Result U Ending) → r ≡ Err ending → s ≡ Err ending → (r ≢ Err ReadFault → kept) → s ≢ Err ReadFault → kept
+counted-through kept ending r s was is by other = by (λ fault. let same : ending ≡ ReadFault = cc (was, fault) in other (cc (is, same)))
 
 -- a file that could not be opened
 unopened-by : {T : Type 0} (told : Option (List ℕ)) (old new : Counts) (fault : OpenFault) (r : Result T OpenFault) → r ≡ Err fault → HasTextCause old new r → IsUnread (unopened_text fault) told old.texts new.texts
@@ -63,7 +71,6 @@ module _ (resolvers : ℕ) (text : List ℕ) where
   unpublished-by (schema.JoinCycle article) answer = (answer (λ e. absurd (cc e)), λ e. absurd (cc e))
   unpublished-by (schema.JoinTypes article) answer = (answer (λ e. absurd (cc e)), λ e. absurd (cc e))
   unpublished-by (schema.TooMany what number) answer = (answer (λ e. absurd (cc e)), λ e. absurd (cc e))
-  unpublished-by (schema.NotBuilt key) answer = (answer (λ e. absurd (cc e)), λ e. absurd (cc e))
 
   pub unpublished-so : (fault : SchemaFault) (ending : Ending) → ending ≡ refused_for fault → ((fault ≡ schema.NoMemory → ⊥) → IsAnswer resolvers text (Err fault)) → IsUnpublished ending resolvers text
   unpublished-so fault ending is answer = subst (λ (e : Ending). IsUnpublished e resolvers text) (sym is) (unpublished-by fault answer)

@@ -180,6 +180,10 @@ module _ (handed : HandedView) (v : Visit) where
     read ReadFault p is = unread command p
     read other p is = absurd (omega (arith, is))
 
+    -- the input is read without a fault in a run that ends otherwise
+    counted : (ending : Ending) → (ending ≢ ReadFault → v.failed ≡ v.reads) → status_of ending ≢ 4 → v.failed ≡ v.reads
+    counted ending same other = same (λ is. other (ap status_of is))
+
     write : (ending : Ending) → Ended command ending → status_of ending ≡ 5 → Rose v.writes v.refused
     write WriteFault p is = unwritten command p
     write other p is = absurd (omega (arith, is))
@@ -214,13 +218,14 @@ module _ (handed : HandedView) (v : Visit) where
     long TooLong p is = p
     long other p is = absurd (omega (arith, is))
 
-    told-by : (ending : Ending) → Ended command ending → (is_silent (status_of ending) ≡ true → v.written ≡ v.was) → Tells (status_of ending) command handed v
-    told-by ending p silent = record {
+    told-by : (ending : Ending) → Ended command ending → (is_silent (status_of ending) ≡ true → v.written ≡ v.was) → (ending ≢ ReadFault → v.failed ≡ v.reads) → Tells (status_of ending) command handed v
+    told-by ending p silent same = record {
       done = λ is. done ending p is;
       usage = λ is. usage ending p is;
       refused = λ is. refused ending p is;
       no_event = λ is. no-event ending p is;
       read = λ is. read ending p is;
+      counted = λ other. counted ending same other;
       write = λ is. write ending p is;
       stores = λ is. stores ending p is;
       damaged = λ is. damaged ending p is;
@@ -234,5 +239,5 @@ module _ (handed : HandedView) (v : Visit) where
       known = is-known ending;
     }
 
-    pub tells : (status : ℕ) (ending : Ending) → status ≡ status_of ending → Ended command ending → (is_silent (status_of ending) ≡ true → v.written ≡ v.was) → Tells status command handed v
-    tells status ending is p silent = subst (λ (n : ℕ). Tells n command handed v) (sym is) (told-by ending p silent)
+    pub tells : (status : ℕ) (ending : Ending) → status ≡ status_of ending → Ended command ending → (is_silent (status_of ending) ≡ true → v.written ≡ v.was) → (ending ≢ ReadFault → v.failed ≡ v.reads) → Tells status command handed v
+    tells status ending is p silent same = subst (λ (n : ℕ). Tells n command handed v) (sym is) (told-by ending p silent same)

@@ -96,9 +96,6 @@ pub record AnsweredUpTo (handed : HandedView) (input : List ℕ) (line word : �
   pub no_event : fault_of (lines_of_input input) ≡ Some (line, word)
   pub answered : Answered publication handed (lines_of_input input) sides
 
-abbrev pub AnsweredBefore : HandedView → List ℕ → Sides → Type 0
-AnsweredBefore handed input sides = (line : ℕ) × (word : ℕ) × AnsweredUpTo handed input line word sides
-
 -- The input was taken. The run ended as the sites did not start, and nothing was written; or at a restart of its script.
 abbrev pub IsStopped : HandedView → List ℕ → Sides → (lost : ℕ) → Type 0
 IsStopped handed input sides lost = (publication : Publication) × IsTaken (length handed.tallies) input publication × IsCutOff publication handed (lines_of_input input) sides lost

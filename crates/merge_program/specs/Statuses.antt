@@ -1,5 +1,5 @@
 -- The cause of each status of a run, and what was written and kept by then.
-use Rattle.std.specs.Prelude.{Bool, IsTrue, List, None, Option, Some, length, nat_lt, true, ℕ, ◌==◌, ◌||◌, ◌≡◌, ◌⊎◌}
+use Rattle.std.specs.Prelude.{Bool, IsTrue, List, None, Option, Some, length, nat_lt, true, ℕ, ◌==◌, ◌||◌, ◌≡◌, ◌≢◌, ◌⊎◌}
 use Rattle.merge_types.specs.declared.identifiers.Moment.{Moment}
 use Rattle.merge_ports.specs.Faults.{Rose}
 use Rattle.merge_schema.specs.declared.fault.SchemaFault.{SchemaFault}
@@ -40,6 +40,7 @@ pub record Tells (status : ℕ) (command : Option Command) (handed : HandedView)
   pub refused : status ≡ 2 → (fault : SchemaFault) × CommandEnds command (Refused fault) handed v
   pub no_event : status ≡ 3 → (line : ℕ) × (word : ℕ) × CommandEnds command (NoEvent line word) handed v
   pub read : status ≡ 4 → Rose v.reads v.failed ⊎ Rose v.old.texts v.new.texts
+  pub counted : status ≢ 4 → v.failed ≡ v.reads
   pub write : status ≡ 5 → Rose v.writes v.refused
   pub stores : status ≡ 6 → Rose v.old.stores v.new.stores
   pub links : status ≡ 7 → Rose v.old.links v.new.links

@@ -150,6 +150,7 @@ fn read_given<I: Source, E: CommandOutside>(
     ensures offers { E.offers outside.new ≡ E.offers outside.old }
     ensures told { E.told outside.new ≡ E.told outside.old }
     ensures stores { (E.counts outside.new).stores ≡ (E.counts outside.old).stores }
+    ensures counted { result ≢ Err Ending.ReadFault → I.count input.new ≡ I.count input.old }
     ensures links { (E.counts outside.new).links ≡ (E.counts outside.old).links }
 {
     let text = read_file(alloc, outside, &place.publication)?;
@@ -185,6 +186,7 @@ pub fn change<I: Source, O: Sink, E: CommandOutside>(
       reads = I.count input.old;
       failed = I.count input.new;
     }) }
+    ensures counted { result ≢ Ending.ReadFault → I.count input.new ≡ I.count input.old }
     ensures others { SameElsewhere place.now.site place.now.store (E.told outside.old) (E.told outside.new) }
 {
     match read_given(alloc, place, resolvers, input, outside) {

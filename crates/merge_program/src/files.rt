@@ -1,5 +1,5 @@
 //! What a command reads before its site starts, and what it names.
-ghost use Rattle.std.specs.Prelude.{◌≡◌, ◌≤◌, Err, IfErr, IfOk, IfSome, Ok, OnOk, ℕ, false, length, true};
+ghost use Rattle.std.specs.Prelude.{◌≡◌, ◌≢◌, ◌≤◌, Err, IfErr, IfOk, IfSome, Ok, OnOk, ℕ, false, length, true};
 ghost use Rattle.merge_schema.specs.Answers.{IsAnswer};
 ghost use Rattle.merge_schema.specs.Valid.{IsValid};
 ghost use Rattle.merge_model.specs.World.Events.{is_site};
@@ -21,6 +21,7 @@ pub fn read_input<I: Source>(alloc: Global, input: &mut I) -> Result<Octets, End
     ensures unread { IfErr result (λ ending. IsUnread ending (I.left input.old) (I.count input.old) (I.count input.new)) }
     ensures later { I.count input.old ≤ I.count input.new }
     ensures kept { OnOk result (I.count input.new ≡ I.count input.old) }
+    ensures counted { result ≢ Err ending.ReadFault → I.count input.new ≡ I.count input.old }
 {
     match read_whole(alloc, input, INPUT_LIMIT) {
         Ok(text) => Ok(text),

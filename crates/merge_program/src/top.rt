@@ -1,5 +1,5 @@
 //! The top call.
-ghost use Rattle.std.specs.Prelude.{◌≡◌, [], IfSome, false, true, ℕ};
+ghost use Rattle.std.specs.Prelude.{◌≡◌, ◌≢◌, [], IfSome, false, true, ℕ};
 ghost use Rattle.merge_world.specs.Views.{handed_view};
 ghost use Rattle.merge_program.specs.Commands.{IsMeant, command_of, reads_input};
 ghost use Rattle.merge_program.specs.Elsewhere.{ChangesItsOwn, SameAtOthers};
@@ -47,6 +47,7 @@ fn read_and_play<I: Source, O: Sink, E: Outside>(
     ensures part { IfSome (I.left input.old) (λ input. WrittenInPart (handed_view (λ r. says r) (λ r. tally_of r) resolvers.old.items) input
         (record { was = O.written output.old; written = O.written output.new; before = (E.counts outside.old).stores; after = (E.counts outside.new).stores })) }
     ensures silent { is_silent (status_of result) ≡ true → O.written output.new ≡ O.written output.old }
+    ensures counted { result ≢ Ending.ReadFault → I.count input.new ≡ I.count input.old }
     ensures others { SameAtOthers [] (E.told outside.old) (E.told outside.new) }
 {
     match read_whole(alloc, input, INPUT_LIMIT) {
@@ -84,6 +85,7 @@ fn obey<I: Source, O: Sink, E: CommandOutside>(
     ensures played { command.now ≡ Command.Play → IfSome (I.left input.old) (λ input. WrittenInPart (handed_view (λ r. says r) (λ r. tally_of r) resolvers.old.items) input
         (record { was = O.written output.old; written = O.written output.new; before = (E.counts outside.old).stores; after = (E.counts outside.new).stores })) }
     ensures silent { is_silent (status_of result) ≡ true → O.written output.new ≡ O.written output.old }
+    ensures counted { result ≢ Ending.ReadFault → I.count input.new ≡ I.count input.old }
     ensures unread { reads_input (Some command.now) ≡ false → input.new ≡ input.old }
     ensures others { ChangesItsOwn (Some command.now) (E.told outside.old) (E.told outside.new) }
 {
@@ -125,6 +127,7 @@ fn work<I: Source, O: Sink, E: CommandOutside>(
     ensures played { command_of words.now ≡ Some Command.Play → IfSome (I.left input.old) (λ input. WrittenInPart (handed_view (λ r. says r) (λ r. tally_of r) resolvers.old.items) input
         (record { was = O.written output.old; written = O.written output.new; before = (E.counts outside.old).stores; after = (E.counts outside.new).stores })) }
     ensures silent { is_silent (status_of result) ≡ true → O.written output.new ≡ O.written output.old }
+    ensures counted { result ≢ Ending.ReadFault → I.count input.new ≡ I.count input.old }
     ensures unread { reads_input (command_of words.now) ≡ false → input.new ≡ input.old }
     ensures others { ChangesItsOwn (command_of words.now) (E.told outside.old) (E.told outside.new) }
 {

@@ -35,7 +35,7 @@ module _ (publication : Publication) (stored : Option Map) where
     unstarted-by : (why : Refusal) → LoadsNot (publisher_loaded publication (new_holders publication)) stored why first count → By why
     unstarted-by why (inl (inl (is, still))) = subst (λ (w : Refusal). By w) (sym is) tt
     unstarted-by why (inl (inr (is, more))) = subst (λ (w : Refusal). By w) (sym is) (rose more)
-    unstarted-by why (inr (key, is, read)) = subst (λ (w : Refusal). By w) (sym is) (key, refl, read)
+    unstarted-by why (inr (still, (key, is, read))) = subst (λ (w : Refusal). By w) (sym is) (key, refl, read)
 
     pub unstarted-so : (told : Option Map) (why : Refusal) (stop : Stop) → stop ≡ unstarted why → told ≡ stored → LoadsNot (publisher_loaded publication (new_holders publication)) told why first count → IsUnstarted publication stop stored old.stores new.stores
     unstarted-so told why stop is same not =

@@ -88,10 +88,10 @@ where
     }
 }
 
-/// The publisher starts at its store and serves over a door, with its resolvers, until so many
-/// connections were accepted or the door failed. The door and the keeper are given back. Where all were
-/// accepted the summary of the journal is written, and else nothing. The door is opened at the address,
-/// and there is a seat for each worker, which no clause says. It may wait.
+/// The publisher starts at its store and serves over a door at an address, in threads, with its
+/// resolvers, until so many connections were accepted or the door failed. The door and the keeper are
+/// given back. Where all were accepted the summary of the journal is written, and else nothing. That the
+/// door is opened at this address, and how many threads there are, is in no clause. It may wait.
 pub fn serve_store<R: Threads + Wait + Sync, O: Sink, E: CommandOutside, T: Doors>(
     rt: &R,
     alloc: Global,

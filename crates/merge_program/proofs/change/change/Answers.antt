@@ -23,3 +23,9 @@ returns-in-Ok-clause-others g c = λ s p other.
 
 pub returns-in-Err-clause-others : goal.returns-in-Err-clause-others
 returns-in-Err-clause-others g c = λ s p other. ap (λ (f : SiteId → List ℕ → Option Map). f s p) c.in-Err.ensures.told
+
+pub returns-in-Ok-clause-counted : goal.returns-in-Ok-clause-counted
+returns-in-Ok-clause-counted g c = λ other. c.in-Ok.ensures.counted (λ is. absurd (cc is))
+
+pub returns-in-Err-clause-counted : goal.returns-in-Err-clause-counted
+returns-in-Err-clause-counted g c = λ other. c.in-Err.ensures.counted (λ is. other (cc is))

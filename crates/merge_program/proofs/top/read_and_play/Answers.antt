@@ -1,6 +1,7 @@
 -- The input that was read is what was left.
 use Rattle.std.proofs.Common.{Err, ap, refl}
 use Rattle.merge_program.proofs.Ends.{ends-by-slice, ends-unread, in-part-of, nothing-written}
+use Rattle.merge_program.proofs.Readings.{counted-by}
 use Rattle.merge_program.proofs.top.read_and_play.Goals as goal
 
 pub returns-in-Ok-clause-ends : goal.returns-in-Ok-clause-ends
@@ -14,6 +15,12 @@ returns-in-Err-clause-ends g c = ends-unread _ _ _ _ _ _ _ _ _ c.unread.ensures 
 
 pub returns-in-Err-clause-part : goal.returns-in-Err-clause-part
 returns-in-Err-clause-part g c = nothing-written _ _ _ refl
+
+pub returns-in-Ok-clause-counted : goal.returns-in-Ok-clause-counted
+returns-in-Ok-clause-counted g c = λ other. c.in-Ok.ensures.kept
+
+pub returns-in-Err-clause-counted : goal.returns-in-Err-clause-counted
+returns-in-Err-clause-counted g c = counted-by _ _ c.unread.ensures _ (λ none. c.in-Err.ensures.counted (λ is. none (cc is)))
 
 pub returns-in-Ok-clause-others : goal.returns-in-Ok-clause-others
 returns-in-Ok-clause-others g c = c.play_input.ensures.others

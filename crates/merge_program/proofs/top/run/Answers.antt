@@ -4,7 +4,7 @@ use Rattle.merge_program.proofs.Statuses.{is-made, tells}
 use Rattle.merge_program.proofs.top.run.Goals as goal
 
 pub returns-clause-statuses : goal.returns-clause-statuses
-returns-clause-statuses g c = tells _ _ _ _ _ c.status.ensures c.work-ending.ensures.ends c.work-ending.ensures.silent
+returns-clause-statuses g c = tells _ _ _ _ _ c.status.ensures c.work-ending.ensures.ends c.work-ending.ensures.silent c.work-ending.ensures.counted
 
 pub returns-clause-part : goal.returns-clause-part
 returns-clause-part g c = c.work-ending.ensures.played

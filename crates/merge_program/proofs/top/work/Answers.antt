@@ -13,6 +13,9 @@ returns-in-Ok-None-clause-ends g c = let said = rw c.in-Ok-None.field-0-is at c.
 pub returns-in-Ok-None-clause-played : goal.returns-in-Ok-None-clause-played
 returns-in-Ok-None-clause-played g c = λ play. nothing-written _ _ _ refl
 
+pub returns-in-Ok-None-clause-counted : goal.returns-in-Ok-None-clause-counted
+returns-in-Ok-None-clause-counted g c = λ other. refl
+
 pub obey-requires : goal.obey-requires
 obey-requires g c = let said = rw c.in-Ok-Some.field-0-is at c.in-Ok-Some.ensures.ok in meant c.args.words.now _ said
 
@@ -25,11 +28,17 @@ returns-in-Ok-Some-clause-played g c = λ play. let said = rw c.in-Ok-Some.field
 pub returns-in-Ok-Some-clause-silent : goal.returns-in-Ok-Some-clause-silent
 returns-in-Ok-Some-clause-silent g c = c.obey.ensures.silent
 
+pub returns-in-Ok-Some-clause-counted : goal.returns-in-Ok-Some-clause-counted
+returns-in-Ok-Some-clause-counted g c = c.obey.ensures.counted
+
 pub returns-in-Err-clause-ends : goal.returns-in-Err-clause-ends
 returns-in-Err-clause-ends g c = lacking _ _ _ c.in-Err.ensures.err refl refl refl refl
 
 pub returns-in-Err-clause-played : goal.returns-in-Err-clause-played
 returns-in-Err-clause-played g c = λ play. nothing-written _ _ _ refl
+
+pub returns-in-Err-clause-counted : goal.returns-in-Err-clause-counted
+returns-in-Err-clause-counted g c = λ other. refl
 
 pub returns-in-Ok-Some-clause-unread : goal.returns-in-Ok-Some-clause-unread
 returns-in-Ok-Some-clause-unread g c = λ none. let said = rw c.in-Ok-Some.field-0-is at c.in-Ok-Some.ensures.ok in c.obey.ensures.unread (subst (λ (command : Option Command). reads_input command ≡ false) (sym said) none)
