@@ -1,6 +1,7 @@
 //! A table with rows of rising numbers and moments.
 ghost use Rattle.std.specs.Prelude.{◌≡◌};
 
+use crate::same::same;
 use merge_conflict::{
     Conflict, ConflictKind, ConflictRow, ConflictRows, ConflictTable, Verdict, are_rising,
     losing_rows,
@@ -49,11 +50,12 @@ fn adds_in_two_calls_and_trims(rt: HostRuntime) -> Result<(), Fail> {
     }
     assert!(rt; are_rising(stored.as_slice()));
     let mut table = ConflictTable::restore(stored);
-    assert_eq!(rt; table.trim(Moment(10)), 0);
-    assert_eq!(rt; table.trim(Moment(11)), 1);
-    assert_eq!(rt;
-        numbers(rt.alloc(), table.rows())?.as_slice(),
-        [2].as_slice()
+    same(&rt, &table.trim(Moment(10)), &0);
+    same(&rt, &table.trim(Moment(11)), &1);
+    same(
+        &rt,
+        &numbers(rt.alloc(), table.rows())?.as_slice(),
+        &[2].as_slice(),
     );
     Ok(())
 }
@@ -66,17 +68,19 @@ fn adds(rt: HostRuntime) -> Result<(), Fail> {
     rows.push(row(rt.alloc(), 2, 10))?;
     rows.push(row(rt.alloc(), 3, 20))?;
     let plan = table.prepare(rows)?;
-    assert_eq!(rt;
-        numbers(rt.alloc(), table.rows())?.as_slice(),
-        [1].as_slice()
+    same(
+        &rt,
+        &numbers(rt.alloc(), table.rows())?.as_slice(),
+        &[1].as_slice(),
     );
     table.settle(plan);
-    assert_eq!(rt;
-        numbers(rt.alloc(), table.rows())?.as_slice(),
-        [1, 2, 3].as_slice()
+    same(
+        &rt,
+        &numbers(rt.alloc(), table.rows())?.as_slice(),
+        &[1, 2, 3].as_slice(),
     );
     for row in table.rows() {
-        assert_eq!(rt; row.clone()?.verdict, Verdict::Publisher);
+        same(&rt, &row.clone()?.verdict, &Verdict::Publisher);
     }
     Ok(())
 }
@@ -134,7 +138,11 @@ fn loser(alloc: Global, is_taken: bool) -> Result<ConflictRow, Fail> {
 fn losers_are_kept(rt: HostRuntime) -> Result<(), Fail> {
     for (is_taken, kind, from, verdict) in LOSERS {
         let row = loser(rt.alloc(), *is_taken)?;
-        assert_eq!(rt; (row.kind, row.from, row.verdict), (*kind, *from, *verdict));
+        same(
+            &rt,
+            &(row.kind, row.from, row.verdict),
+            &(*kind, *from, *verdict),
+        );
     }
     Ok(())
 }
@@ -145,11 +153,11 @@ fn both_lose_to_other_values(rt: HostRuntime) -> Result<(), Fail> {
     let ours = live(rt.alloc());
     let custom = Decision::Custom(Values::empty(rt.alloc()));
     let rows = losing_rows(rt.alloc(), &CONFLICT, &ours, &ours, &custom)?;
-    assert_eq!(rt; rows.len(), 2);
+    same(&rt, &rows.len(), &2);
     let told = [(5, SiteId(0)), (6, SiteId(7))];
     for (row, (number, from)) in rows.as_slice().iter().zip(&told) {
-        assert_eq!(rt; (row.number, row.from), (*number, *from));
-        assert_eq!(rt; row.kind, ConflictKind::RowUpdate);
+        same(&rt, &(row.number, row.from), &(*number, *from));
+        same(&rt, &row.kind, &ConflictKind::RowUpdate);
     }
     Ok(())
 }
@@ -157,5 +165,5 @@ fn both_lose_to_other_values(rt: HostRuntime) -> Result<(), Fail> {
 #[test]
 fn kinds_have_numbers(rt: HostRuntime) {
     let kind = ConflictKind::RowUpdate;
-    assert_eq!(rt; ConflictKind::of_number(kind.number()), Some(kind));
+    same(&rt, &ConflictKind::of_number(kind.number()), &Some(kind));
 }

@@ -1,6 +1,7 @@
 //! The happy path of each call, with figures from the rules.
 ghost use Rattle.std.specs.Prelude.{◌≡◌, IfOk};
 
+use crate::same::{same, same_in};
 use merge_gens::{
     Closing, Filling, GenerationAnswer, GenerationBook, GenerationChange, GenerationIndex,
     IndexChange, IndexEntry, expired, sort_rows,
@@ -181,16 +182,15 @@ fn closings_are_found_by_moment_and_generation(rt: HostRuntime) -> Result<(), Fa
         filled: 0,
     };
     let book = restored(rt.alloc(), filling, &[(1, 4), (2, 4), (3, 7), (4, 9)])?;
-    assert!(rt; book.never_falls());
     for (cutoff, last, count) in CUTOFFS {
         let told = (
             book.last_before(Moment(*cutoff)),
             book.count_before(Moment(*cutoff)),
         );
-        assert_eq!(rt; told, (*last, *count), "{cutoff}");
+        same_in(&rt, &told, &(*last, *count), &cutoff);
     }
     for (generation, moment) in CLOSED {
-        assert_eq!(rt; book.closed_at(*generation), *moment, "{generation}");
+        same_in(&rt, &book.closed_at(*generation), moment, &generation);
     }
     Ok(())
 }
@@ -239,7 +239,7 @@ const EXPIRIES: &[(u64, u64, u32, bool)] = &[
 #[test]
 fn a_site_expires_behind_the_retention(rt: HostRuntime) {
     for (last, now, days, expect) in EXPIRIES {
-        assert_eq!(rt; expired(Moment(*last), Moment(*now), *days), *expect);
+        same(&rt, &expired(Moment(*last), Moment(*now), *days), expect);
     }
 }
 
@@ -328,14 +328,14 @@ fn pass(
 }
 
 #[test]
-fn entries_are_taken_and_replaced(rt: HostRuntime) -> Result<(), Fail> {
+fn entries_are_replaced(rt: HostRuntime) -> Result<(), Fail> {
     let alloc = rt.alloc();
     let mut index = index(alloc, ENTRIES)?;
-    index.take(6, key((1, 8)));
+    pass(alloc, &mut index, (1, 8), 6, 7)?;
     assert!(rt; are_between(alloc, &index, (5, 6), &[(0, 9)])?);
     pass(alloc, &mut index, (0, 9), 6, 7)?;
     assert!(rt; are_between(alloc, &index, (5, 6), &[])?);
-    assert!(rt; are_between(alloc, &index, (6, 7), &[(0, 9)])?);
+    assert!(rt; are_between(alloc, &index, (6, 7), &[(0, 9), (1, 8)])?);
     Ok(())
 }
 

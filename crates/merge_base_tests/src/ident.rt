@@ -2,11 +2,12 @@ ghost use Rattle.std.specs.Prelude.{◌≡◌, ◌≤ℤ◌, pos, IfOk, IsSome};
 ghost use Rattle.merge_ident.specs.Answers.{rule_of};
 ghost use Rattle.merge_ident.specs.Holders.{HasValues};
 
+use crate::same::same;
 use merge_ident::{
     Answer, Ask, Grant, GrantAnswer, Holding, IdentityFault, IdentityUsedUp, Range, RangeBook,
-    Ranges, Rule, first_bad_grant,
+    Ranges, Rule, SeenGrants,
 };
-use merge_types::{Listing, SiteId};
+use merge_types::{Listing, NoMemory, SiteId};
 use std::alloc::{AllocError, Global};
 use std::process::Abort;
 use std::test::Fail;
@@ -75,7 +76,7 @@ fn grants_in_turn(rt: HostRuntime) -> Result<(), Fail> {
         ),
     ];
     for (site, have, due, answer) in turns {
-        assert_eq!(rt; book.grant(SiteId(site), 0, have, due), answer);
+        same(&rt, &book.grant(SiteId(site), 0, have, due), &answer);
     }
     let grants = [
         grant_of(1, 1, 1, 2),
@@ -83,10 +84,11 @@ fn grants_in_turn(rt: HostRuntime) -> Result<(), Fail> {
         grant_of(0, 1, 5, 6),
         grant_of(1, 3, 7, 8),
     ];
-    assert_eq!(rt; book.grants(), grants.as_slice());
-    assert_eq!(rt;
-        (book.granted(0, SiteId(1)), book.granted(0, SiteId(2))),
-        (3, 0)
+    same(&rt, &book.grants(), &grants.as_slice());
+    same(
+        &rt,
+        &(book.granted(0, SiteId(1)), book.granted(0, SiteId(2))),
+        &(3, 0),
     );
     for (site, value, granted) in [
         (1, 0, false),
@@ -97,7 +99,7 @@ fn grants_in_turn(rt: HostRuntime) -> Result<(), Fail> {
         (1, 7, true),
         (1, 9, false),
     ] {
-        assert_eq!(rt; book.has_granted(0, SiteId(site), value), granted);
+        same(&rt, &book.has_granted(0, SiteId(site), value), &granted);
     }
     assert!(rt; !book.has_granted(1, SiteId(1), 1));
     assert!(rt; book.has_rule(0));
@@ -108,16 +110,18 @@ fn grants_in_turn(rt: HostRuntime) -> Result<(), Fail> {
 #[test]
 fn ends_at_the_greatest_number(rt: HostRuntime) -> Result<(), Fail> {
     let mut book = book(rt.alloc(), i64::MAX - 1, i64::MAX)?;
-    assert_eq!(rt;
-        book.grant(SiteId(1), 0, 0, true),
-        granted(1, i64::MAX - 1, i64::MAX)
+    same(
+        &rt,
+        &book.grant(SiteId(1), 0, 0, true),
+        &granted(1, i64::MAX - 1, i64::MAX),
     );
-    assert_eq!(rt;
-        book.grant(SiteId(1), 0, 1, true),
-        Err(IdentityFault::NoRange {
+    same(
+        &rt,
+        &book.grant(SiteId(1), 0, 1, true),
+        &Err(IdentityFault::NoRange {
             next: 1 << 63,
             greatest: i64::MAX,
-        })
+        }),
     );
     Ok(())
 }
@@ -132,13 +136,13 @@ fn plans_the_asks_of_a_step(rt: HostRuntime) -> Result<(), Fail> {
         due: true,
     };
     let plans = book.prepare_all(&[ask, ask, Ask { have: 1, ..ask }])?;
-    assert_eq!(rt; book.grants().len(), 0);
+    same(&rt, &book.grants().len(), &0);
     let answers = [granted(1, 1, 2), kept(1, 1, 2), granted(2, 3, 4)];
     for (planned, answer) in plans.as_slice().iter().zip(answers) {
-        assert_eq!(rt; planned.answer, answer);
+        same(&rt, &planned.answer, &answer);
     }
     book.settle_all(plans.as_slice());
-    assert_eq!(rt; book.grants().len(), 2);
+    same(&rt, &book.grants().len(), &2);
     Ok(())
 }
 
@@ -155,13 +159,13 @@ fn only(value: i64) -> Range
 #[test]
 fn takes_what_was_received(rt: HostRuntime) -> Result<(), Fail> {
     let mut ranges = Ranges::new(80);
-    assert_eq!(rt; ranges.take(), Err(IdentityUsedUp { end: 0 }));
+    same(&rt, &ranges.take(), &Err(IdentityUsedUp { end: 0 }));
     ranges.receive(1, Range { begin: 1, end: 5 });
     assert!(rt; ranges.due());
     ranges.receive(2, only(i64::MAX));
     for value in [1, 2, 3, 4] {
         assert!(rt; !ranges.due());
-        assert_eq!(rt; ranges.take(), Ok(value));
+        same(&rt, &ranges.take(), &Ok(value));
     }
     assert!(rt; ranges.due());
     ranges.receive(3, only(i64::MIN));
@@ -171,10 +175,10 @@ fn takes_what_was_received(rt: HostRuntime) -> Result<(), Fail> {
         first: Some(only(i64::MAX)),
         second: Some(only(i64::MIN)),
     };
-    assert_eq!(rt; ranges.holding(), holding);
-    assert_eq!(rt; ranges.take(), Ok(i64::MAX));
-    assert_eq!(rt; ranges.take(), Ok(i64::MIN));
-    assert_eq!(rt; ranges.take(), Err(IdentityUsedUp { end: i64::MIN }));
+    same(&rt, &ranges.holding(), &holding);
+    same(&rt, &ranges.take(), &Ok(i64::MAX));
+    same(&rt, &ranges.take(), &Ok(i64::MIN));
+    same(&rt, &ranges.take(), &Err(IdentityUsedUp { end: i64::MIN }));
     Ok(())
 }
 
@@ -198,13 +202,13 @@ fn restores_what_was_kept(rt: HostRuntime) {
     let held = [Range { begin: 3, end: 4 }, Range { begin: 5, end: 6 }];
     let mut ranges = restored(&rt, 100, 3, 6, &held, 4);
     let mut after = ranges;
-    assert_eq!(rt; after.take(), Ok(4));
+    same(&rt, &after.take(), &Ok(4));
     after.receive(4, Range { begin: 9, end: 9 });
-    assert_eq!(rt; after.take(), Ok(5));
-    assert_eq!(rt; ranges.next(), Ok(4));
+    same(&rt, &after.take(), &Ok(5));
+    same(&rt, &ranges.next(), &Ok(4));
     ranges = after;
-    assert_eq!(rt; ranges.next(), Ok(6));
-    assert_eq!(rt; ranges.last_end(), 9);
+    same(&rt, &ranges.next(), &Ok(6));
+    same(&rt, &ranges.last_end(), &9);
 }
 
 // A start asks before it restores.
@@ -234,9 +238,21 @@ fn bears_the_widest_range(rt: HostRuntime) {
         (100, i64::MAX, false),
     ] {
         let ranges = restored(&rt, threshold, u64::MAX, 0, &held, next);
-        assert_eq!(rt; ranges.due(), due);
-        assert_eq!(rt; ranges.next(), Ok(next));
+        same(&rt, &ranges.due(), &due);
+        same(&rt, &ranges.next(), &Ok(next));
     }
+}
+
+// The place of the first grant that cannot follow those before it, as a start seeks it.
+fn first_bad(alloc: Global, grants: &[Grant]) -> Result<Option<usize>, NoMemory> {
+    let mut seen = SeenGrants::new(alloc);
+    for (at, grant) in grants.iter().enumerate() {
+        if !seen.can_follow(*grant) {
+            return Ok(Some(at));
+        }
+        seen.add(*grant)?;
+    }
+    Ok(None)
 }
 
 // The first grant is told that breaks what a book's grants have, with those before it.
@@ -248,7 +264,7 @@ fn the_first_bad_grant_is_told(rt: HostRuntime) {
         grant_of(1, 2, 3, 4),
         grant_of(1, 3, 7, 8),
     ];
-    assert_eq!(rt; first_bad_grant(rt.alloc(), &good), Ok(None));
+    same(&rt, &first_bad(rt.alloc(), &good), &Ok(None));
     for (bad, place) in [
         ([grant_of(0, 1, 5, 6), grant_of(1, 1, 6, 7)], 1),
         ([grant_of(1, 1, 5, 6), grant_of(1, 2, 1, 2)], 1),
@@ -257,6 +273,6 @@ fn the_first_bad_grant_is_told(rt: HostRuntime) {
         ([grant_of(1, 1, 6, 5), grant_of(1, 2, 7, 8)], 0),
         ([grant_of(1, 1, 0, 5), grant_of(1, 2, 7, 8)], 0),
     ] {
-        assert_eq!(rt; first_bad_grant(rt.alloc(), &bad), Ok(Some(place)));
+        same(&rt, &first_bad(rt.alloc(), &bad), &Ok(Some(place)));
     }
 }

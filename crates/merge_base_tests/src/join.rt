@@ -1,4 +1,5 @@
 //! The happy path of each call.
+use crate::same::same;
 use merge_join::{JoinChange, JoinEntry, JoinIndex};
 use merge_table::Edit;
 use merge_types::{NoMemory, RowId, Value, Words};
@@ -42,7 +43,7 @@ fn children_stand_by_row(rt: HostRuntime) -> Result<(), Fail> {
     index.insert(entry(2, Value::Int(10), 5))?;
     let found = children(alloc, &index, 1, &Value::Int(10))?;
     assert!(rt; found.as_slice() == [RowId(3), RowId(7)].as_slice());
-    assert_eq!(rt; index.len(), 3);
+    same(&rt, &index.len(), &3);
     assert!(rt; index.iter().next().is_some());
     Ok(())
 }
@@ -55,7 +56,7 @@ fn removed_children_are_gone(rt: HostRuntime) -> Result<(), Fail> {
     index.insert(entry(1, Value::Bit(true), 6))?;
     index.remove(&entry(1, Value::Bit(true), 6));
     index.remove(&entry(1, Value::Bit(true), 6));
-    assert_eq!(rt; index.len(), 0);
+    same(&rt, &index.len(), &0);
     Ok(())
 }
 
@@ -82,8 +83,8 @@ fn changes_are_prepared_and_settled(rt: HostRuntime) -> Result<(), Fail> {
     changes.push(Edit::Take(entry(1, Value::Int(10), 3)))?;
     changes.push(Edit::Put(entry(1, Value::Int(11), 3), ()))?;
     index.prepare(changes.as_slice())?;
-    assert_eq!(rt; index.len(), 1);
+    same(&rt, &index.len(), &1);
     index.settle(changes);
-    assert_eq!(rt; index.len(), 2);
+    same(&rt, &index.len(), &2);
     Ok(())
 }

@@ -16,6 +16,8 @@ mod link;
 #[cfg(test)]
 mod ports;
 #[cfg(test)]
+mod same;
+#[cfg(test)]
 mod script;
 #[cfg(test)]
 mod table;

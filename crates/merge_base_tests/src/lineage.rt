@@ -1,4 +1,5 @@
 //! Lineages of a few sites, with the answers that the rules give.
+use crate::same::same;
 use merge_lineage::{Lineage, Order4, are_ascending};
 use merge_types::{Dot, SiteId};
 use std::alloc::Global;
@@ -57,13 +58,14 @@ fn knows_what_it_advanced_to(rt: HostRuntime) -> Result<(), Fail> {
     assert!(rt; seen.knows(dot(1, 3)));
     assert!(rt; !seen.knows(dot(0, 3)));
     assert!(rt; !seen.knows(dot(2, 1)));
-    assert_eq!(rt; seen.number_of(SiteId(1)), 5);
-    assert_eq!(rt; seen.number_of(SiteId(2)), 0);
+    same(&rt, &seen.number_of(SiteId(1)), &5);
+    same(&rt, &seen.number_of(SiteId(2)), &0);
     assert!(rt; seen.covers(&lineage(&rt, rt.alloc(), &[(1, 5)])?));
     assert!(rt; !seen.covers(&lineage(&rt, rt.alloc(), &[(1, 6)])?));
-    assert_eq!(rt;
-        seen.clone()?.into_vec().as_slice(),
-        [dot(0, 2), dot(1, 5)].as_slice()
+    same(
+        &rt,
+        &seen.clone()?.into_vec().as_slice(),
+        &[dot(0, 2), dot(1, 5)].as_slice(),
     );
     Ok(())
 }

@@ -1,3 +1,4 @@
+use crate::same::same;
 use merge_link::{Clock, Link, LinkFault, MemoryClock, MemoryLink};
 use merge_types::{Listing, Moment, Octets};
 use std::alloc::Global;
@@ -20,14 +21,14 @@ fn a_link_gives_its_responses_and_keeps_what_was_asked(rt: HostRuntime) -> Resul
     let asked = [(b"a".as_slice(), b"one".as_slice()), (b"b", b"two")];
     for (request, response) in asked {
         let given = link.ask(request)?;
-        assert_eq!(rt; given.as_slice(), response);
+        same(&rt, &given.as_slice(), &response);
     }
-    assert_eq!(rt; link.ask(b"c").err(), Some(LinkFault::Failed));
-    assert_eq!(rt; link.faults(), 1);
-    assert_eq!(rt; link.exchanges.len(), 2);
+    same(&rt, &link.ask(b"c").err(), &Some(LinkFault::Failed));
+    same(&rt, &link.faults(), &1);
+    same(&rt, &link.exchanges.len(), &2);
     for (exchange, (request, response)) in link.exchanges.iter().zip(asked) {
-        assert_eq!(rt; exchange.request.as_slice(), request);
-        assert_eq!(rt; exchange.response.as_slice(), response);
+        same(&rt, &exchange.request.as_slice(), &request);
+        same(&rt, &exchange.response.as_slice(), &response);
     }
     Ok(())
 }
@@ -35,10 +36,10 @@ fn a_link_gives_its_responses_and_keeps_what_was_asked(rt: HostRuntime) -> Resul
 #[test]
 fn a_failing_call_takes_no_response(rt: HostRuntime) -> Result<(), Fail> {
     let mut link = link(rt.alloc(), &[0])?;
-    assert_eq!(rt; link.ask(b"a").err(), Some(LinkFault::Failed));
-    assert_eq!(rt; (link.faults(), link.exchanges.len()), (1, 0));
+    same(&rt, &link.ask(b"a").err(), &Some(LinkFault::Failed));
+    same(&rt, &(link.faults(), link.exchanges.len()), &(1, 0));
     let given = link.ask(b"a")?;
-    assert_eq!(rt; given.as_slice(), b"one".as_slice());
+    same(&rt, &given.as_slice(), &b"one".as_slice());
     Ok(())
 }
 
@@ -47,9 +48,9 @@ fn a_clock_stays_at_its_last_moment(rt: HostRuntime) -> Result<(), Fail> {
     let moments = [Moment(5), Moment(3)];
     let mut clock = MemoryClock::new(Listing::new(moments.to_vec(rt.alloc())?));
     for moment in [5, 3, 3] {
-        assert_eq!(rt; clock.now(), Moment(moment));
+        same(&rt, &clock.now(), &Moment(moment));
     }
     let mut clock = MemoryClock::new(Listing::empty(rt.alloc()));
-    assert_eq!(rt; clock.now(), Moment(0));
+    same(&rt, &clock.now(), &Moment(0));
     Ok(())
 }

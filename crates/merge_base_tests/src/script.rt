@@ -1,3 +1,4 @@
+use crate::same::same;
 use merge_script::{cut_input, cut_line, is_name, is_quiet, is_text, read_decimal, split_words};
 use std::test::Fail;
 
@@ -19,8 +20,8 @@ fn cuts_the_input(rt: HostRuntime) {
     ];
     for (input, publication, script) in table {
         let (front, behind) = cut_input(input);
-        assert_eq!(rt; front, publication);
-        assert_eq!(rt; behind, script);
+        same(&rt, &front, &publication);
+        same(&rt, &behind, &script);
     }
 }
 
@@ -36,8 +37,8 @@ fn cuts_lines(rt: HostRuntime) {
     for (text, line, rest) in table {
         assert!(rt; !text.is_empty());
         let (first, behind) = cut_line(text);
-        assert_eq!(rt; first, line);
-        assert_eq!(rt; behind, rest);
+        same(&rt, &first, &line);
+        same(&rt, &behind, &rest);
     }
 }
 
@@ -59,7 +60,7 @@ fn splits_words(rt: HostRuntime) -> Result<(), Fail> {
     ];
     for (line, words) in table {
         let split = split_words(rt.alloc(), line)?;
-        assert_eq!(rt; split.as_slice(), words);
+        same(&rt, &split.as_slice(), &words);
     }
     Ok(())
 }
@@ -73,7 +74,7 @@ fn tells_lines_and_words(rt: HostRuntime) {
         (b"a # note", false),
         (b"# \xff", false),
     ] {
-        assert_eq!(rt; is_quiet(line), quiet);
+        same(&rt, &is_quiet(line), &quiet);
     }
     assert!(rt; is_text(b"\xc3\xa9"));
     assert!(rt; !is_text(b"\xff"));
@@ -85,7 +86,7 @@ fn tells_lines_and_words(rt: HostRuntime) {
         (&[b'a'; 64], true),
         (&[b'a'; 65], false),
     ] {
-        assert_eq!(rt; is_name(word), name);
+        same(&rt, &is_name(word), &name);
     }
     for (word, number) in [
         (b"".as_slice(), None),
@@ -97,6 +98,6 @@ fn tells_lines_and_words(rt: HostRuntime) {
         (b"18446744073709551615", Some(18_446_744_073_709_551_615)),
         (b"18446744073709551616", None),
     ] {
-        assert_eq!(rt; read_decimal(word), number);
+        same(&rt, &read_decimal(word), &number);
     }
 }

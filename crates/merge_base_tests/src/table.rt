@@ -1,3 +1,4 @@
+use crate::same::same;
 use merge_table::{Edit, RowTest, Rows, Table};
 use merge_types::{Octets, RowId, RowKey, Value};
 use std::alloc::{AllocError, Global};
@@ -28,29 +29,29 @@ fn a_row_goes_into_room(rt: HostRuntime) -> Result<(), Fail> {
     assert!(rt; !table.has_room(&(1, 7)));
     table.make_room((1, 7))?;
     table.make_room((1, 7))?;
-    assert_eq!(rt; (table.len(), table.spare()), (0, 1));
-    assert_eq!(rt; table.put(&(1, 7), 30), None);
-    assert_eq!(rt; table.put(&(1, 7), 31), Some(30));
-    assert_eq!(rt; (table.len(), table.spare()), (1, 0));
+    same(&rt, &(table.len(), table.spare()), &(0, 1));
+    same(&rt, &table.put(&(1, 7), 30), &None);
+    same(&rt, &table.put(&(1, 7), 31), &Some(30));
+    same(&rt, &(table.len(), table.spare()), &(1, 0));
     Ok(())
 }
 
 #[test]
 fn a_row_that_is_taken_leaves_room(rt: HostRuntime) -> Result<(), Fail> {
     let mut table = stock(rt.alloc(), &[((1, 7), 31)])?;
-    assert_eq!(rt; table.get(&(1, 7)).copied(), Some(31));
-    assert_eq!(rt; table.take(&(1, 7)), Some(31));
-    assert_eq!(rt; table.take(&(1, 7)), None);
-    assert_eq!(rt; (table.len(), table.spare()), (0, 1));
+    same(&rt, &table.get(&(1, 7)).copied(), &Some(31));
+    same(&rt, &table.take(&(1, 7)), &Some(31));
+    same(&rt, &table.take(&(1, 7)), &None);
+    same(&rt, &(table.len(), table.spare()), &(0, 1));
     Ok(())
 }
 
 #[test]
 fn a_row_that_is_removed_leaves_none(rt: HostRuntime) -> Result<(), Fail> {
     let mut table = stock(rt.alloc(), &[((1, 7), 32)])?;
-    assert_eq!(rt; table.remove(&(1, 7)), Some(32));
+    same(&rt, &table.remove(&(1, 7)), &Some(32));
     assert!(rt; table.get(&(1, 7)).is_none());
-    assert_eq!(rt; (table.len(), table.spare()), (0, 0));
+    same(&rt, &(table.len(), table.spare()), &(0, 0));
     Ok(())
 }
 
@@ -59,17 +60,18 @@ fn walks_are_in_order_and_pass_room_by(rt: HostRuntime) -> Result<(), Fail> {
     let mut table = stock(rt.alloc(), &[((2, 1), 21), ((1, 9), 19), ((1, 4), 14)])?;
     table.make_room((1, 6))?;
     let all = listed(rt.alloc(), table.iter())?;
-    assert_eq!(rt;
-        all.as_slice(),
-        [((1, 4), 14), ((1, 9), 19), ((2, 1), 21)].as_slice()
+    same(
+        &rt,
+        &all.as_slice(),
+        &[((1, 4), 14), ((1, 9), 19), ((2, 1), 21)].as_slice(),
     );
     let part = listed(rt.alloc(), table.range((1, 5)..(2, 1)))?;
-    assert_eq!(rt; part.as_slice(), [((1, 9), 19)].as_slice());
+    same(&rt, &part.as_slice(), &[((1, 9), 19)].as_slice());
     let last = table
         .iter()
         .next_back()
         .map(|(place, count)| (*place, *count));
-    assert_eq!(rt; last, Some(((2, 1), 21)));
+    same(&rt, &last, &Some(((2, 1), 21)));
     Ok(())
 }
 
@@ -83,13 +85,13 @@ fn a_step_makes_its_changes_in_order(rt: HostRuntime) -> Result<(), Fail> {
         Edit::Take((3, 0)),
     ]?;
     table.prepare(step.as_slice())?;
-    assert_eq!(rt; (table.len(), table.spare()), (2, 1));
+    same(&rt, &(table.len(), table.spare()), &(2, 1));
     table.apply(step);
     let rows = listed(rt.alloc(), table.iter())?;
-    assert_eq!(rt; rows.as_slice(), [((1, 9), 20)].as_slice());
-    assert_eq!(rt; table.spare(), 2);
+    same(&rt, &rows.as_slice(), &[((1, 9), 20)].as_slice());
+    same(&rt, &table.spare(), &2);
     table.sweep();
-    assert_eq!(rt; (table.len(), table.spare()), (1, 0));
+    same(&rt, &(table.len(), table.spare()), &(1, 0));
     Ok(())
 }
 
@@ -114,11 +116,11 @@ fn rows_that_fail_a_test_are_taken(rt: HostRuntime) -> Result<(), Fail> {
     )?;
     assert!(rt; !table.is_empty());
     let takes = table.takes(rt.alloc(), &Even)?;
-    assert_eq!(rt; takes.len(), 3);
+    same(&rt, &takes.len(), &3);
     table.apply_and_sweep(takes);
     let rows = listed(rt.alloc(), table.iter())?;
-    assert_eq!(rt; rows.as_slice(), [((1, 4), 14)].as_slice());
-    assert_eq!(rt; table.spare(), 0);
+    same(&rt, &rows.as_slice(), &[((1, 4), 14)].as_slice());
+    same(&rt, &table.spare(), &0);
     Ok(())
 }
 
@@ -137,7 +139,7 @@ fn a_copy_has_the_same_rows_and_room(rt: HostRuntime) -> Result<(), Fail> {
         row: RowId(1),
     })?;
     let copy = table.clone()?;
-    assert_eq!(rt; (copy.len(), copy.spare()), (1, 1));
+    same(&rt, &(copy.len(), copy.spare()), &(1, 1));
     let key = RowKey {
         article: 1,
         row: RowId(5),
@@ -152,11 +154,11 @@ fn values_and_lists_are_keys(rt: HostRuntime) -> Result<(), Fail> {
     table.insert(Value::Int(7), 1)?;
     table.insert(Value::Bytes(Octets::new(vec![in rt.alloc(); 1, 2]?)), 2)?;
     table.insert(Value::Int(-7), 3)?;
-    assert_eq!(rt; table.get(&Value::Int(7)).copied(), Some(1));
-    assert_eq!(rt; table.iter().next().map(|(_, count)| *count), Some(3));
+    same(&rt, &table.get(&Value::Int(7)).copied(), &Some(1));
+    same(&rt, &table.iter().next().map(|(_, count)| *count), &Some(3));
     let mut lists: Table<Octets, u32> = Table::new(rt.alloc());
     lists.insert(Octets::new(vec![in rt.alloc(); 1, 2]?), 5)?;
     let key = Octets::new(vec![in rt.alloc(); 1, 2]?);
-    assert_eq!(rt; lists.get(&key).copied(), Some(5));
+    same(&rt, &lists.get(&key).copied(), &Some(5));
     Ok(())
 }

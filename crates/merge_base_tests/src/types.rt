@@ -1,4 +1,5 @@
 //! Literals at their edges, by the formats' own words.
+use crate::same::{same, same_in};
 use merge_types::limits::{LAST_DAY, VALUE_LIMIT};
 use merge_types::{ColumnType, Octets, RowId, Value, Values, Words, is_name};
 use std::test::Fail;
@@ -48,7 +49,7 @@ fn literals_print_again(rt: HostRuntime) -> Result<(), Fail> {
         ),
     ] {
         let printed = again(&rt, text)?;
-        assert_eq!(rt; printed.as_str(), want, "at {text}");
+        same_in(&rt, &printed.as_str(), &want, &text);
     }
     Ok(())
 }
@@ -88,7 +89,7 @@ fn other_texts_are_no_literals(rt: HostRuntime) -> Result<(), Fail> {
         "{00000000-0000-8000-8000-000000000001}",
     ] {
         let printed = again(&rt, text)?;
-        assert_eq!(rt; printed.as_str(), "-", "at {text}");
+        same_in(&rt, &printed.as_str(), &"-", &text);
     }
     Ok(())
 }
@@ -121,7 +122,7 @@ fn rows_have_two_texts(rt: HostRuntime) -> Result<(), Fail> {
             Some(row) => row.text(rt.alloc()).ok().ok_or("no memory")?.into_string(),
             None => String::from_str(rt.alloc(), "-")?,
         };
-        assert_eq!(rt; printed.as_str(), want, "at {text}");
+        same_in(&rt, &printed.as_str(), &want, &text);
     }
     Ok(())
 }
@@ -142,12 +143,12 @@ fn values_have_stored_lengths(rt: HostRuntime) -> Result<(), Fail> {
             .ok()
             .ok_or("no memory")?
             .ok_or("none")?;
-        assert_eq!(rt; value.stored_len(), length, "at {text}");
-        assert_eq!(rt; value.weight(), weight, "at {text}");
+        same_in(&rt, &value.stored_len(), &length, &text);
+        same_in(&rt, &value.weight(), &weight, &text);
         row.push(value).ok().ok_or("no memory")?;
     }
-    assert_eq!(rt; row.stored_len(), 45);
-    assert_eq!(rt; row.weight(), 44);
+    same(&rt, &row.stored_len(), &45);
+    same(&rt, &row.weight(), &44);
     Ok(())
 }
 
@@ -167,10 +168,11 @@ fn values_fit_columns_of_their_type(rt: HostRuntime) -> Result<(), Fail> {
             .ok_or("none")?;
         assert!(rt; value.fits(ty), "at {text}");
         assert!(rt; Value::Null.fits(ty), "Null at {text}");
-        assert_eq!(rt;
-            value.fits(ColumnType::Day),
-            ty == ColumnType::Day,
-            "at {text}"
+        same_in(
+            &rt,
+            &value.fits(ColumnType::Day),
+            &(ty == ColumnType::Day),
+            &text,
         );
     }
     Ok(())
@@ -183,8 +185,8 @@ fn days_and_bytes_fit_up_to_their_limits(rt: HostRuntime) -> Result<(), Fail> {
     for (len, want) in [(VALUE_LIMIT, true), (VALUE_LIMIT + 1, false)] {
         let bytes = vec![in rt.alloc(); 7; len]?;
         let value = Value::Bytes(Octets::new(bytes));
-        assert_eq!(rt; value.content_len(), len);
-        assert_eq!(rt; value.fits(ColumnType::Bytes), want, "at {len}");
+        same(&rt, &value.content_len(), &len);
+        same_in(&rt, &value.fits(ColumnType::Bytes), &want, &len);
     }
     Ok(())
 }
@@ -195,13 +197,13 @@ fn lists_and_texts_have_an_order(rt: HostRuntime) -> Result<(), Fail> {
     let long = Octets::new(vec![in rt.alloc(); 1, 2, 0]?);
     let high = Octets::new(vec![in rt.alloc(); 1, 3]?);
     assert!(rt; short < long && long < high && !short.is_empty());
-    assert_eq!(rt; long.iter().count(), 3);
+    same(&rt, &long.iter().count(), &3);
     let words = Words::of(rt.alloc(), "a\u{e9}").ok().ok_or("no memory")?;
     let more = Words::of(rt.alloc(), "b").ok().ok_or("no memory")?;
     assert!(rt; words < more && !words.is_empty());
     assert!(rt; Value::Null < Value::Int(9) && Value::Int(9) < Value::Bit(false));
     let shown = format!(in rt.alloc(); "{words}")?;
-    assert_eq!(rt; shown.as_str(), "a\u{e9}");
+    same(&rt, &shown.as_str(), &"a\u{e9}");
     Ok(())
 }
 
@@ -221,7 +223,7 @@ fn notes_show_names_bare_and_other_texts_in_quotes(rt: HostRuntime) -> Result<()
         let words = Words::of(rt.alloc(), text).ok().ok_or("no memory")?;
         let shown = words.shown();
         let told = format!(in rt.alloc(); "{shown}")?;
-        assert_eq!(rt; told.as_str(), want);
+        same(&rt, &told.as_str(), &want);
         let printed = Value::Text(words).text(rt.alloc()).ok().ok_or("no memory")?;
         assert!(rt; is_name(text.as_bytes()) || printed.as_str() == want);
     }

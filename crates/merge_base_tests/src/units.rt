@@ -1,10 +1,11 @@
 //! Versions of rows, with the cases and results that the rules give.
+use crate::same::same;
 use merge_lineage::{Lineage, are_ascending};
 use merge_types::{Dot, Octets, Setting, SiteId, Tracking, Value, Values};
 use merge_units::{
     Body, Case, Cell, Cells, Decision, Side, Version, apply, can_change, change, classify,
-    fits_bodies, fits_decision, have_equal_counts, insert, is_new_where_decided, remove,
-    stored_length,
+    fits_bodies, fits_decision, fits_tracking, have_equal_counts, insert, is_new_where_decided,
+    remove, stored_length,
 };
 use std::alloc::Global;
 use std::test::Fail;
@@ -482,7 +483,8 @@ fn row_cells(alloc: Global) -> Result<Cells, Fail> {
 #[test]
 fn with_row_tracking_one_cell_has_all(rt: HostRuntime) -> Result<(), Fail> {
     let cells = row_cells(rt.alloc())?;
-    assert_eq!(rt; stored_length(cells.as_slice()), 10);
+    same(&rt, &stored_length(cells.as_slice()), &10);
+    assert!(rt; fits_tracking(cells.as_slice(), Tracking::Row));
     let after = update(rt.alloc(), cells, &[setting(1, 7)], Tracking::Row)?;
     assert!(rt; is_row(&after, NEXT, (4, 7)));
     Ok(())

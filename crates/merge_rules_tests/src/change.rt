@@ -6,6 +6,7 @@ ghost use Rattle.merge_batch.specs.Articles.{has_article};
 ghost use Rattle.merge_batch.specs.LocalChanges.{article_of, settings_of};
 ghost use Rattle.merge_change.specs.Allowed.{CanBeAsked, FitsHeld};
 
+use crate::same::same;
 use merge_batch::Refusal;
 use merge_change::{Making, check_change, check_counters, key_of, version_after};
 use merge_schema::{Publication, read};
@@ -202,17 +203,21 @@ fn no_row_is_deleted(rt: HostRuntime) -> Result<(), Fail> {
         article: ITEM,
         row: RowId(1),
     };
-    assert_eq!(rt; refusal(&publication, &delete, 0)?, Some(Refusal::NoRow));
+    same(
+        &rt,
+        &refusal(&publication, &delete, 0)?,
+        &Some(Refusal::NoRow),
+    );
     Ok(())
 }
 
 #[test]
 fn counters_end(rt: HostRuntime) -> Result<(), Fail> {
     let end = 1 << 61;
-    assert_eq!(rt; check_counters(&[end - 1, 0]).is_ok(), true);
+    same(&rt, &check_counters(&[end - 1, 0]).is_ok(), &true);
     match check_counters(&[3, end, end + 5]) {
-        Ok(()) => assert_eq!(rt; true, false),
-        Err(refusal) => assert_eq!(rt; refusal, Refusal::CounterEnd { value: end + 5 }),
+        Ok(()) => same(&rt, &true, &false),
+        Err(refusal) => same(&rt, &refusal, &Refusal::CounterEnd { value: end + 5 }),
     }
     Ok(())
 }
@@ -229,7 +234,7 @@ fn rows_of_changes(rt: HostRuntime) -> Result<(), Fail> {
         article: ITEM,
         row: RowId(0x1_8000_8000_0000_0000_0001),
     };
-    assert_eq!(rt; key_of(FIRST, &change), made);
+    same(&rt, &key_of(FIRST, &change), &made);
     let other = RowKey {
         article: TICKET,
         row: RowId(1),
@@ -238,6 +243,6 @@ fn rows_of_changes(rt: HostRuntime) -> Result<(), Fail> {
         article: other.article,
         row: other.row,
     };
-    assert_eq!(rt; key_of(FIRST, &delete), other);
+    same(&rt, &key_of(FIRST, &delete), &other);
     Ok(())
 }

@@ -1,6 +1,7 @@
 //! Texts with their answers, and truth tables.
 ghost use Rattle.std.specs.Prelude.{◌≡◌, ◌≤◌};
 
+use crate::same::{same, same_in};
 use merge_filter::{FilterFault, Truth, eval, parse};
 use merge_types::{Column, ColumnType, HostName, NoMemory, Octets, Steps, Value, Words};
 use std::alloc::Global;
@@ -258,7 +259,7 @@ const TOO_DEEP: [&str; 3] = [
 fn too_deep(rt: HostRuntime) -> Result<(), Fail> {
     for text in TOO_DEEP {
         let fault = fault_of(rt.alloc(), text)?;
-        assert_eq!(rt; fault, Some(FilterFault::TooDeep), "{text}");
+        same_in(&rt, &fault, &Some(FilterFault::TooDeep), &text);
     }
     Ok(())
 }
@@ -267,7 +268,7 @@ fn too_deep(rt: HostRuntime) -> Result<(), Fail> {
 fn bad_tokens(rt: HostRuntime) -> Result<(), Fail> {
     for (place, text) in BAD_TOKENS {
         let fault = fault_of(rt.alloc(), text)?;
-        assert_eq!(rt; fault, Some(FilterFault::BadToken { place }), "{text}");
+        same_in(&rt, &fault, &Some(FilterFault::BadToken { place }), &text);
     }
     Ok(())
 }
@@ -276,7 +277,7 @@ fn bad_tokens(rt: HostRuntime) -> Result<(), Fail> {
 fn bad_forms(rt: HostRuntime) -> Result<(), Fail> {
     for (place, text) in BAD_FORMS {
         let fault = fault_of(rt.alloc(), text)?;
-        assert_eq!(rt; fault, Some(FilterFault::BadForm { place }), "{text}");
+        same_in(&rt, &fault, &Some(FilterFault::BadForm { place }), &text);
     }
     Ok(())
 }
@@ -285,7 +286,12 @@ fn bad_forms(rt: HostRuntime) -> Result<(), Fail> {
 fn unknown_columns(rt: HostRuntime) -> Result<(), Fail> {
     for (place, text) in UNKNOWN_COLUMNS {
         let fault = fault_of(rt.alloc(), text)?;
-        assert_eq!(rt; fault, Some(FilterFault::UnknownColumn { place }), "{text}");
+        same_in(
+            &rt,
+            &fault,
+            &Some(FilterFault::UnknownColumn { place }),
+            &text,
+        );
     }
     Ok(())
 }
@@ -294,7 +300,12 @@ fn unknown_columns(rt: HostRuntime) -> Result<(), Fail> {
 fn type_mismatches(rt: HostRuntime) -> Result<(), Fail> {
     for (place, text) in TYPE_MISMATCHES {
         let fault = fault_of(rt.alloc(), text)?;
-        assert_eq!(rt; fault, Some(FilterFault::TypeMismatch { place }), "{text}");
+        same_in(
+            &rt,
+            &fault,
+            &Some(FilterFault::TypeMismatch { place }),
+            &text,
+        );
     }
     Ok(())
 }
@@ -303,7 +314,7 @@ fn type_mismatches(rt: HostRuntime) -> Result<(), Fail> {
 fn filters(rt: HostRuntime) -> Result<(), Fail> {
     for text in FILTERS {
         let fault = fault_of(rt.alloc(), text)?;
-        assert_eq!(rt; fault, None, "{text}");
+        same_in(&rt, &fault, &None, &text);
     }
     Ok(())
 }
@@ -385,7 +396,7 @@ const TRUTHS: [(Truth, &str); 26] = [
 fn truths(rt: HostRuntime) -> Result<(), Fail> {
     for (truth, text) in TRUTHS {
         let answer = truth_of(rt.alloc(), text)?;
-        assert_eq!(rt; answer, Some(truth), "{text}");
+        same_in(&rt, &answer, &Some(truth), &text);
     }
     Ok(())
 }
@@ -400,8 +411,8 @@ fn faults_have_numbers(rt: HostRuntime) -> Result<(), Fail> {
         (5, "((((((((((((((((((((((((((((((((((qty"),
     ] {
         let fault = fault_of(rt.alloc(), text)?.ok_or("no fault")?;
-        assert_eq!(rt; fault.number(), Some(number), "{text}");
+        same_in(&rt, &fault.number(), &Some(number), &text);
     }
-    assert_eq!(rt; FilterFault::NoMemory.number(), None);
+    same(&rt, &FilterFault::NoMemory.number(), &None);
     Ok(())
 }

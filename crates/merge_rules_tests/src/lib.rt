@@ -16,4 +16,6 @@ mod report;
 #[cfg(test)]
 mod resolve;
 #[cfg(test)]
+mod same;
+#[cfg(test)]
 mod schema;

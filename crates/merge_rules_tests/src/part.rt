@@ -3,6 +3,7 @@ mod slow;
 mod trial;
 mod worked;
 
+use crate::same::same_in;
 use std::test::Fail;
 use trial::Cell::{Int, Null, Text};
 use trial::{Line, agreeing};
@@ -160,7 +161,7 @@ const SCRIPTS: &[(&str, &[&[Line]])] = &[
 fn the_membership_agrees_with_the_slow_program(rt: HostRuntime) -> Result<(), Fail> {
     for (shows, script) in SCRIPTS {
         let steps = agreeing(rt.alloc(), SHOP.as_bytes(), script)?;
-        assert_eq!(rt; steps, script.len(), "{shows}");
+        same_in(&rt, &steps, &script.len(), &shows);
     }
     Ok(())
 }

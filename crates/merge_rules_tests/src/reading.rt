@@ -1,3 +1,4 @@
+use crate::same::same;
 use merge_model::{Event, Line, NamedValues};
 use merge_reading::read_line;
 use merge_types::{RowId, SiteId, Value};
@@ -41,7 +42,7 @@ fn each_event_is_read(rt: HostRuntime) -> Result<(), Fail> {
         (b" \t ", "Quiet"),
         (b"  # wait 1", "Quiet"),
     ] {
-        assert_eq!(rt; said(rt.alloc(), line)?.as_str(), want);
+        same(&rt, &said(rt.alloc(), line)?.as_str(), &want);
     }
     Ok(())
 }
@@ -126,7 +127,7 @@ fn the_first_wrong_word_is_told(rt: HostRuntime) -> Result<(), Fail> {
         (b"purge 0", "NoEvent(2)"),
         (b"\xff", "NoEvent(0)"),
     ] {
-        assert_eq!(rt; said(rt.alloc(), line)?.as_str(), want);
+        same(&rt, &said(rt.alloc(), line)?.as_str(), &want);
     }
     Ok(())
 }

@@ -2,6 +2,7 @@
 ghost use Rattle.std.specs.Prelude.{IfOk};
 ghost use Rattle.merge_model.specs.Script.Proper.{AreProper, IsProperAnswer, IsProperBody};
 
+use crate::same::same;
 use merge_batch::Refusal;
 use merge_conflict::{ConflictKind, ConflictRow, Verdict};
 use merge_gens::{Filling, Marks, SiteState};
@@ -340,6 +341,6 @@ fn all_answers(rt: HostRuntime) -> Result<(), Fail> {
     let alloc = rt.alloc();
     let answers = [Answer::Fine, Answer::Sent(1)];
     let text = texts_of(alloc, &publication(alloc)?, answers.as_slice())?;
-    assert_eq!(rt; text.as_str(), "ok\nmessage 1\n");
+    same(&rt, &text.as_str(), &"ok\nmessage 1\n");
     Ok(())
 }

@@ -2,10 +2,11 @@
 ghost use Rattle.std.specs.Prelude.{◌≡◌, ◌≤◌, IfOk, length};
 ghost use Rattle.merge_resolve.specs.Questions.{sides_of_case};
 
+use crate::same::{same, same_in};
 use merge_lineage::Lineage;
 use merge_resolve::{
-    Additive, CaseKind, ColumnTypes, ConflictCase, Handed, Maximum, Meeting, Minimum, Places,
-    Priority, Question, Resolver, ResolverChoice, SubscriberWins, ask_all, counted_decision,
+    Additive, CaseKind, ConflictCase, Handed, Maximum, Meeting, Minimum, Places, Priority,
+    Question, Resolver, ResolverChoice, SubscriberWins, ask_at, counted_decision,
     incoming_priority, publisher_priority,
 };
 use merge_schema::{Article, Publication, Subscription, SubscriptionKind, Tracking};
@@ -318,18 +319,6 @@ impl Resolver for Turncoat {
     }
 }
 
-fn question(alloc: Global, place: u8) -> Result<Question, Fail>
-    ensures { IfOk result (λ question. question.place ≡ place) }
-{
-    Ok(Question {
-        place,
-        case: case(alloc, &PLAIN)?,
-        sides: Sides::empty(alloc),
-        types: ColumnTypes::empty(alloc),
-        identity: None,
-    })
-}
-
 // Priority, and behind it the one that changes its mind.
 fn handed(alloc: Global) -> Result<Vec<Handed>, Fail> {
     let mut resolvers: Vec<Handed> = Vec::new(alloc);
@@ -348,12 +337,9 @@ fn is_told(
     if place as usize >= resolvers.len() {
         return Ok(false);
     }
-    let questions = [question(alloc, place)?];
-    let decisions = ask_all(alloc, resolvers, &questions)?;
-    match decisions.as_slice() {
-        [decision] => Ok(is_expected(decision, told, &PLAIN)),
-        _ => Ok(false),
-    }
+    let asked = case(alloc, &PLAIN)?;
+    let decision = ask_at(alloc, resolvers, place as usize, &asked)?;
+    Ok(is_expected(&decision, told, &PLAIN))
 }
 
 const TURNS: &[(u8, Expected)] = &[
@@ -372,7 +358,7 @@ fn asks_in_turn(rt: HostRuntime) -> Result<(), Fail> {
         [first, second] => Some((first.tally(), second.tally())),
         _ => None,
     };
-    assert_eq!(rt; tallies, Some((1, 2)));
+    same(&rt, &tallies, &Some((1, 2)));
     Ok(())
 }
 
@@ -512,8 +498,8 @@ fn a_question_is_built_from_its_article(rt: HostRuntime) -> Result<(), Fail> {
 #[test]
 fn a_question_of_a_delete_names_no_cell(rt: HostRuntime) -> Result<(), Fail> {
     let question = asked(rt.alloc(), &Case::LifeConflict)?;
-    assert_eq!(rt; question.case.kind, CaseKind::Delete);
-    assert_eq!(rt; question.case.cells.len(), 0);
+    same(&rt, &question.case.kind, &CaseKind::Delete);
+    same(&rt, &question.case.cells.len(), &0);
     Ok(())
 }
 
@@ -564,11 +550,11 @@ fn priorities(alloc: Global, publication: &Publication, site: SiteId) -> Result<
 #[test]
 fn priorities_of_both_sides(rt: HostRuntime) -> Result<(), Fail> {
     let publication = publication(rt.alloc())?;
-    assert_eq!(rt; incoming_priority(&publication, SiteId(1)), 0);
-    assert_eq!(rt; incoming_priority(&publication, SiteId(2)), 300);
+    same(&rt, &incoming_priority(&publication, SiteId(1)), &0);
+    same(&rt, &incoming_priority(&publication, SiteId(2)), &300);
     for (site, weight) in [(0, 10000), (1, 10000), (2, 300)] {
         let told = priorities(rt.alloc(), &publication, SiteId(site))?;
-        assert_eq!(rt; told, (weight, 0), "{site}");
+        same_in(&rt, &told, &(weight, 0), &site);
     }
     Ok(())
 }

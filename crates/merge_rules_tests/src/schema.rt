@@ -1,7 +1,8 @@
 //! Publication texts with their answers. Expected answers are worked out from docs/use/publication-file.md.
 mod shop;
 
-use merge_schema::{SchemaFault, is_built, read};
+use crate::same::{same, same_in};
+use merge_schema::read;
 use merge_types::{NoMemory, SiteId};
 use std::alloc::Global;
 use std::test::Fail;
@@ -95,7 +96,7 @@ const TOPS: &[(&str, &str)] = &[
 fn top_keys(rt: HostRuntime) -> Result<(), Fail> {
     for (expected, top) in TOPS {
         let told = answer(rt.alloc(), &[top, ITEM, QTY, SITE])?;
-        assert_eq!(rt; told.as_str(), *expected, "{top}");
+        same_in(&rt, &told.as_str(), expected, &top);
     }
     Ok(())
 }
@@ -172,7 +173,7 @@ const WHOLE: &[(&str, &str)] = &[
 fn tables(rt: HostRuntime) -> Result<(), Fail> {
     for (expected, text) in WHOLE {
         let told = answer(rt.alloc(), &[text])?;
-        assert_eq!(rt; told.as_str(), *expected, "{text}");
+        same_in(&rt, &told.as_str(), expected, &text);
     }
     Ok(())
 }
@@ -235,7 +236,7 @@ const ARTICLES: &[(&str, &str)] = &[
 fn article_keys(rt: HostRuntime) -> Result<(), Fail> {
     for (expected, keys) in ARTICLES {
         let told = article(rt.alloc(), keys)?;
-        assert_eq!(rt; told.as_str(), *expected, "{keys}");
+        same_in(&rt, &told.as_str(), expected, &keys);
     }
     Ok(())
 }
@@ -290,7 +291,7 @@ fn identity_keys(rt: HostRuntime) -> Result<(), Fail> {
             rt.alloc(),
             &[TOP, ITEM, QTY, "identity = { ", keys, " }\n", SITE],
         )?;
-        assert_eq!(rt; told.as_str(), *expected, "{keys}");
+        same_in(&rt, &told.as_str(), expected, &keys);
     }
     Ok(())
 }
@@ -353,7 +354,7 @@ const SUBSCRIPTIONS: &[(&str, &str)] = &[
 fn subscription_keys(rt: HostRuntime) -> Result<(), Fail> {
     for (expected, keys) in SUBSCRIPTIONS {
         let told = answer(rt.alloc(), &[TOP, ITEM, QTY, "[[subscription]]\n", keys])?;
-        assert_eq!(rt; told.as_str(), *expected, "{keys}");
+        same_in(&rt, &told.as_str(), expected, &keys);
     }
     Ok(())
 }
@@ -446,7 +447,7 @@ fn later_steps(rt: HostRuntime) -> Result<(), Fail> {
 #[test]
 fn an_article_comes_twice(rt: HostRuntime) -> Result<(), Fail> {
     let told = answer(rt.alloc(), &[TOP, B, A, "filter = \"x\"\n", B])?;
-    assert_eq!(rt; told.as_str(), "duplicate b");
+    same(&rt, &told.as_str(), &"duplicate b");
     Ok(())
 }
 
@@ -525,7 +526,7 @@ const JOIN: &str = "[[article.join]]\ncolumn = \"i\"\nparent = \"a\"\nparent_col
 fn limits(rt: HostRuntime) -> Result<(), Fail> {
     for (expected, parts, count, before, behind) in LIMITS {
         let told = numbered(rt.alloc(), parts, *count, before, behind)?;
-        assert_eq!(rt; told.as_str(), *expected);
+        same(&rt, &told.as_str(), expected);
     }
     Ok(())
 }
@@ -585,7 +586,7 @@ const HOST: &str = "[[subscription]]\nsite = 1\nhost = \"";
 fn long_texts(rt: HostRuntime) -> Result<(), Fail> {
     for (expected, before, piece, count, behind) in LONG_TEXTS {
         let told = filled(rt.alloc(), before, piece, *count, behind)?;
-        assert_eq!(rt; told.as_str(), *expected);
+        same(&rt, &told.as_str(), expected);
     }
     Ok(())
 }
@@ -610,66 +611,7 @@ fn orders(rt: HostRuntime) -> Result<(), Fail> {
         let publication = read(alloc, text.as_bytes(), 5)?;
         assert!(rt; publication.articles.len() <= 32);
         let order = publication.evaluation_order(alloc)?;
-        assert_eq!(rt; order.as_slice(), expected.as_slice());
-    }
-    Ok(())
-}
-
-const UNBUILT: &[(&str, &[&str])] = &[
-    ("ok", &[TOP, ITEM, QTY]),
-    (
-        "ok",
-        &[
-            TOP,
-            ITEM,
-            "resolver = \"priority\"\nresolver_column = \"qty\"\n",
-            QTY,
-        ],
-    ),
-    (
-        "not built tracking",
-        &[
-            TOP,
-            ITEM,
-            "tracking = \"column\"\nfilter = \"qty = 1\"\n",
-            QTY,
-        ],
-    ),
-    (
-        "not built filter",
-        &[
-            TOP,
-            ITEM,
-            "filter = \"qty = 1\"\nresolver = \"subscriber\"\n",
-            QTY,
-        ],
-    ),
-    (
-        "not built resolver",
-        &[TOP, ITEM, "resolver = \"subscriber\"\n", QTY],
-    ),
-    (
-        "not built identity",
-        &[TOP, ITEM, QTY, "identity = { range = 1, pub_range = 1 }\n"],
-    ),
-    ("not built join", &[TOP, A, B, BY_A]),
-];
-
-// The words of the first part that is not built, or `ok`.
-fn built(alloc: Global, parts: &[&str]) -> Result<String, SchemaFault> {
-    let text = text_of(alloc, parts)?;
-    let publication = read(alloc, text.as_bytes(), 5)?;
-    match is_built(alloc, &publication) {
-        Ok(()) => Ok(String::from_str(alloc, "ok")?),
-        Err(fault) => Ok(format!(in alloc; "{fault}")?),
-    }
-}
-
-#[test]
-fn parts_that_are_not_built(rt: HostRuntime) -> Result<(), Fail> {
-    for (expected, parts) in UNBUILT {
-        let told = built(rt.alloc(), parts)?;
-        assert_eq!(rt; told.as_str(), *expected);
+        same(&rt, &order.as_slice(), &expected.as_slice());
     }
     Ok(())
 }
@@ -686,7 +628,7 @@ fn handlers(rt: HostRuntime) -> Result<(), Fail> {
             },
             Err(_) => None,
         };
-        assert_eq!(rt; place, expected);
+        same(&rt, &place, &expected);
     }
     Ok(())
 }
@@ -705,7 +647,7 @@ const QUOTED: &[(&str, &str)] = &[
 fn keys_that_are_no_names_are_told_in_quotes(rt: HostRuntime) -> Result<(), Fail> {
     for (expected, keys) in QUOTED {
         let told = article(rt.alloc(), keys)?;
-        assert_eq!(rt; told.as_str(), *expected, "{keys}");
+        same_in(&rt, &told.as_str(), expected, &keys);
     }
     Ok(())
 }
@@ -735,7 +677,7 @@ fn number(alloc: Global, keys: &str) -> Result<Option<u8>, NoMemory> {
 #[test]
 fn faults_have_numbers(rt: HostRuntime) -> Result<(), Fail> {
     for (expected, keys) in NUMBERS {
-        assert_eq!(rt; number(rt.alloc(), keys)?, Some(*expected), "{keys}");
+        same_in(&rt, &number(rt.alloc(), keys)?, &Some(*expected), &keys);
     }
     Ok(())
 }
@@ -747,7 +689,7 @@ fn articles_and_sites_are_looked_up(rt: HostRuntime) -> Result<(), Fail> {
     let publication = read(alloc, text.as_bytes(), 5)?;
     assert!(rt; publication.article_at(1).is_none());
     let first = publication.article_at(0).ok_or("no article")?;
-    assert_eq!(rt; first.name.as_str(), "item");
+    same(&rt, &first.name.as_str(), &"item");
     assert!(rt; publication.is_subscription(SiteId(1)) && !publication.is_subscription(SiteId(0)));
     Ok(())
 }

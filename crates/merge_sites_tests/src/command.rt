@@ -1,4 +1,5 @@
 //! Of which site the event of a line is.
+use crate::same::same;
 use merge_command::is_taken;
 use merge_model::Line;
 use merge_reading::read_line;
@@ -33,7 +34,7 @@ fn each_event_is_of_its_site(rt: HostRuntime) -> Result<(), Fail> {
     ] {
         if let Line::Event(event) = read_line(rt.alloc(), line)? {
             for here in 0..3u16 {
-                assert_eq!(rt; is_taken(SiteId(here), &event), wants[here as usize]);
+                same(&rt, &is_taken(SiteId(here), &event), &wants[here as usize]);
             }
         }
     }

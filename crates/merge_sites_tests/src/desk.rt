@@ -7,6 +7,7 @@ ghost use Rattle.merge_desk.specs.Replay.{no_publication};
 ghost use Rattle.merge_desk.specs.Views.{SeatView, seat_call_parts, seat_fault_parts};
 
 use crate::nobody::Nobody;
+use crate::same::same;
 use merge_batch::{Join, Kind, Request};
 use merge_desk::{Closed, Desk, Entry, Opening, Seat, summary};
 use merge_types::{Moment, SiteId};
@@ -201,27 +202,28 @@ fn two_threads_are_answered_in_journal_order(rt: HostRuntime) -> Result<(), Fail
         faults,
         permits,
     )?;
-    assert_eq!(rt; left.publisher.asked, 100);
-    assert_eq!(rt; left.journal.len(), 100);
+    same(&rt, &left.publisher.asked, &100);
+    same(&rt, &left.journal.len(), &100);
     let mut place = 0u64;
     let mut first = 0u64;
     for entry in &left.journal {
         place = place.wrapping_add(1);
-        assert_eq!(rt; entry.mark.place, place);
-        assert_eq!(rt; entry.mark.digest, TOLD);
+        same(&rt, &entry.mark.place, &place);
+        same(&rt, &entry.mark.digest, &TOLD);
         assert!(rt; entry.mark.refused && entry.mark.kind == Kind::Join);
         if entry.request.seq() == 1 {
-            assert_eq!(rt; entry.mark.asked, ASKED);
+            same(&rt, &entry.mark.asked, &ASKED);
         }
         if entry.seat == 1 {
             first = first.wrapping_add(1);
         }
     }
-    assert_eq!(rt; first, 50);
+    same(&rt, &first, &50);
     let told = summary(rt.alloc(), &left.journal)?;
-    assert_eq!(rt;
-        told.as_str(),
-        "calls 100 joins 100 uploads 0 ranges 0 downloads 0 refused 100\n"
+    same(
+        &rt,
+        &told.as_str(),
+        &"calls 100 joins 100 uploads 0 ranges 0 downloads 0 refused 100\n",
     );
     Ok(())
 }

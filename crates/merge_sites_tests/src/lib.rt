@@ -11,6 +11,8 @@ mod make;
 #[cfg(test)]
 mod nobody;
 #[cfg(test)]
+mod same;
+#[cfg(test)]
 mod serve;
 #[cfg(test)]
 mod service;

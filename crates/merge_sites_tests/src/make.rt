@@ -1,4 +1,5 @@
 //! How many events scripts have, by the formula.
+use crate::same::same;
 use merge_make::Script;
 
 fn count_of(customers: u16) -> u32 {
@@ -12,6 +13,6 @@ fn count_of(customers: u16) -> u32 {
 #[test]
 fn scripts_have_so_many_events(rt: HostRuntime) {
     for (customers, events) in [(1, 21), (60, 292), (20000, 91874)] {
-        assert_eq!(rt; count_of(customers), events);
+        same(&rt, &count_of(customers), &events);
     }
 }

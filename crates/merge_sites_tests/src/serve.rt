@@ -4,6 +4,7 @@ ghost use Rattle.merge_model.specs.Publisher.{empty_publisher};
 ghost use Rattle.merge_desk.specs.Replay.{no_publication};
 
 use crate::nobody::Nobody;
+use crate::same::same;
 use merge_desk::{Closed, Desk, Entry, Opening, summary};
 use merge_link::MemoryClock;
 use merge_ports::{MemorySink, MemorySource};
@@ -144,22 +145,22 @@ fn try_one<R: Wait>(
 fn each_connection_is_answered_by_what_comes(rt: HostRuntime) -> Result<(), Fail> {
     for (bytes, status, calls) in TABLE {
         let seen = try_one(&rt, rt.alloc(), bytes, &[], &[])?;
-        assert_eq!(rt; seen.attended, Attended::Answered { status: *status });
-        assert_eq!(rt; seen.calls, *calls);
+        same(&rt, &seen.attended, &Attended::Answered { status: *status });
+        same(&rt, &seen.calls, calls);
     }
     let seen = try_one(&rt, rt.alloc(), JOIN, &[], &[])?;
-    assert_eq!(rt; seen.written.as_slice(), REFUSED);
+    same(&rt, &seen.written.as_slice(), &REFUSED);
     Ok(())
 }
 
 #[test]
 fn ports_fail_by_their_cause(rt: HostRuntime) -> Result<(), Fail> {
     let unread = try_one(&rt, rt.alloc(), JOIN, &[3], &[])?;
-    assert_eq!(rt; unread.attended, Attended::ReadFault);
-    assert_eq!(rt; (unread.calls, unread.written.len()), (0, 0));
+    same(&rt, &unread.attended, &Attended::ReadFault);
+    same(&rt, &(unread.calls, unread.written.len()), &(0, 0));
     let unwritten = try_one(&rt, rt.alloc(), JOIN, &[], &[2])?;
-    assert_eq!(rt; unwritten.attended, Attended::WriteFault);
-    assert_eq!(rt; unwritten.calls, 1);
+    same(&rt, &unwritten.attended, &Attended::WriteFault);
+    same(&rt, &unwritten.calls, &1);
     assert!(rt; REFUSED.starts_with(unwritten.written.as_slice()));
     Ok(())
 }
@@ -295,12 +296,13 @@ fn two_workers_serve_at_once(rt: HostRuntime) -> Result<(), Fail> {
         Blank::new(2),
         Blank::new(2),
     )?;
-    assert_eq!(rt; gate.opened.load(Ordering::SeqCst), 2);
-    assert_eq!(rt; (left.accepted, left.faults), (2, 0));
+    same(&rt, &gate.opened.load(Ordering::SeqCst), &2);
+    same(&rt, &(left.accepted, left.faults), &(2, 0));
     let told = summary(rt.alloc(), &left.journal)?;
-    assert_eq!(rt;
-        told.as_str(),
-        "calls 2 joins 2 uploads 0 ranges 0 downloads 0 refused 2\n"
+    same(
+        &rt,
+        &told.as_str(),
+        &"calls 2 joins 2 uploads 0 ranges 0 downloads 0 refused 2\n",
     );
     Ok(())
 }
@@ -316,7 +318,7 @@ fn a_door_that_fails_ends_the_day(rt: HostRuntime) -> Result<(), Fail> {
         Blank::new(2),
         Blank::new(3),
     )?;
-    assert_eq!(rt; (left.accepted, left.faults), (2, 1));
-    assert_eq!(rt; left.journal.len(), 2);
+    same(&rt, &(left.accepted, left.faults), &(2, 1));
+    same(&rt, &left.journal.len(), &2);
     Ok(())
 }

@@ -2,6 +2,7 @@
 ghost use Rattle.std.specs.Prelude.{◌≤◌, IfOk};
 ghost use Rattle.merge_schema.specs.Valid.{IsValid};
 
+use crate::same::same;
 use merge_keeper::MemoryKeeper;
 use merge_outside::MemoryCommands;
 use merge_ports::{Entries, MemoryOutside, MemorySink, OpenFault};
@@ -141,8 +142,8 @@ fn a_journal_has_what_was_answered(rt: HostRuntime) -> Result<(), Fail> {
         (&[FIRST, SECOND, SECOND], 2, 1),
     ] {
         let (written, counted) = day(&rt, rt.alloc(), 1, messages, failing)?;
-        assert_eq!(rt; written.as_slice(), TWO_JOINS);
-        assert_eq!(rt; counted, faults);
+        same(&rt, &written.as_slice(), &TWO_JOINS);
+        same(&rt, &counted, &faults);
     }
     Ok(())
 }

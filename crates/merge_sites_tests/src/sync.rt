@@ -2,6 +2,7 @@
 ghost use Rattle.std.specs.Prelude.{IfOk};
 ghost use Rattle.merge_schema.specs.Valid.{IsValid};
 
+use crate::same::same;
 use merge_keeper::MemoryKeeper;
 use merge_outside::MemoryCommands;
 use merge_ports::{Entries, EntryKey, MemoryOutside, MemorySink};
@@ -185,8 +186,8 @@ fn sessions_follow_one_another(rt: HostRuntime) -> Result<(), Fail> {
     for (responses, requests) in FOLLOWING {
         respond(rt.alloc(), &mut outside, responses)?;
         let (end, written) = ended(rt.alloc(), &mut outside, &[])?;
-        assert_eq!(rt; end, End::Done);
-        assert_eq!(rt; written.as_slice(), b"done 0 0 0\n".as_slice());
+        same(&rt, &end, &End::Done);
+        same(&rt, &written.as_slice(), &b"done 0 0 0\n".as_slice());
         assert!(rt; are_sent(&outside, requests));
     }
     Ok(())

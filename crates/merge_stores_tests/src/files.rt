@@ -1,6 +1,7 @@
 //! What commits leave, which files are refused, and that the holder of one goes on.
 mod commits;
 
+use crate::same::{same, same_in};
 use merge_ports::{EntryEdit, KeepFault, Keeper};
 use merge_sqlite::SqliteKeeper;
 use merge_types::{Listing, Octets};
@@ -77,14 +78,14 @@ fn what_is_no_store_is_refused_and_stays(rt: HostRuntime) -> Result<(), Fail> {
     for name in ["text.db", "others.db"] {
         let before = fs::read(&rt, name)?;
         let fault = SqliteKeeper::open(&rt, name).err();
-        assert_eq!(rt; fault, Some(KeepFault::Failed), "{name}");
+        same_in(&rt, &fault, &Some(KeepFault::Failed), &name);
         assert!(rt;
             fs::read(&rt, name)?.as_slice() == before.as_slice(),
             "{name}"
         );
     }
     let fault = SqliteKeeper::open(&rt, "no-such-folder/store.db").err();
-    assert_eq!(rt; fault, Some(KeepFault::Failed));
+    same(&rt, &fault, &Some(KeepFault::Failed));
     Ok(())
 }
 
@@ -94,9 +95,9 @@ fn a_store_that_is_held_is_refused_and_its_holder_goes_on(rt: HostRuntime) -> Re
     let edits = edits_of(rt.alloc(), &[(3, &[3], Some(&[33]))])?;
     let mut holder = SqliteKeeper::open(&rt, "held.db")?;
     let fault = SqliteKeeper::open(&rt, "held.db").err();
-    assert_eq!(rt; fault, Some(KeepFault::Failed));
+    same(&rt, &fault, &Some(KeepFault::Failed));
     holder.commit(&edits)?;
     assert!(rt; holds(&mut holder, &[(3, &[3], &[33])])?);
-    assert_eq!(rt; holder.faults(), 0);
+    same(&rt, &holder.faults(), &0);
     Ok(())
 }

@@ -1,4 +1,5 @@
 //! The examples of the format, each message there and back, and bodies of strangers.
+use crate::same::same;
 use merge_batch::{Download, Join, Kind, Request};
 use merge_json::{
     BodyFault, kind_of_path, path_of, read_reply, read_request, write_reply, write_request,
@@ -31,23 +32,29 @@ fn the_first_messages_are_written(rt: HostRuntime) -> Result<(), Fail> {
         number: 0,
     });
     let body = write_request(rt.alloc(), &join)?;
-    assert_eq!(rt;
-        body.as_slice(),
-        br#"{"generation":0,"number":0,"seq":1,"site":1}"#.as_slice()
+    same(
+        &rt,
+        &body.as_slice(),
+        &br#"{"generation":0,"number":0,"seq":1,"site":1}"#.as_slice(),
     );
-    assert_eq!(rt; path_of(join.kind()), "/merge/join");
+    same(&rt, &path_of(join.kind()), &"/merge/join");
     let download = Request::Download(Download {
         site: SiteId(1),
         seq: 2,
         from: 0,
     });
     let body = write_request(rt.alloc(), &download)?;
-    assert_eq!(rt;
-        body.as_slice(),
-        br#"{"from":0,"seq":2,"site":1}"#.as_slice()
+    same(
+        &rt,
+        &body.as_slice(),
+        &br#"{"from":0,"seq":2,"site":1}"#.as_slice(),
     );
-    assert_eq!(rt; kind_of_path(b"/merge/download"), Some(Kind::Download));
-    assert_eq!(rt; kind_of_path(b"/merge"), None);
+    same(
+        &rt,
+        &kind_of_path(b"/merge/download"),
+        &Some(Kind::Download),
+    );
+    same(&rt, &kind_of_path(b"/merge"), &None);
     Ok(())
 }
 

@@ -1,3 +1,4 @@
+use crate::same::{same, same_in};
 use merge_gens::Filling;
 use merge_ident::{Grant, Range, Ranges};
 use merge_keeper::{
@@ -57,15 +58,16 @@ fn commits_are_loaded(rt: HostRuntime) -> Result<(), Fail> {
     let alloc = rt.alloc();
     let mut keeper = keeper(alloc, &[2], &[])?;
     for (key, value, fault) in COMMITS {
-        assert_eq!(rt;
-            commit_fault(alloc, &mut keeper, *key, *value)?,
-            *fault,
-            "{key}"
+        same_in(
+            &rt,
+            &commit_fault(alloc, &mut keeper, *key, *value)?,
+            fault,
+            &key,
         );
     }
-    assert_eq!(rt; keeper.load()?.len(), 2);
-    assert_eq!(rt; keeper.faults(), 1);
-    assert_eq!(rt; keeper.left().len(), 2);
+    same(&rt, &keeper.load()?.len(), &2);
+    same(&rt, &keeper.faults(), &1);
+    same(&rt, &keeper.left().len(), &2);
     Ok(())
 }
 
@@ -83,14 +85,15 @@ fn a_stop_leaves_the_map_before_or_after(rt: HostRuntime) -> Result<(), Fail> {
             is_after: *is_after,
         };
         let mut keeper = keeper(alloc, &[], &[stop])?;
-        assert_eq!(rt; commit_fault(alloc, &mut keeper, 1, 7)?, None);
-        assert_eq!(rt;
-            commit_fault(alloc, &mut keeper, 2, 8)?,
-            Some(KeepFault::Failed)
+        same(&rt, &commit_fault(alloc, &mut keeper, 1, 7)?, &None);
+        same(
+            &rt,
+            &commit_fault(alloc, &mut keeper, 2, 8)?,
+            &Some(KeepFault::Failed),
         );
         assert!(rt; keeper.load().is_err());
-        assert_eq!(rt; keeper.faults(), 2);
-        assert_eq!(rt; keeper.left().len(), *left, "{shows}");
+        same(&rt, &keeper.faults(), &2);
+        same_in(&rt, &keeper.left().len(), left, &shows);
     }
     Ok(())
 }

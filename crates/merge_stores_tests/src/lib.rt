@@ -12,6 +12,8 @@ mod outside;
 #[cfg(test)]
 mod record;
 #[cfg(test)]
+mod same;
+#[cfg(test)]
 mod start;
 #[cfg(test)]
 mod wire;

@@ -2,6 +2,7 @@
 mod memory;
 mod real;
 
+use crate::same::same_in;
 use merge_link::LinkFault;
 use merge_outside::read_response;
 use merge_ports::{EntryEdit, MemorySource, Short, Source};
@@ -68,8 +69,8 @@ fn each_failing_read_ends_a_response(rt: HostRuntime) -> Result<(), Fail> {
     for failing in 0..4 {
         let mut source = source(rt.alloc(), 9000, &[failing])?;
         let fault = read_response(rt.alloc(), &mut source, 10_000).err();
-        assert_eq!(rt; fault, Some(LinkFault::Failed), "{failing}");
-        assert_eq!(rt; source.faults(), 1, "{failing}");
+        same_in(&rt, &fault, &Some(LinkFault::Failed), &failing);
+        same_in(&rt, &source.faults(), &1, &failing);
     }
     Ok(())
 }

@@ -1,6 +1,7 @@
 ghost use Rattle.std.specs.Prelude.{IfOk};
 ghost use Rattle.merge_record.specs.Rows.{IsShortPublisherRow};
 
+use crate::same::same;
 use merge_gens::{Mapping, RowSite, SiteState};
 use merge_ident::Range;
 use merge_lineage::Lineage;
@@ -43,7 +44,7 @@ fn first_row(alloc: Global) -> Result<PublisherRow, NoMemory>
 fn the_first_row_is_written(rt: HostRuntime) -> Result<(), Fail> {
     let row = first_row(rt.alloc())?;
     let octets = row.write(rt.alloc())?;
-    assert_eq!(rt; octets.as_slice(), FIRST_ROW.as_slice());
+    same(&rt, &octets.as_slice(), &FIRST_ROW.as_slice());
     Ok(())
 }
 

@@ -1,4 +1,5 @@
 //! Stores that break one rule each.
+use crate::same::{same, same_in};
 use merge_ident::Ranges;
 use merge_keeper::{StartFault, start_publisher, start_subscriber};
 use merge_ports::{Entries, EntryKey};
@@ -200,8 +201,8 @@ fn subscriber_said(alloc: Global, change: Change) -> Result<Said, Fail> {
 
 #[test]
 fn stores_that_break_no_rule_load(rt: HostRuntime) -> Result<(), Fail> {
-    assert_eq!(rt; publisher_said(rt.alloc(), NO_CHANGE)?, Said::Loads);
-    assert_eq!(rt; subscriber_said(rt.alloc(), NO_CHANGE)?, Said::Loads);
+    same(&rt, &publisher_said(rt.alloc(), NO_CHANGE)?, &Said::Loads);
+    same(&rt, &subscriber_said(rt.alloc(), NO_CHANGE)?, &Said::Loads);
     Ok(())
 }
 
@@ -286,7 +287,7 @@ const PUBLISHER_CASES: &[(&str, Change, Said)] = &[
 #[test]
 fn each_rule_names_its_entry_at_the_publisher(rt: HostRuntime) -> Result<(), Fail> {
     for (shows, change, expected) in PUBLISHER_CASES {
-        assert_eq!(rt; publisher_said(rt.alloc(), *change)?, *expected, "{shows}");
+        same_in(&rt, &publisher_said(rt.alloc(), *change)?, expected, &shows);
     }
     Ok(())
 }
@@ -322,7 +323,12 @@ const SUBSCRIBER_CASES: &[(&str, Change, Said)] = &[
 #[test]
 fn each_rule_names_its_entry_at_a_subscriber(rt: HostRuntime) -> Result<(), Fail> {
     for (shows, change, expected) in SUBSCRIBER_CASES {
-        assert_eq!(rt; subscriber_said(rt.alloc(), *change)?, *expected, "{shows}");
+        same_in(
+            &rt,
+            &subscriber_said(rt.alloc(), *change)?,
+            expected,
+            &shows,
+        );
     }
     Ok(())
 }

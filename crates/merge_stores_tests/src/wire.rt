@@ -3,6 +3,7 @@ mod faults;
 
 ghost use Rattle.merge_wire.specs.Written.{IsWritable};
 
+use crate::same::{same, same_in};
 use merge_ports::{MemorySink, MemorySource, Short, Sink, Source};
 use merge_types::{Listing, Octets, Words};
 use merge_wire::{Message, WireFault, is_visible, read_message, read_response, write_message};
@@ -47,15 +48,16 @@ fn the_first_join_is_read(rt: HostRuntime) -> Result<(), Fail> {
     let port = MemorySource::new(bytes, Listing::empty(rt.alloc()));
     let mut source = Short { port, most: 7 };
     let message = read_message(rt.alloc(), &mut source)?;
-    assert_eq!(rt; message.method.as_str(), "POST");
-    assert_eq!(rt; message.path.as_str(), "/merge/join");
-    assert_eq!(rt; message.host.as_str(), "");
-    assert_eq!(rt; message.status, 0);
-    assert_eq!(rt;
-        message.body.as_slice(),
-        br#"{"generation":0,"number":0,"seq":1,"site":1}"#.as_slice()
+    same(&rt, &message.method.as_str(), &"POST");
+    same(&rt, &message.path.as_str(), &"/merge/join");
+    same(&rt, &message.host.as_str(), &"");
+    same(&rt, &message.status, &0);
+    same(
+        &rt,
+        &message.body.as_slice(),
+        &br#"{"generation":0,"number":0,"seq":1,"site":1}"#.as_slice(),
     );
-    assert_eq!(rt; source.port.taken, JOIN.len());
+    same(&rt, &source.port.taken, &JOIN.len());
     Ok(())
 }
 
@@ -64,12 +66,13 @@ fn the_answer_is_read(rt: HostRuntime) -> Result<(), Fail> {
     let mut bytes = octets(rt.alloc(), JOINED)?;
     bytes.extend(b"behind")?;
     let message = read_response(rt.alloc(), bytes.as_slice())?;
-    assert_eq!(rt; message.status, 200);
-    assert_eq!(rt;
-        message.method.len() + message.path.len() + message.host.len(),
-        0
+    same(&rt, &message.status, &200);
+    same(
+        &rt,
+        &(message.method.len() + message.path.len() + message.host.len()),
+        &0,
     );
-    assert_eq!(rt; message.body.as_slice(), br#"{"seq":1}"#.as_slice());
+    same(&rt, &message.body.as_slice(), &br#"{"seq":1}"#.as_slice());
     Ok(())
 }
 
@@ -77,14 +80,14 @@ fn the_answer_is_read(rt: HostRuntime) -> Result<(), Fail> {
 fn a_cut_message_has_ended(rt: HostRuntime) -> Result<(), Fail> {
     for length in 0..JOIN.len() {
         let fault = request_fault(rt.alloc(), &JOIN[..length])?;
-        assert_eq!(rt; fault, Some(WireFault::Ended), "at {length}");
+        same_in(&rt, &fault, &Some(WireFault::Ended), &length);
     }
-    assert_eq!(rt; request_fault(rt.alloc(), JOIN)?, None);
+    same(&rt, &request_fault(rt.alloc(), JOIN)?, &None);
     for length in 0..JOINED.len() {
         let fault = response_fault(rt.alloc(), &JOINED[..length])?;
-        assert_eq!(rt; fault, Some(WireFault::Ended), "at {length}");
+        same_in(&rt, &fault, &Some(WireFault::Ended), &length);
     }
-    assert_eq!(rt; response_fault(rt.alloc(), JOINED)?, None);
+    same(&rt, &response_fault(rt.alloc(), JOINED)?, &None);
     Ok(())
 }
 
@@ -94,12 +97,12 @@ fn each_failing_read_is_a_read_fault(rt: HostRuntime) -> Result<(), Fail> {
     for failing in 0..123 {
         let mut source = source(rt.alloc(), JOIN, &[failing])?;
         let fault = read_message(rt.alloc(), &mut source).err();
-        assert_eq!(rt; fault, Some(WireFault::ReadFault), "at {failing}");
-        assert_eq!(rt; source.faults(), 1, "at {failing}");
+        same_in(&rt, &fault, &Some(WireFault::ReadFault), &failing);
+        same_in(&rt, &source.faults(), &1, &failing);
     }
     let mut source = source(rt.alloc(), JOIN, &[123])?;
     assert!(rt; read_message(rt.alloc(), &mut source).is_ok());
-    assert_eq!(rt; source.calls, 123);
+    same(&rt, &source.calls, &123);
     Ok(())
 }
 
@@ -130,8 +133,8 @@ fn write_join(
 #[test]
 fn a_request_is_written_line_by_line(rt: HostRuntime) -> Result<(), Fail> {
     let (fault, sink) = write_join(rt.alloc(), &[], 1000)?;
-    assert_eq!(rt; fault, None);
-    assert_eq!(rt; sink.port.bytes.as_slice(), JOIN);
+    same(&rt, &fault, &None);
+    same(&rt, &sink.port.bytes.as_slice(), &JOIN);
     Ok(())
 }
 
@@ -145,8 +148,8 @@ fn each_failing_write_leaves_a_front(rt: HostRuntime) -> Result<(), Fail> {
         } else {
             Some(WireFault::WriteFault)
         };
-        assert_eq!(rt; fault, wanted, "at {failing}");
-        assert_eq!(rt; sink.faults() == 0, is_whole, "at {failing}");
+        same_in(&rt, &fault, &wanted, &failing);
+        same_in(&rt, &(sink.faults() == 0), &is_whole, &failing);
         assert!(rt; JOIN.starts_with(sink.port.bytes.as_slice()));
     }
     Ok(())
@@ -186,9 +189,10 @@ fn a_refusal_of_a_method_is_written_line_by_line(rt: HostRuntime) -> Result<(), 
 fn a_told_length_takes_no_reads(rt: HostRuntime) -> Result<(), Fail> {
     let head = b"POST /x HTTP/1.1\r\nContent-Length: 134217728\r\n\r\n0123456789";
     let mut source = source(rt.alloc(), head, &[])?;
-    assert_eq!(rt;
-        read_message(rt.alloc(), &mut source).err(),
-        Some(WireFault::Ended)
+    same(
+        &rt,
+        &read_message(rt.alloc(), &mut source).err(),
+        &Some(WireFault::Ended),
     );
     assert!(rt; source.calls <= head.len() as u64 + 2);
     Ok(())
@@ -205,8 +209,12 @@ fn reads_follow_the_bytes(rt: HostRuntime) -> Result<(), Fail> {
         }
         let mut source = MemorySource::new(bytes, Listing::empty(rt.alloc()));
         let message = read_message(rt.alloc(), &mut source)?;
-        assert_eq!(rt; message.body.len(), length);
-        assert_eq!(rt; source.calls, (head.len() as u64).saturating_add(reads));
+        same(&rt, &message.body.len(), &length);
+        same(
+            &rt,
+            &source.calls,
+            &(head.len() as u64).saturating_add(reads),
+        );
     }
     Ok(())
 }

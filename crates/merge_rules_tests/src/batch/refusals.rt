@@ -1,4 +1,5 @@
 //! What is printed of each refusal, and the reply that tells it.
+use crate::same::{same, same_in};
 use merge_batch::{Refusal, Reply};
 use merge_types::{Moment, Octets, SiteId, Words};
 use std::alloc::Global;
@@ -87,7 +88,7 @@ fn is_replied(
 fn refusals(rt: HostRuntime) -> Result<(), Fail> {
     for (number, text, fields) in REFUSALS {
         let refusal = refusal(*number);
-        assert_eq!(rt; refusal.number(), *number, "{text}");
+        same_in(&rt, &refusal.number(), number, &text);
         assert!(rt; is_printed(rt.alloc(), &refusal, text)?, "{text}");
         assert!(rt;
             is_replied(rt.alloc(), &refusal, *number, *fields)?,
@@ -111,12 +112,12 @@ const DAMAGES: &[(u8, &[u8], &str)] = &[(9, &[], "damaged 9 -"), (2, &[0, 171], 
 fn refusals_with_keys_and_names(rt: HostRuntime) -> Result<(), Fail> {
     for (table, key, text) in DAMAGES {
         let refusal = damaged(rt.alloc(), *table, key)?;
-        assert_eq!(rt; refusal.number(), 14, "{text}");
+        same_in(&rt, &refusal.number(), &14, &text);
         assert!(rt; is_printed(rt.alloc(), &refusal, text)?, "{text}");
     }
     let name = Words::of(rt.alloc(), "colour")?;
     let refusal = Refusal::UnknownName { name };
-    assert_eq!(rt; refusal.number(), 18);
+    same(&rt, &refusal.number(), &18);
     assert!(rt; is_printed(rt.alloc(), &refusal, "name colour")?);
     assert!(rt; is_replied(rt.alloc(), &refusal, 18, None)?);
     Ok(())

@@ -4,6 +4,7 @@ ghost use Rattle.merge_part.specs.Taking.{count_if_some};
 
 use super::trial::Cell::{Int, Null, Text};
 use super::trial::{Line, are_fit, change_of};
+use crate::same::same;
 use merge_gens::MoveKind;
 use merge_part::{Membership, Move, Moves};
 use merge_schema::{SchemaFault, read};
@@ -81,9 +82,9 @@ fn inside(alloc: Global, text: &[u8]) -> Result<(bool, bool), SchemaFault> {
 #[test]
 fn filters(rt: HostRuntime) -> Result<(), Fail> {
     let alloc = rt.alloc();
-    assert_eq!(rt; inside(alloc, EQUAL.as_bytes())?, (false, true));
-    assert_eq!(rt; inside(alloc, UNEQUAL.as_bytes())?, (false, false));
-    assert_eq!(rt; inside(alloc, NOWHERE.as_bytes())?, (true, false));
+    same(&rt, &inside(alloc, EQUAL.as_bytes())?, &(false, true));
+    same(&rt, &inside(alloc, UNEQUAL.as_bytes())?, &(false, false));
+    same(&rt, &inside(alloc, NOWHERE.as_bytes())?, &(true, false));
     Ok(())
 }
 

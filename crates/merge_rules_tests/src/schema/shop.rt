@@ -1,6 +1,7 @@
 //! A publication as a file says it whole, by its parts.
+use crate::same::{same, same_in};
 use merge_schema::{Article, Identity, JoinFilter, Subscription, SubscriptionKind, read};
-use merge_types::{Column, ColumnType, SiteId, Tracking};
+use merge_types::{Column, ColumnType, Tracking};
 use std::test::Fail;
 
 const SHOP: &str = "
@@ -112,9 +113,9 @@ fn are_north_and_south(subscriptions: &[Subscription]) -> bool {
 #[test]
 fn a_publication(rt: HostRuntime) -> Result<(), Fail> {
     let publication = read(rt.alloc(), SHOP.as_bytes(), 5)?.copy()?;
-    assert_eq!(rt; publication.name.as_str(), "shop");
-    assert_eq!(rt; publication.retention_days, 30);
-    assert_eq!(rt; publication.conflict_retention_days, 14);
+    same(&rt, &publication.name.as_str(), &"shop");
+    same(&rt, &publication.retention_days, &30);
+    same(&rt, &publication.conflict_retention_days, &14);
     assert!(rt; are_north_and_south(publication.subscriptions.as_slice()));
     Ok(())
 }
@@ -136,22 +137,17 @@ fn articles_of_a_publication(rt: HostRuntime) -> Result<(), Fail> {
 
 const ARTICLE_PLACES: &[(&str, Option<usize>)] = &[("order", Some(1)), ("orders", None)];
 
-const SITE_PLACES: &[(SiteId, Option<usize>)] = &[(SiteId(5), Some(1)), (SiteId(1), None)];
-
 const COLUMN_PLACES: &[(&str, Option<usize>)] = &[("id", Some(2)), ("i", None)];
 
 #[test]
 fn places(rt: HostRuntime) -> Result<(), Fail> {
     let publication = read(rt.alloc(), SHOP.as_bytes(), 5)?;
     for (name, place) in ARTICLE_PLACES {
-        assert_eq!(rt; publication.article_place(name), *place, "{name}");
-    }
-    for (site, place) in SITE_PLACES {
-        assert_eq!(rt; publication.subscription_place(*site), *place, "{site:?}");
+        same_in(&rt, &publication.article_place(name), place, &name);
     }
     if let Some(customer) = publication.articles.as_slice().get(0) {
         for (name, place) in COLUMN_PLACES {
-            assert_eq!(rt; customer.column_place(name), *place, "{name}");
+            same_in(&rt, &customer.column_place(name), place, &name);
         }
     }
     Ok(())

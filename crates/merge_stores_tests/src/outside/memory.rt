@@ -1,5 +1,6 @@
 //! The outside in memory.
 use super::{numbers, octets, put};
+use crate::same::{same, same_in};
 use merge_keeper::{MemoryKeeper, Stop};
 use merge_link::{Clock, Link, LinkFault};
 use merge_outside::{CommandOutside, MemoryCommands, MemoryText, read_response};
@@ -106,19 +107,19 @@ fn faults_of_a_keeper_are_counted_as_it_is_given_back(rt: HostRuntime) -> Result
     let path = Words::of(rt.alloc(), "")?;
     let mut keeper = outside.keeper(SiteId(1), &path)?;
     for (key, answer, faults) in STEPS {
-        assert_eq!(rt; step(rt.alloc(), &mut keeper, *key)?, *answer, "{key}");
-        assert_eq!(rt; keeper.faults(), *faults, "{key}");
+        same_in(&rt, &step(rt.alloc(), &mut keeper, *key)?, answer, &key);
+        same_in(&rt, &keeper.faults(), faults, &key);
     }
-    assert_eq!(rt; outside.faults().stores, 0);
+    same(&rt, &outside.faults().stores, &0);
     outside.keeper_back(SiteId(1), &path, keeper);
-    assert_eq!(rt; outside.faults().stores, 6);
+    same(&rt, &outside.faults().stores, &6);
     // a keeper with faults is not handed out again, and has what its stop left
     let fault = opening(rt.alloc(), &mut outside, 1, "")?;
-    assert_eq!(rt; fault, Some(OpenFault::Failed));
+    same(&rt, &fault, &Some(OpenFault::Failed));
     let Some(keeper) = outside.stores.stores.take(&1) else {
         return Err(Fail::from("the keeper was not given back"));
     };
-    assert_eq!(rt; keeper.left().len(), 4);
+    same(&rt, &keeper.left().len(), &4);
     Ok(())
 }
 
@@ -199,8 +200,8 @@ fn the_first_link_gets_the_responses(rt: HostRuntime) -> Result<(), Fail> {
     outside.failing_asks = numbers(rt.alloc(), &[2])?;
     for (faults, exchanges) in [(1, 2), (2, 0)] {
         asking(rt.alloc(), &mut outside)?;
-        assert_eq!(rt; outside.faults().links, faults);
-        assert_eq!(rt; outside.exchanges.len(), exchanges, "{faults}");
+        same(&rt, &outside.faults().links, &faults);
+        same_in(&rt, &outside.exchanges.len(), &exchanges, &faults);
     }
     Ok(())
 }
@@ -213,7 +214,7 @@ fn the_first_clock_gets_the_moments(rt: HostRuntime) -> Result<(), Fail> {
     for moments in [[5, 6, 6], [0, 0, 0]] {
         let mut clock = outside.clock();
         for moment in moments {
-            assert_eq!(rt; clock.now(), Moment(moment));
+            same(&rt, &clock.now(), &Moment(moment));
         }
     }
     let none = Counts {
@@ -221,6 +222,6 @@ fn the_first_clock_gets_the_moments(rt: HostRuntime) -> Result<(), Fail> {
         stores: 0,
         links: 0,
     };
-    assert_eq!(rt; outside.faults(), none);
+    same(&rt, &outside.faults(), &none);
     Ok(())
 }

@@ -1,5 +1,6 @@
 //! The program's outside, over files in the folder of the test. No peer is asked.
 use super::put;
+use crate::same::{same, same_in};
 use merge_link::{Clock, Link, LinkFault};
 use merge_outside::{CommandOutside, RealOutside, Waits, read_response};
 use merge_ports::{Keeper, OpenFault, Outside};
@@ -54,7 +55,7 @@ fn stores_are_found_again(rt: HostRuntime) -> Result<(), Fail> {
         let found = visit(rt.alloc(), &mut outside, *site, path, *key)?;
         assert_eq!(rt; found, *entries, "{site} {path} {key}");
     }
-    assert_eq!(rt; outside.faults().stores, 0);
+    same(&rt, &outside.faults().stores, &0);
     Ok(())
 }
 
@@ -77,8 +78,8 @@ fn stores_that_are_no_files_are_faults(rt: HostRuntime) -> Result<(), Fail> {
     let mut outside = RealOutside::new(rt);
     for (path, faults) in [("no-such-folder/store.db", 1), ("no-store.db", 2), (".", 3)] {
         let fault = opening(rt.alloc(), &mut outside, path)?;
-        assert_eq!(rt; fault, Some(OpenFault::Failed), "{path}");
-        assert_eq!(rt; outside.faults().stores, faults, "{path}");
+        same_in(&rt, &fault, &Some(OpenFault::Failed), &path);
+        same_in(&rt, &outside.faults().stores, &faults, &path);
     }
     Ok(())
 }
@@ -90,11 +91,11 @@ fn a_text_is_read_and_one_that_is_not_there_is_a_fault(rt: HostRuntime) -> Resul
     let mut text = outside.text(&Words::of(rt.alloc(), "read.txt")?)?;
     let bytes = read_response(rt.alloc(), &mut text, 10)?;
     outside.text_back(text);
-    assert_eq!(rt; bytes.as_slice(), b"abc".as_slice());
-    assert_eq!(rt; outside.faults().texts, 0);
+    same(&rt, &bytes.as_slice(), &b"abc".as_slice());
+    same(&rt, &outside.faults().texts, &0);
     let fault = outside.text(&Words::of(rt.alloc(), "no-such.txt")?).err();
-    assert_eq!(rt; fault, Some(OpenFault::Failed));
-    assert_eq!(rt; outside.faults().texts, 1);
+    same(&rt, &fault, &Some(OpenFault::Failed));
+    same(&rt, &outside.faults().texts, &1);
     Ok(())
 }
 
@@ -103,11 +104,11 @@ fn a_link_to_what_is_no_address_fails(rt: HostRuntime) -> Result<(), Fail> {
     let mut outside = RealOutside::new(rt);
     let mut link = outside.link(&Words::of(rt.alloc(), "nowhere")?)?;
     for faults in [1, 2] {
-        assert_eq!(rt; link.ask(b"request").err(), Some(LinkFault::Failed));
-        assert_eq!(rt; link.faults(), faults);
+        same(&rt, &link.ask(b"request").err(), &Some(LinkFault::Failed));
+        same(&rt, &link.faults(), &faults);
     }
     outside.link_back(link);
-    assert_eq!(rt; outside.faults().links, 2);
+    same(&rt, &outside.faults().links, &2);
     Ok(())
 }
 
@@ -122,6 +123,6 @@ fn the_clock_is_of_this_century(rt: HostRuntime) -> Result<(), Fail> {
 #[test]
 fn a_link_waits_half_a_minute_and_then_five(rt: HostRuntime) {
     let waits = Waits::usual();
-    assert_eq!(rt; waits.to_connect, Duration::from_secs(30));
-    assert_eq!(rt; waits.to_answer, Duration::from_secs(300));
+    same(&rt, &waits.to_connect, &Duration::from_secs(30));
+    same(&rt, &waits.to_answer, &Duration::from_secs(300));
 }

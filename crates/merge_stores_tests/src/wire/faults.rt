@@ -1,5 +1,6 @@
 //! How messages are at fault, over tables of heads.
 use super::{octets, request_fault, response_fault, source};
+use crate::same::{same, same_in};
 use merge_types::Octets;
 use merge_wire::WireFault::{BadHead, BadLength, Ended, TooLong};
 use merge_wire::{WireFault, read_message};
@@ -212,7 +213,7 @@ fn at_most_8192_bytes(rt: HostRuntime) -> Result<(), Fail> {
         let mut bytes = with_long_field(rt.alloc(), length)?;
         bytes.extend(end)?;
         let faults = faults_behind(rt.alloc(), bytes.as_slice())?;
-        assert_eq!(rt; faults, (fault, fault), "{length}");
+        same_in(&rt, &faults, &(fault, fault), &length);
     }
     Ok(())
 }
@@ -262,7 +263,7 @@ fn a_bad_front_of_a_response_has_not_ended(rt: HostRuntime) -> Result<(), Fail> 
 fn nothing_is_read_behind_what_is_no_head(rt: HostRuntime) -> Result<(), Fail> {
     let mut source = source(rt.alloc(), b"PO(ST / HTTP/1.1\r\n\r\n", &[])?;
     let fault = read_message(rt.alloc(), &mut source).err();
-    assert_eq!(rt; fault, Some(BadHead));
-    assert_eq!(rt; source.taken, 3);
+    same(&rt, &fault, &Some(BadHead));
+    same(&rt, &source.taken, &3);
     Ok(())
 }
