@@ -1,5 +1,5 @@
 -- The records of what a site stores, and how the changes of a step change them.
-use Rattle.std.specs.Prelude.{◌≡◌, ℕ, ◌<◌, ◌^◌, Bool, true, false, if◌then◌else◌, List, [], ◌∷◌, ◌++◌, map, Option, Some, None}
+use Rattle.std.specs.Prelude.{◌≡◌, ℕ, ◌<◌, ◌^◌, Bool, true, false, List, [], ◌∷◌, ◌++◌, map, Option, Some, None}
 use Rattle.std.specs.Int.{w8, w16, w64, to_be_bytes}
 use Rattle.std.specs.List.{AllByRecursion}
 use Rattle.std.specs.List.Sorted.{IsStrictlySortedBy}
@@ -77,10 +77,6 @@ publisher_records t =
 abbrev pub subscriber_records : SubscriberStored → Map
 subscriber_records t =
     (state_key, subscriber_state t) ∷ (row_entries subscriber_row_value t.rows ++ (closing_entries t.closings ++ (conflict_entries t.conflicts ++ held_entries t.held)))
-
--- a site that has committed nothing on an empty store has no record
-abbrev pub records_of : Bool → Map → Map
-records_of is_stored records = if is_stored then records else []
 
 -- ---- what a step's changes leave
 

@@ -14,10 +14,10 @@ use Rattle.merge_record.proofs.Codecs.{both, paired, number, signed, wide8, wide
 use Rattle.merge_record.proofs.Wide.{wide128}
 use Rattle.merge_record.proofs.VersionCodecs.{version_is, bytes_rest}
 
-num8 : IsCodec (to_be_bytes w8) (number_at w8) (IsBelow (2 ^ 8))
+pub num8 : IsCodec (to_be_bytes w8) (number_at w8) (IsBelow (2 ^ 8))
 num8 = number w8 (2 ^ 8) wide8
 
-num16 : IsCodec (to_be_bytes w16) (number_at w16) (IsBelow (2 ^ 16))
+pub num16 : IsCodec (to_be_bytes w16) (number_at w16) (IsBelow (2 ^ 16))
 num16 = number w16 (2 ^ 16) wide16
 
 pub num64 : IsCodec (to_be_bytes w64) (number_at w64) (IsBelow (2 ^ 64))

@@ -1,5 +1,5 @@
 -- Versions of rows as bytes: how they are read, how they are spelled, and which have a spelling.
-use Rattle.std.specs.Prelude.{◌≡◌, ℕ, ℤ, ◌&&◌, ◌<◌, ◌^◌, FitsSigned, int_le, zero, suc, List, [], ◌∷◌, ◌++◌, length, Some, None, Bool, true, false}
+use Rattle.std.specs.Prelude.{◌≡◌, ℕ, ℤ, ◌<◌, ◌^◌, FitsSigned, zero, suc, List, [], ◌∷◌, ◌++◌, length, Some, None, Bool, true, false}
 use Rattle.std.specs.Int.{w8, w16, w32, w64, w128, to_be_bytes}
 use Rattle.std.specs.Str.{is_utf8}
 use Rattle.merge_types.specs.declared.identifiers.Dot.{Dot}
@@ -9,7 +9,7 @@ use Rattle.merge_units.specs.declared.version.Cell.{Cell}
 use Rattle.merge_units.specs.declared.version.Body.{Body}
 use Rattle.merge_units.specs.declared.version.Body.TheVariants.{Live, Dead}
 use Rattle.merge_units.specs.declared.version.Version.{Version}
-use Rattle.merge_types.specs.Limits.{first_day, last_day}
+pub use Rattle.merge_types.specs.Day.{is_day}
 use Rattle.merge_lineage.specs.Lineage.{ascending}
 use Rattle.merge_record.specs.Reading.{◌>>=◌, Reader, both_at, counted_at, number_at, signed_at, string_at, tested_at, wrapped_at}
 use Rattle.merge_record.specs.Codec.{counted, signed_bytes, string_bytes_of, AreCounted, IsShort}
@@ -52,10 +52,6 @@ bit_at bytes = None
 
 unfoldable pub text_at : Reader (List ℕ)
 text_at bytes = tested_at is_utf8 string_at bytes
-
--- a day in the years 0001 to 9999
-abbrev pub is_day : ℤ → Bool
-is_day day = int_le first_day day && int_le day last_day
 
 unfoldable pub day_at : Reader ℤ
 day_at bytes = tested_at is_day (signed_at w32) bytes

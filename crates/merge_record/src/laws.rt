@@ -1,7 +1,7 @@
 //! What holds of all records: each is of one value and each value has one, what is written reads
 //! back, and nothing else is read. These functions do nothing: their contracts are the laws.
 ghost use Rattle.std.specs.Prelude.{◌^◌};
-ghost use Rattle.std.specs.Int.{w64, to_be_bytes};
+ghost use Rattle.std.specs.Int.{w16, w64, w8, to_be_bytes};
 ghost use Rattle.merge_record.specs.Reading.{number_at};
 ghost use Rattle.merge_record.specs.Codec.{AreRecords, IsBelow};
 ghost use Rattle.merge_record.specs.Rows.{publisher_row_at, publisher_row_bytes, IsPublisherRow, subscriber_row_at, subscriber_row_bytes, IsSubscriberRow};
@@ -18,6 +18,8 @@ pub fn key_records()
     ensures row { AreRecords row_key_bytes row_key_at IsRowKey }
     ensures mapping { AreRecords row_site_bytes row_site_at IsRowSite }
     ensures grant { AreRecords grant_key_bytes grant_key_at IsGrantKey }
+    ensures article { AreRecords (to_be_bytes w8) (number_at w8) (IsBelow (2 ^ 8)) }
+    ensures site { AreRecords (to_be_bytes w16) (number_at w16) (IsBelow (2 ^ 16)) }
     ensures number { AreRecords (to_be_bytes w64) (number_at w64) (IsBelow (2 ^ 64)) }
 {}
 

@@ -89,6 +89,7 @@ impl SqliteKeeper<FileStore<File>> {
     pub fn open(rt: &HostRuntime, path: &str) -> Result<Self, KeepFault>
         ensures fresh { IfOk result (λ keeper. keeper.count ≡ 0) }
         ensures unlimited { IfOk result (λ keeper. keeper.conn.step_limit ≡ None) }
+        ensures idle { IfOk result (λ keeper. keeper.conn.in_transaction ≡ false) }
         ensures statements { IfOk result (λ keeper. HasCleanDisk (file_state keeper.conn) → AreStatements ALL.now PUT.now TAKE.now keeper.all keeper.put keeper.take) }
         ensures memory { path.now ≡ codes ":memory:" → result ≡ Err KeepFault.Failed }
     {
@@ -103,11 +104,16 @@ impl SqliteKeeper<FileStore<File>> {
 fn opened(rt: &HostRuntime, path: &str) -> Result<SqliteKeeper<FileStore<File>>, Stop>
     ensures fresh { IfOk result (λ keeper. keeper.count ≡ 0) }
     ensures unlimited { IfOk result (λ keeper. keeper.conn.step_limit ≡ None) }
+    ensures idle { IfOk result (λ keeper. keeper.conn.in_transaction ≡ false) }
     ensures statements { IfOk result (λ keeper. HasCleanDisk (file_state keeper.conn) → AreStatements ALL.now PUT.now TAKE.now keeper.all keeper.put keeper.take) }
     ensures memory { path.now ≡ codes ":memory:" → result ≡ Err Stop.Refused }
 {
     let mut conn = Connection::open(rt, path)?;
     make_table(&mut conn)?;
+    // a batch may begin a transaction, and no clause of SQLite's tells that this one does not
+    if !conn.is_autocommit() {
+        return Err(Stop::Refused);
+    }
     prepared(rt.alloc(), conn)
 }
 
@@ -115,6 +121,7 @@ fn opened(rt: &HostRuntime, path: &str) -> Result<SqliteKeeper<FileStore<File>>,
 fn prepared<S: Alter + Drop>(alloc: Global, conn: Connection<S>) -> Result<SqliteKeeper<S>, Stop>
     ensures fresh { IfOk result (λ keeper. keeper.count ≡ 0) }
     ensures limit { IfOk result (λ keeper. keeper.conn.step_limit ≡ conn.step_limit) }
+    ensures idle { conn.in_transaction ≡ false → IfOk result (λ keeper. keeper.conn.in_transaction ≡ false) }
     ensures statements { IfOk result (λ keeper. HasCleanDisk (state S.Store keeper.conn) → AreStatements ALL.now PUT.now TAKE.now keeper.all keeper.put keeper.take) }
 {
     let mut conn = conn;
