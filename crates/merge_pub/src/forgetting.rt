@@ -2,18 +2,18 @@
 ghost use Rattle.std.specs.Prelude.{◌≡◌, [], IfOk, None};
 ghost use Rattle.std.specs.Ordering.{nat_cmp};
 ghost use Rattle.merge_types.specs.RowKeys.{key_cmp};
-ghost use Rattle.merge_table.specs.Edits.{IsReady, rows_after_all};
+ghost use Rattle.merge_table.specs.Edits.{rows_after_all};
 ghost use Rattle.merge_gens.specs.Moves.{row_site_cmp};
 ghost use Rattle.merge_pub.specs.After.{after};
 ghost use Rattle.merge_pub.specs.Forgetting.{LeavesAll};
-ghost use Rattle.merge_steps.specs.MoveEntries.{move_entry_cmp};
 ghost use Rattle.merge_pub.specs.Held.{IsDrafted, publication_of, tables_of};
 
 use crate::closing::still;
 use crate::publisher::Publisher;
+use crate::versions::make_room;
 use merge_gens::{GenerationPlan, IndexChange, Mapping, RowSite, SiteState};
-use merge_steps::{Draft, IndexChanges, MoveEntry, moved_edits};
-use merge_table::{Edit, Table};
+use merge_steps::{Draft, IndexChanges, moved_edits};
+use merge_table::Edit;
 use merge_types::{Listing, Moment, NoMemory, RowKey};
 use merge_units::PublisherRow;
 use std::alloc::Global;
@@ -26,28 +26,6 @@ pub struct Forgetting {
     pub entries: Listing<IndexChange>,
     pub mappings: Listing<Edit<RowSite, Mapping>>,
     pub sites: Listing<Edit<u16, SiteState>>,
-}
-
-// Takes the memory for edits of rows and mappings.
-fn make_room(
-    rows: &mut Table<RowKey, PublisherRow>,
-    mappings: &mut Table<RowSite, Mapping>,
-    moved: &mut Table<MoveEntry, ()>,
-    row_edits: &[Edit<RowKey, PublisherRow>],
-    mapping_edits: &[Edit<RowSite, Mapping>],
-    moved_edits: &[Edit<MoveEntry, ()>],
-) -> Result<(), NoMemory>
-    ensures rows { IfOk result (λ _. IsReady key_cmp rows.new.slots row_edits.now) }
-    ensures mappings { IfOk result (λ _. IsReady row_site_cmp mappings.new.slots mapping_edits.now) }
-    ensures moved { IfOk result (λ _. IsReady move_entry_cmp moved.new.slots moved_edits.now) }
-    ensures same_rows { rows.new.rows ≡ rows.old.rows }
-    ensures same_mappings { mappings.new.rows ≡ mappings.old.rows }
-    ensures same_moved { moved.new.rows ≡ moved.old.rows }
-{
-    rows.prepare(row_edits)?;
-    mappings.prepare(mapping_edits)?;
-    moved.prepare(moved_edits)?;
-    Ok(())
 }
 
 // A draft that makes these edits, with those that follow in the indexes.

@@ -23,8 +23,8 @@ use merge_types::{Listing, NoMemory, RowKey, Steps};
 use merge_units::{PublisherRow, Version};
 use std::sync::ledger::Ledger;
 
-// Takes the memory for edits of rows and mappings.
-fn make_room(
+/// Takes the memory for edits of rows and mappings.
+pub(crate) fn make_room(
     rows: &mut Table<RowKey, PublisherRow>,
     mappings: &mut Table<RowSite, Mapping>,
     moved: &mut Table<MoveEntry, ()>,

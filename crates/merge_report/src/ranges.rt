@@ -64,8 +64,8 @@ fn held_count(ranges: &Ranges) -> u64
     }
 }
 
-// Adds two numbers of a range, or `-` for each.
-fn add_numbers(text: &mut String, numbers: Option<(i64, i64)>) -> Result<(), NoMemory>
+// Adds both ends of a range, or `-` for each.
+fn add_ends(text: &mut String, numbers: Option<(i64, i64)>) -> Result<(), NoMemory>
     ensures { OnOk result (string_bytes text.new ≡ string_bytes text.old ++ spaced (number_words numbers)) }
 {
     match numbers {
@@ -85,8 +85,8 @@ fn add_holder(
 {
     let article = article_name(publication, holder.article as usize);
     write!(text, "{article} {}", holder.ranges.holding().have)?;
-    add_numbers(text, next_and_end(&holder.ranges))?;
-    add_numbers(text, begin_and_end(&holder.ranges))?;
+    add_ends(text, next_and_end(&holder.ranges))?;
+    add_ends(text, begin_and_end(&holder.ranges))?;
     writeln!(text)?;
     Ok(())
 }
