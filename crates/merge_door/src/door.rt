@@ -12,6 +12,7 @@ use merge_types::Words;
 use std::io;
 use std::io::{ErrorKind, Read};
 use std::net::{Shutdown, TcpListener, TcpStream};
+use std::snapshot::Snapshot;
 use std::sync::ledger::Ledger;
 use std::time::{Duration, Instant};
 
@@ -151,6 +152,7 @@ impl Door for TcpDoor {
 pub struct TcpDoors {
     rt: HostRuntime,
     faults: u64,
+    asked: Option<Snapshot<Words>>,
 }
 
 impl TcpDoors {
@@ -158,12 +160,16 @@ impl TcpDoors {
     pub fn new(rt: HostRuntime) -> Self
         ensures { result.faults ≡ 0 }
     {
-        TcpDoors { rt, faults: 0 }
+        TcpDoors {
+            rt,
+            faults: 0,
+            asked: None,
+        }
     }
 }
 
 impl Doors for TcpDoors {
-    ghost use Rattle.std.specs.Prelude.{None};
+    ghost use Rattle.std.specs.Prelude.{None, option_map};
 
     type Opened = TcpDoor;
 
@@ -171,7 +177,10 @@ impl Doors for TcpDoors {
 
     ghost count = { λ d. d.faults };
 
+    ghost asked = { λ d. option_map (λ s. s.value) d.asked };
+
     fn door(&mut self, address: &Words) -> Result<TcpDoor, OpenFault> {
+        self.asked = Some(Snapshot::of(address));
         match TcpDoor::open(self.rt, address.as_str(), Waits::usual()) {
             Ok(door) => Ok(door),
             Err(fault) if fault.kind() == ErrorKind::OutOfMemory => Err(OpenFault::NoMemory),

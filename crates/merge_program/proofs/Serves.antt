@@ -1,5 +1,5 @@
 -- How a run of `serve` finishes.
-use Rattle.std.proofs.Common.{Err, List, None, Ok, Option, Result, Some, ap, arith, inl, inr, length, subst, sym, unwrap_or, ℕ, ◌∙◌, ◌≡◌, ◌≤◌, ◌⊎◌}
+use Rattle.std.proofs.Common.{OnOk, Err, List, None, Ok, Option, Result, Some, ap, arith, inl, inr, length, subst, sym, unwrap_or, ℕ, ◌∙◌, ◌≡◌, ◌≤◌, ◌⊎◌}
 use Rattle.std.specs.Prelude.{IfOk, IfSome, OnErr, not}
 use Rattle.merge_types.specs.declared.identifiers.SiteId.{SiteId}
 use Rattle.merge_ports.specs.Entries.{Map}
@@ -117,6 +117,21 @@ module _ (order : Order) (resolvers : ℕ) (says : Saying) (v : Visit) (d : Door
   pub wanting : (finish : Finish) → finish ≡ Ended NoMemory → v.written ≡ v.was → v.kept ≡ v.stored → d.after ≡ d.before → (status : ℕ) → status ≡ finish_status finish
       → (old new : Option (List ℕ)) (before after : ℕ) → Finished finish old new before after → TellsServed status order resolvers says v d old new before after
   wanting finish is silent same closed status as_told old new before after told = tells-served status finish as_told (unordered-ends finish NoMemory is tt silent same closed) old new before after told
+
+-- A run with status 0 was served.
+
+pub never-done : {P : Type 0} (ending : Ending) (told : Option (List ℕ)) (resolvers before after : ℕ) → IsUnordered ending told resolvers before after → status_of ending ≡ 0 → P
+never-done Done told resolvers before after cause is = absurd cause
+never-done other told resolvers before after cause is = absurd (omega (arith, is))
+
+pub reached-by : {P : Type 0} (r : Result Unit Stop) → OnOk r P → finish_status (finish_of r) ≡ 0 → P
+reached-by (Ok done) p is = p
+reached-by (Err break.StoreFault) p is = absurd (omega (arith, is))
+reached-by (Err (break.Damaged table key)) p is = absurd (omega (arith, is))
+reached-by (Err break.DoorFault) p is = absurd (omega (arith, is))
+reached-by (Err (break.Differs difference)) p is = absurd (omega (arith, is))
+reached-by (Err break.WriteFault) p is = absurd (omega (arith, is))
+reached-by (Err break.NoMemory) p is = absurd (omega (arith, is))
 
 -- The order that the words said is the one.
 

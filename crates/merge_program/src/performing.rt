@@ -1,5 +1,5 @@
 //! All commands, those that may wait too.
-ghost use Rattle.std.specs.Prelude.{◌≡◌, IfSome, None, Some, false, length, ℕ};
+ghost use Rattle.std.specs.Prelude.{◌≡◌, ◌⊎◌, IfSome, None, Some, false, length, ℕ};
 ghost use Rattle.merge_ports.specs.Opened.{SameElsewhere};
 ghost use Rattle.merge_resolve.specs.Asked.{says_at};
 ghost use Rattle.merge_world.specs.Views.{handed_view};
@@ -85,6 +85,8 @@ where
           failed = I.count host.new.input;
         })
         (N.written host.old.notes) (N.written host.new.notes) (N.count host.old.notes) (N.count host.new.notes) }
+    ensures asked { (order : OneOrder) → order_of words.now ≡ Some order → (T.asked doors.new ≡ Some order.address) ⊎ (doors.new ≡ doors.old) }
+    ensures reached { (order : OneOrder) → order_of words.now ≡ Some order → result.0 ≡ 0 → T.asked doors.new ≡ Some order.address }
     ensures served { (order : OneOrder) → order_of words.now ≡ Some order → TellsServed result.0 order (length resolvers.old.items) (says_at (λ r. says r) resolvers.old.items)
         (record {
           input = I.left host.old.input;

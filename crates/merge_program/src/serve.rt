@@ -1,10 +1,10 @@
 //! The publisher serves subscribers.
-ghost use Rattle.std.specs.Prelude.{◌≡◌, IfErr, IfOk, IfSome, List, Option, length, ℕ};
+ghost use Rattle.std.specs.Prelude.{◌≡◌, ◌⊎◌, IfErr, IfOk, IfSome, List, Option, Some, length, ℕ};
 ghost use Rattle.merge_ports.specs.Opened.{SameElsewhere};
 ghost use Rattle.merge_resolve.specs.Asked.{says_at};
 ghost use Rattle.merge_schema.specs.Valid.{IsValid};
 ghost use Rattle.merge_program.specs.Files.{IsAccepted};
-ghost use Rattle.merge_program.specs.Serving.{IsUnordered, ServeEnds, publisher_site};
+ghost use Rattle.merge_program.specs.Serving.{IsUnordered, ServeEnds, finish_status, publisher_site};
 
 use crate::ending::Ending;
 use crate::files::{publication_in, read_file};
@@ -59,6 +59,8 @@ where
     T::Opened: Send,
     <T::Opened as Door>::Input: Send,
     <T::Opened as Door>::Output: Send,
+    ensures asked { (T.asked doors.new ≡ Some order.now.address) ⊎ (doors.new ≡ doors.old) }
+    ensures reached { finish_status result ≡ 0 → T.asked doors.new ≡ Some order.now.address }
     ensures ends { (input : Option (List ℕ)) (reads failed : ℕ) → ServeEnds result order.now (length resolvers.old.items) (says_at (λ r. says r) resolvers.old.items) (record {
       input = input;
       offers = E.offers outside.old;

@@ -95,3 +95,8 @@ pub read-so : (publication : Publication) (tables : PublisherTables) (site : Sit
     → IsRead (publisher_loaded publication (new_holders publication)) (told site path) (Ok (publisher_stored tables)) → IsRead (publisher_loaded publication (new_holders publication)) (first site path) (Ok (publisher_stored tables))
 read-so publication tables site path told first same read =
     subst (λ (f : SiteId → List ℕ → Option Map). IsRead (publisher_loaded publication (new_holders publication)) (f site path) (Ok (publisher_stored tables))) same read
+
+-- what holds in any case holds of what is done
+pub done-so : {A E P : Type 0} (r : Result A E) → P → OnOk r P
+done-so (Ok done) p = p
+done-so (Err why) p = tt

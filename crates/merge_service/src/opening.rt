@@ -1,5 +1,5 @@
 //! A day at a door that is opened for it.
-ghost use Rattle.std.specs.Prelude.{◌≡◌, ◌≤◌};
+ghost use Rattle.std.specs.Prelude.{◌≡◌, ◌≤◌, Some};
 ghost use Rattle.merge_service.specs.Days.{IsDay, ended};
 
 use crate::day::{Day, Outcome, hold_day};
@@ -32,7 +32,7 @@ fn ended(outcome: Outcome, requests: u64) -> Result<Listing<Entry>, Stop>
     }
 }
 
-/// Opens a door, serves a desk of this publisher at it, and gives the door back. It may wait.
+/// Opens a door at an address, serves a desk of this publisher at it, and gives the door back. It may wait.
 pub(crate) fn open_day<
     R: Threads + Wait + Sync,
     P: DraftingPublisher + Send,
@@ -54,7 +54,8 @@ where
     <T::Opened as Door>::Input: Send,
     <T::Opened as Door>::Output: Send,
     requires workers { (1 ≤ workers) × (workers ≤ 16) }
-    ensures { IsDay (P.view publisher).publication (P.view publisher).says (P.view publisher).tables (P.view result.0).tables requests (T.handed doors.new) (T.count doors.old) (T.count doors.new) result.1 }
+    ensures asked { T.asked doors.new ≡ Some address.now }
+    ensures day { IsDay (P.view publisher).publication (P.view publisher).says (P.view publisher).tables (P.view result.0).tables requests (T.handed doors.new) (T.count doors.old) (T.count doors.new) result.1 }
 {
     let door = match doors.door(address) {
         Ok(door) => door,

@@ -1,5 +1,5 @@
 //! A day at a publisher's store, and what is written of it.
-ghost use Rattle.std.specs.Prelude.{◌≡◌, ◌≤◌, Ok, ℕ};
+ghost use Rattle.std.specs.Prelude.{◌≡◌, ◌≤◌, ◌⊎◌, Ok, OnOk, Some, ℕ};
 ghost use Rattle.std.specs.declared.option.Option.{Option};
 ghost use Rattle.merge_keeper.specs.PublisherStart.{publisher_loaded};
 ghost use Rattle.merge_model.specs.Publisher.{new_holders};
@@ -57,6 +57,7 @@ where
     <T::Opened as Door>::Output: Send,
     requires room { E.HasRoom outside.old site store.now }
     requires workers { (1 ≤ hours.workers) × (hours.workers ≤ 16) }
+    ensures asked { T.asked doors.new ≡ Some address.now }
     ensures ends { (publication : OnePublication) (stored : Option Map) (stores : ℕ) → kept.publication ≡ publication → IsRead (publisher_loaded publication (new_holders publication)) stored (Ok (publisher_stored kept.tables))
         → Ends publication (says_at (λ r. says r) resolvers.items) hours.requests (record {
           stored = stored;
@@ -88,10 +89,10 @@ where
     }
 }
 
-/// The publisher starts at its store and serves over a door at an address, in threads, with its
-/// resolvers, until so many connections were accepted or the door failed. The door and the keeper are
-/// given back. Where all were accepted the summary of the journal is written, and else nothing. That the
-/// door is opened at this address, and how many threads there are, is in no clause. It may wait.
+/// The publisher starts at its store and serves over a door, with its resolvers, until so many
+/// connections were accepted or the door failed. The door and the keeper are given back. Where all were
+/// accepted the summary of the journal is written, and else nothing. No door is opened but at the
+/// address. There is a seat for each worker, which no clause says. It may wait.
 pub fn serve_store<R: Threads + Wait + Sync, O: Sink, E: CommandOutside, T: Doors>(
     rt: &R,
     alloc: Global,
@@ -113,6 +114,8 @@ where
     <T::Opened as Door>::Output: Send,
     requires valid { (resolvers : ℕ) × IsValid resolvers publication.now }
     requires workers { (1 ≤ hours.workers) × (hours.workers ≤ 16) }
+    ensures asked { (T.asked doors.new ≡ Some address.now) ⊎ (doors.new ≡ doors.old) }
+    ensures reached { OnOk result (T.asked doors.new ≡ Some address.now) }
     ensures ends { Ends publication.now (says_at (λ r. says r) resolvers.items) hours.requests (record {
       stored = E.told outside.old site store.now;
       kept = E.told outside.new site store.now;

@@ -1,6 +1,8 @@
 -- A publisher serves, or the words are those of another command.
-use Rattle.std.proofs.Common.{refl}
-use Rattle.merge_program.proofs.Serves.{elsewhere-of, no-order, one-order, some-order, tells-of, wanting}
+use Rattle.std.proofs.Common.{None, Some, inr, refl, subst, sym, ◌∙◌, ◌≡◌, ◌⊎◌}
+use Rattle.merge_program.specs.declared.ending.Ending.TheVariants.{NoMemory}
+use Rattle.merge_program.specs.declared.order.Order.{Order}
+use Rattle.merge_program.proofs.Serves.{elsewhere-of, never-done, no-order, one-order, some-order, tells-of, wanting}
 use Rattle.merge_program.proofs.performing.perform.Goals as goal
 
 pub returns-in-Ok-Some-clause-statuses : goal.returns-in-Ok-Some-clause-statuses
@@ -19,6 +21,28 @@ pub returns-in-Ok-Some-clause-served : goal.returns-in-Ok-Some-clause-served
 returns-in-Ok-Some-clause-served g c = λ order say.
     let said = rw c.in-Ok-Some.field-0-is at c.in-Ok-Some.ensures.ok in
     tells-of _ _ _ _ _ _ _ c.status.ensures (c.serve-finish.ensures.ends _ _ _) _ _ _ _ c.tell.ensures order (one-order _ _ _ said say)
+
+pub returns-in-Ok-Some-clause-asked : goal.returns-in-Ok-Some-clause-asked
+returns-in-Ok-Some-clause-asked g c = λ order say.
+    let said = rw c.in-Ok-Some.field-0-is at c.in-Ok-Some.ensures.ok in
+    subst (λ (o : Order). (g.T.Doors.asked c.serve-finish.new.doors ≡ Some o.address) ⊎ (c.serve-finish.new.doors ≡ c.args.doors.now)) (one-order _ _ _ said say) c.serve-finish.ensures.asked
+
+pub returns-in-Ok-Some-clause-reached : goal.returns-in-Ok-Some-clause-reached
+returns-in-Ok-Some-clause-reached g c = λ order say zero.
+    let said = rw c.in-Ok-Some.field-0-is at c.in-Ok-Some.ensures.ok in
+    subst (λ (o : Order). g.T.Doors.asked c.serve-finish.new.doors ≡ Some o.address) (one-order _ _ _ said say) (c.serve-finish.ensures.reached (sym c.status.ensures ∙ zero))
+
+pub returns-in-Ok-None-clause-asked : goal.returns-in-Ok-None-clause-asked
+returns-in-Ok-None-clause-asked g c = λ order say. let said = rw c.in-Ok-None.field-0-is at c.in-Ok-None.ensures.ok in some-order _ _ said say
+
+pub returns-in-Ok-None-clause-reached : goal.returns-in-Ok-None-clause-reached
+returns-in-Ok-None-clause-reached g c = λ order say zero. let said = rw c.in-Ok-None.field-0-is at c.in-Ok-None.ensures.ok in some-order _ _ said say
+
+pub returns-in-Err-clause-asked : goal.returns-in-Err-clause-asked
+returns-in-Err-clause-asked g c = λ order say. inr refl
+
+pub returns-in-Err-clause-reached : goal.returns-in-Err-clause-reached
+returns-in-Err-clause-reached g c = λ order say zero. never-done NoMemory None 0 0 0 tt (sym c.status-in-Err.ensures ∙ zero)
 
 pub returns-in-Ok-None-clause-served : goal.returns-in-Ok-None-clause-served
 returns-in-Ok-None-clause-served g c = λ order say. let said = rw c.in-Ok-None.field-0-is at c.in-Ok-None.ensures.ok in some-order _ _ said say

@@ -1,10 +1,24 @@
 -- A run finishes as the publisher served, or before.
-use Rattle.std.proofs.Common.{List, Option, ap, length, refl, rules, ℕ, ◌∙◌, ◌≡◌}
+use Rattle.std.proofs.Common.{List, Option, ap, inr, length, refl, rules, sym, ℕ, ◌∙◌, ◌≡◌}
 use Rattle.merge_types.specs.declared.identifiers.SiteId.{SiteId}
 use Rattle.merge_ports.specs.Entries.{Map}
 use Rattle.merge_resolve.specs.Asked.{says_at}
-use Rattle.merge_program.proofs.Serves.{ordered-ends, unordered-ends-so}
+use Rattle.merge_program.proofs.Serves.{never-done, ordered-ends, reached-by, unordered-ends-so}
+use Rattle.merge_program.specs.Serving.{finish_status}
 use Rattle.merge_program.proofs.serve.serve.Goals as goal
+
+pub returns-in-Err-clause-asked : goal.returns-in-Err-clause-asked
+returns-in-Err-clause-asked g c = inr refl
+
+pub returns-in-Err-clause-reached : goal.returns-in-Err-clause-reached
+returns-in-Err-clause-reached g c = λ zero.
+    never-done c.in-Err.ending ((g.E.CommandOutside.offers c.args.outside.now).texts c.args.order.now.publication) c.len.result (g.E.Outside.counts c.args.outside.now).texts _ c.in-Err.ensures.ends zero
+
+pub returns-clause-asked : goal.returns-clause-asked
+returns-clause-asked g c = c.serve_store-served.ensures.asked
+
+pub returns-clause-reached : goal.returns-clause-reached
+returns-clause-reached g c = λ zero. reached-by _ c.serve_store-served.ensures.reached (sym (ap finish_status c.finish_of.ensures) ∙ zero)
 
 pub returns-in-Err-clause-ends : goal.returns-in-Err-clause-ends
 returns-in-Err-clause-ends g c = λ input reads failed.

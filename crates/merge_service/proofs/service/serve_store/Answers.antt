@@ -1,14 +1,23 @@
 -- The publisher starts, or it does not.
-use Rattle.std.proofs.Common.{List, Option, ap, refl, ℕ, ◌∙◌}
+use Rattle.std.proofs.Common.{List, Option, ap, inl, inr, refl, ℕ, ◌∙◌}
 use Rattle.merge_types.specs.declared.identifiers.SiteId.{SiteId}
 use Rattle.merge_ports.specs.Entries.{Map}
 use Rattle.merge_ports.specs.declared.outside.Counts.{Counts}
-use Rattle.merge_service.proofs.Endings.{not-started-so, read-so}
+use Rattle.merge_service.proofs.Endings.{done-so, not-started-so, read-so}
 use Rattle.merge_service.specs.Stores.{Around}
 use Rattle.merge_service.proofs.service.serve_store.Goals as goal
 
 pub returns-in-Ok-clause-ends : goal.returns-in-Ok-clause-ends
 returns-in-Ok-clause-ends g c = c.serve_kept.ensures.ends c.args.publication.now _ _ c.in-Ok.ensures.publication (read-so c.args.publication.now _ _ _ _ _ c.clock-clock.ensures.stores c.in-Ok.ensures.tables)
+
+pub returns-in-Ok-clause-asked : goal.returns-in-Ok-clause-asked
+returns-in-Ok-clause-asked g c = inl c.serve_kept.ensures.asked
+
+pub returns-in-Ok-clause-reached : goal.returns-in-Ok-clause-reached
+returns-in-Ok-clause-reached g c = done-so c.serve_kept.result c.serve_kept.ensures.asked
+
+pub returns-in-Err-clause-asked : goal.returns-in-Err-clause-asked
+returns-in-Err-clause-asked g c = inr refl
 
 pub returns-in-Err-clause-ends : goal.returns-in-Err-clause-ends
 returns-in-Err-clause-ends g c =
