@@ -1,7 +1,13 @@
 pub mod RefusedSteps
+pub mod OtherSteps
+pub mod OtherHistory
+pub mod EachClosed
+pub mod SpacedLaw
 pub mod SyncStays
 pub mod SyncWalk
 pub mod SyncLaw
+pub mod FailingSyncs
+pub mod FailingRounds
 pub mod DroppedRows
 pub mod NeverNew
 pub mod ExpectedRefusals

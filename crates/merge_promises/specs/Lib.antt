@@ -1,6 +1,7 @@
 pub mod Promises
 pub mod Failures
 pub mod Syncs
+pub mod SpacedRounds
 pub mod Tombstones
 pub mod Given
 pub mod GivenForGood

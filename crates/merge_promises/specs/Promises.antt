@@ -31,8 +31,9 @@ use Rattle.merge_promises.specs.GivenForGood.{DecisionsStand, GivenStandsHere, G
 use Rattle.merge_promises.specs.Earlier.{EveryKnowsEarlier, HeldKnowEarlier}
 use Rattle.merge_promises.specs.GrantedRanges.{HeldRangesWereGranted, ToldRangesWereGranted}
 use Rattle.merge_promises.specs.Leavings.{LeavingsWereSeen, WasSeen}
-use Rattle.merge_promises.specs.Syncs.{TwoRoundsSettle}
-use Rattle.merge_promises.specs.Tombstones.{AcceptedAreNeverNew, HeldAreNeverNew, TombstonesArePassed}
+use Rattle.merge_promises.specs.SpacedRounds.{SpacedRoundsSettle}
+use Rattle.merge_promises.specs.Syncs.{FailingRoundSettles, FailingTwoRoundsSettle, TwoRoundsSettle}
+use Rattle.merge_promises.specs.Tombstones.{AcceptedAreNeverNew, HeldAreNeverNew, LeavingsArePassed, TombstonesArePassed}
 
 -- the history has the row's tombstone as purged
 abbrev pub HasPurged : Model → Key → Type 0
@@ -77,8 +78,13 @@ pub record AllPromised (publication : Publication) (says : Saying) (m : Model) :
   pub finishes : SessionFinishes publication says m
   pub fails : FailingSessionFinishes publication says m
   pub settles : FailingSessionSettles publication says m
-  -- when every subscriber has had a session, and then every one another, all are settled
+  -- when every subscriber has had a session that nothing refused, and then every one another, all are settled, also where steps may fail
   pub syncs : TwoRoundsSettle publication says m
+  pub failing_syncs : FailingTwoRoundsSettle publication says m
+  -- so they are behind a round of uploads and downloads; where no step fails the promises above say it
+  pub failing_rounds : FailingRoundSettles publication says m
+  -- and where every one has sent all, and then every one taken all, with whatever comes beside but changes of rows and sites made anew
+  pub spaced_rounds : SpacedRoundsSettle publication says m
   -- the bound on its range requests is never what ends it
   pub ranges : RangesAreEnough publication says m
   -- an honest request is taken but for expiry, a later join, too many rows and a counter's end, and the first reason is told
@@ -106,8 +112,10 @@ pub record AllPromised (publication : Publication) (says : Saying) (m : Model) :
   -- each range that a site holds, or a reply tells it of, was granted to it, whole
   pub held_ranges : HeldRangesWereGranted m
   pub told_ranges : ToldRangesWereGranted m
-  -- a purge drops a tombstone that each live site has passed, and no row that is held, or was accepted, is made again by what is still sent
+  -- a purge drops a tombstone, and a mapping, that each live site has passed, and no row that is held, or was accepted, is made again by what
+  -- is still sent
   pub tombstones : TombstonesArePassed publication m
+  pub passed_leavings : LeavingsArePassed publication m
   pub held_rows : HeldAreNeverNew m
   pub accepted_rows : AcceptedAreNeverNew m
   -- what a join and a purge forget, and how much a purge counts, is what the last lines say

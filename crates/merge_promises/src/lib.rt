@@ -19,5 +19,8 @@ pub use given::{changes_and_decisions_give_values, given_values_stand};
 pub use leavings::leavings_were_seen;
 pub use promises::all_promises_hold;
 pub use ranges::held_ranges_were_granted;
-pub use rounds::two_rounds_settle_all_sites;
-pub use tombstones::{purged_rows_are_never_new, tombstones_are_passed};
+pub use rounds::{
+    rounds_beside_other_steps_settle_all_sites, rounds_in_which_steps_may_fail_settle_all_sites,
+    two_rounds_settle_all_sites,
+};
+pub use tombstones::{leavings_are_passed, purged_rows_are_never_new, tombstones_are_passed};

@@ -6,8 +6,11 @@ use crate::earlier::earlier_changes_are_known;
 use crate::given::{changes_and_decisions_give_values, given_values_stand};
 use crate::leavings::leavings_were_seen;
 use crate::ranges::held_ranges_were_granted;
-use crate::rounds::two_rounds_settle_all_sites;
-use crate::tombstones::{purged_rows_are_never_new, tombstones_are_passed};
+use crate::rounds::{
+    rounds_beside_other_steps_settle_all_sites, rounds_in_which_steps_may_fail_settle_all_sites,
+    two_rounds_settle_all_sites,
+};
+use crate::tombstones::{leavings_are_passed, purged_rows_are_never_new, tombstones_are_passed};
 use merge_actions::{
     actions_forget_by_lines, actions_keep_values, actions_take_effect_once, actions_take_mappings,
 };
@@ -50,6 +53,8 @@ pub fn all_promises_hold()
     sessions_finish();
     sessions_in_which_steps_fail_finish();
     two_rounds_settle_all_sites();
+    rounds_in_which_steps_may_fail_settle_all_sites();
+    rounds_beside_other_steps_settle_all_sites();
     range_requests_are_enough();
     honest_requests_are_taken();
     requests_are_refused_for_little();
@@ -61,6 +66,7 @@ pub fn all_promises_hold()
     identity_values_stay();
     held_ranges_were_granted();
     tombstones_are_passed();
+    leavings_are_passed();
     purged_rows_are_never_new();
     what_is_forgotten_is_read_of_lines();
     actions_forget_by_lines();

@@ -1,6 +1,6 @@
-//! Laws on deleted rows that a purge drops.
+//! Laws on deleted rows and mappings that a purge drops.
 ghost use Rattle.merge_laws.specs.Laws.{OfEveryValidActions, OfEveryValidRun};
-ghost use Rattle.merge_promises.specs.Tombstones.{AcceptedAreNeverNew, HeldAreNeverNew, TombstonesArePassed};
+ghost use Rattle.merge_promises.specs.Tombstones.{AcceptedAreNeverNew, HeldAreNeverNew, LeavingsArePassed, TombstonesArePassed};
 
 use merge_actions::promises_hold_of_actions;
 use merge_laws::promises_hold;
@@ -12,6 +12,19 @@ use merge_laws::promises_hold;
 pub fn tombstones_are_passed()
     ensures runs { OfEveryValidRun (λ publication says m. TombstonesArePassed publication m) }
     ensures actions { OfEveryValidActions (λ publication says m. TombstonesArePassed publication m) }
+{
+    promises_hold();
+    promises_hold_of_actions();
+}
+
+/// A mapping that a purge drops says that a row left a site's partition, and each joined site has passed
+/// it that is not expired, this one too: it has asked for what lies above the generation in which the row
+/// left, or that had closed as it last joined, with no row. So the mapping is owed to none. Where the row
+/// is outside of its partition a site holds no such row, but where it changed the row and the publisher
+/// has not taken the change, or where it is still to be told.
+pub fn leavings_are_passed()
+    ensures runs { OfEveryValidRun (λ publication says m. LeavingsArePassed publication m) }
+    ensures actions { OfEveryValidActions (λ publication says m. LeavingsArePassed publication m) }
 {
     promises_hold();
     promises_hold_of_actions();
