@@ -91,7 +91,7 @@ ones : (cells : List Cell) → HaveOne cells → All (λ (cell : Cell). length c
 ones [] one = All-nil (λ (cell : Cell). length cell.values ≡ 1)
 ones (cell ∷ cells) one = All-cons (λ (cell : Cell). length cell.values ≡ 1) cell cells one.0 (ones cells one.1)
 
-tracked : (tr : Tracking) (columns : ℕ) (cells : List Cell) → HasColumns tr columns cells → FitsTracking tr cells × (value_count cells ≡ columns)
+pub tracked : (tr : Tracking) (columns : ℕ) (cells : List Cell) → HasColumns tr columns cells → FitsTracking tr cells × (value_count cells ≡ columns)
 tracked tracking.Row columns (cell ∷ []) has = (refl, (let none : List Cell = [] in let one = sum_by-cons (λ (c : Cell). length c.values) cell none in omega (arith, one, has)))
 tracked tracking.Row columns [] has = absurd has
 tracked tracking.Row columns (cell ∷ other ∷ cells) has = absurd has

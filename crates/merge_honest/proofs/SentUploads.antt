@@ -105,7 +105,7 @@ cons-short : (item : Option UploadItem) (items : List UploadItem) (n : ℕ) → 
 cons-short None items n up = omega (arith, up)
 cons-short (Some item) items n up = grind (arith, up)
 
-items-short : (s : SubscriberTables) (entries : List (Key × ℕ)) → length (filter_map (upload_item s) entries) ≤ length entries
+pub items-short : (s : SubscriberTables) (entries : List (Key × ℕ)) → length (filter_map (upload_item s) entries) ≤ length entries
 items-short s [] = omega arith
 items-short s (entry ∷ entries) =
     let up = cons-short (upload_item s entry) (filter_map (upload_item s) entries) (length entries) (items-short s entries) in

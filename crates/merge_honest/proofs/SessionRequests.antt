@@ -2,7 +2,7 @@
 -- reply is never refused.
 use Rattle.std.specs.List.{fold, list_any}
 use Rattle.std.specs.Prelude.{Bool, List, None, Option, Some, [], count_by, false, if◌then◌else◌, length, map, max, nat_le, nat_lt, not, refl, suc, true, unwrap_or, ℕ, ◌&&◌, ◌+◌, ◌<◌, ◌≡◌, ◌≤◌, ◌∷◌}
-use Rattle.std.proofs.Common.{ap, arith, inl, inr, subst, sym, ◌∙◌}
+use Rattle.std.proofs.Common.{ap, arith, inl, inr, length-append, subst, sym, ◌∙◌}
 use Rattle.std.proofs.lemmas.Bool.Decides.{nat_tests}
 use Rattle.merge_types.specs.Limits.{counter_limit, rows_limit}
 use Rattle.merge_types.specs.declared.identifiers.Moment.{Moment}
@@ -106,6 +106,9 @@ letter-there site message w =
     let next : length w.pool + 1 ≡ suc (length w.pool) = omega arith in
     ap (λ (k : ℕ). letter_at (post site message w).0 k) next ∙ letter-last w.pool (record { site = site; message = message })
 
+pool-grows : (site : SiteId) (message : Message) (w : World) → length w.pool + 1 ≡ length (post site message w).0.pool
+pool-grows site message w = let letter : Letter = record { site = site; message = message } in sym (length-append w.pool (letter ∷ []))
+
 -- A request that is fresh: it is of the site, was made behind the site's last join, and but for a join its site is not expired.
 
 module _ (publication : Publication) (says : Saying) where
@@ -125,6 +128,7 @@ module _ (publication : Publication) (says : Saying) where
   pub record FreshLetter (k : Model) (site : SiteId) (number : ℕ) : Type 0 where
     pub sent : Request
     pub at : IsRequest k number site sent
+    pub last : number ≡ length k.world.pool
     pub fresh : IsFresh k site sent
 
   -- what a message of the site comes to
@@ -159,7 +163,7 @@ module _ (publication : Publication) (says : Saying) where
     newer message u = record { same = refl; behind = omega (arith, behind) }
 
     fresh-put : (r : Request) (u : SubscriberTables) → IsFresh (posted_model s.site (Asks r) (with_subscriber u w) h) s.site r → After K (post s.site (Asks r) (with_subscriber u w)) h h
-    fresh-put r u fresh = post-step K s.site (Asks r) (with_subscriber u w) h h (record { sent = r; at = letter-there s.site (Asks r) (with_subscriber u w); fresh = fresh })
+    fresh-put r u fresh = post-step K s.site (Asks r) (with_subscriber u w) h h (record { sent = r; at = letter-there s.site (Asks r) (with_subscriber u w); last = pool-grows s.site (Asks r) (with_subscriber u w); fresh = fresh })
 
     step-made : (sending : Sending) → After K (send_from (by_history h) sending w s) h h → K (model_step publication says m (Send s.site sending))
     step-made sending holds =
@@ -276,14 +280,14 @@ module _ (publication : Publication) (says : Saying) where
           subst (λ (x : SiteId). staleness seq x k.world.publisher ≡ None) (sym newer.same)
           (refused-not (nat_le seq (state_of k.world.publisher site).joined_at) (Stale seq (state_of k.world.publisher site).joined_at) (grind (arith, nat_tests, behind)))
 
-      rows-why : (u : Upload) (why : Refusal) (found : Option Refusal) → IsRequest k number site (request.Upload u) → too_many_new (acts_of judge u [] k.world.publisher) k.world.publisher ≡ found
+      rows-why : (u : Upload) (why : Refusal) (found : Option Refusal) → IsRequest k number site (request.Upload u) → number ≡ length k.world.pool → too_many_new (acts_of judge u [] k.world.publisher) k.world.publisher ≡ found
           → first_refusal (found ∷ counter_end (counters k.world.publisher) ∷ []) ≡ Some why → EndsFor k site why
-      rows-why u why None at same is = counter-why why is
-      rows-why u why (Some other) at same is =
+      rows-why u why None at last same is = counter-why why is
+      rows-why u why (Some other) at last same is =
           let acts : List Act = acts_of judge u [] k.world.publisher in
           let rows : ℕ = length k.world.publisher.rows + count_by is_new acts in
           let named : other ≡ TooManyRows rows = refused-is (list_any is_new acts && nat_lt rows_limit rows) (TooManyRows rows) other same in
-          subst (EndsFor k site) (sym named ∙ some-why other why is) (record { number = number; upload = u; at = at; many = same ∙ ap (λ (r : Refusal). (let found : Option Refusal = Some r in found)) named })
+          subst (EndsFor k site) (sym named ∙ some-why other why is) (record { number = number; upload = u; at = at; last = last; many = same ∙ ap (λ (r : Refusal). (let found : Option Refusal = Some r in found)) named })
 
       site-passed : (told : SiteId) (seq : ℕ) (rest : List (Option Refusal)) (why : Refusal) → IsNewer k site told seq → InTime site k
           → first_refusal (expiry publication k.world.moment told k.world.publisher ∷ staleness seq told k.world.publisher ∷ rest) ≡ Some why → first_refusal rest ≡ Some why
@@ -291,25 +295,25 @@ module _ (publication : Publication) (says : Saying) where
           sym (first-passed (staleness seq told k.world.publisher) rest (staleness-none told seq newer))
           ∙ sym (first-passed (expiry publication k.world.moment told k.world.publisher) (staleness seq told k.world.publisher ∷ rest) (expiry-none told newer.same live)) ∙ is
 
-      fresh-why : (r : Request) (why : Refusal) → IsRequest k number site r → IsFresh k site r → first_refusal (reasons publication judge k.world.moment r k.world.publisher) ≡ Some why → EndsFor k site why
-      fresh-why (request.Join m) why at fresh is =
+      fresh-why : (r : Request) (why : Refusal) → IsRequest k number site r → number ≡ length k.world.pool → IsFresh k site r → first_refusal (reasons publication judge k.world.moment r k.world.publisher) ≡ Some why → EndsFor k site why
+      fresh-why (request.Join m) why at last fresh is =
           let behind = fresh.behind in
           let state : (state_of k.world.publisher m.site).joined_at ≡ (state_of k.world.publisher site).joined_at = ap (λ (x : SiteId). (state_of k.world.publisher x).joined_at) fresh.same in
           let none : refused_if (nat_lt m.seq (state_of k.world.publisher m.site).joined_at) (Stale m.seq (state_of k.world.publisher m.site).joined_at) ≡ None =
           refused-not (nat_lt m.seq (state_of k.world.publisher m.site).joined_at) (Stale m.seq (state_of k.world.publisher m.site).joined_at) (grind (arith, nat_tests, behind, state)) in
           counter-why why (sym (first-passed (refused_if (nat_lt m.seq (state_of k.world.publisher m.site).joined_at) (Stale m.seq (state_of k.world.publisher m.site).joined_at)) (counter_end (counters k.world.publisher) ∷ []) none) ∙ is)
-      fresh-why (request.Upload m) why at fresh is = rows-why m why (too_many_new (acts_of judge m [] k.world.publisher) k.world.publisher) at refl
+      fresh-why (request.Upload m) why at last fresh is = rows-why m why (too_many_new (acts_of judge m [] k.world.publisher) k.world.publisher) at last refl
           (site-passed m.site m.seq (too_many_new (acts_of judge m [] k.world.publisher) k.world.publisher ∷ counter_end (counters k.world.publisher) ∷ []) why fresh.0 fresh.1 is)
-      fresh-why (request.Ranges m) why at fresh is = counter-why why (site-passed m.site m.seq (counter_end (counters k.world.publisher) ∷ []) why fresh.0 fresh.1 is)
-      fresh-why (request.Download m) why at fresh is = counter-why why (site-passed m.site m.seq (counter_end (counters k.world.publisher) ∷ []) why fresh.0 fresh.1 is)
+      fresh-why (request.Ranges m) why at last fresh is = counter-why why (site-passed m.site m.seq (counter_end (counters k.world.publisher) ∷ []) why fresh.0 fresh.1 is)
+      fresh-why (request.Download m) why at last fresh is = counter-why why (site-passed m.site m.seq (counter_end (counters k.world.publisher) ∷ []) why fresh.0 fresh.1 is)
 
       left-same : (noting : History) (done : World × Outcome) (why : Refusal) → done.1 ≡ Refuses why → done.0 ≡ k.world
           → (let n : Model = record { world = done.0; history = with_posted done.0 done.1 (noted_if (did_something done.1) noting k.history) } in n ≡ k)
       left-same noting (v, Refuses other) why is same = ap (λ (x : World). (let n : Model = record { world = x; history = k.history } in n)) same
       left-same noting (v, outcome) why is same = absurd cc
 
-      pub deliver-ends : HonestAreTaken publication says k → (r : Request) (why : Refusal) → IsRequest k number site r → IsFresh k site r → (model_step publication says k (Deliver number)).1 ≡ Refuses why → EndsFor (model_step publication says k (Deliver number)).0 site why
-      deliver-ends taken r why at fresh is =
+      pub deliver-ends : HonestAreTaken publication says k → (r : Request) (why : Refusal) → IsRequest k number site r → number ≡ length k.world.pool → IsFresh k site r → (model_step publication says k (Deliver number)).1 ≡ Refuses why → EndsFor (model_step publication says k (Deliver number)).0 site why
+      deliver-ends taken r why at last fresh is =
           let same : (model_step publication says k (Deliver number)).0 ≡ k = left-same (noted publication says (by_history k.history) k.world (Deliver number) k.history) (step_by publication says (by_history k.history) k.world (Deliver number)) why is (step_by-leaves publication says (by_history k.history) k.world (Deliver number) why is) in
           subst (λ (n : Model). EndsFor n site why) (sym same)
-          (fresh-why r why at fresh (refused-why (first_refusal (reasons publication judge k.world.moment r k.world.publisher)) (model_step publication says k (Deliver number)).1 why (taken number site r at) is))
+          (fresh-why r why at last fresh (refused-why (first_refusal (reasons publication judge k.world.moment r k.world.publisher)) (model_step publication says k (Deliver number)).1 why (taken number site r at) is))

@@ -76,7 +76,7 @@ module _ (publication : Publication) (says : Saying) (resolvers : ℕ) (valid : 
   made-fine : (done : Model × Outcome) → IsBehind publication says done.0 → Asked publication says site done → Fine (then_deliver (model publication says) site done)
   made-fine (k, Posted number) b fresh =
       replied-fine (model_step publication says k (Deliver number)) (deliver-behind publication says k number b) (deliver-replied publication says k number site fresh.sent fresh.at)
-      (λ why e. deliver-ends publication says k number site (ground k b).in_step.been (law-behind publication says resolvers valid HonestAreTaken laws.taken k b) fresh.sent why fresh.at fresh.fresh e)
+      (λ why e. deliver-ends publication says k number site (ground k b).in_step.been (law-behind publication says resolvers valid HonestAreTaken laws.taken k b) fresh.sent why fresh.at fresh.last fresh.fresh e)
   made-fine (k, Refuses why) b ends = ends
   made-fine (k, outcome) b asked = tt
 

@@ -43,7 +43,7 @@ use Rattle.merge_model.specs.Failing.{Slips, faulty}
 use Rattle.merge_model.specs.History.{History, Line, MadeChange, Past, has, past_at, past_in, pasts_with}
 use Rattle.merge_model.specs.Judge.{PublisherJudge, SubscriberJudge}
 use Rattle.merge_model.specs.Tables.Keys.{at_number, put_number}
-use Rattle.merge_model.specs.History.Model.{Model, empty_model, model}
+use Rattle.merge_model.specs.History.Model.{Model, empty_model, model, model_step}
 use Rattle.merge_model.specs.History.Noting
 use Rattle.merge_model.specs.History.Pasts.{past_after}
 use Rattle.merge_model.specs.Tables.Publications.{by_site, identity_of, rules_of}
@@ -55,9 +55,9 @@ use Rattle.merge_model.specs.Publisher.PublisherPurge.{purge}
 use Rattle.merge_model.specs.Publisher.PublisherRanges.{plans, ranged, with_grants as with_ranges}
 use Rattle.merge_model.specs.Publisher.PublisherUpload.{taken_in}
 use Rattle.merge_model.specs.Subscriber.Reinit.{discarded, reinitialised}
-use Rattle.merge_model.specs.Failing.Runs.{model_behind}
+use Rattle.merge_model.specs.Failing.Runs.{model_behind, model_behind_actions}
 use Rattle.merge_model.specs.Subscriber.Sending.{join_of, upload_sent, want_of, with_message}
-use Rattle.merge_model.specs.World.Steps.{kept_decisions, upload_questions}
+use Rattle.merge_model.specs.World.Steps.{Action, kept_decisions, upload_questions}
 use Rattle.merge_model.specs.Subscriber.{subscriber_at_moment, subscriber_closed, subscriber_drawn, subscriber_last_closed, subscriber_local_refusal, subscriber_made_locally, subscriber_next_dot, subscriber_version_at, taken_value, with_version_if}
 use Rattle.merge_model.specs.Tables.{PublisherTables, SubscriberTables}
 use Rattle.merge_model.specs.Subscriber.Taking.{taken, with_grant}
@@ -67,7 +67,7 @@ use Rattle.merge_model.specs.declared.letter.Letter.{Letter}
 use Rattle.merge_model.specs.declared.letter.Message.{Message}
 use Rattle.merge_model.specs.declared.letter.Message.TheVariants.{Asks, Replies}
 use Rattle.merge_model.proofs.Lists.Finding.{at_put, letter-zip}
-use Rattle.merge_model.proofs.Failing.KeptFailing.{runs-keep}
+use Rattle.merge_model.proofs.Runs.Actions.{failing-actions-keep}
 use Rattle.merge_model.proofs.Lists.{all-both, all-filter}
 use Rattle.merge_laws.specs.Invariants.KnownMakers.{KnowsMaker}
 use Rattle.merge_laws.specs.Facts.Knowledge.{AreNumbered, Knows, changes_of}
@@ -77,6 +77,7 @@ use Rattle.merge_laws.proofs.Lineages.LineagesAlways.{Kept, ground, kept-always,
 use Rattle.merge_laws.proofs.Makers.MakerChanges.{made-below, own-held, sub-held}
 use Rattle.merge_laws.proofs.Makers.MakerUploads.{FateAbove, FateMakes, acts-made, from-above}
 use Rattle.merge_laws.proofs.Received.Models.{begins-with}
+use Rattle.merge_laws.proofs.Runs.OfActions.{of-events}
 use Rattle.merge_laws.proofs.Walking.NotesLeave.{fold-leave, reply-leave}
 use Rattle.merge_laws.proofs.Pasts.PastNotes.{acts-items}
 use Rattle.merge_laws.proofs.Unsent.UnsentKept.{reply-site, version-site}
@@ -373,8 +374,18 @@ module _ (publication : Publication) where
           (same-made h.made (Noting.noted_reply judge s.site (pasts_with h number) m h) (reply-leave (λ (x : History). x.made) (λ x pasts. refl) judge s.site (pasts_with h number) m h) i.made) i);
     }
 
+    -- Each step keeps it, and so does every list of actions, and of events.
+
+    abbrev Known : Model → Type 0
+    Known m = Kept publication m × Took publication m.world m.history
+
+    pub took-step : (m : Model) (action : Action) → Known m → Known (model_step publication says m action).0
+    took-step m action both = (kept-step publication m both.0 says action, step-keeps publication says Base In (λ w h b. (ground publication (record { world = w; history = h }) b).received) took-keep m action both.0 both.1)
+
+    pub took-by-actions : (tallies : List ℕ) (slips : Slips) (actions : List Action) → (resolvers : ℕ) × IsValid resolvers publication → Known (model_behind_actions publication says tallies slips actions)
+    took-by-actions tallies slips actions valid = failing-actions-keep publication (model publication says) Known (λ m action both. took-step m action both)
+        (λ m others both. (kept-tallied publication m others both.0, record { own = both.1.own; each = both.1.each; made = both.1.made })) actions (faulty (empty_model publication tallies) slips)
+        (kept-always publication valid says tallies [] [], record { own = new-hold publication; each = λ n s at. begins-with publication (λ (k : ℕ) (t : SubscriberTables). Holds publication t.held) (λ k site keyed. new-hold publication) n s at; made = tt })
+
     pub took-always : (tallies : List ℕ) (slips : Slips) (events : List Event) → (resolvers : ℕ) × IsValid resolvers publication → AllTook publication (model_behind publication says tallies slips events).history.made
-    took-always tallies slips events valid = (runs-keep publication (model publication says) (λ (m : Model). Kept publication m × In m.world m.history)
-        (λ m action both. (kept-step publication m both.0 says action, step-keeps publication says Base In (λ w h b. (ground publication (record { world = w; history = h }) b).received) took-keep m action both.0 both.1))
-        (λ m others both. (kept-tallied publication m others both.0, record { own = both.1.own; each = both.1.each; made = both.1.made })) events (faulty (empty_model publication tallies) slips)
-        (kept-always publication valid says tallies [] [], record { own = new-hold publication; each = λ n s at. begins-with publication (λ (k : ℕ) (t : SubscriberTables). Holds publication t.held) (λ k site keyed. new-hold publication) n s at; made = tt })).1.made
+    took-always tallies slips events valid = of-events publication says tallies slips events (λ (m : Model). AllTook publication m.history.made) (λ actions. (took-by-actions tallies slips actions valid).1.made)

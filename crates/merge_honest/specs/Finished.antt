@@ -1,5 +1,5 @@
 -- How sessions end: with nothing refused, or where there are too many rows or a counter has come to its end.
-use Rattle.std.specs.Prelude.{None, Option, Some, [], false, true, ℕ, ◌≡◌}
+use Rattle.std.specs.Prelude.{None, Option, Some, [], false, length, true, ℕ, ◌≡◌}
 use Rattle.std.proofs.Common.{◌⊎◌}
 use Rattle.merge_types.specs.declared.identifiers.SiteId.{SiteId}
 use Rattle.merge_schema.specs.declared.publication.Publication.{Publication}
@@ -28,11 +28,12 @@ pub record OwnCounterEnds (k : Model) (site : SiteId) (value : ℕ) : Type 0 whe
   pub here : subscriber_at k.world site ≡ Some tables
   pub ends : counter_end (subscriber_counters tables) ≡ Some (CounterEnd value)
 
--- the new rows of an upload of the site would be too many
+-- the new rows of the upload that was sent last, by this site, would be too many
 pub record UploadIsTooMuch (k : Model) (site : SiteId) (rows : ℕ) : Type 0 where
   pub number : ℕ
   pub upload : Upload
   pub at : IsRequest k number site (request.Upload upload)
+  pub last : number ≡ length k.world.pool
   pub many : too_many_new (acts_of (history_judge k number) upload [] k.world.publisher) k.world.publisher ≡ Some (TooManyRows rows)
 
 -- what a session of the site may be refused for, in the model in which it stopped
