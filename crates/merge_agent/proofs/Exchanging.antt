@@ -27,7 +27,7 @@ use Rattle.merge_link.specs.declared.link.LinkFault.TheVariants as link
 use Rattle.merge_agent.specs.Answers.{Tells}
 use Rattle.merge_agent.specs.Faults.{carrying_fault, fault_of, with_fault}
 use Rattle.merge_agent.specs.Meetings.{Gives, Meeting, Passes, meeting}
-use Rattle.merge_agent.specs.Texts.{request_text}
+use Rattle.merge_agent.specs.Texts.{IsReadable, request_text}
 use Rattle.merge_agent.specs.Turns.{Broke, HasCauses, HasMessage, IsLeft, IsMade, Makes, Skips, Stepped, Turn, Turns, Unanswered, Unmade, Untaken, taken_by}
 use Rattle.merge_agent.specs.declared.answer.Told.{Told}
 use Rattle.merge_agent.specs.declared.fault.SessionFault.{SessionFault}
@@ -167,7 +167,7 @@ module _ (address : List ℕ) (sending : Sending) (made : Moment) (v w : Subscri
     }
 
     module _ (response : List ℕ) (cn : Option (List (List ℕ))) (xn : Option (List Exchange)) (ln : ℕ) (now : Moment) (ml : Option Moments)
-        (coming : co ≡ before_response response cn) (exchanges : xn ≡ with_exchange (request_text address request) response xo) (links : lo ≤ ln) (came : Gives mn (now ∷ []) ml) where
+        (coming : co ≡ before_response response cn) (exchanges : xn ≡ with_exchange (request_text address request) response xo) (links : lo ≤ ln) (came : Gives mn (now ∷ []) ml) (readable : IsReadable request) where
       abbrev turn : Turn
       turn = record { carried = record { request = request_text address request; response = response }; now = now }
 
@@ -178,7 +178,7 @@ module _ (address : List ℕ) (sending : Sending) (made : Moment) (v w : Subscri
       pub unread : (why : SessionFault) → why ≡ fault.NoMemory → Broke address sending (meeting v co xo lo mo) (meeting w cn xn ln ml) why
       unread why memory = record {
         at = Untaken made turn;
-        breaks = record { request = request; is_made = makes.0; text = refl; by = inl memory };
+        breaks = record { request = request; is_made = makes.0; text = refl; readable = readable; by = inl memory };
         passes = over w refl (omega arith);
         causes = causes-memory _ _ why memory;
       }
@@ -194,19 +194,19 @@ module _ (address : List ℕ) (sending : Sending) (made : Moment) (v w : Subscri
         pub untaken : (why : SessionFault) → Stepped {A = Reply} (taken_by w.publication now told w.tables) w.tables u.tables w.faults u.faults (Err why) → Broke address sending (meeting v co xo lo mo) (meeting u cn xn ln ml) why
         untaken why (kept, inl (refused, still)) = record {
           at = Untaken made turn;
-          breaks = record { request = request; is_made = is_made kept; text = refl; by = inr (told, tells, left kept why (inl refused)) };
+          breaks = record { request = request; is_made = is_made kept; text = refl; readable = readable; by = inr (told, tells, left kept why (inl refused)) };
           passes = over u same (stayed w.faults u.faults still);
           causes = causes-told _ _ why (taken-told w.publication now told w.tables why refused);
         }
         untaken why (kept, inr (inl (memory, still))) = record {
           at = Untaken made turn;
-          breaks = record { request = request; is_made = is_made kept; text = refl; by = inl memory };
+          breaks = record { request = request; is_made = is_made kept; text = refl; readable = readable; by = inl memory };
           passes = over u same (stayed w.faults u.faults still);
           causes = causes-memory _ _ why memory;
         }
         untaken why (kept, inr (inr (store, done, rose))) = record {
           at = Untaken made turn;
-          breaks = record { request = request; is_made = is_made kept; text = refl; by = inr (told, tells, left kept why (inr (store, done))) };
+          breaks = record { request = request; is_made = is_made kept; text = refl; readable = readable; by = inr (told, tells, left kept why (inr (store, done))) };
           passes = over u same (omega (arith, rose));
           causes = causes-store _ _ why store (omega (arith, rose, makes.1));
         }
@@ -219,7 +219,7 @@ module _ (address : List ℕ) (sending : Sending) (made : Moment) (v w : Subscri
           takes = record {
             sent = w.tables;
             told = told;
-            meets = record { request = request; is_made = makes.0; text = refl; tells = tells };
+            meets = record { request = request; is_made = makes.0; text = refl; readable = readable; tells = tells };
             taken = subst (λ (p : Publication). taken_by p now told w.tables ≡ Ok (u.tables, m)) publication stepped.0;
           };
           passes = over u same (stayed w.faults u.faults stepped.1);

@@ -21,7 +21,7 @@ use Rattle.merge_link.specs.declared.link.Exchange.{Exchange}
 use Rattle.merge_agent.specs.Answers.{Tells}
 use Rattle.merge_agent.specs.Faults.{fault_of, refused_as, with_fault}
 use Rattle.merge_agent.specs.Meetings.{Meeting, Passes}
-use Rattle.merge_agent.specs.Texts.{request_text}
+use Rattle.merge_agent.specs.Texts.{IsReadable, request_text}
 use Rattle.merge_agent.specs.declared.answer.Told.{Told}
 use Rattle.merge_agent.specs.declared.answer.Told.TheVariants.{Replied, Spoiled, Declined}
 use Rattle.merge_agent.specs.declared.fault.SessionFault.{SessionFault}
@@ -69,11 +69,12 @@ Makes sending made old new (Ok None) = (requested sending made old.tables ≡ Ok
 Makes sending made old new (Ok (Some request)) = IsMade sending made old.tables new.tables request × (new.faults ≡ old.faults)
 Makes sending made old new (Err why) = (new.tables ≡ old.tables) × ((with_fault (requested sending made old.tables) ≡ Err why) × (new.faults ≡ old.faults) ⊎ ((why ≡ fault.NoMemory) × (new.faults ≡ old.faults) ⊎ (why ≡ fault.StoreFault) × HasMessage sending made old.tables × (old.faults + 1 ≤ new.faults)))
 
--- the message was made, the link carried it, and the response tells this
+-- the message was made so that it is read again, the link carried it, and the response tells this
 pub record Meets (address : List ℕ) (sending : Sending) (made : Moment) (turn : Turn) (old sent : SubscriberTables) (told : Told) : Type 0 where
   pub request : Request
   pub is_made : IsMade sending made old sent request
   pub text : turn.carried.request ≡ request_text address request
+  pub readable : IsReadable request
   pub tells : Tells (kind_of request) turn.carried.response told
 
 -- and the subscriber took it
@@ -109,6 +110,7 @@ pub record Untakes (publication : Publication) (address : List ℕ) (sending : S
   pub request : Request
   pub is_made : IsMade sending made old new request
   pub text : turn.carried.request ≡ request_text address request
+  pub readable : IsReadable request
   pub by : (why ≡ fault.NoMemory) ⊎ ((told : Told) × Tells (kind_of request) turn.carried.response told × IsLeft (taken_by publication turn.now told new) why)
 
 -- what a fault leaves, and how it comes

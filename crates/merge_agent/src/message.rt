@@ -1,13 +1,15 @@
 //! The messages that a subscriber makes, and their bytes.
 ghost use Rattle.std.specs.Prelude.{◌≡◌, IfOk, IfSome, option_map};
+ghost use Rattle.serde_json.specs.Written.{compact_text};
 ghost use Rattle.merge_batch.specs.declared.request.Request.TheVariants as request;
 ghost use Rattle.merge_json.specs.Sendable.{IsSendableRequest};
+ghost use Rattle.merge_json.specs.WrittenRequests.{request_data};
 ghost use Rattle.merge_model.specs.World.Calls.{message_commits, message_or_none};
 ghost use Rattle.merge_wire.specs.Written.{IsVisible};
 ghost use Rattle.merge_world.specs.Messages.{requested, sending_of};
 ghost use Rattle.merge_world.specs.Printable.{ArePrintable};
 ghost use Rattle.merge_world.specs.Views.{SubscriberCall};
-ghost use Rattle.merge_agent.specs.Texts.{request_text};
+ghost use Rattle.merge_agent.specs.Texts.{IsReadable, request_text};
 ghost use Rattle.merge_agent.specs.Turns.{Makes};
 
 use crate::fault::SessionFault;
@@ -85,6 +87,16 @@ pub(crate) fn make_message<S: SubscriberSite>(
     Ok(made)
 }
 
+// The body of a request. It is read again.
+fn request_body(alloc: Global, request: &Request) -> Result<Octets, NoMemory>
+    requires { IsSendableRequest request.now }
+    ensures text { IfOk result (λ body. body ≡ compact_text (request_data request.now)) }
+    ensures readable { IfOk result (λ body. IsReadable request.now) }
+{
+    let body = write_request(alloc, request)?;
+    Ok(body)
+}
+
 /// The bytes of a request to an address.
 #[tactic(auto, unfolding(crate::specs::Texts::request_text))]
 pub(crate) fn request_bytes(
@@ -94,9 +106,10 @@ pub(crate) fn request_bytes(
 ) -> Result<Octets, NoMemory>
     requires visible { IsVisible address.now }
     requires sendable { IsSendableRequest request.now }
-    ensures { IfOk result (λ bytes. bytes ≡ request_text address.now request.now) }
+    ensures text { IfOk result (λ bytes. bytes ≡ request_text address.now request.now) }
+    ensures readable { IfOk result (λ bytes. IsReadable request.now) }
 {
-    let body = write_request(alloc, request)?;
+    let body = request_body(alloc, request)?;
     let path = Words::of(alloc, path_of(request.kind()))?;
     let host = Words::of(alloc, address.as_str())?;
     let message = Message::request(alloc, path, host, body)?;

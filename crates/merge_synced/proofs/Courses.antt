@@ -40,7 +40,8 @@ use Rattle.merge_agent.specs.Sessions.{Asks, Downloads, IsUnderWay, Joins, Over,
 use Rattle.merge_synced.specs.Answering.{Serving, serving_in}
 use Rattle.merge_synced.proofs.Granting.{AllGo, all-begin, all-go, none-left}
 use Rattle.merge_synced.proofs.Made.{closes-one, none-unsent, ranges-refused, sent-site, taken-site, upload-made}
-use Rattle.merge_synced.proofs.Steps.{asks-always, exchange-is, last-posted, none-sent, refused-is, replied_world, sent_world, taken-has, taken_world, told-last, unmade-is, untaken-is}
+use Rattle.merge_synced.proofs.Stands.{IsBehind, behind-step}
+use Rattle.merge_synced.proofs.Steps.{asks-always, exchange-is, last-posted, none-sent, refused-is, replied_world, sent_world, taken-has, taken-keeps, taken_world, told-last, unmade-is, untaken-is}
 use Rattle.merge_synced.proofs.Took.{DownloadTook, RangesTook, UploadTook, closing_in, download-took, join-took, ranges-took, upload-took}
 use Rattle.merge_synced.proofs.Turns.{Turned}
 
@@ -64,10 +65,11 @@ stage_of Done = Over
 abbrev pub under : World → ℕ → ℕ → ModelSession World
 under v uploads downloads = record { world = v; uploads = uploads; downloads = downloads; stop = None }
 
-pub record StandsAt (site : SiteId) (now : Moment) (v : World) (s : SubscriberTables) : Type 0 where
+pub record StandsAt (publication : Publication) (site : SiteId) (now : Moment) (v : World) (s : SubscriberTables) : Type 0 where
   pub here : subscriber_at v site ≡ Some s
   pub own : s.site ≡ site
   pub moment : v.moment ≡ now
+  pub behind : IsBehind publication v
 
 -- the publisher's generations have closed up to the target, and the site has still to ask for some
 pub record Fetches (count target : ℕ) (v : World) (s : SubscriberTables) : Type 0 where
@@ -130,7 +132,7 @@ module _ (publication : Publication) (says : Saying) (site : SiteId) (now : Mome
     pub course : Course
     pub world : World
     pub stage : t.stage ≡ stage_of course
-    pub here : StandsAt site now world t.tables
+    pub here : StandsAt publication site now world t.tables
     pub enough : Enough publication site course world t.tables
     pub serving : serving_in world ≡ q
     pub same : rest c (under v i j) ≡ rest course (under world t.uploads t.downloads)
@@ -153,7 +155,7 @@ module _ (publication : Publication) (says : Saying) (site : SiteId) (now : Mome
       (upload-made now s sent q made).some (none-unsent s (omega (arith, up, low)))
 
   -- A turn.
-  module _ (sending : Sending) (v : World) (s new : SubscriberTables) (r : Reply) (q : Serving) (h : StandsAt site now v s) (t : Turned publication says now sending s new r (serving_in v) q) where
+  module _ (sending : Sending) (v : World) (s new : SubscriberTables) (r : Reply) (q : Serving) (h : StandsAt publication site now v s) (t : Turned publication says now sending s new r (serving_in v) q) where
     abbrev next_world : World
     next_world = taken_world publication site t.sent t.request t.after r new v
 
@@ -163,8 +165,20 @@ module _ (publication : Publication) (says : Saying) (site : SiteId) (now : Mome
     next-site : new.site ≡ site
     next-site = taken-site publication (by_rows t.sent) now r t.sent new t.taken ∙ keyed
 
-    next-here : StandsAt site now next_world new
-    next-here = record { here = taken-has publication site t.sent t.request t.after r new v next-site; own = next-site; moment = h.moment }
+    made-here : requested sending v.moment s ≡ Ok (Some (t.sent, t.request))
+    made-here = subst (λ (x : Moment). requested sending x s ≡ Ok (Some (t.sent, t.request))) (sym h.moment) t.made
+
+    answer-here : handled publication says v.tallies v.moment t.request v.publisher ≡ Ok (t.after, r)
+    answer-here = subst (λ (x : Moment). handled publication says v.tallies x t.request v.publisher ≡ Ok (t.after, r)) (sym h.moment) t.answer
+
+    taken-here : take_reply publication (by_rows t.sent) v.moment r t.sent ≡ Ok (new, Acted)
+    taken-here = subst (λ (x : Moment). take_reply publication (by_rows t.sent) x r t.sent ≡ Ok (new, Acted)) (sym h.moment) t.taken
+
+    next-behind : IsBehind publication next_world
+    next-behind = taken-keeps publication says site sending v s t.sent t.request h.here h.own made-here t.after r answer-here keyed (IsBehind publication) (λ w action b. behind-step publication says w action b) new taken-here h.behind
+
+    next-here : StandsAt publication site now next_world new
+    next-here = record { here = taken-has publication site t.sent t.request t.after r new v next-site; own = next-site; moment = h.moment; behind = next-behind }
 
     next-serving : serving_in next_world ≡ q
     next-serving = same-serving (serving_in next_world) q (sym t.tables)
@@ -172,10 +186,7 @@ module _ (publication : Publication) (says : Saying) (site : SiteId) (now : Mome
 
     turn-is : (i j : ℕ) (counted next : ModelSession World → ModelSession World)
         → exchange M site sending counted next (under v i j) ≡ next (record (counted (under (replied_world publication site t.request t.after r (sent_world site t.sent t.request v)) i j)) { world = next_world })
-    turn-is i j counted next = exchange-is publication says site sending v s t.sent t.request h.here h.own
-        (subst (λ (x : Moment). requested sending x s ≡ Ok (Some (t.sent, t.request))) (sym h.moment) t.made)
-        t.after r (subst (λ (x : Moment). handled publication says v.tallies x t.request v.publisher ≡ Ok (t.after, r)) (sym h.moment) t.answer) keyed
-        new (under v i j) counted next (subst (λ (x : Moment). take_reply publication (by_rows t.sent) x r t.sent ≡ Ok (new, Acted)) (sym h.moment) t.taken) refl
+    turn-is i j counted next = exchange-is publication says site sending v s t.sent t.request h.here h.own made-here t.after r answer-here keyed new (under v i j) counted next taken-here refl
 
     last-is : last_message M site next_world ≡ Some (Replies r)
     last-is = told-last publication site t.sent t.request t.after r new v
@@ -203,11 +214,11 @@ module _ (publication : Publication) (says : Saying) (site : SiteId) (now : Mome
       told-found : download_in (Some (Replies r)) ≡ Some d
       told-found = ap (λ (x : Reply). download_in (Some (Replies x))) is
 
-  join-on : (v : World) (s new : SubscriberTables) (r : Reply) (i j : ℕ) (q : Serving) → StandsAt site now v s → AreThresholds s.held → Turned publication says now SendJoin s new r (serving_in v) q
+  join-on : (v : World) (s new : SubscriberTables) (r : Reply) (i j : ℕ) (q : Serving) → StandsAt publication site now v s → AreThresholds s.held → Turned publication says now SendJoin s new r (serving_in v) q
       → Onward Joining v i j (answered (at Joins s i j) new r Joins) q
   join-on v s new r i j q h thresholds t =
       let w : World = next_world SendJoin v s new r q h t in
-      let after : StandsAt site now w new = next-here SendJoin v s new r q h t in
+      let after : StandsAt publication site now w new = next-here SendJoin v s new r q h t in
       record {
         course = Uploading (unsent_generations M site w);
         world = w;
@@ -218,7 +229,7 @@ module _ (publication : Publication) (says : Saying) (site : SiteId) (now : Mome
         same = ap after_join (turn-is SendJoin v s new r q h t i j (as_it_is M site) (as_it_is M site));
       }
 
-  upload-on : (count : ℕ) (v : World) (s new : SubscriberTables) (r : Reply) (i j : ℕ) (q : Serving) → StandsAt site now v s → Sends count s → Turned publication says now SendUpload s new r (serving_in v) q
+  upload-on : (count : ℕ) (v : World) (s new : SubscriberTables) (r : Reply) (i j : ℕ) (q : Serving) → StandsAt publication site now v s → Sends count s → Turned publication says now SendUpload s new r (serving_in v) q
       → Onward (Uploading count) v i j (answered (at Uploads s i j) new r Uploads) q
   upload-on zero v s new r i j q h sends t = absurd (nothing-left s t.sent t.request sends t.made)
   upload-on (suc count) v s new r i j q h sends t =
@@ -251,7 +262,7 @@ module _ (publication : Publication) (says : Saying) (site : SiteId) (now : Mome
         enough = omega (arith, enough);
       }
 
-  asked-by : (b : Bool) (count : ℕ) (v : World) (s new : SubscriberTables) (r : Reply) (i j : ℕ) (q : Serving) (h : StandsAt site now v s) → RangesLeft publication site (suc count) v s → (t : Turned publication says now SendRanges s new r (serving_in v) q)
+  asked-by : (b : Bool) (count : ℕ) (v : World) (s new : SubscriberTables) (r : Reply) (i j : ℕ) (q : Serving) (h : StandsAt publication site now v s) → RangesLeft publication site (suc count) v s → (t : Turned publication says now SendRanges s new r (serving_in v) q)
       → (took : RangesTook publication s new r v.publisher.grants (next_world SendRanges v s new r q h t).publisher.grants) → nat_lt 0 (length took.told.grants) ≡ b → Onward (Asking (suc count)) v i j (answered (at Asks s i j) new r Asks) q
   asked-by true count v s new r i j q h g t took is =
       let w : World = next_world SendRanges v s new r q h t in
@@ -282,7 +293,7 @@ module _ (publication : Publication) (says : Saying) (site : SiteId) (now : Mome
             ∙ ap (λ (b : Bool). (let x : ModelSession World = if b then asking_ranges M site count (under w i j) else under w i j in x)) last);
       }
 
-  ask-on : (count : ℕ) (v : World) (s new : SubscriberTables) (r : Reply) (i j : ℕ) (q : Serving) → StandsAt site now v s → RangesLeft publication site count v s → Turned publication says now SendRanges s new r (serving_in v) q
+  ask-on : (count : ℕ) (v : World) (s new : SubscriberTables) (r : Reply) (i j : ℕ) (q : Serving) → StandsAt publication site now v s → RangesLeft publication site count v s → Turned publication says now SendRanges s new r (serving_in v) q
       → Onward (Asking count) v i j (answered (at Asks s i j) new r Asks) q
   ask-on zero v s new r i j q h g t = (let enough = g.enough in absurd (omega (arith, enough)))
   ask-on (suc count) v s new r i j q h g t =
@@ -303,7 +314,7 @@ module _ (publication : Publication) (says : Saying) (site : SiteId) (now : Mome
   onward-stage target d found is = ap (λ (x : Option Downloaded). stage_to target x) is
 
   -- where there is nothing behind what was asked for, the session is over
-  over-on : (c : Course) (target : Option ℕ) (v : World) (s new : SubscriberTables) (r : Reply) (i j last : ℕ) (q : Serving) (h : StandsAt site now v s) (t : Turned publication says now SendDownload s new r (serving_in v) q) (d : Downloaded)
+  over-on : (c : Course) (target : Option ℕ) (v : World) (s new : SubscriberTables) (r : Reply) (i j last : ℕ) (q : Serving) (h : StandsAt publication site now v s) (t : Turned publication says now SendDownload s new r (serving_in v) q) (d : Downloaded)
       → r ≡ reply.Downloaded d → unwrap_or target d.last ≡ last → nat_le last d.from ≡ true
       → rest c (under v i j) ≡ under (next_world SendDownload v s new r q h t) i (j + one_if (brings_found (Some d)))
       → Onward c v i j (answered (at (Downloads target) s i j) new r (Downloads target)) q
@@ -322,7 +333,7 @@ module _ (publication : Publication) (says : Saying) (site : SiteId) (now : Mome
       }
 
   -- and else it goes on to the target
-  more-on : (c : Course) (target : Option ℕ) (v : World) (s new : SubscriberTables) (r : Reply) (i j last count : ℕ) (q : Serving) (h : StandsAt site now v s) (t : Turned publication says now SendDownload s new r (serving_in v) q) (d : Downloaded)
+  more-on : (c : Course) (target : Option ℕ) (v : World) (s new : SubscriberTables) (r : Reply) (i j last count : ℕ) (q : Serving) (h : StandsAt publication site now v s) (t : Turned publication says now SendDownload s new r (serving_in v) q) (d : Downloaded)
       → r ≡ reply.Downloaded d → unwrap_or target d.last ≡ last → nat_le last d.from ≡ false → Fetches count last (next_world SendDownload v s new r q h t) new
       → rest c (under v i j) ≡ downloading M site count last (under (next_world SendDownload v s new r q h t) i (j + one_if (brings_found (Some d))))
       → Onward c v i j (answered (at (Downloads target) s i j) new r (Downloads target)) q
@@ -340,7 +351,7 @@ module _ (publication : Publication) (says : Saying) (site : SiteId) (now : Mome
         same = same ∙ ap (λ (x : Option Downloaded). downloading M site count last (under w i (j + one_if (brings_found x)))) (sym found);
       }
 
-  fetch-by : (b : Bool) (v : World) (s new : SubscriberTables) (r : Reply) (i j : ℕ) (q : Serving) (h : StandsAt site now v s) (t : Turned publication says now SendDownload s new r (serving_in v) q)
+  fetch-by : (b : Bool) (v : World) (s new : SubscriberTables) (r : Reply) (i j : ℕ) (q : Serving) (h : StandsAt publication site now v s) (t : Turned publication says now SendDownload s new r (serving_in v) q)
       → (took : DownloadTook s new r v.publisher (next_world SendDownload v s new r q h t).publisher) → nat_le took.told.last took.told.from ≡ b → Onward Fetching v i j (answered (at (Downloads None) s i j) new r (Downloads None)) q
   fetch-by true v s new r i j q h t took past =
       let w : World = next_world SendDownload v s new r q h t in
@@ -359,15 +370,15 @@ module _ (publication : Publication) (says : Saying) (site : SiteId) (now : Mome
       (fetched-is SendDownload v s new r q h t d took.replied i j next
       ∙ ap (λ (b : Bool). (let x : ModelSession World = under w i (j + one_if (brings_found (Some d))) in let y : ModelSession World = if b then x else downloading M site (d.last + 1 - d.from) d.last x in y)) past)
 
-  took-here : (v : World) (s new : SubscriberTables) (r : Reply) (q : Serving) (h : StandsAt site now v s) (t : Turned publication says now SendDownload s new r (serving_in v) q) → DownloadTook s new r v.publisher (next_world SendDownload v s new r q h t).publisher
+  took-here : (v : World) (s new : SubscriberTables) (r : Reply) (q : Serving) (h : StandsAt publication site now v s) (t : Turned publication says now SendDownload s new r (serving_in v) q) → DownloadTook s new r v.publisher (next_world SendDownload v s new r q h t).publisher
   took-here v s new r q h t = subst (λ (x : PublisherTables). DownloadTook s new r v.publisher x) t.tables (download-took publication says now s new r (serving_in v) q t)
 
-  fetch-on : (v : World) (s new : SubscriberTables) (r : Reply) (i j : ℕ) (q : Serving) → StandsAt site now v s → Turned publication says now SendDownload s new r (serving_in v) q → Onward Fetching v i j (answered (at (Downloads None) s i j) new r (Downloads None)) q
+  fetch-on : (v : World) (s new : SubscriberTables) (r : Reply) (i j : ℕ) (q : Serving) → StandsAt publication site now v s → Turned publication says now SendDownload s new r (serving_in v) q → Onward Fetching v i j (answered (at (Downloads None) s i j) new r (Downloads None)) q
   fetch-on v s new r i j q h t =
       let took : DownloadTook s new r v.publisher (next_world SendDownload v s new r q h t).publisher = took-here v s new r q h t in
       fetch-by (nat_le took.told.last took.told.from) v s new r i j q h t took refl
 
-  download-by : (b : Bool) (count target : ℕ) (v : World) (s new : SubscriberTables) (r : Reply) (i j : ℕ) (q : Serving) (h : StandsAt site now v s) → Fetches (suc count) target v s → (t : Turned publication says now SendDownload s new r (serving_in v) q)
+  download-by : (b : Bool) (count target : ℕ) (v : World) (s new : SubscriberTables) (r : Reply) (i j : ℕ) (q : Serving) (h : StandsAt publication site now v s) → Fetches (suc count) target v s → (t : Turned publication says now SendDownload s new r (serving_in v) q)
       → (took : DownloadTook s new r v.publisher (next_world SendDownload v s new r q h t).publisher) → nat_le target took.told.from ≡ b → Onward (Downloading (suc count) target) v i j (answered (at (Downloads (Some target)) s i j) new r (Downloads (Some target))) q
   download-by true count target v s new r i j q h f t took past =
       let w : World = next_world SendDownload v s new r q h t in
@@ -392,7 +403,7 @@ module _ (publication : Publication) (says : Saying) (site : SiteId) (now : Mome
   never-fetches : (target : ℕ) (v : World) (s : SubscriberTables) → Fetches zero target v s → ⊥
   never-fetches target v s f = (let marks = f.marks in let enough = f.enough in omega (arith, marks, enough))
 
-  download-on : (count target : ℕ) (v : World) (s new : SubscriberTables) (r : Reply) (i j : ℕ) (q : Serving) → StandsAt site now v s → Fetches count target v s → Turned publication says now SendDownload s new r (serving_in v) q
+  download-on : (count target : ℕ) (v : World) (s new : SubscriberTables) (r : Reply) (i j : ℕ) (q : Serving) → StandsAt publication site now v s → Fetches count target v s → Turned publication says now SendDownload s new r (serving_in v) q
       → Onward (Downloading count target) v i j (answered (at (Downloads (Some target)) s i j) new r (Downloads (Some target))) q
   download-on zero target v s new r i j q h f t = absurd (never-fetches target v s f)
   download-on (suc count) target v s new r i j q h f t =
@@ -400,7 +411,7 @@ module _ (publication : Publication) (says : Saying) (site : SiteId) (now : Mome
       download-by (nat_le target took.told.from) count target v s new r i j q h f t took refl
 
   -- A turn in any stage.
-  pub turn-on : (c : Course) (v : World) (s new : SubscriberTables) (r : Reply) (i j : ℕ) (q : Serving) → StandsAt site now v s → Enough publication site c v s → IsUnderWay (stage_of c)
+  pub turn-on : (c : Course) (v : World) (s new : SubscriberTables) (r : Reply) (i j : ℕ) (q : Serving) → StandsAt publication site now v s → Enough publication site c v s → IsUnderWay (stage_of c)
       → Turned publication says now (sending_in (stage_of c)) s new r (serving_in v) q → Onward c v i j (answered (at (stage_of c) s i j) new r (stage_of c)) q
   turn-on Joining v s new r i j q h e going t = join-on v s new r i j q h e t
   turn-on (Uploading count) v s new r i j q h e going t = upload-on count v s new r i j q h e t
@@ -411,18 +422,18 @@ module _ (publication : Publication) (says : Saying) (site : SiteId) (now : Mome
 
   -- There is no message to make.
 
-  none-is : (sending : Sending) (v : World) (s : SubscriberTables) (i j : ℕ) (counted next : ModelSession World → ModelSession World) → StandsAt site now v s → requested sending now s ≡ Ok None → exchange M site sending counted next (under v i j) ≡ under v i j
+  none-is : (sending : Sending) (v : World) (s : SubscriberTables) (i j : ℕ) (counted next : ModelSession World → ModelSession World) → StandsAt publication site now v s → requested sending now s ≡ Ok None → exchange M site sending counted next (under v i j) ≡ under v i j
   none-is sending v s i j counted next h none = none-sent publication says site sending v s (under v i j) counted next h.here (subst (λ (x : Moment). requested sending x s ≡ Ok None) (sym h.moment) none) refl
 
-  uploads-past : (count : ℕ) (v : World) (s : SubscriberTables) (i j : ℕ) → StandsAt site now v s → requested SendUpload now s ≡ Ok None → uploading M site count (under v i j) ≡ under v i j
+  uploads-past : (count : ℕ) (v : World) (s : SubscriberTables) (i j : ℕ) → StandsAt publication site now v s → requested SendUpload now s ≡ Ok None → uploading M site count (under v i j) ≡ under v i j
   uploads-past zero v s i j h none = refl
   uploads-past (suc count) v s i j h none = none-is SendUpload v s i j (with_upload M site) (uploading M site count) h none
 
-  ranges-past : (count : ℕ) (v : World) (s : SubscriberTables) (i j : ℕ) → StandsAt site now v s → requested SendRanges now s ≡ Ok None → asking_ranges M site count (under v i j) ≡ under v i j
+  ranges-past : (count : ℕ) (v : World) (s : SubscriberTables) (i j : ℕ) → StandsAt publication site now v s → requested SendRanges now s ≡ Ok None → asking_ranges M site count (under v i j) ≡ under v i j
   ranges-past zero v s i j h none = refl
   ranges-past (suc count) v s i j h none = none-is SendRanges v s i j (as_it_is M site) (λ (x : ModelSession World). if has_grant M site (last_message M site x.world) then asking_ranges M site count x else x) h none
 
-  pub skip-on : (c : Course) (v : World) (s : SubscriberTables) (i j : ℕ) → StandsAt site now v s → Enough publication site c v s → IsUnderWay (stage_of c) → requested (sending_in (stage_of c)) now s ≡ Ok None
+  pub skip-on : (c : Course) (v : World) (s : SubscriberTables) (i j : ℕ) → StandsAt publication site now v s → Enough publication site c v s → IsUnderWay (stage_of c) → requested (sending_in (stage_of c)) now s ≡ Ok None
       → Onward c v i j (passed (at (stage_of c) s i j)) (serving_in v)
   skip-on Joining v s i j h e going none = record {
     course = Uploading (unsent_generations M site v);
@@ -460,7 +471,7 @@ module _ (publication : Publication) (says : Saying) (site : SiteId) (now : Mome
   abbrev pub stopped : World → ℕ → ℕ → Refusal → ModelSession World
   stopped v i j why = record { world = v; uploads = i; downloads = j; stop = Some why }
 
-  module _ (v : World) (s sent : SubscriberTables) (q : Request) (i j : ℕ) (why : Refusal) (h : StandsAt site now v s) (refused : handled publication says v.tallies now q v.publisher ≡ Err why) where
+  module _ (v : World) (s sent : SubscriberTables) (q : Request) (i j : ℕ) (why : Refusal) (h : StandsAt publication site now v s) (refused : handled publication says v.tallies now q v.publisher ≡ Err why) where
     refused-by : (sending : Sending) (counted next : ModelSession World → ModelSession World) → requested sending now s ≡ Ok (Some (sent, q)) → exchange M site sending counted next (under v i j) ≡ stopped (sent_world site sent q v) i j why
     refused-by sending counted next made = refused-is publication says site sending v s sent q h.here h.own (subst (λ (x : Moment). requested sending x s ≡ Ok (Some (sent, q))) (sym h.moment) made) why (under v i j) counted next
         (subst (λ (x : Moment). handled publication says v.tallies x q v.publisher ≡ Err why) (sym h.moment) refused) refl
@@ -478,7 +489,7 @@ module _ (publication : Publication) (says : Saying) (site : SiteId) (now : Mome
 
   -- The site refuses to make a message.
 
-  module _ (v : World) (s : SubscriberTables) (i j : ℕ) (why : Refusal) (h : StandsAt site now v s) where
+  module _ (v : World) (s : SubscriberTables) (i j : ℕ) (why : Refusal) (h : StandsAt publication site now v s) where
     unmade-by : (sending : Sending) (counted next : ModelSession World → ModelSession World) → requested sending now s ≡ Err why → exchange M site sending counted next (under v i j) ≡ stopped v i j why
     unmade-by sending counted next refused = unmade-is publication says site sending v s why (under v i j) counted next h.here (subst (λ (x : Moment). requested sending x s ≡ Err why) (sym h.moment) refused) refl
 
@@ -511,7 +522,7 @@ module _ (publication : Publication) (says : Saying) (site : SiteId) (now : Mome
   counted-or w i j why None = (let same : j ≡ j + 0 = omega arith in ap (λ (n : ℕ). stopped w i n why) same)
   counted-or w i j why (Some m) = ap (λ (n : ℕ). stopped w i n why) (one-more (brings_generations M site m) j)
 
-  module _ (v : World) (s sent : SubscriberTables) (q : Request) (p : PublisherTables) (r : Reply) (i j : ℕ) (why : Refusal) (h : StandsAt site now v s) (keyed : sent.site ≡ site)
+  module _ (v : World) (s sent : SubscriberTables) (q : Request) (p : PublisherTables) (r : Reply) (i j : ℕ) (why : Refusal) (h : StandsAt publication site now v s) (keyed : sent.site ≡ site)
       (answer : handled publication says v.tallies now q v.publisher ≡ Ok (p, r)) (untaken : take_reply publication (by_rows sent) now r sent ≡ Err why) where
     abbrev told_world : World
     told_world = replied_world publication site q p r (sent_world site sent q v)

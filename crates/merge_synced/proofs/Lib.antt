@@ -2,6 +2,9 @@ pub mod Written
 pub mod Telling
 pub mod Steps
 pub mod Made
+pub mod FewRanges
+pub mod Stands
+pub mod ShortRequests
 pub mod Turns
 pub mod Granting
 pub mod Took

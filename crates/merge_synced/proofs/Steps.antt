@@ -233,6 +233,18 @@ module _ (publication : Publication) (says : Saying) where
           → exchange (machine publication says) site sending counted next x ≡ record (counted (record x { world = replied })) { world = replied; stop = Some why }
       untaken-is why x counted next refused is = came-is (Err why) x counted next refused is
 
+      -- what each step keeps, such an exchange keeps
+      pub taken-keeps : (P : World → Type 0) → ((v : World) (action : Action) → P v → P (act v action).0) → (new : SubscriberTables) → take_reply publication (by_rows sent) w.moment r sent ≡ Ok (new, Acted) → P w → P (taken_world publication site sent q p r new w)
+      taken-keeps P keeps new taken before =
+          let asked : P (sent_world site sent q w) = subst (λ (done : World × Outcome). P done.0) send-is (keeps w (Send site sending) before) in
+          let told : P replied = subst (λ (done : World × Outcome). P done.0)
+          (comes (length w.pool + 1) (sent_world site sent q w) (record { site = site; message = Asks q }) (replied, Posted (length (sent_world site sent q w).pool + 1)) request-there (answer-is site q (sent_world site sent q w) p r answer))
+          (keeps (sent_world site sent q w) (Deliver (length w.pool + 1)) asked) in
+          subst (λ (done : World × Outcome). P done.0)
+          (came-back (length (sent_world site sent q w).pool + 1) replied site r sent (Ok (new, Acted))
+          (letter-last (sent_world site sent q w).pool (record { site = site; message = Replies r }) replied refl) (sent-has site sent q w keyed) taken)
+          (keeps replied (Deliver (length (sent_world site sent q w).pool + 1)) told)
+
   pub none-sent : (site : SiteId) (sending : Sending) (w : World) (s : SubscriberTables) (x : Session World) (counted next : Session World → Session World) → subscriber_at w site ≡ Some s → requested sending w.moment s ≡ Ok None
       → x.world ≡ w → exchange (machine publication says) site sending counted next x ≡ record x { world = w }
   none-sent site sending w s x counted next here none is =

@@ -1,6 +1,6 @@
 -- A session over a link that met the model's publisher is the model's session.
-use Rattle.std.specs.Prelude.{Bool, Err, List, None, Ok, Option, Result, Some, [], false, if◌then◌else◌, option_map, refl, true, unwrap_or, ℕ, ◌≡◌}
-use Rattle.std.proofs.Common.{ap, append-nil, inl, inr, subst, sym, ◌∙◌, ◌⊎◌}
+use Rattle.std.specs.Prelude.{Bool, Err, List, None, Ok, Option, Result, Some, false, if◌then◌else◌, option_map, refl, true, unwrap_or, ℕ, ◌≡◌}
+use Rattle.std.proofs.Common.{ap, inl, inr, subst, sym, ◌∙◌, ◌⊎◌}
 use Rattle.merge_types.specs.declared.identifiers.Moment.{Moment}
 use Rattle.merge_resolve.specs.Asked.{tallies_after}
 use Rattle.merge_schema.specs.declared.publication.Publication.{Publication}
@@ -8,6 +8,7 @@ use Rattle.merge_batch.specs.Heads.{kind_of, seq_of}
 use Rattle.merge_batch.specs.declared.refusal.Refusal.{Refusal}
 use Rattle.merge_batch.specs.declared.reply.Reply.{Reply}
 use Rattle.merge_batch.specs.declared.request.Request.{Request}
+use Rattle.merge_json.specs.Limits.{IsShortRequest}
 use Rattle.merge_model.specs.Failing.Runs.{world_behind_actions}
 use Rattle.merge_model.specs.Judge.ByNumbers.{by_rows}
 use Rattle.merge_model.specs.Subscriber.Taking.{take_reply}
@@ -34,6 +35,8 @@ use Rattle.merge_synced.specs.Synced.{DoneIsTheModels, IsRefused, IsUntaken, Met
 use Rattle.merge_synced.proofs.Courses.{Asking, Course, Done, Downloading, Enough, Fetching, Joining, Onward, Uploading, after_join, refuse-on, rest, sends-begin, stage_of, under, unmade-on, untaken-on}
 use Rattle.merge_synced.proofs.Led.{led}
 use Rattle.merge_synced.proofs.Made.{Outstands, answers-kind, answers-number, outstands, sent-site}
+use Rattle.merge_synced.proofs.ShortRequests.{made-short}
+use Rattle.merge_synced.proofs.Stands.{IsBehind, behind-by-actions, behind-short}
 use Rattle.merge_synced.proofs.Steps.{replied_world, sent-has, sent_world}
 use Rattle.merge_synced.proofs.Telling.{Refusing, one-told, refused-fits, refused-stops, refusing, replied-acts, reply-refused}
 use Rattle.merge_synced.proofs.Turns.{asks-reply, kind-fits, same-read}
@@ -47,7 +50,7 @@ ended Fetching e = absurd cc
 ended (Downloading count target) e = absurd cc
 ended Done e = refl
 
-module _ (publication : Publication) (says : Saying) (w : World) (s : SubscriberTables) (here : subscriber_at w s.site ≡ Some s) (thresholds : AreThresholds s.held) where
+module _ (publication : Publication) (says : Saying) (w : World) (s : SubscriberTables) (here : subscriber_at w s.site ≡ Some s) (behind-actions : IsBehind publication w) (thresholds : AreThresholds s.held) where
   -- where a session begins
   record Begins : Type 0 where
     pub course : Course
@@ -77,7 +80,11 @@ module _ (publication : Publication) (says : Saying) (w : World) (s : Subscriber
 
   -- and where the steps lead
   goes : (address : List ℕ) (steps : List Step) (last : Session) (p : Serving) → Met publication says w address s steps last p → Onward publication says s.site w.moment begins.course w 0 0 last p
-  goes address steps last p met = led publication says s.site w.moment address steps begins.course w (begun s) last p begins.stage (record { here = here; own = refl; moment = refl }) begins.enough met.follows met.now met.plain met.answers
+  goes address steps last p met = led publication says s.site w.moment address met.visible steps begins.course w (begun s) last p begins.stage (record { here = here; own = refl; moment = refl; behind = behind-actions }) begins.enough met.follows met.now met.answers
+
+  -- what a site makes behind them is within the limits of the product
+  short-made : (last : Session) (t : SubscriberTables) (p : Serving) (q : Request) → Onward publication says s.site w.moment begins.course w 0 0 last p → requested (sending_in last.stage) w.moment last.tables ≡ Ok (Some (t, q)) → IsShortRequest q
+  short-made last t p q o made = made-short (sending_in last.stage) w.moment last.tables t q (behind-short publication o.world s.site last.tables o.here.behind o.here.here) made
 
   stands : (t : SubscriberTables) (i j : ℕ) (stop : Option Refusal) (p : Serving) (v : World) (done : ModelSession World) → done ≡ record { world = v; uploads = i; downloads = j; stop = stop } → subscriber_at v s.site ≡ Some t → serving_in v ≡ p
       → StandsAs s.site t i j stop p done
@@ -97,7 +104,7 @@ module _ (publication : Publication) (says : Saying) (w : World) (s : Subscriber
       let o : Onward publication says s.site w.moment begins.course w 0 0 last p = goes address steps last p met in
       let breaks : Untakes publication address (sending_in last.stage) w.moment turn last.tables t why = r.breaks in
       let q : Request = breaks.request in
-      let same : r.request ≡ q = same-read publication says w.moment address turn.carried.request q r.request breaks.text (met.plain steps [] last (append-nil steps) met.follows t q breaks.is_made) r.read in
+      let same : r.request ≡ q = same-read publication says w.moment address met.visible turn.carried.request q r.request breaks.text breaks.readable (short-made last t p q o breaks.is_made) r.read in
       let refused : handled publication says o.world.tallies w.moment q o.world.publisher ≡ Err refusal =
       subst (λ (x : Serving). made_of publication says w.moment q x ≡ Err refusal) (sym o.serving) (subst (λ (x : Request). made_of publication says w.moment x p ≡ Err refusal) same r.refused) in
       let made : requested (sending_in (stage_of o.course)) w.moment last.tables ≡ Ok (Some (t, q)) = subst (λ (x : Stage). requested (sending_in x) w.moment last.tables ≡ Ok (Some (t, q))) o.stage breaks.is_made in
@@ -138,7 +145,7 @@ module _ (publication : Publication) (says : Saying) (w : World) (s : Subscriber
 
     -- the request that the publisher read is the one that was made
     same-request : u.request ≡ breaks.request
-    same-request = same-read publication says w.moment address turn.carried.request breaks.request u.request breaks.text (met.plain steps [] last (append-nil steps) met.follows t breaks.request breaks.is_made) u.read
+    same-request = same-read publication says w.moment address met.visible turn.carried.request breaks.request u.request breaks.text breaks.readable (short-made last t p breaks.request onward breaks.is_made) u.read
 
     answer : handled publication says p.tallies w.moment breaks.request p.publisher ≡ Ok (u.after, r)
     answer = subst (λ (x : Request). made_of publication says w.moment x p ≡ Ok (u.after, r)) same-request u.made
@@ -222,21 +229,21 @@ has-thresholds resolvers publication valid says tallies slips actions s here =
 pub done-is : OfEveryValidWorld DoneIsTheModels
 done-is resolvers publication valid says tallies slips actions address s t steps uploads downloads p met =
     let w : World = world_behind_actions publication says tallies slips actions in
-    done-stands publication says w s met.here (has-thresholds resolvers publication valid says tallies slips actions s met.here) address t steps uploads downloads p met
+    done-stands publication says w s met.here (behind-by-actions publication says tallies slips actions (resolvers, valid)) (has-thresholds resolvers publication valid says tallies slips actions s met.here) address t steps uploads downloads p met
 
 pub refused-is : OfEveryValidWorld RefusedIsTheModels
 refused-is resolvers publication valid says tallies slips actions address s t steps last p turn refusal why met r =
     let w : World = world_behind_actions publication says tallies slips actions in (
-      refused-stands publication says w s met.here (has-thresholds resolvers publication valid says tallies slips actions s met.here) address t steps last p turn refusal why met r,
+      refused-stands publication says w s met.here (behind-by-actions publication says tallies slips actions (resolvers, valid)) (has-thresholds resolvers publication valid says tallies slips actions s met.here) address t steps last p turn refusal why met r,
       told-stops publication address last t w.moment turn refusal why r.breaks r.told,
     )
 
 pub unmade-is : OfEveryValidWorld UnmadeIsTheModels
 unmade-is resolvers publication valid says tallies slips actions address s t steps last p why met going breaks =
     let w : World = world_behind_actions publication says tallies slips actions in
-    unmade-by publication says w s met.here (has-thresholds resolvers publication valid says tallies slips actions s met.here) address t steps last p why met going breaks.0 breaks.1
+    unmade-by publication says w s met.here (behind-by-actions publication says tallies slips actions (resolvers, valid)) (has-thresholds resolvers publication valid says tallies slips actions s met.here) address t steps last p why met going breaks.0 breaks.1
 
 pub untaken-is : OfEveryValidWorld UntakenIsTheModels
 untaken-is resolvers publication valid says tallies slips actions address s t steps last p turn r why met u =
     let w : World = world_behind_actions publication says tallies slips actions in
-    untaken-here publication says w s met.here (has-thresholds resolvers publication valid says tallies slips actions s met.here) address t steps last p turn r why met u
+    untaken-here publication says w s met.here (behind-by-actions publication says tallies slips actions (resolvers, valid)) (has-thresholds resolvers publication valid says tallies slips actions s met.here) address t steps last p turn r why met u

@@ -12,6 +12,7 @@ use Rattle.merge_batch.specs.declared.request.Kind.{Kind}
 use Rattle.merge_batch.specs.declared.request.Kind.TheVariants as kind
 use Rattle.merge_batch.specs.declared.request.Request.{Request}
 use Rattle.merge_batch.specs.declared.request.Request.TheVariants as request
+use Rattle.merge_json.specs.Limits.{IsShortRequest}
 use Rattle.merge_model.specs.Judge.ByNumbers.{by_rows}
 use Rattle.merge_model.specs.Subscriber.Taking.{take_reply}
 use Rattle.merge_model.specs.Tables.{PublisherTables, SubscriberTables}
@@ -20,7 +21,8 @@ use Rattle.merge_model.specs.World.Steps.{Sending}
 use Rattle.merge_model.specs.World.{Saying}
 use Rattle.merge_model.specs.declared.outcome.Taken.TheVariants.{Acted}
 use Rattle.merge_world.specs.Messages.{requested}
-use Rattle.merge_agent.specs.Texts.{request_text}
+use Rattle.merge_wire.specs.Written.{IsVisible}
+use Rattle.merge_agent.specs.Texts.{IsReadable, request_text}
 use Rattle.merge_agent.specs.Turns.{Takes, Turn, taken_by}
 use Rattle.merge_agent.specs.declared.answer.Told.{Told}
 use Rattle.merge_agent.specs.declared.answer.Told.TheVariants.{Replied}
@@ -28,6 +30,7 @@ use Rattle.merge_desk.specs.Replay.{answered, told as told_as}
 use Rattle.merge_synced.specs.Answering.{AreRead, AreTold, Serving, behind, counted_by, made_of, reply_by}
 use Rattle.merge_synced.proofs.Made.{answers-kind}
 use Rattle.merge_synced.proofs.Telling.{Fits, one-read, one-told, refused-fits, refused-stops, replied-acts}
+use Rattle.merge_synced.proofs.Written.{requests-are-read}
 
 -- The site made a request, the publisher answered it, and the reply acted.
 pub record Turned (publication : Publication) (says : Saying) (now : Moment) (sending : Sending) (s new : SubscriberTables) (r : Reply) (p q : Serving) : Type 0 where
@@ -54,10 +57,10 @@ asks-reply (request.Upload m) e = absurd cc
 asks-reply (request.Ranges m) e = absurd cc
 asks-reply (request.Download m) e = absurd cc
 
-module _ (publication : Publication) (says : Saying) (now : Moment) (address : List ℕ) where
+module _ (publication : Publication) (says : Saying) (now : Moment) (address : List ℕ) (visible : IsVisible address) where
   -- what the request is that was read
-  pub same-read : (bytes : List ℕ) (q r : Request) → bytes ≡ request_text address q → AreRead (request_text address q) q → AreRead bytes r → r ≡ q
-  same-read bytes q r text plain read = one-read (request_text address q) r q (subst (λ (x : List ℕ). AreRead x r) text read) plain
+  pub same-read : (bytes : List ℕ) (q r : Request) → bytes ≡ request_text address q → IsReadable q → IsShortRequest q → AreRead bytes r → r ≡ q
+  same-read bytes q r text readable short read = one-read (request_text address q) r q (subst (λ (x : List ℕ). AreRead x r) text read) (requests-are-read address q visible readable.sent_as (readable.fits short))
 
   turned-by : (sending : Sending) (turn : Turn) (s sent new : SubscriberTables) (request : Request) (told : Told) (other : Reply) (p : Serving) (done : Result (PublisherTables × Reply) Refusal)
       → requested sending now s ≡ Ok (Some (sent, request)) → handled publication says p.tallies now request p.publisher ≡ done → AreTold turn.carried.response (answered p.publisher done).1
@@ -74,13 +77,13 @@ module _ (publication : Publication) (says : Saying) (now : Moment) (address : L
       (record { sent = sent; request = request; after = after; made = made; answer = handling; taken = acts.0; tables = refl; tallies = refl })
 
   pub turned : (sending : Sending) (made : Moment) (turn : Turn) (s new : SubscriberTables) (m : Reply) (p : Serving) (r : Request) → made ≡ now → turn.now ≡ now → Takes publication address sending made turn s new m
-      → ((sent : SubscriberTables) (q : Request) → requested sending now s ≡ Ok (Some (sent, q)) → AreRead (request_text address q) q)
+      → ((sent : SubscriberTables) (q : Request) → requested sending now s ≡ Ok (Some (sent, q)) → IsShortRequest q)
       → AreRead turn.carried.request r → AreTold turn.carried.response (reply_by publication says now r p)
       → Turned publication says now sending s new m p (behind publication says now r p)
-  turned sending made turn s new m p r at then takes plain read tells =
+  turned sending made turn s new m p r at then takes short read tells =
       let q : Request = takes.meets.request in
       let asked : requested sending now s ≡ Ok (Some (takes.sent, q)) = subst (λ (x : Moment). requested sending x s ≡ Ok (Some (takes.sent, q))) at takes.meets.is_made in
-      let same : r ≡ q = same-read turn.carried.request q r takes.meets.text (plain takes.sent q asked) read in
+      let same : r ≡ q = same-read turn.carried.request q r takes.meets.text takes.meets.readable (short takes.sent q asked) read in
       subst (λ (x : Request). Turned publication says now sending s new m p (behind publication says now x p)) (sym same)
       (turned-by sending turn s takes.sent new q takes.told m p (made_of publication says now q p) asked refl
       (subst (λ (x : Request). AreTold turn.carried.response (reply_by publication says now x p)) same tells)

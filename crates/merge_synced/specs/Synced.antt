@@ -1,5 +1,5 @@
 -- A session over a link that meets the model's publisher is the model's session.
-use Rattle.std.specs.Prelude.{All, Err, List, None, Ok, Option, Some, flat_map, length, ℕ, ◌++◌, ◌⊎◌, ◌≡◌, ◌≤◌}
+use Rattle.std.specs.Prelude.{All, Err, List, None, Ok, Option, Some, flat_map, length, ℕ, ◌⊎◌, ◌≡◌, ◌≤◌}
 use Rattle.serde_json.specs.Written.{compact_text}
 use Rattle.merge_types.specs.declared.identifiers.Moment.{Moment}
 use Rattle.merge_types.specs.declared.identifiers.SiteId.{SiteId}
@@ -27,7 +27,7 @@ use Rattle.merge_model.specs.declared.outcome.Taken.TheVariants.{Acted}
 use Rattle.merge_agent.specs.Faults.{fault_of}
 use Rattle.merge_agent.specs.Sessions.{Follows, IsUnderWay, Over, Session, Step, answered, at, begun, exchanges_of, moments_of, sending_in}
 use Rattle.merge_agent.specs.Texts.{request_text}
-use Rattle.merge_agent.specs.Turns.{Breaks, HasMessage, IsMade, Turn, Unmade, Untaken, taken_by}
+use Rattle.merge_agent.specs.Turns.{Breaks, HasMessage, Turn, Unmade, Untaken, taken_by}
 use Rattle.merge_agent.specs.declared.answer.Told.TheVariants.{Replied}
 use Rattle.merge_agent.specs.declared.fault.SessionFault.{SessionFault}
 use Rattle.merge_agent.specs.declared.fault.SessionFault.TheVariants as fault
@@ -36,20 +36,13 @@ use Rattle.merge_serve.specs.Answers.{response_of}
 use Rattle.merge_serve.specs.declared.answer.Answer.TheVariants as answer
 use Rattle.merge_synced.specs.Answering.{Answers, AreRead, AreTold, Serving, behind, made_of, serving_in}
 
--- The message that a session makes next is read as what it is.
-abbrev pub IsPlain : List ℕ → Moment → Session → Type 0
-IsPlain address now s = (sent : SubscriberTables) (r : Request) → IsMade (sending_in s.stage) now s.tables sent r → AreRead (request_text address r) r
-
--- all along some steps
-abbrev pub ArePlain : Publication → List ℕ → Moment → Session → List Step → Type 0
-ArePlain publication address now s steps = (front back : List Step) (mid : Session) → front ++ back ≡ steps → Follows publication address front s mid → IsPlain address now mid
-
 -- These steps of a session of the site, all at the moment of the world, met the world's publisher behind the link.
 pub record Met (publication : Publication) (says : Saying) (w : World) (address : List ℕ) (s : SubscriberTables) (steps : List Step) (last : Session) (p : Serving) : Type 0 where
   pub here : subscriber_at w s.site ≡ Some s
   pub follows : Follows publication address steps (begun s) last
   pub now : All (λ (moment : Moment). moment ≡ w.moment) (flat_map moments_of steps)
-  pub plain : ArePlain publication address w.moment (begun s) steps
+  -- the address can be written
+  pub visible : IsVisible address
   pub answers : Answers publication says w.moment (flat_map exchanges_of steps) (serving_in w) p
 
 -- how the model's session stands at its end

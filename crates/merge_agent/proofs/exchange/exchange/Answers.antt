@@ -35,7 +35,7 @@ returns-in_err-told-clause-exchanges g c =
     (unread c.args.address.now (sending_of c.args.sending) c.now-made.result (g.S.SubscriberSite.view c.args.site.now) (g.S.SubscriberSite.view c.make_message.new.site) (g.N.Link.coming c.args.link.now) (g.N.Link.exchanges c.args.link.now) (g.N.Link.count c.args.link.now) (g.C.Clock.told c.args.clock.now) (g.C.Clock.told c.now-made.new.self) c.make_message.ensures.publication (gives-one (g.C.Clock.told c.args.clock.now) (g.C.Clock.told c.now-made.new.self) c.now-made.result c.now-made.ensures.moment c.now-made.ensures.later)
     c.in-Some.request (made-some (sending_of c.args.sending) c.now-made.result (g.S.SubscriberSite.view c.args.site.now) (g.S.SubscriberSite.view c.make_message.new.site) c.in_ok-request.field-0 c.in-Some.request c.in-Some.is c.in_ok-request.ensures.made)
     c.in_ok-response.response (g.N.Link.coming c.ask.new.self) (g.N.Link.exchanges c.ask.new.self) (g.N.Link.count c.ask.new.self) c.now-now.result (g.C.Clock.told c.now-now.new.self) c.in_ok-response.ensures.response
-    (carried-text (g.N.Link.exchanges c.args.link.now) (g.N.Link.exchanges c.ask.new.self) c.as_slice.result.now c.in_ok-bytes.bytes (request_text c.args.address.now c.in-Some.request) c.in_ok-response.response c.in_ok-response.ensures.exchange c.as_slice.ensures c.in_ok-bytes.ensures) c.in_ok-response.ensures.cause.later (gives-one (g.C.Clock.told c.now-made.new.self) (g.C.Clock.told c.now-now.new.self) c.now-now.result c.now-now.ensures.moment c.now-now.ensures.later) p.0 p.2)
+    (carried-text (g.N.Link.exchanges c.args.link.now) (g.N.Link.exchanges c.ask.new.self) c.as_slice.result.now c.in_ok-bytes.bytes (request_text c.args.address.now c.in-Some.request) c.in_ok-response.response c.in_ok-response.ensures.exchange c.as_slice.ensures c.in_ok-bytes.ensures.text) c.in_ok-response.ensures.cause.later (gives-one (g.C.Clock.told c.now-made.new.self) (g.C.Clock.told c.now-now.new.self) c.now-now.result c.now-now.ensures.moment c.now-now.ensures.later) c.in_ok-bytes.ensures.readable p.0 p.2)
 
 pub returns-in_err-reply-clause-exchanges : goal.returns-in_err-reply-clause-exchanges
 returns-in_err-reply-clause-exchanges g c =
@@ -44,7 +44,7 @@ returns-in_err-reply-clause-exchanges g c =
     (untaken c.args.address.now (sending_of c.args.sending) c.now-made.result (g.S.SubscriberSite.view c.args.site.now) (g.S.SubscriberSite.view c.make_message.new.site) (g.N.Link.coming c.args.link.now) (g.N.Link.exchanges c.args.link.now) (g.N.Link.count c.args.link.now) (g.C.Clock.told c.args.clock.now) (g.C.Clock.told c.now-made.new.self) c.make_message.ensures.publication (gives-one (g.C.Clock.told c.args.clock.now) (g.C.Clock.told c.now-made.new.self) c.now-made.result c.now-made.ensures.moment c.now-made.ensures.later)
     c.in-Some.request (made-some (sending_of c.args.sending) c.now-made.result (g.S.SubscriberSite.view c.args.site.now) (g.S.SubscriberSite.view c.make_message.new.site) c.in_ok-request.field-0 c.in-Some.request c.in-Some.is c.in_ok-request.ensures.made)
     c.in_ok-response.response (g.N.Link.coming c.ask.new.self) (g.N.Link.exchanges c.ask.new.self) (g.N.Link.count c.ask.new.self) c.now-now.result (g.C.Clock.told c.now-now.new.self) c.in_ok-response.ensures.response
-    (carried-text (g.N.Link.exchanges c.args.link.now) (g.N.Link.exchanges c.ask.new.self) c.as_slice.result.now c.in_ok-bytes.bytes (request_text c.args.address.now c.in-Some.request) c.in_ok-response.response c.in_ok-response.ensures.exchange c.as_slice.ensures c.in_ok-bytes.ensures) c.in_ok-response.ensures.cause.later (gives-one (g.C.Clock.told c.now-made.new.self) (g.C.Clock.told c.now-now.new.self) c.now-now.result c.now-now.ensures.moment c.now-now.ensures.later)
+    (carried-text (g.N.Link.exchanges c.args.link.now) (g.N.Link.exchanges c.ask.new.self) c.as_slice.result.now c.in_ok-bytes.bytes (request_text c.args.address.now c.in-Some.request) c.in_ok-response.response c.in_ok-response.ensures.exchange c.as_slice.ensures c.in_ok-bytes.ensures.text) c.in_ok-response.ensures.cause.later (gives-one (g.C.Clock.told c.now-made.new.self) (g.C.Clock.told c.now-now.new.self) c.now-now.result c.now-now.ensures.moment c.now-now.ensures.later) c.in_ok-bytes.ensures.readable
     c.in_ok-told.told (tells-of c.kind.result (kind_of c.in-Some.request) c.as_slice-2.result.now c.in_ok-response.response c.in_ok-told.told c.kind.ensures c.as_slice-2.ensures c.in_ok-told.ensures) (g.S.SubscriberSite.view c.take.new.site) c.take.ensures.publication
     c.in_err-reply.field-0.0 c.in_err-reply.ensures.stepped)
 
@@ -53,7 +53,7 @@ returns-clause-advances g c =
     advances c.args.address.now (sending_of c.args.sending) c.now-made.result (g.S.SubscriberSite.view c.args.site.now) (g.S.SubscriberSite.view c.make_message.new.site) (g.N.Link.coming c.args.link.now) (g.N.Link.exchanges c.args.link.now) (g.N.Link.count c.args.link.now) (g.C.Clock.told c.args.clock.now) (g.C.Clock.told c.now-made.new.self) c.make_message.ensures.publication (gives-one (g.C.Clock.told c.args.clock.now) (g.C.Clock.told c.now-made.new.self) c.now-made.result c.now-made.ensures.moment c.now-made.ensures.later)
     c.in-Some.request (made-some (sending_of c.args.sending) c.now-made.result (g.S.SubscriberSite.view c.args.site.now) (g.S.SubscriberSite.view c.make_message.new.site) c.in_ok-request.field-0 c.in-Some.request c.in-Some.is c.in_ok-request.ensures.made)
     c.in_ok-response.response (g.N.Link.coming c.ask.new.self) (g.N.Link.exchanges c.ask.new.self) (g.N.Link.count c.ask.new.self) c.now-now.result (g.C.Clock.told c.now-now.new.self) c.in_ok-response.ensures.response
-    (carried-text (g.N.Link.exchanges c.args.link.now) (g.N.Link.exchanges c.ask.new.self) c.as_slice.result.now c.in_ok-bytes.bytes (request_text c.args.address.now c.in-Some.request) c.in_ok-response.response c.in_ok-response.ensures.exchange c.as_slice.ensures c.in_ok-bytes.ensures) c.in_ok-response.ensures.cause.later (gives-one (g.C.Clock.told c.now-made.new.self) (g.C.Clock.told c.now-now.new.self) c.now-now.result c.now-now.ensures.moment c.now-now.ensures.later)
+    (carried-text (g.N.Link.exchanges c.args.link.now) (g.N.Link.exchanges c.ask.new.self) c.as_slice.result.now c.in_ok-bytes.bytes (request_text c.args.address.now c.in-Some.request) c.in_ok-response.response c.in_ok-response.ensures.exchange c.as_slice.ensures c.in_ok-bytes.ensures.text) c.in_ok-response.ensures.cause.later (gives-one (g.C.Clock.told c.now-made.new.self) (g.C.Clock.told c.now-now.new.self) c.now-now.result c.now-now.ensures.moment c.now-now.ensures.later) c.in_ok-bytes.ensures.readable
     c.in_ok-told.told (tells-of c.kind.result (kind_of c.in-Some.request) c.as_slice-2.result.now c.in_ok-response.response c.in_ok-told.told c.kind.ensures c.as_slice-2.ensures c.in_ok-told.ensures) (g.S.SubscriberSite.view c.take.new.site) c.take.ensures.publication
     c.in_ok-reply.reply c.in_ok-reply.ensures.stepped
 
@@ -62,6 +62,6 @@ returns-clause-exchanges g c =
     turns c.args.address.now (sending_of c.args.sending) c.now-made.result (g.S.SubscriberSite.view c.args.site.now) (g.S.SubscriberSite.view c.make_message.new.site) (g.N.Link.coming c.args.link.now) (g.N.Link.exchanges c.args.link.now) (g.N.Link.count c.args.link.now) (g.C.Clock.told c.args.clock.now) (g.C.Clock.told c.now-made.new.self) c.make_message.ensures.publication (gives-one (g.C.Clock.told c.args.clock.now) (g.C.Clock.told c.now-made.new.self) c.now-made.result c.now-made.ensures.moment c.now-made.ensures.later)
     c.in-Some.request (made-some (sending_of c.args.sending) c.now-made.result (g.S.SubscriberSite.view c.args.site.now) (g.S.SubscriberSite.view c.make_message.new.site) c.in_ok-request.field-0 c.in-Some.request c.in-Some.is c.in_ok-request.ensures.made)
     c.in_ok-response.response (g.N.Link.coming c.ask.new.self) (g.N.Link.exchanges c.ask.new.self) (g.N.Link.count c.ask.new.self) c.now-now.result (g.C.Clock.told c.now-now.new.self) c.in_ok-response.ensures.response
-    (carried-text (g.N.Link.exchanges c.args.link.now) (g.N.Link.exchanges c.ask.new.self) c.as_slice.result.now c.in_ok-bytes.bytes (request_text c.args.address.now c.in-Some.request) c.in_ok-response.response c.in_ok-response.ensures.exchange c.as_slice.ensures c.in_ok-bytes.ensures) c.in_ok-response.ensures.cause.later (gives-one (g.C.Clock.told c.now-made.new.self) (g.C.Clock.told c.now-now.new.self) c.now-now.result c.now-now.ensures.moment c.now-now.ensures.later)
+    (carried-text (g.N.Link.exchanges c.args.link.now) (g.N.Link.exchanges c.ask.new.self) c.as_slice.result.now c.in_ok-bytes.bytes (request_text c.args.address.now c.in-Some.request) c.in_ok-response.response c.in_ok-response.ensures.exchange c.as_slice.ensures c.in_ok-bytes.ensures.text) c.in_ok-response.ensures.cause.later (gives-one (g.C.Clock.told c.now-made.new.self) (g.C.Clock.told c.now-now.new.self) c.now-now.result c.now-now.ensures.moment c.now-now.ensures.later) c.in_ok-bytes.ensures.readable
     c.in_ok-told.told (tells-of c.kind.result (kind_of c.in-Some.request) c.as_slice-2.result.now c.in_ok-response.response c.in_ok-told.told c.kind.ensures c.as_slice-2.ensures c.in_ok-told.ensures) (g.S.SubscriberSite.view c.take.new.site) c.take.ensures.publication
     c.in_ok-reply.reply c.in_ok-reply.ensures.stepped
