@@ -34,7 +34,7 @@ use Rattle.merge_stored.proofs.SubscriberClosings.{ClosingsRun, closings-run}
 
 -- The publisher.
 
-closing-sound : (p : PublisherTables) (closing : Closing) → 1 ≤ closing.generation → closing.generation ≤ p.gens.filling.last_closed → start_publisher.closing_is_sound p.gens.filling.last_closed closing ≡ true
+pub closing-sound : (p : PublisherTables) (closing : Closing) → 1 ≤ closing.generation → closing.generation ≤ p.gens.filling.last_closed → start_publisher.closing_is_sound p.gens.filling.last_closed closing ≡ true
 unfolding start_publisher.closing_is_sound
 closing-sound p closing from low = grind (arith, nat_tests, from, low)
 

@@ -60,7 +60,7 @@ abbrev pub GrantIsKnown : Publication → Grant → Type 0
 GrantIsKnown publication grant = (is_some (identity_at publication grant.article) ≡ true) × (is_site publication grant.site.0 ≡ true)
 
 module _ (publication : Publication) where
-  abbrev AllKnown : List Grant → Type 0
+  abbrev pub AllKnown : List Grant → Type 0
   AllKnown grants = AllByRecursion (GrantIsKnown publication) grants
 
   -- A rule is of an article with an identity column.
@@ -138,7 +138,7 @@ module _ (publication : Publication) where
 
   -- The walk.
 
-  abbrev P : PublisherTables → Type 0
+  abbrev pub P : PublisherTables → Type 0
   P p = AllKnown p.grants
 
   from-known : (p : PublisherTables) (grants : List Grant) (article : ℕ) (holder : Holder) (result : Result ℤ IdentityEnd) → AllKnown grants → IfOk (taken_from p grants article holder result) (λ d. AllKnown d.grants)
@@ -194,7 +194,7 @@ module _ (publication : Publication) where
       let known = first-none (unknown_site publication m.site) _ passed.0 in
       plans-known p.grants (map (ask_by m.site) m.wants) (asks-of m (site-known publication m.site known.0)) all
 
-  grants-keep : PublisherCallsKeep publication P
+  pub grants-keep : PublisherCallsKeep publication P
   grants-keep = record {
     of_local = λ judge now change p all. local-on judge now change p (local_refusal publication change p) all;
     of_close = λ now p all. unless-p (counter_end (counters p)) (closed (at_moment now p)) _ (λ fine. all);

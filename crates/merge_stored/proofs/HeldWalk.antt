@@ -101,7 +101,7 @@ well-by : (b : Bool) (first holder : Holder) (rest : Option Holder) → IsWell f
 well-by true first holder rest here more at = subst IsWell (some_same first holder at) here
 well-by false first holder rest here more at = more at
 
-abbrev EntryIsWell : ℕ × Holder → Type 0
+abbrev pub EntryIsWell : ℕ × Holder → Type 0
 EntryIsWell entry = IsWell entry.1
 
 found-well : (held : List (ℕ × Holder)) (article : ℕ) (holder : Holder) → AllByRecursion EntryIsWell held → at_number held article ≡ Some holder → IsWell holder
@@ -172,7 +172,7 @@ ranged-some publication (ask.Upload from to) m s none = absurd (grind (arith, no
 ranged-some publication (ask.Download from) m s none = absurd (grind (arith, none))
 
 module _ (publication : Publication) (rules : All IsRule (rules_of publication)) where
-  abbrev Keys : List (ℕ × Holder) → Type 0
+  abbrev pub Keys : List (ℕ × Holder) → Type 0
   Keys held = HasKeys publication held × AllByRecursion EntryIsWell held
 
   sorted-of : (held : List (ℕ × Holder)) → Keys held → IsStrictlySortedBy nat_cmp (keys_of held)
@@ -273,7 +273,7 @@ module _ (publication : Publication) (rules : All IsRule (rules_of publication))
   reply-on judge now (reply.Downloaded m) s keys = met-on judge now (reply.Downloaded m) s s.outstanding keys
   reply-on judge now (reply.Refused number values) s keys = keys
 
-  sub-keys-keep : CallsKeep publication S
+  pub sub-keys-keep : CallsKeep publication S
   sub-keys-keep = record {
     of_local = λ now change s keys. local-on now change s (subscriber_local_refusal publication change s) keys;
     of_close = λ now s keys. unless-on (counter_end (subscriber_counters s)) (subscriber_closed (subscriber_at_moment now s)) _ keys;
@@ -287,7 +287,7 @@ module _ (publication : Publication) (rules : All IsRule (rules_of publication))
 
   -- The publisher.
 
-  abbrev P : PublisherTables → Type 0
+  abbrev pub P : PublisherTables → Type 0
   P p = Keys p.held
 
   unless-p : {A : Type 0} (refusal : Option Refusal) (q : PublisherTables) (a : A) → P q → (let done : Result (PublisherTables × A) Refusal = unless refusal (q, a) in IfOk done (λ x. P x.0))
@@ -337,7 +337,7 @@ module _ (publication : Publication) (rules : All IsRule (rules_of publication))
   own-join m p true keys = keys
   own-join m p false keys = keys
 
-  keys-keep : PublisherCallsKeep publication P
+  pub keys-keep : PublisherCallsKeep publication P
   keys-keep = record {
     of_local = λ judge now change p keys. own-local judge now change p (local_refusal publication change p) keys;
     of_close = λ now p keys. unless-p (counter_end (counters p)) (closed (at_moment now p)) _ keys;

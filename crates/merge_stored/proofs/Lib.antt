@@ -27,6 +27,7 @@ pub mod GrantRule
 pub mod HeldRule
 pub mod RangeRule
 pub mod RangeFacts
+pub mod LostTables
 pub mod Lost
 pub mod Subscriptions
 pub mod SubscriberRowsLoad
@@ -36,3 +37,5 @@ pub mod PublisherRowsLoad
 pub mod PublisherLoads
 pub mod ValidPublications
 pub mod TypedRuns
+pub mod AnyCalls
+pub mod AnyReply

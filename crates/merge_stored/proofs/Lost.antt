@@ -1,10 +1,8 @@
 -- The rows of conflict tables are ones that a record can have, and a start takes them.
 use Rattle.std.specs.List.{AllByRecursion, AllZip}
-use Rattle.std.specs.Prelude.{List, None, Option, Some, [], length, map, option_map, refl, true, unwrap_or, ℕ, ◌&&◌, ◌++◌, ◌+◌, ◌<◌, ◌==◌, ◌^◌, ◌≡◌, ◌≤◌, ◌∷◌}
+use Rattle.std.specs.Prelude.{List, None, Option, Some, [], length, map, option_map, refl, true, unwrap_or, ℕ, ◌&&◌, ◌==◌, ◌≡◌, ◌∷◌}
 use Rattle.std.proofs.Common.{ap, arith, subst, sym, ◌∙◌}
-use Rattle.std.proofs.lemmas.Bool.Decides.{nat_tests}
-use Rattle.std.proofs.lemmas.List.{length-append, length-map}
-use Rattle.merge_types.specs.Limits.{number_limit}
+use Rattle.std.proofs.lemmas.List.{length-map}
 use Rattle.merge_types.specs.declared.changes.Tracking.{Tracking}
 use Rattle.merge_types.specs.declared.changes.Tracking.TheVariants as tracking
 use Rattle.merge_types.specs.declared.identifiers.Dot.{Dot}
@@ -14,26 +12,20 @@ use Rattle.merge_units.specs.Version.{tops_of}
 use Rattle.merge_units.specs.declared.version.Body.{Body}
 use Rattle.merge_units.specs.declared.version.Body.TheVariants.{Dead, Live}
 use Rattle.merge_units.specs.declared.version.Version.{Version}
-use Rattle.merge_conflict.specs.Kinds.{number_of_kind}
-use Rattle.merge_conflict.specs.declared.kind.ConflictKind.{ConflictKind}
-use Rattle.merge_conflict.specs.declared.kind.ConflictKind.TheVariants as kind
 use Rattle.merge_conflict.specs.declared.row.ConflictRow.{ConflictRow}
 use Rattle.merge_schema.specs.Places.{article_at}
 use Rattle.merge_schema.specs.Valid.{IsValid, IsValidArticle}
 use Rattle.merge_schema.specs.declared.publication.Article.{Article}
 use Rattle.merge_schema.specs.declared.publication.Publication.{Publication}
-use Rattle.merge_batch.specs.Lineages.{is_site}
 use Rattle.merge_batch.specs.LocalChanges.{identity_column, tracking_at, types_at}
 use Rattle.merge_batch.specs.Makers.{maker_of}
-use Rattle.merge_keeper.specs.Start.{KeepOneByOne, conflict_is_sound, version_is_sound}
-use Rattle.merge_keeper.specs.States.{IsConflict, has_kind}
-use Rattle.merge_keeper.specs.SubscriberRules.{Numbered, value_of}
 use Rattle.merge_model.specs.History.{History, MadeChange, Past, has}
 use Rattle.merge_model.specs.Tables.Keys.{same_key}
 use Rattle.merge_model.specs.History.Model.{Model}
 use Rattle.merge_model.specs.Laws.Promises.{key_of_conflict}
 use Rattle.merge_model.specs.Failing.Runs.{model_behind}
 use Rattle.merge_model.specs.Tables.{PublisherTables}
+use Rattle.merge_model.proofs.Lists.Finding.{all-weaker}
 use Rattle.merge_model.proofs.Lists.KeyLookUps.{keys-same}
 use Rattle.merge_model.proofs.Lists.{all-filter}
 use Rattle.merge_typed.specs.Typed.{BodyIsTyped, LostIsTyped}
@@ -55,10 +47,10 @@ use Rattle.merge_honest.proofs.RowsFit.{AllTook, IsRight, IsSet, right-goes_on, 
 use Rattle.merge_honest.proofs.Rules.{Known, known-always}
 use Rattle.merge_honest.proofs.TookValues.{took-always}
 use Rattle.merge_stored.specs.Conflicts.{AllConflictsAreKept, ConflictsAreKept, LostAt}
-use Rattle.merge_stored.specs.Lost.{AllLostLoad, LostLoads, LostRowsLoad}
+use Rattle.merge_stored.specs.Lost.{AllLostLoad, LostRowsLoad}
 use Rattle.merge_stored.specs.Versions.{VersionLoads}
 use Rattle.merge_stored.proofs.Conflicts.{conflicts-kept}
-use Rattle.merge_stored.proofs.Sites.{site-low}
+use Rattle.merge_stored.proofs.LostTables.{IsFromSite, table-loads}
 use Rattle.merge_stored.proofs.Versions.{version-loads, well-of}
 
 -- A row has a cell: its article has a column.
@@ -124,46 +116,16 @@ module _ (publication : Publication) (m : Model) (k : Known publication m) (exis
   known-lost : (n : ℕ) → AllByRecursion (λ (l : ℕ × (Key × Past)). RowKnows h.made l.1) (lost_at h n)
   known-lost n = all-filter (λ (l : ℕ × (Key × Past)). RowKnows h.made l.1) (λ (l : ℕ × (Key × Past)). l.0 == n) h.lost k.whole.0.0.known.knowledge.lost
 
-  -- One behind the other.
-
-  kind-low : (kind : ConflictKind) → number_of_kind kind ≤ 4
-  kind-low kind.Discarded = omega arith
-  kind-low kind.RowUpdate = omega arith
-  kind-low kind.ColumnUpdate = omega arith
-  kind-low kind.DeleteWins = omega arith
-  kind-low kind.UpdateWins = omega arith
-
-  up-to : (count last : ℕ) (rows : List ConflictRow) → Numbered count last rows → last ≤ count
-  up-to count last [] is = omega (arith, is)
-  up-to count last (row ∷ rows) is = (let rest = up-to count (last + 1) rows is.1 in omega (arith, rest))
-
-  row-conflict : (row : ConflictRow) → RowLoads row → is_site publication row.from.0 ≡ true → row.moment.0 < 2 ^ 64 → IsConflict (value_of row)
-  row-conflict row loads from moment =
-      let low = kind-low row.kind in
-      let site = site-low valid.0 publication valid.1 row.from.0 from in
-      let is : has_kind (value_of row).head ≡ true = grind (arith, nat_tests, low) in
-      (((loads.key_fits.0, (loads.key_fits.1, (omega (arith, low), (omega (arith, site), (tt, moment))))), is), loads.has_record)
-
-  row-sound : (count last : ℕ) (row : ConflictRow) → row.number ≡ last + 1 → last + 1 ≤ count → is_site publication row.from.0 ≡ true → version_is_sound publication row.article row.losing ≡ true → conflict_is_sound publication last count row ≡ true
-  unfolding conflict_is_sound
-  row-sound count last row is up from sound = grind (arith, nat_tests, is, up, from, sound)
-
-  table-loads : (latest count : ℕ) → count < number_limit → (front rows : List ConflictRow) (last : ℕ) → length front ≡ last → Numbered count last rows → AllByRecursion (LostAt publication latest) rows → AllByRecursion RowLoads rows → AllByRecursion LostIsTyped rows → KeepOneByOne (LostLoads publication count) front rows
-  table-loads latest count low front [] last long numbered each loads typed = tt
-  table-loads latest count low front (row ∷ rows) last long numbered each loads typed =
-      let up = up-to count (last + 1) rows numbered.1 in
-      let is = numbered.0 in (
-        (omega (arith, is, up, low), row-conflict row loads.0 each.0.0 typed.0.1, subst (λ (n : ℕ). conflict_is_sound publication n count row ≡ true) (sym long) (row-sound count last row is up each.0.0 loads.0.sound)),
-        table-loads latest count low (front ++ row ∷ []) rows (last + 1) (let more : length (front ++ row ∷ []) ≡ length front + 1 = length-append front (row ∷ []) in omega (arith, more, long)) numbered.1 each.1 loads.1 typed.1,
-      )
+  from-sites : (latest : ℕ) (rows : List ConflictRow) → AllByRecursion (LostAt publication latest) rows → AllByRecursion (IsFromSite publication valid) rows
+  from-sites latest rows each = all-weaker (LostAt publication latest) (IsFromSite publication valid) (λ row is. is.0) rows each
 
   tables-load : AllConflictsAreKept publication m → AllLostLoad publication m
   tables-load c = record {
     publisher = λ typed. (let p : PublisherTables = m.world.publisher in
-        table-loads p.latest.0 p.conflict_count c.publisher.low [] p.conflicts 0 refl c.publisher.numbered c.publisher.each
+        table-loads publication valid p.conflict_count c.publisher.low [] p.conflicts 0 refl c.publisher.numbered (from-sites p.latest.0 p.conflicts c.publisher.each)
         (rows-load p.conflicts (lost_at h 0) k.kept.told.conflicts k.named.conflicts rights.conflicts k.whole.0.0.lineages.publisher.lost (known-lost 0) k.kept.tables.publisher typed.conflicts) typed.conflicts);
     subscribers = λ n s at typed. (let kept : ConflictsAreKept publication s.latest.0 s.conflict_count s.conflicts = c.subscribers n s at in
-        table-loads s.latest.0 s.conflict_count kept.low [] s.conflicts 0 refl kept.numbered kept.each
+        table-loads publication valid s.conflict_count kept.low [] s.conflicts 0 refl kept.numbered (from-sites s.latest.0 s.conflicts kept.each)
         (rows-load s.conflicts (lost_at h n) (k.kept.told.discards n s at) (k.named.discards n s at) (rights.discards n s at) (k.whole.0.0.lineages.subscribers n s at).lost (known-lost n) (k.kept.tables.subscribers n s at) typed.conflicts) typed.conflicts);
   }
 

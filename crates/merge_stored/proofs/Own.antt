@@ -90,7 +90,7 @@ own-on grants new article holder other own =
       last = last-on grants (with_grant grants new) article holder.have holder.held (find-with_other (is_numbered article 0 holder.have) new grants numbered) own.last;
     }
 
-abbrev Held : List Grant → List (ℕ × Holder) → Type 0
+abbrev pub Held : List Grant → List (ℕ × Holder) → Type 0
 Held grants held = (article : ℕ) (holder : Holder) → at_number held article ≡ Some holder → OwnIsHeld grants article holder
 
 after-held : (grants : List Grant) (ask : Ask) (answer : Answer) (held : List (ℕ × Holder)) → (ask.site.0 == 0) ≡ false → Held grants held → Held (grants_after grants ask answer) held
@@ -194,10 +194,10 @@ new-held publication = λ article holder at. (let new = found-new (identities pu
 })
 
 module _ (publication : Publication) where
-  abbrev Own : List Grant → List (ℕ × Holder) → Type 0
+  abbrev pub Own : List Grant → List (ℕ × Holder) → Type 0
   Own grants held = IsBook (rules_of publication) grants × Held grants held
 
-  abbrev P : PublisherTables → Type 0
+  abbrev pub P : PublisherTables → Type 0
   P p = Own p.grants p.held
 
   from-own : (p : PublisherTables) (grants : List Grant) (article : ℕ) (new : Holder) (result : Result ℤ IdentityEnd) → IsBook (rules_of publication) grants → OwnIsHeld grants article new → Others grants p.held article
@@ -271,7 +271,7 @@ module _ (publication : Publication) where
         let asks : List Ask = map (ask_by m.site) m.wants in
         (plans-book (rules_of publication) p.grants asks own.0, plans-held (rules_of publication) p.grants asks p.held (asks-others m m.wants (grind (arith, nat_tests, high))) own.1)
 
-    own-keep : PublisherCallsKeep publication P
+    pub own-keep : PublisherCallsKeep publication P
     own-keep = record {
       of_local = λ judge now change p own. local-on judge now change p (local_refusal publication change p) own;
       of_close = λ now p own. unless-p (counter_end (counters p)) (closed (at_moment now p)) _ (λ fine. own);

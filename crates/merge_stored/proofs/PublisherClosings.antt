@@ -70,7 +70,7 @@ module _ (publication : Publication) where
   join-on m p true b = b
   join-on m p false b = b
 
-  closings-keep : PublisherCallsKeep publication ClosingsFrom
+  pub closings-keep : PublisherCallsKeep publication ClosingsFrom
   closings-keep = record {
     of_local = λ judge now change p b. local-on judge now change p (local_refusal publication change p) b;
     of_close = λ now p b. unless-on (counter_end (counters p)) (closed (at_moment now p)) _ (closed-on (at_moment now p) b);

@@ -84,14 +84,14 @@ abbrev AllBelow : List ℕ → Type 0
 AllBelow [] = Unit {0}
 AllBelow (counter ∷ counters) = (counter < counter_limit) × AllBelow counters
 
-all-below : (most : ℕ) (counters : List ℕ) → fold max most counters < counter_limit → AllBelow counters
+pub all-below : (most : ℕ) (counters : List ℕ) → fold max most counters < counter_limit → AllBelow counters
 all-below most [] low = tt
 all-below most (counter ∷ counters) low =
     let first : counter ≤ max most counter = grind (arith, nat_tests) in
     let rest = greatest-of (max most counter) counters in
     (omega (arith, first, rest, low), all-below (max most counter) counters low)
 
-conflicts-low : (p : PublisherTables) → counter_end (counters p) ≡ None → p.conflict_count < counter_limit
+pub conflicts-low : (p : PublisherTables) → counter_end (counters p) ≡ None → p.conflict_count < counter_limit
 conflicts-low p none = (all-below 0 (counters p) (grind (arith, nat_tests, none))).1.1.0
 
 -- The walk.

@@ -281,7 +281,7 @@ module _ (publication : Publication) where
       let moves = kept-counted moved_in g (λ (entry : RowSite × Mapping). not (is_old_left publication (at_moment now p) entry)) p.mappings in
       omega (arith, rows, moves))) b
 
-  rooms-keep : PublisherCallsKeep publication S
+  pub rooms-keep : PublisherCallsKeep publication S
   rooms-keep = record {
     of_local = λ judge now change p b. local-on judge now change p (local_refusal publication change p) b;
     of_close = λ now p b. unless-on (counter_end (counters p)) (closed (at_moment now p)) _ (close-on p (closed (at_moment now p)) refl refl refl b);

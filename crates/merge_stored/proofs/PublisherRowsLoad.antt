@@ -89,7 +89,7 @@ module _ {K V : Type 0} (of : V → ℕ) where
       let same : (let n : ℕ = cond (of e.1 == of e.1) 1 0 in n) ≡ 1 = (let itself : (of e.1 == of e.1) ≡ true = grind (arith, nat_tests) in ap (λ (b : Bool). (let n : ℕ = cond b 1 0 in n)) itself) in
       omega (arith, one, same)
 
-  behind-more : (g : ℕ) (front : List (K × V)) (e : K × V) (es : List (K × V)) → counted of g (front ++ e ∷ []) + counted of g es ≡ counted of g front + counted of g (e ∷ es)
+  pub behind-more : (g : ℕ) (front : List (K × V)) (e : K × V) (es : List (K × V)) → counted of g (front ++ e ∷ []) + counted of g es ≡ counted of g front + counted of g (e ∷ es)
   behind-more g front e es =
       let push : counted of g (front ++ e ∷ []) ≡ counted of g front + (let n : ℕ = cond (g == of e.1) 1 0 in n) = sum_by_push (λ (x : K × V). (let n : ℕ = cond (g == of x.1) 1 0 in n)) front e in
       let one = counted-cons of g e es in
@@ -126,7 +126,7 @@ module _ (publication : Publication) (p : PublisherTables) (closed : p.gens.fill
       let entries : counted changed_in g front + counted moved_in g nothing < room_of filling g = omega (arith, low) in
       has-space (counted changed_in g front + counted moved_in g nothing) filling g (nat_le g filling.last_closed) (g == filling.last_closed + 1) refl refl entries
 
-  rows-load : (front rows : List (Key × PublisherRow)) → ((g : ℕ) → counted changed_in g front + counted changed_in g rows ≤ room_of filling g) → AllByRecursion (λ (row : Key × PublisherRow). VersionIsStored publication 0 p.changes row.0 row.1.version) rows
+  pub rows-load : (front rows : List (Key × PublisherRow)) → ((g : ℕ) → counted changed_in g front + counted changed_in g rows ≤ room_of filling g) → AllByRecursion (λ (row : Key × PublisherRow). VersionIsStored publication 0 p.changes row.0 row.1.version) rows
       → KeepOneByOne (PublisherRowLoads publication p) front rows
   rows-load front [] room stored = tt
   rows-load front (row ∷ rows) room stored =
@@ -152,7 +152,7 @@ module _ (publication : Publication) (p : PublisherTables) (closed : p.gens.fill
       let g : ℕ = move.1.generation in
       has-space (counted changed_in g p.rows + counted moved_in g front) filling g (nat_le g filling.last_closed) (g == filling.last_closed + 1) refl refl low
 
-  moves-load : (front moves : List (RowSite × Mapping)) → ((g : ℕ) → counted changed_in g p.rows + (counted moved_in g front + counted moved_in g moves) ≤ room_of filling g) → AllByRecursion (MoveFits publication) moves → KeepOneByOne (MappingLoads publication p) front moves
+  pub moves-load : (front moves : List (RowSite × Mapping)) → ((g : ℕ) → counted changed_in g p.rows + (counted moved_in g front + counted moved_in g moves) ≤ room_of filling g) → AllByRecursion (MoveFits publication) moves → KeepOneByOne (MappingLoads publication p) front moves
   moves-load front [] room fits = tt
   moves-load front (move ∷ moves) room fits =
       let g : ℕ = move.1.generation in
@@ -193,7 +193,7 @@ module _ (publication : Publication) where
   all-subscribe entries [] all each = all
   all-subscribe entries (s ∷ subscriptions) all each = all-subscribe (put_number entries s.site.0 s) subscriptions (all-put Subscribes nat_cmp s.site.0 s (λ q tied. each.0) each.0 entries all) each.1
 
-  each-subscribes : AllByRecursion (λ (s : Subscription). is_subscription publication s.site.0 ≡ true) publication.subscriptions
+  pub each-subscribes : AllByRecursion (λ (s : Subscription). is_subscription publication s.site.0 ≡ true) publication.subscriptions
   each-subscribes = all-weaker (λ (s : Subscription). (test : Subscription → Bool) → test s ≡ true → list_any test publication.subscriptions ≡ true) (λ (s : Subscription). is_subscription publication s.site.0 ≡ true)
       (λ s found. found (λ (x : Subscription). x.site.0 == s.site.0) (grind (arith, nat_tests))) publication.subscriptions (each-found publication.subscriptions)
 

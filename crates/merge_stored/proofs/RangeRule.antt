@@ -65,12 +65,12 @@ contained (x ∷ xs) = ((0, omega arith, refl), grow x xs xs (contained xs))
 
 -- A record that is one of many stands somewhere.
 
-record Place {X : Type 0} (p : X → Bool) (all : List X) : Type 0 where
-  f : List X
-  x : X
-  rest : List X
-  is : f ++ x ∷ rest ≡ all
-  passes : p x ≡ true
+pub record Place {X : Type 0} (p : X → Bool) (all : List X) : Type 0 where
+  pub f : List X
+  pub x : X
+  pub rest : List X
+  pub is : f ++ x ∷ rest ≡ all
+  pub passes : p x ≡ true
 
 place-by : {X : Type 0} (b : Bool) (p : X → Bool) (x : X) (xs : List X) → p x ≡ b → (1 ≤ tally p xs → Place p xs) → 1 ≤ tally p (x ∷ xs) → Place p (x ∷ xs)
 place-by true p x xs passes more some = record { f = []; x = x; rest = xs; is = refl; passes = passes }
@@ -79,7 +79,7 @@ place-by false p x xs passes more some =
     let later = more (omega (arith, none, some)) in
     record { f = x ∷ later.f; x = later.x; rest = later.rest; is = ap (λ l. x ∷ l) later.is; passes = later.passes }
 
-place-of : {X : Type 0} (p : X → Bool) (xs : List X) → 1 ≤ tally p xs → Place p xs
+pub place-of : {X : Type 0} (p : X → Bool) (xs : List X) → 1 ≤ tally p xs → Place p xs
 place-of p [] some = absurd (omega (arith, some))
 place-of p (x ∷ xs) some = place-by (p x) p x xs refl (place-of p xs) some
 
@@ -148,7 +148,7 @@ full-some publication grants article (Lost row) full = absurd full
 full-some publication grants article (Subscribed site state) full = absurd full
 
 -- One that is found with a range is counted.
-found-tally : (p : Grant → Bool) (range : Range) (grants : List Grant) → option_map (λ (grant : Grant). grant.range) (find p grants) ≡ Some range → 1 ≤ tally (λ (g : Grant). p g && same_range g.range range) grants
+pub found-tally : (p : Grant → Bool) (range : Range) (grants : List Grant) → option_map (λ (grant : Grant). grant.range) (find p grants) ≡ Some range → 1 ≤ tally (λ (g : Grant). p g && same_range g.range range) grants
 found-tally p range [] is = absurd cc
 found-tally p range (g ∷ grants) is = found-by (p g) refl (λ later. found-tally p range grants later) is
   where
@@ -215,7 +215,7 @@ there publication held article same some =
 
 -- What was received of an article has a record.
 
-abbrev kept_of : ℕ → List (ℕ × Holder) → ℕ
+abbrev pub kept_of : ℕ → List (ℕ × Holder) → ℕ
 kept_of article held = tally (λ (e : Pair). is_kept article e.1) (map held_pair held)
 
 kept-more : (b : Bool) (article : ℕ) (entry : ℕ × Holder) (held : List (ℕ × Holder)) → 1 ≤ kept_of article held → 1 ≤ kept_of article (cond b (entry ∷ held) held)

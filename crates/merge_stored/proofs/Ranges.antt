@@ -73,7 +73,7 @@ module _ (resolvers : ℕ) (publication : Publication) (valid : IsValid resolver
     same = ap (λ (found : Option Identity). option_map (λ (identity : Identity). holder_of identity (held_ranges entry.1)) found) of.found ∙ ap (λ (h : Holder). (let found : Option Holder = Some h in found)) (holder-back of.identity entry.1 of.threshold well);
   }
 
-  held-loads : (held : List (ℕ × Holder)) → HasKeys publication held → AllByRecursion (λ (entry : ℕ × Holder). IsWell entry.1) held → AllHeldLoad publication held
+  pub held-loads : (held : List (ℕ × Holder)) → HasKeys publication held → AllByRecursion (λ (entry : ℕ × Holder). IsWell entry.1) held → AllHeldLoad publication held
   held-loads held keys well =
       let sorted : IsStrictlySortedBy nat_cmp (keys_of held) = subst (λ (k : List ℕ). IsStrictlySortedBy nat_cmp k) (sym (keys-same held (new_holders publication) keys)) (new-well publication 0).ascend in
       record {
@@ -85,7 +85,7 @@ module _ (resolvers : ℕ) (publication : Publication) (valid : IsValid resolver
 
 -- Grants.
 
-grants-load : (resolvers : ℕ) (publication : Publication) → IsValid resolvers publication → (grants : List Grant) → IsBook (rules_of publication) grants → AllByRecursion (GrantIsKnown publication) grants → GrantsLoad grants
+pub grants-load : (resolvers : ℕ) (publication : Publication) → IsValid resolvers publication → (grants : List Grant) → IsBook (rules_of publication) grants → AllByRecursion (GrantIsKnown publication) grants → GrantsLoad grants
 grants-load resolvers publication valid grants book known = record {
   in_order = book.in_order;
   granted = book.grants_fit;

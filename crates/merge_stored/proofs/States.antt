@@ -42,10 +42,10 @@ closed-low p bounded = (let low = bounded.closed in omega (arith, low))
 -- The publisher.
 
 module _ (p : PublisherTables) (changes : p.changes < number_limit) (closed : p.gens.filling.last_closed < number_limit) (conflicts : p.conflict_count < number_limit) (filled : p.gens.filling.filled < 1000) (latest : MomentFits p.latest) where
-  front-fits : IsFront (of_publisher.state_of (publisher_stored p))
+  pub front-fits : IsFront (of_publisher.state_of (publisher_stored p))
   front-fits = (omega arith, (fits-64 p.changes changes, (fits-64 p.gens.filling.last_closed closed, (omega (arith, filled), (fits-64 p.conflict_count conflicts, latest)))))
 
-  front-sound : start_publisher.state_is_sound p.conflict_count (of_publisher.state_of (publisher_stored p)) ≡ true
+  pub front-sound : start_publisher.state_is_sound p.conflict_count (of_publisher.state_of (publisher_stored p)) ≡ true
   unfolding start_publisher.state_is_sound
   front-sound =
       let one = counter-is p.changes changes in
@@ -66,18 +66,18 @@ talk-of last watermark seq limit (Some (number, ask.Upload from to)) fits closed
 talk-of last watermark seq limit (Some (number, ask.Download from)) fits closed mark given asked low =
     (let same = given number (ask.Download from) refl in let here = asked number from refl in (omega (arith, low, same), (omega (arith, here, mark), omega (arith, low))))
 
-phase-is : (joined : Bool) → (phase_number joined < 2 ^ 8) × (((phase_number joined == 1) || (phase_number joined == 2)) ≡ true)
+pub phase-is : (joined : Bool) → (phase_number joined < 2 ^ 8) × (((phase_number joined == 1) || (phase_number joined == 2)) ≡ true)
 phase-is true = (omega arith, refl)
 phase-is false = (omega arith, refl)
 
-kind-low : (found : Option (ℕ × Outstanding)) → kind_of found < 2 ^ 8
+pub kind-low : (found : Option (ℕ × Outstanding)) → kind_of found < 2 ^ 8
 kind-low None = omega arith
 kind-low (Some (number, ask.Join)) = omega arith
 kind-low (Some (number, ask.Upload from to)) = omega arith
 kind-low (Some (number, ask.Ranges)) = omega arith
 kind-low (Some (number, ask.Download from)) = omega arith
 
-asks-is : (found : Option (ℕ × Outstanding)) → asks (kind_of found) (outstanding_from found) (outstanding_to found) ≡ true
+pub asks-is : (found : Option (ℕ × Outstanding)) → asks (kind_of found) (outstanding_from found) (outstanding_to found) ≡ true
 asks-is None = refl
 asks-is (Some (number, ask.Join)) = refl
 asks-is (Some (number, ask.Upload from to)) = refl

@@ -82,7 +82,7 @@ weight-of weigh row = weigh row.generations
 pub total-cons : (weigh : List ℕ → ℕ) (row : Key × SubscriberRow) (rows : Rows) → total weigh (row ∷ rows) ≡ weigh row.1.generations + total weigh rows
 total-cons weigh row rows = sum_by-cons (λ (r : SubscriberRow). weigh r.generations) row.1 (values_of rows)
 
-above-shrinks : (received : ℕ) (rows : Rows) → Shrinks rows (map (row_above received) rows)
+pub above-shrinks : (received : ℕ) (rows : Rows) → Shrinks rows (map (row_above received) rows)
 above-shrinks received [] = none-shrinks []
 above-shrinks received (row ∷ rows) =
     let rest = above-shrinks received rows in
@@ -134,7 +134,7 @@ item-by : (b : Bool) (key : Key) (act : Order) (rows : Rows) → Shrinks rows (i
 item-by true key act rows = none-shrinks rows
 item-by false key act rows = order-shrinks key act rows
 
-items-shrink : (judge : SubscriberJudge) (received : ℕ) (items : List DownloadItem) (rows : Rows) → Shrinks rows (fold (with_item judge received) rows items)
+pub items-shrink : (judge : SubscriberJudge) (received : ℕ) (items : List DownloadItem) (rows : Rows) → Shrinks rows (fold (with_item judge received) rows items)
 items-shrink judge received [] rows = none-shrinks rows
 items-shrink judge received (item ∷ items) rows =
     let next : Rows = with_item judge received rows item in
@@ -238,7 +238,7 @@ held-length weigh None none = none
 held-length weigh (Some row) none = refl
 
 -- the rows with a version more, in the open generation
-put-total : (weigh : List ℕ → ℕ) (more : ℕ) (key : Key) (version : Version) (current : ℕ) (rows : Rows) → IsStrictlySortedBy key_cmp (keys_of rows) → weigh [] ≡ 0 → (let gens : List ℕ = generations_in rows key in weigh (with_open current gens) ≤ weigh gens + more
+pub put-total : (weigh : List ℕ → ℕ) (more : ℕ) (key : Key) (version : Version) (current : ℕ) (rows : Rows) → IsStrictlySortedBy key_cmp (keys_of rows) → weigh [] ≡ 0 → (let gens : List ℕ = generations_in rows key in weigh (with_open current gens) ≤ weigh gens + more
     → (let new : SubscriberRow = record { version = version; generations = with_open current gens } in total weigh (put_row rows key new) ≤ total weigh rows + more))
 put-total weigh more key version current rows sorted none up =
     let gens : List ℕ = generations_in rows key in
@@ -252,7 +252,7 @@ gens-by : (b : Bool) (row : SubscriberRow) (found : Option SubscriberRow) → nu
 gens-by true row found first rest = first
 gens-by false row found first rest = rest
 
-gens-ascend : (key : Key) (rows : Rows) → AllByRecursion Ascends rows → numbers_ascend (generations_in rows key) ≡ true
+pub gens-ascend : (key : Key) (rows : Rows) → AllByRecursion Ascends rows → numbers_ascend (generations_in rows key) ≡ true
 gens-ascend key [] all = refl
 gens-ascend key (row ∷ rows) all = gens-by (is_at (key_cmp key) row.0) row.1 (row_at rows key) all.0 (gens-ascend key rows all.1)
 

@@ -41,21 +41,21 @@ here-once g xs =
     let same : cond (g == g) 1 0 ≡ 1 = (let itself : (g == g) ≡ true = grind (arith, nat_tests) in ap (λ (b : Bool). (let n : ℕ = cond b 1 0 in n)) itself) in
     omega (arith, one, same)
 
-each-there : (xs : List ℕ) → AllByRecursion (λ (g : ℕ). 1 ≤ times g xs) xs
+pub each-there : (xs : List ℕ) → AllByRecursion (λ (g : ℕ). 1 ≤ times g xs) xs
 each-there [] = tt
 each-there (x ∷ xs) = (here-once x xs, all-weaker (λ (g : ℕ). 1 ≤ times g xs) (λ (g : ℕ). 1 ≤ times g (x ∷ xs)) (λ g some. there-by g x xs some) xs (each-there xs))
 
 -- the entries of a generation, as a start counts them
-entries-are : (g : ℕ) (rows : Rows) → sum_by (start_subscriber.times_in g) rows ≡ total (times g) rows
+pub entries-are : (g : ℕ) (rows : Rows) → sum_by (start_subscriber.times_in g) rows ≡ total (times g) rows
 entries-are g [] = refl
 entries-are g (row ∷ rows) = (let one = sum_by-cons (start_subscriber.times_in g) row rows in let other = total-cons (times g) row rows in let rest = entries-are g rows in omega (arith, one, other, rest))
 
-total-more : (weigh : List ℕ → ℕ) (front : Rows) (row : Key × SubscriberRow) → total weigh (front ++ row ∷ []) ≡ total weigh front + weigh row.1.generations
+pub total-more : (weigh : List ℕ → ℕ) (front : Rows) (row : Key × SubscriberRow) → total weigh (front ++ row ∷ []) ≡ total weigh front + weigh row.1.generations
 total-more weigh [] row = (let nothing : Rows = [] in let one = total-cons weigh row nothing in omega (arith, one))
 total-more weigh (first ∷ front) row = (let one = total-cons weigh first (front ++ row ∷ []) in let other = total-cons weigh first front in let rest = total-more weigh front row in omega (arith, one, other, rest))
 
 -- Where a generation has room for one more, a start says so.
-has-room : (received entries : ℕ) (filling : Filling) (g : ℕ) (a b : Bool) → nat_le g filling.last_closed ≡ a → (g == filling.last_closed + 1) ≡ b → entries < room_of filling g
+pub has-room : (received entries : ℕ) (filling : Filling) (g : ℕ) (a b : Bool) → nat_le g filling.last_closed ≡ a → (g == filling.last_closed + 1) ≡ b → entries < room_of filling g
     → (nat_le g received || (nat_le g (filling.last_closed + 1) && nat_lt entries (if nat_le g filling.last_closed then entry_limit else filling.filled))) ≡ true
 has-room received entries filling g true b closed is low =
     let here : g ≤ filling.last_closed = grind (arith, nat_tests, closed) in

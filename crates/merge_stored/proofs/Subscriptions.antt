@@ -89,7 +89,7 @@ numbers-low publication (dot ∷ lineage) site all =
 abbrev LineageLow : Act → Type 0
 LineageLow act = (site : ℕ) → number_of act.incoming.lineage site < number_limit
 
-item-low : (publication : Publication) (m : Upload) (item : UploadItem) → lineage_fits publication m item ≡ true → (site : ℕ) → number_of item.version.lineage site < number_limit
+pub item-low : (publication : Publication) (m : Upload) (item : UploadItem) → lineage_fits publication m item ≡ true → (site : ℕ) → number_of item.version.lineage site < number_limit
 item-low publication m item fits site = (let well : list_all (is_pair publication) item.version.lineage ≡ true = grind (arith, fits) in numbers-low publication item.version.lineage site well)
 
 acts-low : (judge : PublisherJudge) (site : SiteId) (p : PublisherTables) (number : ℕ) (decisions : List Decision) (items : List UploadItem) → AllByRecursion (λ (item : UploadItem). (n : ℕ) → number_of item.version.lineage n < number_limit) items → AllByRecursion LineageLow (acts_from judge site p number decisions items)
@@ -105,10 +105,10 @@ seen-low (act ∷ acts) site seen low all = seen-low acts site (max seen (number
 -- The walk.
 
 module _ (publication : Publication) where
-  abbrev SiteIs : ℕ → ℕ × SiteState → Type 0
+  abbrev pub SiteIs : ℕ → ℕ × SiteState → Type 0
   SiteIs last site = (is_subscription publication site.0 ≡ true) × StateFits last site.1
 
-  abbrev S : PublisherTables → Type 0
+  abbrev pub S : PublisherTables → Type 0
   S p = AllByRecursion (SiteIs (last_closed p)) p.sites
 
   later-state : (last later : ℕ) (state : SiteState) → last ≤ later → StateFits last state → StateFits later state
@@ -220,7 +220,7 @@ module _ (publication : Publication) where
       let put = put-on (last_closed p) p.sites m.site (synced m q (state_of q m.site)) (site-subscribes m.site known.0) (synced-fits m q (last_closed p) (state_of q m.site) up (state-fits (last_closed p) p.sites m.site.0 all)) all in
       all-weaker (SiteIs (last_closed p)) (SiteIs (last_closed (asked m q))) (λ site is. (is.0, later-state (last_closed p) (last_closed (asked m q)) site.1 (closed-up p.gens.filling) is.1)) (put_number p.sites m.site.0 (synced m q (state_of q m.site))) put
 
-  sites-keep : PublisherCallsKeep publication S
+  pub sites-keep : PublisherCallsKeep publication S
   sites-keep = record {
     of_local = λ judge now change p all. local-on judge now change p (local_refusal publication change p) all;
     of_close = λ now p all. unless-on (counter_end (counters p)) (closed (at_moment now p)) _ (λ fine. later-on p (closed (at_moment now p)) refl (closed-up p.gens.filling) all);
@@ -247,7 +247,7 @@ module _ (publication : Publication) where
       let five = is.1.watermark in
       grind (arith, nat_tests, zero, one, two, three, four, five)
 
-  site-loads : (resolvers : ℕ) → IsValid resolvers publication → (p : PublisherTables) (site : ℕ × SiteState) → last_closed p < number_limit → site.1.last_sync < 2 ^ 64 → SiteIs (last_closed p) site → SiteLoads publication p site
+  pub site-loads : (resolvers : ℕ) → IsValid resolvers publication → (p : PublisherTables) (site : ℕ × SiteState) → last_closed p < number_limit → site.1.last_sync < 2 ^ 64 → SiteIs (last_closed p) site → SiteLoads publication p site
   site-loads resolvers valid p site closed sync is = (
     (let low = subscription-low resolvers publication valid site.0 is.0 in omega (arith, low)),
     (fits-64 site.1.joined_at is.1.joined, (fits-64 site.1.received is.1.received, (fits-64 site.1.received_number is.1.number, (fits-64 site.1.seen is.1.seen, ((let low = is.1.watermark in omega (arith, low, closed)), sync))))),

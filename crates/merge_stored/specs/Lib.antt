@@ -11,3 +11,7 @@ pub mod Subscriptions
 pub mod Loading
 pub mod PublisherLoading
 pub mod TypedRuns
+pub mod HasTypes
+pub mod Keeping
+pub mod AnyReply
+pub mod AnySteps
