@@ -72,4 +72,11 @@ impl<K: Keeper> KeptPublisher<K> {
     {
         self.publisher.site_state(site)
     }
+
+    /// How often the store failed.
+    pub fn faults(&self) -> u64
+        ensures { result ≡ self.now.faults }
+    {
+        self.keeper.faults()
+    }
 }

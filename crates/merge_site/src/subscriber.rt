@@ -272,6 +272,13 @@ impl<K: Keeper> KeptSubscriber<K> {
         Ok(())
     }
 
+    /// The publication.
+    pub fn publication(&self) -> &Publication
+        ensures { result.now ≡ self.now.publication }
+    {
+        self.subscriber.publication()
+    }
+
     pub fn site(&self) -> SiteId
         ensures { result ≡ self.now.tables.site }
     {
@@ -319,5 +326,19 @@ impl<K: Keeper> KeptSubscriber<K> {
         ensures { IfOk result (λ count. count ≡ unsent_count self.now.tables) }
     {
         self.subscriber.unsent()
+    }
+
+    /// How many changes the site made.
+    pub fn changes(&self) -> u64
+        ensures { result ≡ self.now.tables.changes }
+    {
+        self.subscriber.changes()
+    }
+
+    /// How often the store failed.
+    pub fn faults(&self) -> u64
+        ensures { result ≡ self.now.faults }
+    {
+        self.keeper.faults()
     }
 }
