@@ -1,6 +1,7 @@
 //! Sessions with a publisher of which a link in memory gives the responses: how the program ends by them.
 use crate::ending::{NONE, end, is_ended, outside};
 use merge_keeper::MemoryKeeper;
+use merge_link::Exchange;
 use merge_outside::MemoryCommands;
 use merge_types::Octets;
 use std::alloc::Global;
@@ -48,6 +49,8 @@ const WANTING: &str = "HTTP/1.1 507 Insufficient Storage\r\nContent-Length: 0\r\
 // The second message has number 2.
 const OF_ANOTHER: &str =
     "HTTP/1.1 200 OK\r\nContent-Length: 58\r\n\r\n{\"from\":0,\"items\":[],\"last\":0,\"received\":0,\"seq\":9,\"to\":0}";
+
+const NO_REPLY: &str = "HTTP/1.1 200 OK\r\nContent-Length: 2\r\n\r\n{}";
 
 const NO_ITEM: &str =
     "HTTP/1.1 200 OK\r\nContent-Length: 60\r\n\r\n{\"from\":0,\"items\":[{}],\"last\":0,\"received\":0,\"seq\":2,\"to\":0}";
@@ -100,6 +103,7 @@ const STEPS: &[&[Step]] = &[
     &[(SYNC, "", &[], (7, "", "link fault\n"))],
     &[(SYNC, "", &[JOINED, EXPIRED], (8, "", "expired 1 1209602\n"))],
     &[(SYNC, "", &["no message"], (9, "", "bad reply 0\n"))],
+    &[(SYNC, "", &[NO_REPLY], (9, "", "bad reply 0\n"))],
     &[(SYNC, "", &[JOINED, OF_ANOTHER], (9, "", "bad reply 0\n"))],
     &[(SYNC, "", &[JOINED, NO_ITEM], (9, "", "bad reply 1\n"))],
     &[(SYNC, "", &[REFUSED], (12, "", "refused 3\n"))],
@@ -150,5 +154,32 @@ fn sessions_end_by_what_the_link_gives(rt: HostRuntime) -> Result<(), Fail> {
     for steps in STEPS {
         assert!(rt; goes(rt.alloc(), steps)?, "{steps:?}");
     }
+    Ok(())
+}
+
+// The first messages of a site, as they are sent.
+const FIRST_JOIN: &str =
+    "POST /merge/join HTTP/1.1\r\nHost: 127.0.0.1:7000\r\nContent-Type: application/json\r\nContent-Length: 44\r\nConnection: close\r\n\r\n{\"generation\":0,\"number\":0,\"seq\":1,\"site\":1}";
+
+const FIRST_DOWNLOAD: &str =
+    "POST /merge/download HTTP/1.1\r\nHost: 127.0.0.1:7000\r\nContent-Type: application/json\r\nContent-Length: 27\r\nConnection: close\r\n\r\n{\"from\":0,\"seq\":2,\"site\":1}";
+
+// Whether just these requests were sent.
+fn are_sent(exchanges: &[Exchange], requests: &[&str]) -> bool {
+    let mut same = exchanges.len() == requests.len();
+    for (exchange, request) in exchanges.iter().zip(requests) {
+        same = same && exchange.request.as_slice() == request.as_bytes();
+    }
+    same
+}
+
+#[test]
+fn a_first_session_sends_a_join_and_a_download(rt: HostRuntime) -> Result<(), Fail> {
+    let mut next = outside(rt.alloc(), &[])?;
+    respond(rt.alloc(), &mut next, &[JOINED, NOTHING])?;
+    let (ended, host) = end(rt.alloc(), SYNC, b"", &NONE, next)?;
+    assert!(rt; is_ended(ended, &host, 0, "done 0 0 0\n", ""));
+    let told = host.outside.exchanges.as_slice();
+    assert!(rt; are_sent(told, &[FIRST_JOIN, FIRST_DOWNLOAD]));
     Ok(())
 }

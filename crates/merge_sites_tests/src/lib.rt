@@ -1,5 +1,5 @@
-//! Tests of what is done with sites: sessions, commands, made scripts, a publisher that callers share,
-//! and its connections.
+//! Tests of what is done with sites: two sites at their stores, sessions, commands, made scripts, a
+//! publisher that callers share, and its connections.
 #![tactic(auto)]
 
 #[cfg(test)]
@@ -16,5 +16,7 @@ mod same;
 mod serve;
 #[cfg(test)]
 mod service;
+#[cfg(test)]
+mod site;
 #[cfg(test)]
 mod sync;

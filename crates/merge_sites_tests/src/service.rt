@@ -13,6 +13,7 @@ use merge_table::Table;
 use merge_types::{Listing, Octets, SiteId, Words};
 use std::alloc::Global;
 use std::mem;
+use std::snapshot::Snapshot;
 use std::sync::Wait;
 use std::test::Fail;
 use std::thread::Threads;
@@ -35,10 +36,11 @@ struct OneDoor {
     callers: Vec<Caller>,
     handed: usize,
     faults: u64,
+    asked: Option<Snapshot<Words>>,
 }
 
 impl Doors for OneDoor {
-    ghost use Rattle.std.specs.Prelude.{Some};
+    ghost use Rattle.std.specs.Prelude.{Some, option_map};
 
     type Opened = MemoryDoor;
 
@@ -46,7 +48,10 @@ impl Doors for OneDoor {
 
     ghost count = { λ d. d.faults };
 
-    fn door(&mut self, _address: &Words) -> Result<MemoryDoor, OpenFault> {
+    ghost asked = { λ d. option_map (λ s. s.value) d.asked };
+
+    fn door(&mut self, address: &Words) -> Result<MemoryDoor, OpenFault> {
+        self.asked = Some(Snapshot::of(address));
         let callers = mem::replace(&mut self.callers, Vec::new(self.alloc));
         Ok(MemoryDoor::new(self.alloc, callers, Listing::empty(self.alloc)))
     }
@@ -69,6 +74,7 @@ fn door(alloc: Global, messages: &[&[u8]]) -> Result<OneDoor, Fail> {
         callers,
         handed: 0,
         faults: 0,
+        asked: None,
     })
 }
 
@@ -84,7 +90,7 @@ fn outside(alloc: Global, failing: u64) -> Result<MemoryCommands<MemoryKeeper>, 
     Ok(MemoryCommands::new(alloc, stores))
 }
 
-fn publication(alloc: Global) -> Result<Publication, Fail>
+pub fn publication(alloc: Global) -> Result<Publication, Fail>
     ensures { IfOk result (λ publication. IsValid 1 publication) }
 {
     match read(alloc, PUBLICATION, 1) {

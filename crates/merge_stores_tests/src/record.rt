@@ -6,7 +6,7 @@ use merge_gens::{Mapping, RowSite, SiteState};
 use merge_ident::Range;
 use merge_lineage::Lineage;
 use merge_record::{Field, GrantKey, HeldRanges};
-use merge_types::{Dot, Listing, NoMemory, RowKey, SiteId, Value};
+use merge_types::{Dot, Listing, NoMemory, RowId, RowKey, SiteId, Value};
 use merge_units::{Body, Cell, PublisherRow, SubscriberRow, Version};
 use std::alloc::Global;
 use std::test::Fail;
@@ -40,11 +40,29 @@ fn first_row(alloc: Global) -> Result<PublisherRow, NoMemory>
     })
 }
 
+// Its key: article 0, and the row that the publisher's first change made.
+const FIRST_KEY: [u8; 17] = [0, 0, 0, 0, 0, 0, 0, 0x80, 0, 0x80, 0, 0, 0, 0, 0, 0, 1];
+
 #[test]
 fn the_first_row_is_written(rt: HostRuntime) -> Result<(), Fail> {
     let row = first_row(rt.alloc())?;
     let octets = row.write(rt.alloc())?;
     same(&rt, &octets.as_slice(), &FIRST_ROW.as_slice());
+    Ok(())
+}
+
+#[test]
+fn its_key_is_written(rt: HostRuntime) -> Result<(), Fail> {
+    let made = Dot {
+        site: SiteId(0),
+        number: 1,
+    };
+    let key = RowKey {
+        article: 0,
+        row: RowId::of(made),
+    };
+    let octets = key.write(rt.alloc())?;
+    same(&rt, &octets.as_slice(), &FIRST_KEY.as_slice());
     Ok(())
 }
 

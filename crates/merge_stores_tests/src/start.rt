@@ -6,6 +6,7 @@ use merge_ports::{Entries, EntryKey};
 use merge_schema::{Article, Identity, Publication, Subscription, SubscriptionKind};
 use merge_types::{Column, ColumnType, HostName, Listing, Octets, SiteId, Tracking, Words};
 use std::alloc::{AllocError, Global};
+use std::process::Abort;
 use std::test::Fail;
 
 // One column, an Int that is its identity column.
@@ -183,20 +184,26 @@ fn told<T: Drop>(start: &Result<T, StartFault>) -> Said {
     }
 }
 
+// What a start of a site says of a store. Site 0 is the publisher.
+fn site_said(alloc: Global, site: SiteId, store: &Entries) -> Result<Said, Fail> {
+    let publication = publication(alloc)?;
+    let held = held(alloc)?;
+    match site.0 {
+        0 => Ok(told(&start_publisher(alloc, &publication, held, store))),
+        _ => Ok(told(&start_subscriber(alloc, &publication, site, held, store))),
+    }
+}
+
 // What a start of the publisher says of its store with this change.
 fn publisher_said(alloc: Global, change: Change) -> Result<Said, Fail> {
-    let publication = publication(alloc)?;
     let store = store(alloc, PUBLISHER, change)?;
-    let held = held(alloc)?;
-    Ok(told(&start_publisher(alloc, &publication, held, &store)))
+    site_said(alloc, SiteId(0), &store)
 }
 
 // What a start of subscriber 1 says of its store with this change.
 fn subscriber_said(alloc: Global, change: Change) -> Result<Said, Fail> {
-    let publication = publication(alloc)?;
     let store = store(alloc, SUBSCRIBER, change)?;
-    let held = held(alloc)?;
-    Ok(told(&start_subscriber(alloc, &publication, SiteId(1), held, &store)))
+    site_said(alloc, SiteId(1), &store)
 }
 
 #[test]
@@ -328,6 +335,122 @@ fn each_rule_names_its_entry_at_a_subscriber(rt: HostRuntime) -> Result<(), Fail
             &subscriber_said(rt.alloc(), *change)?,
             expected,
             &shows,
+        );
+    }
+    Ok(())
+}
+
+fn parts_of(site: SiteId) -> &'static [Part] {
+    match site.0 {
+        0 => PUBLISHER,
+        _ => SUBSCRIBER,
+    }
+}
+
+// A site's store in which the part at this place has another value, or is left out where there is none.
+fn damaged(
+    alloc: Global,
+    site: SiteId,
+    place: usize,
+    value: Option<&'static [u8]>,
+) -> Result<Entries, Fail> {
+    let mut entries = Entries::empty(alloc);
+    for (at, part) in parts_of(site).iter().enumerate() {
+        if at != place {
+            put(alloc, &mut entries, NO_CHANGE, part)?;
+        } else if let Some(value) = value {
+            put(alloc, &mut entries, NO_CHANGE, &(part.0, part.1, value))?;
+        }
+    }
+    Ok(entries)
+}
+
+// What is named where the value of a part is cut: its key. Without a grant that can be read the
+// publisher has received a range more than it was granted, which the record in front of it says.
+fn cut_said(part: &Part) -> Said {
+    let (table, key, _) = *part;
+    if key.len() == GRANT_KEY.len() {
+        Said::Damaged(6, 1)
+    } else {
+        Said::Damaged(table, key.len())
+    }
+}
+
+// Cuts the value of a site's part at each length.
+fn cut(
+    rt: &impl Abort,
+    alloc: Global,
+    site: SiteId,
+    place: usize,
+    part: &Part,
+) -> Result<(), Fail> {
+    let value = part.2;
+    for length in 0..value.len() {
+        let store = damaged(alloc, site, place, Some(&value[..length]))?;
+        same_in(
+            rt,
+            &site_said(alloc, site, &store)?,
+            &cut_said(part),
+            &length,
+        );
+    }
+    Ok(())
+}
+
+#[test]
+fn a_record_that_is_cut_names_its_entry_at_the_publisher(rt: HostRuntime) -> Result<(), Fail> {
+    for (place, part) in PUBLISHER.iter().enumerate() {
+        cut(&rt, rt.alloc(), SiteId(0), place, part)?;
+    }
+    Ok(())
+}
+
+#[test]
+fn a_record_that_is_cut_names_its_entry_at_a_subscriber(rt: HostRuntime) -> Result<(), Fail> {
+    for (place, part) in SUBSCRIBER.iter().enumerate() {
+        cut(&rt, rt.alloc(), SiteId(1), place, part)?;
+    }
+    Ok(())
+}
+
+// What is said of the publisher's store without the part at each place.
+const PUBLISHER_WITHOUT: [Said; 8] = [
+    Said::Damaged(2, 17), // the state: the first entry is no state
+    Said::Loads,
+    Said::Loads,
+    Said::Loads,
+    Said::Damaged(1, 0), // the conflict: the numbers end below the counter
+    Said::Damaged(6, 11), // the ranges that are held: its own grant is held by no record
+    Said::Damaged(6, 1), // the grant: more ranges than were granted
+    Said::Loads,
+];
+
+// And of the subscriber's: the state, the closed generation, which was not received, and the ranges.
+const SUBSCRIBER_WITHOUT: [Said; 3] = [Said::Damaged(4, 8), Said::Damaged(1, 0), Said::Loads];
+
+#[test]
+fn a_record_that_is_not_there_is_missed_at_the_publisher(rt: HostRuntime) -> Result<(), Fail> {
+    for (place, expected) in PUBLISHER_WITHOUT.iter().enumerate() {
+        let store = damaged(rt.alloc(), SiteId(0), place, None)?;
+        same_in(
+            &rt,
+            &site_said(rt.alloc(), SiteId(0), &store)?,
+            expected,
+            &place,
+        );
+    }
+    Ok(())
+}
+
+#[test]
+fn a_record_that_is_not_there_is_missed_at_a_subscriber(rt: HostRuntime) -> Result<(), Fail> {
+    for (place, expected) in SUBSCRIBER_WITHOUT.iter().enumerate() {
+        let store = damaged(rt.alloc(), SiteId(1), place, None)?;
+        same_in(
+            &rt,
+            &site_said(rt.alloc(), SiteId(1), &store)?,
+            expected,
+            &place,
         );
     }
     Ok(())
