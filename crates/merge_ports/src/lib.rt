@@ -20,4 +20,4 @@ pub use outside::{Counts, OpenFault, Outside};
 pub use ports::{Failed, Sink, Source};
 pub use short::Short;
 pub use streams::{Reading, Writing};
-pub use whole::{INPUT_LIMIT, ReadFault, read_whole, write_whole};
+pub use whole::{ReadFault, read_whole, write_whole};

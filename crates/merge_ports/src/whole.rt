@@ -9,9 +9,6 @@ use merge_types::{NoMemory, Octets};
 use std::alloc::Global;
 use thiserror::Error;
 
-/// The most bytes that an input may have.
-pub const INPUT_LIMIT: usize = 67_108_864;
-
 /// Why an input was not read whole.
 #[derive(Clone, Copy, Debug, PartialEq, Eq, Error)]
 pub enum ReadFault {

@@ -1,5 +1,5 @@
 //! Which rows a table is to keep.
-ghost use Rattle.std.specs.Prelude.{◌≡◌, IfOk, filter};
+ghost use Rattle.std.specs.Prelude.{◌≡◌, [], IfOk, IsOk, filter};
 ghost use Rattle.merge_table.specs.Edits.{takes_of, rows_after_all, IsReady};
 
 use crate::{Edit, Table, TableKey};
@@ -25,6 +25,7 @@ impl<K: TableKey, V: Drop> Table<K, V> {
         test: &T,
     ) -> Result<Vec<Edit<K, V>>, AllocError>
         ensures takes { IfOk result (λ edits. edits.items ≡ takes_of (T.passes test.now) self.now.rows) }
+        ensures nothing { takes_of (T.passes test.now) self.now.rows ≡ [] → IsOk result }
         ensures ready { IfOk result (λ edits. IsReady K.cmp self.now.slots edits.items) }
         ensures left { IfOk result (λ edits. rows_after_all K.cmp self.now.rows edits.items ≡ filter (T.passes test.now) self.now.rows) }
     {

@@ -45,6 +45,10 @@ name_limit = 64
 abbrev pub filter_limit : ℕ
 filter_limit = 4000
 
+-- the most bytes of an input that is read whole
+abbrev pub input_limit : ℕ
+input_limit = 67108864
+
 -- 0001-01-01 and 9999-12-31, counted from 1970-01-01
 abbrev pub first_day : ℤ
 first_day = neg_ℤ (pos 719_162)

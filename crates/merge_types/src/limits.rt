@@ -36,6 +36,9 @@ pub const NAME_LIMIT: usize = 64;
 /// The most bytes of a filter's text.
 pub const FILTER_LIMIT: usize = 4000;
 
+/// The most bytes of a publication with its script, of a file or of an input.
+pub const INPUT_LIMIT: usize = 1 << 26;
+
 /// 0001-01-01, counted from 1970-01-01.
 pub const FIRST_DAY: i32 = -719_162;
 
