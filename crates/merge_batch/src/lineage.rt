@@ -1,16 +1,14 @@
 //! What is asked of the lineage of a row.
 ghost use Rattle.std.specs.Prelude.{◌≡◌};
-ghost use Rattle.std.specs.List.{list_any, list_all};
-ghost use Rattle.merge_lineage.specs.Lineage.{knows};
+ghost use Rattle.std.specs.List.{list_all};
 ghost use Rattle.merge_units.specs.declared.version.Body.TheVariants.{Live};
-ghost use Rattle.merge_units.specs.Version.{is_new};
 ghost use Rattle.merge_batch.specs.Lineages.{is_site, is_change_number, is_pair, is_well_formed, has_pair_of, is_top, has_top, has_tops, knows_tops};
 
 use merge_lineage::Lineage;
 use merge_schema::Publication;
 use merge_types::limits::NUMBER_LIMIT;
 use merge_types::{Dot, SiteId};
-use merge_units::{Body, Cell};
+use merge_units::{Body, Cell, any_new};
 
 /// Whether the site is the publisher, or subscribes.
 pub fn is_site(publication: &Publication, site: SiteId) -> bool
@@ -74,11 +72,4 @@ pub fn knows_tops(lineage: &Lineage, cells: &[Cell]) -> bool
     ensures { result ≡ knows_tops lineage.now (Live cells.now) }
 {
     !any_new(lineage, cells)
-}
-
-// Whether a top is not known.
-fn any_new(lineage: &Lineage, cells: &[Cell]) -> bool
-    ensures { result ≡ list_any (λ cell. is_new (knows lineage.now) cell.top) cells.now }
-{
-    cells.iter().any(|cell| !lineage.knows(cell.top))
 }

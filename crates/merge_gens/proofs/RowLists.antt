@@ -1,5 +1,5 @@
 -- The rows of index entries between two generations.
-use Rattle.std.proofs.Common.{◌≡◌, ℕ, ◌+◌, ◌<◌, ◌≤◌, Bool, true, false, cond, ◌&&◌, nat_lt, nat_eq, List, [], ◌∷◌, ◌++◌, map, zero, suc, ◌⊎◌, inl, inr, take, length, refl, sym, ap, subst, ◌∙◌, append_assoc, append-nil, arith}
+use Rattle.std.proofs.Common.{◌≡◌, ℕ, ◌+◌, ◌<◌, ◌≤◌, Bool, true, false, cond, ◌&&◌, nat_le, nat_lt, nat_eq, List, [], ◌∷◌, ◌++◌, map, zero, suc, ◌⊎◌, inl, inr, take, length, refl, sym, ap, subst, ◌∙◌, append_assoc, append-nil, arith}
 use Rattle.std.specs.Prelude.{IsTrue, ◌↔◌}
 use Rattle.std.specs.List.{filter, AllByRecursion, Contains, dedup}
 use Rattle.std.specs.List.Sorted.{IsStrictlySortedBy, IsSorted, IsPermutation}
@@ -20,7 +20,7 @@ use Rattle.merge_types.specs.RowKeys.{key_cmp, key_exact}
 use Rattle.merge_types.specs.declared.row_key.RowKey.{RowKey}
 use Rattle.merge_gens.specs.declared.index.IndexEntry.{IndexEntry}
 use Rattle.merge_gens.specs.Entries.{entry_cmp, entry_exact, entry_of, row_of, is_between}
-use Rattle.merge_gens.specs.Index.{AddsRowsBetween, HasBetween}
+use Rattle.merge_gens.specs.Index.{AddsRowsBetween, AreFrom, HasBetween}
 use Rattle.merge_gens.proofs.EntryLists.{Rows, key_total, entry_total, entries_of}
 
 abbrev same_row : RowKey → RowKey → Bool
@@ -220,3 +220,20 @@ added_rows entries from to old new adds key = (
       let between : is_between from to (entry_of has.0 key) ≡ true = grind (arith, nat_tests, has.1, has.2) in
       contains_row adds.between (entry_of has.0 key) ((adds.each (entry_of has.0 key)).1 (between, has.3)),
 )
+
+-- from the first entry of a generation on stands what has this one or a later one
+first_is : (first : ℕ) (e : IndexEntry) → is_from (first_of first) e ≡ nat_le first e.generation
+first_is first e = grind (arith, nat_tests)
+
+pub entries_from_are : (es left : Rows) (first : ℕ) → IsStrictlySortedBy entry_cmp (keys_of es) → left ≡ entries_between entry_cmp (Included (first_of first)) Unbounded es → AreFrom (entries_of es) first (keys_of left)
+entries_from_are es left first sorted is =
+    let held : (e : IndexEntry) → Contains (keys_of es) e → IsTrue (set.contains (entries_of es) e) = λ e h. set.contains-from_list entry_total (keys_of es) e ∙ list_any-from_Contains (eq_by_cmp_equiv entry_total) e (keys_of es) h in
+    let holds : (e : IndexEntry) → IsTrue (set.contains (entries_of es) e) → Contains (keys_of es) e = λ e h. Contains-from_any (tells_apart entry_exact) e (keys_of es) (sym (set.contains-from_list entry_total (keys_of es) e) ∙ h) in
+    let kept : keys_of left ≡ filter (is_from (first_of first)) (keys_of es) = ap (λ (l : Rows). keys_of l) is ∙ keys_filter (is_from (first_of first)) es in
+    rw kept record {
+      ascending = IsStrictlySortedBy-filter entry_cmp (is_from (first_of first)) (keys_of es) sorted;
+      each = λ e. (
+        λ h. let r = contains_filter (is_from (first_of first)) (keys_of es) e h in (sym (first_is first e) ∙ r.0, held e r.1),
+        λ h. filter_contains (is_from (first_of first)) (keys_of es) e (first_is first e ∙ h.0) (holds e h.1),
+      );
+    }

@@ -1,5 +1,5 @@
 -- Rows by generation.
-use Rattle.std.specs.Prelude.{◌≡◌, ℕ, ◌*◌, ◌<◌, ◌≤◌, ◌↔◌, IsTrue, List, [], ◌∷◌, ◌++◌, Contains, length, map, refl}
+use Rattle.std.specs.Prelude.{◌≡◌, ℕ, ◌*◌, ◌<◌, ◌≤◌, ◌↔◌, IsTrue, List, [], ◌∷◌, ◌++◌, Contains, length, map, nat_le, refl}
 use Rattle.std.specs.Coded.{Coded, code_by, coded×, coded_list}
 use Rattle.std.specs.List.Sorted.{IsStrictlySortedBy}
 use Rattle.std.specs.FinSet as set
@@ -32,6 +32,11 @@ pub record AddsRowsBetween (entries : set.FinSet entry_cmp) (from to : ℕ) (old
   pub ascending : IsStrictlySortedBy entry_cmp between
   pub each : (entry : IndexEntry) → Contains between entry ↔ (IsTrue (is_between from to entry) × IsTrue (set.contains entries entry))
   pub added : new ≡ old ++ map row_of between
+
+-- the entries of a generation and of those behind it, in order
+pub record AreFrom (entries : set.FinSet entry_cmp) (first : ℕ) (from : List IndexEntry) : Type 0 where
+  pub ascending : IsStrictlySortedBy entry_cmp from
+  pub each : (entry : IndexEntry) → Contains from entry ↔ (IsTrue (nat_le first entry.generation) × IsTrue (set.contains entries entry))
 
 -- the entries after one change, and after all of them in order
 abbrev pub entries_after : set.FinSet entry_cmp → Edit IndexEntry (Unit {0}) → set.FinSet entry_cmp

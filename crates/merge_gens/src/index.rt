@@ -1,5 +1,5 @@
 //! Rows by generation.
-ghost use Rattle.std.specs.Prelude.{◌≡◌, ◌+◌, ◌≤◌, ◌↔◌, ◌++◌, List, IfOk, IsOk, IsTrue, OnOk, OnErr, Contains, length, map, filter};
+ghost use Rattle.std.specs.Prelude.{◌≡◌, ◌+◌, ◌<◌, ◌≤◌, ◌^◌, ◌↔◌, ◌++◌, List, IfOk, IsOk, IsTrue, OnOk, OnErr, Contains, length, map, filter};
 ghost use Rattle.std.specs.FinSet as set;
 ghost use Rattle.std.specs.BTreeSet.{insert_key};
 ghost use Rattle.std.specs.List.Sorted.{IsStrictlySortedBy};
@@ -10,9 +10,9 @@ ghost use Rattle.merge_table.specs.Contents.{has_room};
 ghost use Rattle.merge_table.specs.Edits.{rows_after_all, slots_for_all, IsReady};
 ghost use Rattle.merge_gens.specs.declared.index.IndexEntry.{IndexEntry as OneEntry};
 ghost use Rattle.merge_gens.specs.Entries.{entry_cmp, entry_of, row_of, is_between};
-ghost use Rattle.merge_gens.specs.Index.{AddsRowsBetween, IsCompact, entries_after_all};
+ghost use Rattle.merge_gens.specs.Index.{AddsRowsBetween, AreFrom, IsCompact, entries_after_all};
 
-use merge_table::{Edit, Table, TableKey};
+use merge_table::{Edit, Rows, Table, TableKey};
 use merge_types::{Exact, Listing, NoMemory, RowId, RowKey};
 use std::alloc::Global;
 use std::marker::Model;
@@ -141,6 +141,22 @@ impl GenerationIndex {
                 Err(refused)
             }
         }
+    }
+
+    /// The entries of a generation and of those behind it, in order. No memory is taken. The time
+    /// grows with these entries, and with the logarithm of all.
+    pub fn entries_from(&self, first: u64) -> Rows<'_, IndexEntry, ()>
+        ensures entries { AreFrom self.now.entries first (keys_of result) }
+        ensures fits { length result < 2 ^ 63 }
+    {
+        let first = IndexEntry {
+            generation: first,
+            key: RowKey {
+                article: 0,
+                row: RowId(0),
+            },
+        };
+        self.entries.range(first..)
     }
 }
 

@@ -19,4 +19,4 @@ pub use length::stored_length;
 pub use local_change::{change, insert, remove};
 pub use result::{Decision, apply};
 pub use site_row::{PublisherRow, SubscriberRow};
-pub use version::{Body, Cell, Cells, RowList, RowVersion, Version};
+pub use version::{Body, Cell, Cells, Version, any_new};

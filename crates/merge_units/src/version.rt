@@ -5,7 +5,7 @@ ghost use Rattle.merge_lineage.specs.Lineage.{knows};
 ghost use Rattle.merge_units.specs.Version.{is_new, has_news_over, is_live};
 
 use merge_lineage::Lineage;
-use merge_types::{Dot, Exact, Listing, RowId, Values};
+use merge_types::{Dot, Exact, Listing, Values};
 use std::alloc::AllocError;
 
 /// Values that stand or fall together, and the change that last set them.
@@ -32,17 +32,6 @@ pub struct Version {
     pub lineage: Lineage,
     pub body: Body,
 }
-
-/// A row of an article, which is named by its place.
-#[derive(Debug, Drop)]
-pub struct RowVersion {
-    pub article: u8,
-    pub row: RowId,
-    pub version: Version,
-}
-
-/// Rows of articles, in a list.
-pub type RowList = Listing<RowVersion>;
 
 impl Clone for Cell {
     ghost is_clone = { λ old new. new ≡ old };
@@ -89,22 +78,6 @@ impl Exact for Version {
     ghost exact = { λ value copy same. same };
 }
 
-impl Clone for RowVersion {
-    ghost is_clone = { λ old new. new ≡ old };
-
-    fn clone(&self) -> Result<RowVersion, AllocError> {
-        Ok(RowVersion {
-            article: self.article,
-            row: self.row,
-            version: self.version.clone()?,
-        })
-    }
-}
-
-impl Exact for RowVersion {
-    ghost exact = { λ value copy same. same };
-}
-
 impl Version {
     /// Whether the row lives.
     pub fn is_live(&self) -> bool
@@ -124,8 +97,8 @@ impl Version {
     }
 }
 
-// Whether a cell's top is not known.
-fn any_new(lineage: &Lineage, cells: &[Cell]) -> bool
+/// Whether the top of some cell is not known.
+pub fn any_new(lineage: &Lineage, cells: &[Cell]) -> bool
     ensures { result ≡ list_any (λ cell. is_new (knows lineage.now) cell.top) cells.now }
 {
     cells.iter().any(|cell| !lineage.knows(cell.top))
