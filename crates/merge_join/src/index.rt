@@ -1,5 +1,5 @@
 //! The index.
-ghost use Rattle.std.specs.Prelude.{◌≡◌, ◌<◌, ◌≤◌, ◌^◌, ◌*◌, [], length, IfOk, IsOk, IsTrue, OnOk, OnErr};
+ghost use Rattle.std.specs.Prelude.{◌≡◌, ◌↔◌, ◌<◌, ◌≤◌, ◌^◌, ◌*◌, [], length, IfOk, IsOk, IsTrue, OnOk, OnErr};
 ghost use Rattle.std.specs.List.Sorted.{IsStrictlySortedBy};
 ghost use Rattle.std.specs.Map.{keys_of};
 ghost use Rattle.std.specs.BTreeMap.{is_at};
@@ -62,6 +62,13 @@ impl JoinIndex {
         self.entries.len()
     }
 
+    /// Whether there is no entry.
+    pub fn is_empty(&self) -> bool
+        ensures { IsTrue result ↔ (self.now.set ≡ []) }
+    {
+        self.len() == 0
+    }
+
     /// All entries, in order.
     pub fn iter(&self) -> Rows<'_, JoinEntry, ()>
         ensures { keys_of result ≡ self.now.set }
@@ -117,6 +124,14 @@ impl JoinIndex {
     {
         self.entries.prepare(changes)?;
         Ok(())
+    }
+
+    /// Lets go of the room that has no entry, where it is the most.
+    pub fn sweep_if_due(&mut self)
+        ensures set { self.new.set ≡ self.old.set }
+        ensures spare { length self.new.room ≤ 2 * length self.new.set }
+    {
+        self.entries.sweep_if_due();
     }
 
     /// Makes the changes in their order. No memory is taken, and spare memory goes back once it is

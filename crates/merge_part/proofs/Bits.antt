@@ -1,5 +1,5 @@
 -- One bit of a word of subscribers.
-use Rattle.std.proofs.Common.{◌≡◌, ◌≢◌, ℕ, ◌*◌, ◌%◌, ◌^◌, ◌<◌, ◌||◌, Bool, true, false, max, refl, ap, ◌∙◌, arith, w64}
+use Rattle.std.proofs.Common.{◌≡◌, ◌≢◌, ℕ, ◌*◌, ◌%◌, ◌^◌, ◌<◌, ◌||◌, Bool, true, false, max, refl, sym, ap, ◌∙◌, arith, w64}
 use Rattle.std.specs.Prelude.{◌==◌, bit_or}
 use Rattle.std.specs.Int.{bit_at}
 use Rattle.std.proofs.lemmas.Bool.Decides.{nat_tests}
@@ -31,3 +31,15 @@ has_site-set n place other fits = set_cases n place other fits (other == place) 
 pub no_site : (place : ℕ) → has_site (record { 0 = 0 }) place ≡ false
 unfolding has_site
 no_site place = ap (λ (n : ℕ). n == 1) (bit_at-zero place)
+
+equal_by : (m n : ℕ) → (m == n) ≡ true → m ≡ n
+equal_by m n h = grind (arith, nat_tests)
+
+or_true : (a b : Bool) → b ≡ true → (a || b) ≡ true
+or_true true b h = refl
+or_true false b h = h
+
+-- a set that a union adds nothing to has all of the other
+pub has_site-covers : (a b : ℕ) → (bit_or a b == a) ≡ true → (place : ℕ) → has_site (record { 0 = b }) place ≡ true → has_site (record { 0 = a }) place ≡ true
+has_site-covers a b same place has =
+    ap (λ (n : ℕ). has_site (record { 0 = n }) place) (sym (equal_by (bit_or a b) a same)) ∙ has_site-or a b place ∙ or_true (has_site (record { 0 = a }) place) (has_site (record { 0 = b }) place) has

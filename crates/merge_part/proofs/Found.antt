@@ -1,7 +1,9 @@
 -- What is found by a value, in an index and among what comes to it.
-use Rattle.std.proofs.Common.{◌≡◌, ◌⊎◌, inl, inr, ℕ, Bool, true, false, ◌||◌, ◌&&◌, ◌==◌, List, [], ◌∷◌, ◌++◌, refl, sym, ap, ◌∙◌, subst, arith}
+use Rattle.std.proofs.Common.{◌≡◌, ◌⊎◌, inl, inr, ℕ, Bool, true, false, cond, ◌||◌, ◌&&◌, ◌==◌, List, [], ◌∷◌, ◌++◌, Some, refl, sym, ap, ◌∙◌, subst, arith}
 use Rattle.std.specs.List.{list_any}
-use Rattle.std.specs.BTreeMap.{is_at}
+use Rattle.std.specs.BTreeMap.{is_at, insert_entry}
+use Rattle.std.specs.Map.{lookup, keys_of}
+use Rattle.std.specs.Prelude.{is_some}
 use Rattle.std.specs.Ordering.{nat_cmp, ordering_then, is_eq}
 use Rattle.std.proofs.lemmas.Bool.Decides.{nat_tests}
 use Rattle.std.proofs.lemmas.List.Folds.{list_any-append}
@@ -10,6 +12,9 @@ use Rattle.merge_types.specs.declared.values.Value.{Value}
 use Rattle.merge_types.specs.declared.values.Value.TheVariants.{Null}
 use Rattle.merge_types.specs.declared.row_key.RowKey.{RowKey}
 use Rattle.merge_types.specs.RowKeys.{key_cmp}
+use Rattle.merge_table.proofs.Room.{has_room-insert_key}
+use Rattle.merge_table.proofs.Slots.{keys-insert_entry}
+use Rattle.merge_part.proofs.Drafts.{key_total}
 use Rattle.merge_join.specs.declared.entry.JoinEntry.{JoinEntry}
 use Rattle.merge_join.specs.Entries.{entry_cmp}
 use Rattle.merge_join.specs.Index.{has, of_value}
@@ -44,9 +49,10 @@ pub children_wait : (held come : Entries) (number : ℕ) (link : Link) (value : 
 children_wait held come number link value one two kept first second = λ row entry some.
     elim (among_either held come number value row entry some) [ inl there ↦ kept (child_of link row) (first row there) | inr there ↦ second row there ]
 
-or_move : (w b r : Bool) → (w || (b || r)) ≡ true → ((w || b) || r) ≡ true
-or_move true b r h = refl
-or_move false b r h = h
+or_move : (w b r : Bool) → (w || (b || r)) ≡ true → ((b || w) || r) ≡ true
+or_move w true r h = refl
+or_move true false r h = refl
+or_move false false r h = h
 
 at_row : (article row child : ℕ) → is_eq (ordering_then (nat_cmp article article) (nat_cmp row child)) ≡ (child == row)
 at_row article row child = grind (arith, nat_tests)
@@ -55,16 +61,19 @@ pub or_end : (b : Bool) → (b || false) ≡ b
 or_end true = refl
 or_end false = refl
 
+-- what waits with one row more
+pub waits-insert : (waiting : List (RowKey × Unit {0})) (more key : RowKey) → waits (keys_of (insert_entry key_cmp waiting more tt)) key ≡ (is_at (key_cmp key) more || waits (keys_of waiting) key)
+waits-insert waiting more key = ap (λ (keys : List RowKey). waits keys key) (keys-insert_entry key_cmp more tt waiting) ∙ has_room-insert_key key_cmp key_total more key (keys_of waiting)
+
 -- with one entry more the row waits, or stands among those that are left
-pub wait_step : (article : ℕ) (row : RowId) (waiting : List RowKey) (entry : JoinEntry) (left : List JoinEntry)
-    → (waits waiting (record { article = article; row = row }) || list_any (is_row row) (entry ∷ left)) ≡ true
-    → (waits (waiting ++ record { article = article; row = entry.child } ∷ []) (record { article = article; row = row }) || list_any (is_row row) left) ≡ true
+pub wait_step : (article : ℕ) (row : RowId) (waiting : List (RowKey × Unit {0})) (entry : JoinEntry) (left : List JoinEntry)
+    → (waits (keys_of waiting) (record { article = article; row = row }) || list_any (is_row row) (entry ∷ left)) ≡ true
+    → (waits (keys_of (insert_entry key_cmp waiting (record { article = article; row = entry.child }) tt)) (record { article = article; row = row }) || list_any (is_row row) left) ≡ true
 wait_step article row waiting entry left h =
     let key : RowKey = record { article = article; row = row } in
     let more : RowKey = record { article = article; row = entry.child } in
-    ap (λ (b : Bool). b || list_any (is_row row) left)
-    (list_any-append (is_at (key_cmp key)) waiting (more ∷ []) ∙ ap (λ (b : Bool). waits waiting key || b) (or_end (is_at (key_cmp key) more) ∙ at_row article row.0 entry.child.0))
-    ∙ or_move (waits waiting key) (is_row row entry) (list_any (is_row row) left) h
+    ap (λ (b : Bool). b || list_any (is_row row) left) (waits-insert waiting more key ∙ ap (λ (b : Bool). b || waits (keys_of waiting) key) (at_row article row.0 entry.child.0))
+    ∙ or_move (waits (keys_of waiting) key) (is_row row entry) (list_any (is_row row) left) h
 
 or_left : (a b : Bool) → a ≡ true → (a || b) ≡ true
 or_left true b h = refl
@@ -83,11 +92,20 @@ any_step test row holds entry entries ih true is g =
 any_step test row holds entry entries ih false is g = or_right (test entry.child) (list_any (λ (e : JoinEntry). test e.child) entries) (ih g)
 
 -- what waits goes on waiting
-pub waits_on : (waiting : List RowKey) (more key : RowKey) → waits waiting key ≡ true → waits (waiting ++ more ∷ []) key ≡ true
-waits_on waiting more key h = list_any-append (is_at (key_cmp key)) waiting (more ∷ []) ∙ or_left (waits waiting key) (waits (more ∷ []) key) h
+pub waits_on : (waiting : List (RowKey × Unit {0})) (more key : RowKey) → waits (keys_of waiting) key ≡ true → waits (keys_of (insert_entry key_cmp waiting more tt)) key ≡ true
+waits_on waiting more key h = waits-insert waiting more key ∙ or_right (is_at (key_cmp key) more) (waits (keys_of waiting) key) h
 
-pub waits_last : (waiting : List RowKey) (key : RowKey) → waits (waiting ++ key ∷ []) key ≡ true
-waits_last waiting key = list_any-append (is_at (key_cmp key)) waiting (key ∷ []) ∙ or_right (waits waiting key) (waits (key ∷ []) key) (or_left (is_at (key_cmp key) key) false (is_at-itself key))
+pub waits_last : (waiting : List (RowKey × Unit {0})) (key : RowKey) → waits (keys_of (insert_entry key_cmp waiting key tt)) key ≡ true
+waits_last waiting key = waits-insert waiting key key ∙ or_left (is_at (key_cmp key) key) (waits (keys_of waiting) key) (is_at-itself key)
+
+-- a row that is not found does not wait
+pub not_waiting : (waiting : List (RowKey × Unit {0})) (key : RowKey) → is_some (lookup (is_at (key_cmp key)) waiting) ≡ false → waits (keys_of waiting) key ≡ false
+not_waiting [] key none = refl
+not_waiting ((k, u) ∷ waiting) key none = by (is_at (key_cmp key) k) (not_waiting waiting key) none
+  where
+    by : (b : Bool) → (is_some (lookup (is_at (key_cmp key)) waiting) ≡ false → waits (keys_of waiting) key ≡ false) → is_some (cond b (Some u) (lookup (is_at (key_cmp key)) waiting)) ≡ false → (b || waits (keys_of waiting) key) ≡ false
+    by true ih none = absurd cc
+    by false ih none = ih none
 
 -- what a test says of a row it says of an entry of it
 pub any_of_row : (test : RowId → Bool) (row : RowId) → test row ≡ true → (entries : Entries) → list_any (is_row row) entries ≡ true → list_any (λ (entry : JoinEntry). test entry.child) entries ≡ true

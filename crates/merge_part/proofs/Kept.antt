@@ -13,7 +13,8 @@ use Rattle.merge_part.specs.declared.link.Link.{Link}
 use Rattle.merge_types.specs.RowKeys.{key_cmp, key_exact}
 use Rattle.merge_part.specs.Sites.{has_site}
 use Rattle.merge_part.specs.Settling.{AllMeet, AreMarksOf, NoneFollowsItself}
-use Rattle.merge_part.specs.Rule.{value_at, parent_value, gives, IsAt, Parent, Meets}
+use Rattle.merge_part.specs.Covering.{AnotherGives}
+use Rattle.merge_part.specs.Rule.{value_at, parent_value, gives, parent_of, IsAt, Parent, Meets}
 
 is_equal : (r : Ordering) → is_eq r ≡ true → r ≡ Equal
 is_equal Less h = absurd cc
@@ -23,18 +24,32 @@ is_equal Greater h = absurd cc
 pub same_key : (a b : RowKey) → is_at (key_cmp a) b ≡ true → a ≡ b
 same_key a b h = key_exact a b (is_equal _ h)
 
--- at each link from the one row to the other, the other gives what it gave
+-- what another row gives it goes on giving
+another_gives : (rows rows' : RowKey → Option Content) (marks marks' : RowKey → Sites) (key : RowKey)
+    → ((p : RowKey) → is_at (key_cmp key) p ≡ false → rows' p ≡ rows p) → ((p : RowKey) → is_at (key_cmp key) p ≡ false → marks' p ≡ marks p)
+    → (link : Link) (value : Value) (place : ℕ) → AnotherGives rows marks key link value place → AnotherGives rows' marks' key link value place
+another_gives rows rows' marks marks' key other_rows other_marks link value place other = (
+  other.0,
+  other.1,
+  ap (λ held. gives value link held (marks' (parent_of link other.0)) place) (other_rows (parent_of link other.0) other.1) ∙ ap (λ sites. gives value link (rows (parent_of link other.0)) sites place) (other_marks (parent_of link other.0) other.1) ∙ other.2,
+)
+
+-- at each link from the one row to the other, the other gives what it gave, or another row does
 abbrev pub GivesAlike : List Link → RowKey → RowKey → (rows rows' : RowKey → Option Content) → (marks marks' : RowKey → Sites) → Type 0
 GivesAlike links key k rows rows' marks marks' =
     (number : ℕ) (link : Link) (content : Content) (place : ℕ) → IsAt links number link → link.child ≡ k.article → link.parent ≡ key.article → rows k ≡ Some content
-    → gives (value_at content.values link.column) link (rows key) (marks key) place ≡ gives (value_at content.values link.column) link (rows' key) (marks' key) place
+    → (gives (value_at content.values link.column) link (rows key) (marks key) place ≡ gives (value_at content.values link.column) link (rows' key) (marks' key) place)
+    ⊎ AnotherGives rows marks key link (value_at content.values link.column) place
 
--- a parent goes on giving what it gave
+-- a parent goes on giving what it gave, or another does
 parent_kept_by : (links : List Link) (key k : RowKey) (rows rows' : RowKey → Option Content) (marks marks' : RowKey → Sites)
     → ((p : RowKey) → is_at (key_cmp key) p ≡ false → rows' p ≡ rows p) → ((p : RowKey) → is_at (key_cmp key) p ≡ false → marks' p ≡ marks p)
     → (content : Content) (place : ℕ) (p : Parent links rows marks k content place)
-    → (p.link.parent ≡ key.article → gives (value_at content.values p.link.column) p.link (rows key) (marks key) place ≡ gives (value_at content.values p.link.column) p.link (rows' key) (marks' key) place)
+    → (p.link.parent ≡ key.article
+    → (gives (value_at content.values p.link.column) p.link (rows key) (marks key) place ≡ gives (value_at content.values p.link.column) p.link (rows' key) (marks' key) place)
+    ⊎ AnotherGives rows marks key p.link (value_at content.values p.link.column) place)
     → (b : Bool) → is_at (key_cmp key) p.parent ≡ b → Parent links rows' marks' k content place
+unfolding another_gives
 parent_kept_by links key k rows rows' marks marks' other_rows other_marks content place p alike false apart = record {
   number = p.number;
   link = p.link;
@@ -47,15 +62,26 @@ parent_kept_by links key k rows rows' marks marks' other_rows other_marks conten
 parent_kept_by links key k rows rows' marks marks' other_rows other_marks content place p alike true is =
     let same : key ≡ p.parent = same_key key p.parent is in
     let given : gives (value_at content.values p.link.column) p.link (rows key) (marks key) place ≡ true = subst (λ (q : RowKey). gives (value_at content.values p.link.column) p.link (rows q) (marks q) place ≡ true) (sym same) p.given in
-    record {
-      number = p.number;
-      link = p.link;
-      parent = key;
-      among = p.among;
-      below = p.below;
-      above = ap (λ (q : RowKey). q.article) same ∙ p.above;
-      given = sym (alike (sym p.above ∙ ap (λ (q : RowKey). q.article) (sym same))) ∙ given;
-    }
+    elim (alike (sym p.above ∙ ap (λ (q : RowKey). q.article) (sym same))) [
+      | inl still ↦ record {
+        number = p.number;
+        link = p.link;
+        parent = key;
+        among = p.among;
+        below = p.below;
+        above = ap (λ (q : RowKey). q.article) same ∙ p.above;
+        given = sym still ∙ given;
+      }
+      | inr other ↦ record {
+        number = p.number;
+        link = p.link;
+        parent = parent_of p.link other.0;
+        among = p.among;
+        below = p.below;
+        above = refl;
+        given = (another_gives rows rows' marks marks' key other_rows other_marks p.link (value_at content.values p.link.column) place other).2;
+      }
+    ]
 
 parent_kept : (links : List Link) (key k : RowKey) (rows rows' : RowKey → Option Content) (marks marks' : RowKey → Sites)
     → ((p : RowKey) → is_at (key_cmp key) p ≡ false → rows' p ≡ rows p) → ((p : RowKey) → is_at (key_cmp key) p ≡ false → marks' p ≡ marks p)
@@ -67,8 +93,13 @@ parent_kept links key k rows rows' marks marks' other_rows other_marks alike con
     (is_at (key_cmp key) p.parent) refl
 
 alike_back : (links : List Link) (key k : RowKey) (rows rows' : RowKey → Option Content) (marks marks' : RowKey → Sites)
+    → ((p : RowKey) → is_at (key_cmp key) p ≡ false → rows' p ≡ rows p) → ((p : RowKey) → is_at (key_cmp key) p ≡ false → marks' p ≡ marks p)
     → rows' k ≡ rows k → GivesAlike links key k rows rows' marks marks' → GivesAlike links key k rows' rows marks' marks
-alike_back links key k rows rows' marks marks' same alike number link content place among below above live = sym (alike number link content place among below above (sym same ∙ live))
+alike_back links key k rows rows' marks marks' other_rows other_marks same alike number link content place among below above live =
+    elim (alike number link content place among below above (sym same ∙ live)) [
+      | inl still ↦ inl (sym still)
+      | inr other ↦ inr (another_gives rows rows' marks marks' key other_rows other_marks link (value_at content.values link.column) place other)
+    ]
 
 reason_kept : (links : List Link) (rows rows' : RowKey → Option Content) (marks marks' : RowKey → Sites) (k : RowKey) (content : Content) (place : ℕ)
     → (Parent links rows marks k content place → Parent links rows' marks' k content place)
@@ -76,7 +107,7 @@ reason_kept : (links : List Link) (rows rows' : RowKey → Option Content) (mark
 reason_kept links rows rows' marks marks' k content place kept (inl h) = inl h
 reason_kept links rows rows' marks marks' k content place kept (inr h) = inr (kept h)
 
--- a row meets the rule as before where one other row changes that gives it the same
+-- a row meets the rule as before where one other row changes, and that or another gives it the same
 pub kept : (links : List Link) (key k : RowKey) (rows rows' : RowKey → Option Content) (marks marks' : RowKey → Sites)
     → rows' k ≡ rows k → marks' k ≡ marks k
     → ((p : RowKey) → is_at (key_cmp key) p ≡ false → rows' p ≡ rows p) → ((p : RowKey) → is_at (key_cmp key) p ≡ false → marks' p ≡ marks p)
@@ -88,7 +119,7 @@ kept links key k rows rows' marks marks' same_row same_marks other_rows other_ma
   reached = λ place content live why.
       let lived : rows k ≡ Some content = sym same_row ∙ live in
       let back = reason_kept links rows' rows marks' marks k content place
-      (parent_kept links key k rows' rows marks' marks (λ p apart. sym (other_rows p apart)) (λ p apart. sym (other_marks p apart)) (alike_back links key k rows rows' marks marks' same_row alike) content place live)
+      (parent_kept links key k rows' rows marks' marks (λ p apart. sym (other_rows p apart)) (λ p apart. sym (other_marks p apart)) (alike_back links key k rows rows' marks marks' other_rows other_marks same_row alike) content place live)
       why in
       ap (λ sites. has_site sites place) same_marks ∙ meets.reached place content lived back;
 }
@@ -96,18 +127,24 @@ kept links key k rows rows' marks marks' same_row same_marks other_rows other_ma
 and_false : (b : Bool) → b ≡ false → (c d : Bool) → (b && c) ≡ (b && d)
 and_false b is c d = rw is refl
 
--- the children that a row's new marks reach wait
+-- the children that a row's new marks reach wait, or others give them what differs
 abbrev pub MarksReach : List Link → RowKey → (RowKey → Option Content) → (marks marks' : RowKey → Sites) → (waits' : RowKey → Bool) → Type 0
 MarksReach links key rows marks marks' waits' =
     (k : RowKey) (number : ℕ) (link : Link) (content : Content) → IsAt links number link → link.child ≡ k.article → link.parent ≡ key.article → rows k ≡ Some content
-    → are_joined (value_at content.values link.column) (parent_value link (rows key)) ≡ true → (marks' key ≡ marks key) ⊎ (waits' k ≡ true)
+    → are_joined (value_at content.values link.column) (parent_value link (rows key)) ≡ true
+    → (place : ℕ) → (has_site (marks' key) place ≡ has_site (marks key) place) ⊎ ((waits' k ≡ true) ⊎ AnotherGives rows marks key link (value_at content.values link.column) place)
 
-marks_alike : (value : Value) (link : Link) (held : Option Content) (sites sites' : Sites) (place : ℕ) (waits : Bool) → waits ≡ false
-    → (b : Bool) → are_joined value (parent_value link held) ≡ b → (b ≡ true → (sites' ≡ sites) ⊎ (waits ≡ true))
-    → gives value link held sites place ≡ gives value link held sites' place
-marks_alike value link held sites sites' place waits done false is reach = and_false (are_joined value (parent_value link held)) is (has_site sites place) (has_site sites' place)
-marks_alike value link held sites sites' place waits done true is reach =
-    elim (reach refl) [ inl same ↦ ap (λ s. gives value link held s place) (sym same) | inr does ↦ let bad : true ≡ false = sym does ∙ done in absurd cc ]
+-- what does not wait is given by another
+waits_or : (waits : Bool) (Given : Type 0) → waits ≡ false → (waits ≡ true) ⊎ Given → Given
+waits_or waits Given done (inl does) = let bad : true ≡ false = sym does ∙ done in absurd cc
+waits_or waits Given done (inr given) = given
+
+marks_alike : (value : Value) (link : Link) (held : Option Content) (sites sites' : Sites) (place : ℕ) (waits : Bool) (Given : Type 0) → waits ≡ false
+    → (b : Bool) → are_joined value (parent_value link held) ≡ b → (b ≡ true → (has_site sites' place ≡ has_site sites place) ⊎ ((waits ≡ true) ⊎ Given))
+    → (gives value link held sites place ≡ gives value link held sites' place) ⊎ Given
+marks_alike value link held sites sites' place waits Given done false is reach = inl (and_false (are_joined value (parent_value link held)) is (has_site sites place) (has_site sites' place))
+marks_alike value link held sites sites' place waits Given done true is reach =
+    elim (reach refl) [ inl same ↦ inl (ap (λ b. are_joined value (parent_value link held) && b) (sym same)) | inr either ↦ inr (waits_or waits Given done either) ]
 
 marks_moved_at : (links : List Link) (key k : RowKey) (rows : RowKey → Option Content) (marks marks' : RowKey → Sites) (waits waits' : RowKey → Bool)
     → ((p : RowKey) → is_at (key_cmp key) p ≡ false → marks' p ≡ marks p) → Meets links rows marks' key
@@ -118,7 +155,8 @@ marks_moved_at links key k rows marks marks' waits waits' others itself fewer re
 marks_moved_at links key k rows marks marks' waits waits' others itself fewer reach all done false apart =
     kept links key k rows rows marks marks' refl (others k apart) (λ p h. refl) others
     (λ number link content place among below above live.
-    marks_alike (value_at content.values link.column) link (rows key) (marks key) (marks' key) place (waits' k) done (are_joined (value_at content.values link.column) (parent_value link (rows key))) refl (reach k number link content among below above live))
+    marks_alike (value_at content.values link.column) link (rows key) (marks key) (marks' key) place (waits' k) (AnotherGives rows marks key link (value_at content.values link.column) place) done
+    (are_joined (value_at content.values link.column) (parent_value link (rows key))) refl (λ joined. reach k number link content among below above live joined place))
     (all k (fewer k apart done))
 
 -- a row's marks become what the rule says, and the children that these reach wait
@@ -129,34 +167,45 @@ pub marks_moved : (links : List Link) (key : RowKey) (rows : RowKey → Option C
 marks_moved links key rows marks marks' waits waits' others itself fewer reach all k done =
     marks_moved_at links key k rows marks marks' waits waits' others itself fewer reach all done (is_at (key_cmp key) k) refl
 
--- at each link a row's parent value stays, or the children of the one before and of the one after wait
-abbrev pub RowReaches : List Link → RowKey → (rows rows' : RowKey → Option Content) → (waits' : RowKey → Bool) → Type 0
-RowReaches links key rows rows' waits' =
+-- a child that joins a row with this content waits, or others give it what the row may
+abbrev pub IsHandled : RowKey → (rows : RowKey → Option Content) → (marks : RowKey → Sites) → Link → Value → Option Content → (waits : Bool) → Type 0
+IsHandled key rows marks link value held waits =
+    are_joined value (parent_value link held) ≡ true → (place : ℕ) → has_site (marks key) place ≡ true → (waits ≡ true) ⊎ AnotherGives rows marks key link value place
+
+-- at each link a row's parent value stays, or the children of the one before and of the one after are handled so
+abbrev pub RowReaches : List Link → RowKey → (rows rows' : RowKey → Option Content) → (marks : RowKey → Sites) → (waits' : RowKey → Bool) → Type 0
+RowReaches links key rows rows' marks waits' =
     (k : RowKey) (number : ℕ) (link : Link) (content : Content) → IsAt links number link → link.child ≡ k.article → link.parent ≡ key.article → rows k ≡ Some content
     → (parent_value link (rows key) ≡ parent_value link (rows' key))
-    ⊎ ((are_joined (value_at content.values link.column) (parent_value link (rows key)) ≡ true → waits' k ≡ true) × (are_joined (value_at content.values link.column) (parent_value link (rows' key)) ≡ true → waits' k ≡ true))
+    ⊎ (IsHandled key rows marks link (value_at content.values link.column) (rows key) (waits' k) × IsHandled key rows marks link (value_at content.values link.column) (rows' key) (waits' k))
 
-not_joined : (joined waits : Bool) → waits ≡ false → (joined ≡ true → waits ≡ true) → joined ≡ false
-not_joined false waits done does = refl
-not_joined true waits done does = let bad : true ≡ false = sym (does refl) ∙ done in absurd cc
+joins_alike : (site one two waits : Bool) (Given : Type 0) → waits ≡ false → (one ≡ true → site ≡ true → (waits ≡ true) ⊎ Given) → (two ≡ true → site ≡ true → (waits ≡ true) ⊎ Given)
+    → ((one && site) ≡ (two && site)) ⊎ Given
+joins_alike site false false waits Given done before after = inl refl
+joins_alike false false true waits Given done before after = inl refl
+joins_alike false true false waits Given done before after = inl refl
+joins_alike site true true waits Given done before after = inl refl
+joins_alike true true false waits Given done before after = inr (waits_or waits Given done (before refl refl))
+joins_alike true false true waits Given done before after = inr (waits_or waits Given done (after refl refl))
 
-row_alike : (value : Value) (link : Link) (held held' : Option Content) (sites : Sites) (place : ℕ) (waits : Bool) → waits ≡ false
-    → (parent_value link held ≡ parent_value link held') ⊎ ((are_joined value (parent_value link held) ≡ true → waits ≡ true) × (are_joined value (parent_value link held') ≡ true → waits ≡ true))
-    → gives value link held sites place ≡ gives value link held' sites place
-row_alike value link held held' sites place waits done (inl same) = ap (λ v. are_joined value v && has_site sites place) same
-row_alike value link held held' sites place waits done (inr reach) =
-    ap (λ b. b && has_site sites place) (not_joined (are_joined value (parent_value link held)) waits done reach.0 ∙ sym (not_joined (are_joined value (parent_value link held')) waits done reach.1))
+row_alike : (key : RowKey) (rows : RowKey → Option Content) (marks : RowKey → Sites) (value : Value) (link : Link) (held held' : Option Content) (place : ℕ) (waits : Bool) → waits ≡ false
+    → (parent_value link held ≡ parent_value link held') ⊎ (IsHandled key rows marks link value held waits × IsHandled key rows marks link value held' waits)
+    → (gives value link held (marks key) place ≡ gives value link held' (marks key) place) ⊎ AnotherGives rows marks key link value place
+row_alike key rows marks value link held held' place waits done (inl same) = inl (ap (λ v. are_joined value v && has_site (marks key) place) same)
+row_alike key rows marks value link held held' place waits done (inr reach) =
+    joins_alike (has_site (marks key) place) (are_joined value (parent_value link held)) (are_joined value (parent_value link held')) waits (AnotherGives rows marks key link value place) done
+    (λ joined has. reach.0 joined place has) (λ joined has. reach.1 joined place has)
 
--- a row is changed, and waits with the children that this reaches
+-- a row is changed, and waits with the children that this reaches and others do not cover
 pub row_changed : (links : List Link) (key : RowKey) (rows rows' : RowKey → Option Content) (marks : RowKey → Sites) (waits waits' : RowKey → Bool)
     → ((p : RowKey) → is_at (key_cmp key) p ≡ false → rows' p ≡ rows p)
     → ((p : RowKey) → waits' p ≡ false → (is_at (key_cmp key) p ≡ false) × (waits p ≡ false))
-    → RowReaches links key rows rows' waits' → AllMeet links rows marks waits → AllMeet links rows' marks waits'
+    → RowReaches links key rows rows' marks waits' → AllMeet links rows marks waits → AllMeet links rows' marks waits'
 row_changed links key rows rows' marks waits waits' others fewer reach all k done =
     let was = fewer k done in
     kept links key k rows rows' marks marks (others k was.0) refl others (λ p h. refl)
     (λ number link content place among below above live.
-    row_alike (value_at content.values link.column) link (rows key) (rows' key) (marks key) place (waits' k) done (reach k number link content among below above live))
+    row_alike key rows marks (value_at content.values link.column) link (rows key) (rows' key) place (waits' k) done (reach k number link content among below above live))
     (all k was.1)
 
 -- a row meets the rule with the marks that the rule says of it, since it does not follow itself

@@ -1,5 +1,6 @@
 pub mod Bits
 pub mod Kept
+pub mod Covered
 pub mod Drafts
 pub mod Walks
 pub mod Reasons
@@ -11,6 +12,7 @@ pub mod LiveRows
 pub mod Entries
 pub mod Found
 pub mod Values
+pub mod Shown
 pub mod LinkLists
 pub mod InPartition
 pub mod MoveLists
@@ -19,3 +21,5 @@ pub mod SitePartitions
 pub mod Prepared
 pub mod Orders
 pub mod Begun
+pub mod Rooms
+pub mod Unchanged

@@ -78,7 +78,7 @@ module _ (links : List Link) (rows : RowKey → Option Content) (marks : RowKey 
       let joined = joined_is (value_at content.values p.link.column) p.link (rows p.parent) (both _ _ p.given).0 in
       subst (λ v. HasEntry parents p.number v p.parent.row) (sym joined.2) (indexed p.parent joined.0 joined.1 p.number p.link p.among (sym p.above))
 
-  parent_gives : (place : ℕ) (p : Parent links rows marks key content place) → row_gives rows marks (value_at content.values p.link.column) p.link place p.parent.row ≡ true
+  pub parent_gives : (place : ℕ) (p : Parent links rows marks key content place) → row_gives rows marks (value_at content.values p.link.column) p.link place p.parent.row ≡ true
   parent_gives place p = ap (λ q. gives (value_at content.values p.link.column) p.link (rows q) (marks q) place) (parent_is p.link p.parent p.above) ∙ p.given
 
   -- a link of the row's article adds what its parents give

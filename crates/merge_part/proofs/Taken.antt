@@ -5,7 +5,6 @@ use Rattle.std.specs.Map.{keys_of}
 use Rattle.std.specs.BTreeMap.{is_at}
 use Rattle.std.proofs.lemmas.List.Folds.{list_any-append}
 use Rattle.merge_table.specs.declared.edit.Edit.{Edit}
-use Rattle.merge_schema.specs.Partition.{are_joined}
 use Rattle.merge_types.specs.declared.row_key.RowKey.{RowKey}
 use Rattle.merge_part.specs.declared.sites.Sites.{Sites}
 use Rattle.merge_part.specs.declared.content.Content.{Content}
@@ -17,16 +16,15 @@ use Rattle.merge_part.specs.Draft.{rows_in, edit_to}
 use Rattle.merge_part.specs.Rule.{value_at, parent_value, IsAt}
 use Rattle.merge_part.specs.Entering.{IsChangedTo, IsEntered, StaysFound}
 use Rattle.merge_part.specs.Index.{Entries, entry_for, HasEntry, AreChildrenIndexed, AreParentsIndexed, AreDrafted, children_found, parents_found}
-use Rattle.merge_part.specs.Waiting.{waits, KeepsWaiting, ChildrenWait, ReachedByRow, child_of}
+use Rattle.merge_part.specs.Waiting.{waits, KeepsWaiting, AreSpared, ReachedByRow}
 use Rattle.merge_part.specs.Settling.{AllMeet, is_among, pends, LinksAreWithin}
 use Rattle.merge_join.specs.declared.entry.JoinEntry.{JoinEntry}
 use Rattle.merge_join.specs.Entries.{entry_cmp}
 use Rattle.merge_join.specs.Index.{has}
 use Rattle.merge_part.proofs.Drafts.{rows_in-push}
 use Rattle.merge_part.proofs.Entries.{between_all, found_by_value}
-use Rattle.merge_part.proofs.Kept.{same_key, RowReaches, row_changed}
-use Rattle.merge_part.proofs.Reasons.{joined_is}
-use Rattle.merge_part.proofs.Settled.{is_at-swap, is_at-itself, child_is, both_true}
+use Rattle.merge_part.proofs.Kept.{same_key, IsHandled, RowReaches, row_changed}
+use Rattle.merge_part.proofs.Settled.{is_at-swap, is_at-itself, child_spared, both_true}
 
 pub changed_to : (held : List (RowKey × Content)) → IsStrictlySortedBy key_cmp (keys_of held) → (edits : List (Edit RowKey Content)) (key : RowKey) (content : Option Content)
     → IsChangedTo key content (rows_in held edits) (rows_in held (edits ++ edit_to key content ∷ []))
@@ -81,24 +79,23 @@ module _ (links : List Link) (key : RowKey) (content : Option Content) (rows row
 
   -- what waits after the children were reached
   module _ (children : Entries) (indexed : AreChildrenIndexed links children rows) (order : List ℕ) (within : LinksAreWithin links order) (among : is_among order key.article ≡ true) (waiting waited : List RowKey) (kept : KeepsWaiting waiting waited) (itself_waits : waits waited key ≡ true) where
-    child_pends : (k : RowKey) (number : ℕ) (link : Link) (x : Content) (held : Option Content) → IsAt links number link → link.child ≡ k.article → rows k ≡ Some x
-        → ChildrenWait children number link (parent_value link held) waited → are_joined (value_at x.values link.column) (parent_value link held) ≡ true → pends order waited k ≡ true
-    child_pends k number link x held at below live wait joined =
-        let is = joined_is (value_at x.values link.column) link held joined in
-        let value : value_at x.values link.column ≡ parent_value link held = is.2 ∙ ap (parent_value link) (sym is.1) in
-        let entry : HasEntry children number (parent_value link held) k.row = subst (λ v. HasEntry children number v k.row) value (indexed k x live number link at below) in
-        let there : waits waited (child_of link k.row) ≡ true = wait k.row entry (λ null. is.3 (value ∙ null)) in
-        let here : waits waited k ≡ true = subst (λ q. waits waited q ≡ true) (child_is link k below) there in
-        let comes : is_among order k.article ≡ true = subst (λ a. is_among order a ≡ true) below (within number link at) in
-        both_true (is_among order k.article) (waits waited k) comes here
+    child_handled : (marks : RowKey → Sites) (k : RowKey) (number : ℕ) (link : Link) (x : Content) (held : Option Content) → IsAt links number link → link.child ≡ k.article → rows k ≡ Some x
+        → AreSpared rows marks key (marks key) children number link (parent_value link held) waited → IsHandled key rows marks link (value_at x.values link.column) held (pends order waited k)
+    child_handled marks k number link x held at below live spared joined place has =
+        elim (child_spared links children rows indexed marks key (marks key) waited held k number link x at below live spared joined place has) [
+          | inl here ↦
+              let comes : is_among order k.article ≡ true = subst (λ a. is_among order a ≡ true) below (within number link at) in
+              inl (both_true (is_among order k.article) (waits waited k) comes here)
+          | inr given ↦ inr given
+        ]
 
-    row_reaches : ReachedByRow links (length links) children key.article (rows key) content waited → RowReaches links key rows rows' (pends order waited)
-    row_reaches reached k number link x at below above live =
+    row_reaches : (marks : RowKey → Sites) → ReachedByRow links (length links) rows marks key (marks key) children (rows key) content waited → RowReaches links key rows rows' marks (pends order waited)
+    row_reaches marks reached k number link x at below above live =
         elim (reached number link at.0 at above) [
           | inl same ↦ inl (same ∙ ap (parent_value link) (sym itself))
           | inr wait ↦ inr (
-            λ joined. child_pends k number link x (rows key) at below live wait.0 joined,
-            λ joined. child_pends k number link x content at below live wait.1 (subst (λ held. are_joined (value_at x.values link.column) (parent_value link held) ≡ true) itself joined),
+            child_handled marks k number link x (rows key) at below live wait.0,
+            subst (λ held. IsHandled key rows marks link (value_at x.values link.column) held (pends order waited k)) (sym itself) (child_handled marks k number link x content at below live wait.1),
           )
         ]
 
@@ -120,6 +117,6 @@ module _ (links : List Link) (key : RowKey) (content : Option Content) (rows row
     )
 
     -- each row that does not wait goes on meeting the rule
-    pub met_after : (marks : RowKey → Sites) → ReachedByRow links (length links) children key.article (rows key) content waited
+    pub met_after : (marks : RowKey → Sites) → ReachedByRow links (length links) rows marks key (marks key) children (rows key) content waited
         → AllMeet links rows marks (pends order waiting) → AllMeet links rows' marks (pends order waited)
-    met_after marks reached all = row_changed links key rows rows' marks (pends order waiting) (pends order waited) other fewer (row_reaches reached) all
+    met_after marks reached all = row_changed links key rows rows' marks (pends order waiting) (pends order waited) other fewer (row_reaches marks reached) all

@@ -26,9 +26,10 @@ use Rattle.merge_part.specs.Entering.{IsEntered}
 use Rattle.merge_part.specs.Index.{Entries, entry_for, first_of, at_link, HasEntry}
 use Rattle.merge_part.specs.Rule.{IsAt, parent_value, row_gives, gives, parent_of}
 use Rattle.merge_part.specs.Settling.{AreGiven, AreKnown, NoneFollowsItself}
-use Rattle.merge_part.specs.Waiting.{waits, child_of, ChildrenWait, KeepsWaiting, AreReached, ReachedByMarks}
+use Rattle.merge_part.specs.Waiting.{waits, child_of, ChildrenWait, AreSpared, KeepsWaiting, AreReached, ReachedByMarks}
 use Rattle.merge_part.proofs.Entries.{at_link-is}
 use Rattle.merge_part.proofs.Kept.{same_key}
+use Rattle.merge_part.proofs.Reached.{spared_kept}
 
 or_cases : (a b : Bool) → (a || b) ≡ true → (a ≡ true) ⊎ (b ≡ true)
 or_cases true b h = inl refl
@@ -98,12 +99,13 @@ last_or_before : (k n : ℕ) → k < n + 1 → (k < n) ⊎ (k ≡ n)
 last_or_before k n less = grind arith
 
 -- with one link more the children that a row's marks reach wait
-pub marks_next : (links : List Link) (children : Entries) (n article : ℕ) (content : Option Content) (before after : List RowKey) → KeepsWaiting before after
-    → ((link : Link) → IsAt links n link → link.parent ≡ article → ChildrenWait children n link (parent_value link content) after) → ReachedByMarks links n children article content before → ReachedByMarks links (n + 1) children article content after
-marks_next links children n article content before after kept here so_far = λ number link less at parent.
+pub marks_next : (links : List Link) (rows : RowKey → Option Content) (marks : RowKey → Sites) (key : RowKey) (sites : Sites) (children : Entries) (n : ℕ) (content : Option Content) (before after : List RowKey) → KeepsWaiting before after
+    → ((link : Link) → IsAt links n link → link.parent ≡ key.article → AreSpared rows marks key sites children n link (parent_value link content) after)
+    → ReachedByMarks links n rows marks key sites children content before → ReachedByMarks links (n + 1) rows marks key sites children content after
+marks_next links rows marks key sites children n content before after kept here so_far = λ number link less at parent.
     elim (last_or_before number n less) [
-      | inl earlier ↦ λ row entry some. kept (child_of link row) (so_far number link earlier at parent row entry some)
-      | inr last ↦ subst (λ k. ChildrenWait children k link (parent_value link content) after) (sym last) (here link (subst (λ k. IsAt links k link) last at) parent)
+      | inl earlier ↦ spared_kept rows marks key sites children number link (parent_value link content) before after kept (so_far number link earlier at parent)
+      | inr last ↦ subst (λ k. AreSpared rows marks key sites children k link (parent_value link content) after) (sym last) (here link (subst (λ k. IsAt links k link) last at) parent)
     ]
 
 pub none_reached : (links : List Link) (children : Entries) (waiting : List RowKey) → AreReached links children [] waiting

@@ -4,6 +4,7 @@ pub mod Places
 pub mod Rule
 pub mod Index
 pub mod Entering
+pub mod Covering
 pub mod Waiting
 pub mod Filtering
 pub mod Taking
@@ -11,5 +12,6 @@ pub mod Live
 pub mod Moves
 pub mod Rules
 pub mod Settling
+pub mod Siblings
 pub mod View
 pub mod Subscribers

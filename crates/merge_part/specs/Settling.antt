@@ -15,6 +15,7 @@ use Rattle.merge_join.specs.declared.entry.JoinEntry.{JoinEntry}
 use Rattle.merge_join.specs.Entries.{entry_cmp}
 use Rattle.merge_part.specs.Rule.{IsAt, row_gives, Reason, Meets}
 use Rattle.merge_part.specs.Index.{Entries, HasEntry, first_of}
+use Rattle.merge_part.specs.Covering.{IsUnion}
 use Rattle.merge_part.specs.Waiting.{waits, ReachedByMarks}
 
 -- these marks of a row are what the rule says of it
@@ -22,11 +23,11 @@ pub record AreMarksOf (links : List Link) (rows : RowKey → Option Content) (ma
   pub reason : (place : ℕ) → has_site sites place ≡ true → (content : Content) × (rows key ≡ Some content) × Reason links rows marks key content place
   pub reached : (place : ℕ) (content : Content) → rows key ≡ Some content → Reason links rows marks key content place → has_site sites place ≡ true
 
--- the row's marks become what the rule says of it, and its children wait where they change
+-- the row's marks become what the rule says of it, and where they change, its children wait that others do not give the same
 pub record IsSettled (links : List Link) (children : Entries) (rows : RowKey → Option Content) (marks marks' : RowKey → Sites) (key : RowKey) (waiting : List RowKey) : Type 0 where
   pub others : (k : RowKey) → is_at (key_cmp key) k ≡ false → marks' k ≡ marks k
   pub itself : AreMarksOf links rows marks key (marks' key)
-  pub children_wait : (marks' key ≡ marks key) ⊎ ReachedByMarks links (length links) children key.article (rows key) waiting
+  pub children_wait : (marks' key ≡ marks key) ⊎ ((both : Sites) × IsUnion (marks key) (marks' key) both × ReachedByMarks links (length links) rows marks key both children (rows key) waiting)
 
 -- these are the partitions that a child with the value has a place in by the parents that are found by it
 pub record AreGiven (entries : Entries) (rows : RowKey → Option Content) (marks : RowKey → Sites) (number : ℕ) (link : Link) (value : Value) (sites : Sites) : Type 0 where

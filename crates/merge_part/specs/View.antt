@@ -1,5 +1,5 @@
 -- What contracts see of a membership.
-use Rattle.std.specs.Prelude.{◌*◌, ◌≤◌, List, length}
+use Rattle.std.specs.Prelude.{◌+◌, ◌*◌, ◌≤◌, List, length}
 use Rattle.std.specs.Coded.{Coded}
 use Rattle.merge_filter.specs.declared.filters.Filter.{Filter}
 use Rattle.merge_filter.specs.Code.{syntax_code}
@@ -67,3 +67,10 @@ pub record IsCompact (view : View) : Type 0 where
   pub marks : length view.held.marks.slots ≤ 2 * length view.held.marks.rows
   pub children : length view.index.children.room ≤ 2 * length view.index.children.set
   pub parents : length view.index.parents.room ≤ 2 * length view.index.parents.set
+
+-- the memory that is kept is at most for twice what is held, and for the plan
+pub record IsCompactFor (view : View) (plan : Plan) : Type 0 where
+  pub rows : length view.held.rows.slots ≤ 2 * length view.held.rows.rows + length plan.rows
+  pub marks : length view.held.marks.slots ≤ 2 * length view.held.marks.rows + length plan.marks
+  pub children : length view.index.children.room ≤ 2 * length view.index.children.set + length plan.children
+  pub parents : length view.index.parents.room ≤ 2 * length view.index.parents.set + length plan.parents

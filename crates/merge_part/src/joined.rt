@@ -7,15 +7,17 @@ ghost use Rattle.merge_schema.specs.Partition.{are_joined};
 ghost use Rattle.merge_part.specs.Draft.{rows_in, marks_in};
 ghost use Rattle.merge_part.specs.declared.link.Link.{Link as OneLink};
 ghost use Rattle.merge_part.specs.Index.{AreParentsIndexed, parents_found};
-ghost use Rattle.merge_part.specs.Settling.{AreGiven, AreKnown};
+ghost use Rattle.merge_part.specs.Settling.{AllMeet, AreGiven, AreKnown};
+ghost use Rattle.merge_part.specs.Waiting.{waits};
 ghost use Rattle.merge_part.specs.Rule.{IsAt, is_null, content_value, Reason, gives, row_gives, parent_value, value_at};
 ghost use Rattle.merge_part.specs.Sites.{has_site};
 
 use crate::content::Content;
-use crate::draft::{Draft, marks_at};
+use crate::draft::{Draft, DraftRows, marks_at};
 use crate::index::entry_for;
 use crate::keeping::Kept;
 use crate::link::Link;
+use crate::siblings::sites_by_sibling;
 use crate::sites::Sites;
 use merge_join::JoinEntry;
 use merge_table::{Rows, Table};
@@ -84,6 +86,30 @@ fn given(value: &Value, link: &Link, content: Option<&Content>, sites: Sites) ->
     }
 }
 
+/// The partitions in which a child with the value has a place by the row with this identifier.
+pub fn given_by(
+    kept: &Kept,
+    rows: &DraftRows,
+    marks: &Table<RowKey, Sites>,
+    link: &Link,
+    value: &Value,
+    row: RowId,
+) -> Sites
+    ensures { (place : ℕ) → has_site result place ≡ row_gives (rows_in kept.now.held.rows.rows rows.now) (marks_in kept.now.held.marks.rows marks.now.rows) value.now link.now place row }
+{
+    let parent = RowKey {
+        article: link.parent,
+        row,
+    };
+    let content = rows.get(&kept.held.rows, &parent);
+    given(
+        value,
+        link,
+        content,
+        marks_at(&kept.held.marks, marks, &parent),
+    )
+}
+
 // The partitions in which a child with the value has a place by the parents among these entries.
 fn sites_by_parents(
     kept: &Kept,
@@ -96,13 +122,8 @@ fn sites_by_parents(
 {
     let mut found = Sites::none();
     for (entry, _) in entries {
-        let parent = RowKey {
-            article: link.parent,
-            row: entry.child,
-        };
-        let content = draft.rows.get(&kept.held.rows, &parent);
-        let sites = marks_at(&kept.held.marks, &draft.marks, &parent);
-        found = found.union(given(value, link, content, sites));
+        let sites = given_by(kept, &draft.rows, &draft.marks, link, value, entry.child);
+        found = found.union(sites);
     }
     found
 }
@@ -124,6 +145,25 @@ fn sites_by_value(
     Ok(by_held.union(sites_by_parents(kept, draft, come, link, value)))
 }
 
+// The same, as another child shows it, or else by all parents.
+fn sites_anew(
+    kept: &Kept,
+    draft: &Draft,
+    number: usize,
+    link: &Link,
+    value: &Value,
+) -> Result<Sites, NoMemory>
+    requires number { number < 2 ^ 63 }
+    requires link { IsAt kept.now.rules.links number link.now }
+    requires met { AllMeet kept.now.rules.links (rows_in kept.now.held.rows.rows draft.now.rows) (marks_in kept.now.held.marks.rows draft.now.marks.rows) (waits (keys_of draft.now.waiting.rows.rows)) }
+    ensures { IfOk result (AreGiven (parents_found kept.now.index draft.now.index) (rows_in kept.now.held.rows.rows draft.now.rows) (marks_in kept.now.held.marks.rows draft.now.marks.rows) number link.now value.now) }
+{
+    match sites_by_sibling(kept, draft, number, link, value)? {
+        Some(sites) => Ok(sites),
+        None => sites_by_value(kept, draft, number, link, value),
+    }
+}
+
 /// What was worked out for each value at a link, by the first entry that the value may have.
 pub type Memo = Table<JoinEntry, Sites>;
 
@@ -136,6 +176,7 @@ fn known_sites(
     value: &Value,
 ) -> Result<Sites, NoMemory>
     requires number { number < length kept.now.rules.links }
+    requires met { AllMeet kept.now.rules.links (rows_in kept.now.held.rows.rows draft.now.rows) (marks_in kept.now.held.marks.rows draft.now.marks.rows) (waits (keys_of draft.now.waiting.rows.rows)) }
     ensures known { OnOk result ((article : ℕ) → AreKnown kept.now.rules.links (parents_found kept.now.index draft.now.index) (rows_in kept.now.held.rows.rows draft.now.rows) (marks_in kept.now.held.marks.rows draft.now.marks.rows) article memo.old.rows → AreKnown kept.now.rules.links (parents_found kept.now.index draft.now.index) (rows_in kept.now.held.rows.rows draft.now.rows) (marks_in kept.now.held.marks.rows draft.now.marks.rows) article memo.new.rows) }
     ensures given { IfOk result (λ sites. (article : ℕ) → AreKnown kept.now.rules.links (parents_found kept.now.index draft.now.index) (rows_in kept.now.held.rows.rows draft.now.rows) (marks_in kept.now.held.marks.rows draft.now.marks.rows) article memo.old.rows → (link : OneLink) → IsAt kept.now.rules.links number link → link.child ≡ article → AreGiven (parents_found kept.now.index draft.now.index) (rows_in kept.now.held.rows.rows draft.now.rows) (marks_in kept.now.held.marks.rows draft.now.marks.rows) number link value.now sites) }
 {
@@ -144,7 +185,7 @@ fn known_sites(
         return Ok(*sites);
     }
     let link = kept.rules.links.as_slice()[number];
-    let sites = sites_by_value(kept, draft, number, &link, value)?;
+    let sites = sites_anew(kept, draft, number, &link, value)?;
     memo.insert(first, sites)?;
     Ok(sites)
 }
@@ -158,6 +199,7 @@ fn sites_by_link(
     content: &Content,
 ) -> Result<Sites, NoMemory>
     requires number { number < length kept.now.rules.links }
+    requires met { AllMeet kept.now.rules.links (rows_in kept.now.held.rows.rows draft.now.rows) (marks_in kept.now.held.marks.rows draft.now.marks.rows) (waits (keys_of draft.now.waiting.rows.rows)) }
     ensures known { OnOk result ((article : ℕ) → AreKnown kept.now.rules.links (parents_found kept.now.index draft.now.index) (rows_in kept.now.held.rows.rows draft.now.rows) (marks_in kept.now.held.marks.rows draft.now.marks.rows) article memo.old.rows → AreKnown kept.now.rules.links (parents_found kept.now.index draft.now.index) (rows_in kept.now.held.rows.rows draft.now.rows) (marks_in kept.now.held.marks.rows draft.now.marks.rows) article memo.new.rows) }
     ensures given { IfOk result (λ sites. (article : ℕ) → AreKnown kept.now.rules.links (parents_found kept.now.index draft.now.index) (rows_in kept.now.held.rows.rows draft.now.rows) (marks_in kept.now.held.marks.rows draft.now.marks.rows) article memo.old.rows → (link : OneLink) → IsAt kept.now.rules.links number link → link.child ≡ article → AreGiven (parents_found kept.now.index draft.now.index) (rows_in kept.now.held.rows.rows draft.now.rows) (marks_in kept.now.held.marks.rows draft.now.marks.rows) number link (value_at content.now.values link.column) sites) }
 {
@@ -176,6 +218,7 @@ pub fn sites_of(
     key: RowKey,
     content: &Content,
 ) -> Result<Sites, NoMemory>
+    requires met { AllMeet kept.now.rules.links (rows_in kept.now.held.rows.rows draft.now.rows) (marks_in kept.now.held.marks.rows draft.now.marks.rows) (waits (keys_of draft.now.waiting.rows.rows)) }
     requires parents { AreParentsIndexed kept.now.rules.links (parents_found kept.now.index draft.now.index) (rows_in kept.now.held.rows.rows draft.now.rows) }
     requires known { AreKnown kept.now.rules.links (parents_found kept.now.index draft.now.index) (rows_in kept.now.held.rows.rows draft.now.rows) (marks_in kept.now.held.marks.rows draft.now.marks.rows) key.article memo.old.rows }
     ensures known { OnOk result (AreKnown kept.now.rules.links (parents_found kept.now.index draft.now.index) (rows_in kept.now.held.rows.rows draft.now.rows) (marks_in kept.now.held.marks.rows draft.now.marks.rows) key.article memo.new.rows) }

@@ -1,5 +1,5 @@
 //! Who has which row.
-ghost use Rattle.std.specs.Prelude.{◌≡◌, ◌≤◌, ◌+◌, ◌*◌, ℕ, [], All, length, IfOk, OnOk, OnErr};
+ghost use Rattle.std.specs.Prelude.{◌≡◌, ◌≤◌, ◌+◌, ◌*◌, ℕ, [], All, length, IfOk, IsOk, OnOk, OnErr};
 ghost use Rattle.merge_schema.specs.Partition.{is_in_at};
 ghost use Rattle.merge_part.specs.Live.{live_rows, live_after_all};
 ghost use Rattle.merge_part.specs.Moves.{AreMoves};
@@ -17,7 +17,7 @@ ghost use Rattle.merge_part.specs.Rule.{Meets};
 ghost use Rattle.merge_part.specs.Settling.{AllMeet, pends, ParentsComeFirst, NoneFollowsItself};
 ghost use Rattle.merge_schema.specs.Valid.{IsValid};
 ghost use Rattle.merge_schema.specs.ValidityLaws.{FiltersFit};
-ghost use Rattle.merge_part.specs.View.{live_in, live_after_plan, IsCompact, IsPrepared};
+ghost use Rattle.merge_part.specs.View.{live_in, live_after_plan, IsCompact, IsCompactFor, IsPrepared};
 
 use crate::change::{Moves, RowChange};
 use crate::draft::{Draft, Held, RowEdit, marks_held};
@@ -42,8 +42,9 @@ use std::sync::ledger::Ledger;
 /// A question costs the logarithm of the number of rows. A change costs that for its row, for each
 /// link of its article, and for each child that it reaches: the children by a value that the row
 /// had or gets in a column by which they follow it, and all its children where it enters a
-/// partition or leaves one. In a step the children of a value are reached once, and what its
-/// parents give is worked out once, with a look at each of them.
+/// partition or leaves one, unless other rows by the same value give them the same. In a step the
+/// children of a value are reached once, and what its parents give is worked out once: as another
+/// child shows it, or with a look at each parent.
 #[derive(Drop)]
 pub struct Membership {
     alloc: Global,
@@ -81,6 +82,23 @@ impl Model for MembershipPlan {
     ghost view = { λ p. record { rows = p.rows.items; marks = p.marks.items; children = p.children.items; parents = p.parents.items } };
 }
 
+impl MembershipPlan {
+    // No change.
+    fn none(alloc: Global) -> Self
+        ensures rows { result.rows ≡ [] }
+        ensures marks { result.marks ≡ [] }
+        ensures children { result.children ≡ [] }
+        ensures parents { result.parents ≡ [] }
+    {
+        MembershipPlan {
+            rows: Vec::new(alloc),
+            marks: Vec::new(alloc),
+            children: Vec::new(alloc),
+            parents: Vec::new(alloc),
+        }
+    }
+}
+
 impl Membership {
     /// No rows of a publication that is valid, however many resolvers are handed in.
     pub fn new(alloc: Global, publication: &Publication) -> Result<Membership, NoMemory>
@@ -116,8 +134,8 @@ impl Membership {
     }
 
     /// Takes the memory for the changes, and gives the moves that they make and the plan. The rows
-    /// stay as they are. It takes a step for each subscription and row that changes and lives
-    /// afterwards, at most.
+    /// stay as they are. Room for a plan that was never made does not add to the room for this one.
+    /// It takes a step for each subscription and row that changes and lives afterwards, at most.
     pub fn prepare<L: Ledger>(
         &mut self,
         changes: &[RowChange],
@@ -128,10 +146,18 @@ impl Membership {
         ensures moves { IfOk result (λ prepared. AreMoves self.old.publication (live_rows (live_in self.old)) (live_rows (live_after_all (live_in self.old) changes.now)) prepared.0) }
         ensures plan { IfOk result (λ prepared. live_after_plan self.new prepared.1 ≡ live_after_all (live_in self.old) changes.now) }
         ensures ready { IfOk result (λ prepared. IsPrepared self.new prepared.1) }
+        ensures compact { IfOk result (λ prepared. IsCompactFor self.new prepared.1) }
         ensures publication { self.new.publication ≡ self.old.publication }
         ensures live { live_in self.new ≡ live_in self.old }
         ensures cost { steps.new ≤ steps.old + length self.old.publication.subscriptions * living changes.now }
+
+        // What takes no memory is not refused.
+        ensures nothing { changes.now ≡ [] → IsOk result }
     {
+        if changes.is_empty() {
+            sweep_if_due(&mut self.kept);
+            return Ok((Listing::empty(self.alloc), MembershipPlan::none(self.alloc)));
+        }
         let taken = take_up_all(self.alloc, &self.publication, &self.kept, changes, steps)?;
         let draft = settled(self.alloc, &self.kept, taken)?;
         let subscriptions = self.publication.subscriptions.as_slice();
@@ -177,6 +203,9 @@ impl Membership {
         ensures compact { OnOk result (IsCompact self.new) }
         ensures publication { self.new.publication ≡ self.old.publication }
         ensures cost { steps.new ≤ steps.old + length self.old.publication.subscriptions * living changes.now }
+
+        // What takes no memory is not refused.
+        ensures nothing { changes.now ≡ [] → IsOk result }
     {
         let (moves, plan) = self.prepare(changes, steps)?;
         self.make(plan);
@@ -204,8 +233,8 @@ fn settled(alloc: Global, kept: &Kept, taken: Draft) -> Result<Draft, NoMemory>
     requires apart { NoneFollowsItself kept.now.rules.links }
     requires order { ParentsComeFirst kept.now.rules.links kept.now.rules.order }
     requires marks { taken.marks.rows ≡ [] }
-    requires reached { AreReached kept.now.rules.links (children_found kept.now.index taken.index) (keys_of taken.waiting.values.rows) taken.waiting.rows.items }
-    requires met { AllMeet kept.now.rules.links (rows_in kept.now.held.rows.rows taken.rows) (marks_of kept.now.held.marks.rows) (pends kept.now.rules.order taken.waiting.rows.items) }
+    requires reached { AreReached kept.now.rules.links (children_found kept.now.index taken.index) (keys_of taken.waiting.values.rows) (keys_of taken.waiting.rows.rows) }
+    requires met { AllMeet kept.now.rules.links (rows_in kept.now.held.rows.rows taken.rows) (marks_of kept.now.held.marks.rows) (pends kept.now.rules.order (keys_of taken.waiting.rows.rows)) }
     ensures rows { IfOk result (λ draft. draft.rows ≡ taken.rows) }
     ensures index { IfOk result (λ draft. draft.index ≡ taken.index) }
     ensures met { IfOk result (λ draft. (key : OneKey) → Meets kept.now.rules.links (rows_in kept.now.held.rows.rows taken.rows) (marks_in kept.now.held.marks.rows draft.marks.rows) key) }
@@ -219,6 +248,24 @@ fn settled(alloc: Global, kept: &Kept, taken: Draft) -> Result<Draft, NoMemory>
     settle(alloc, kept, &mut draft)?;
     draft.marks.is_ordered();
     Ok(draft)
+}
+
+// Lets go of the room for plans that were never made, where it is the most.
+fn sweep_if_due(kept: &mut Kept)
+    ensures rules { kept.new.rules ≡ kept.old.rules }
+    ensures rows { kept.new.held.rows.rows ≡ kept.old.held.rows.rows }
+    ensures marks { kept.new.held.marks.rows ≡ kept.old.held.marks.rows }
+    ensures children { kept.new.index.children.set ≡ kept.old.index.children.set }
+    ensures parents { kept.new.index.parents.set ≡ kept.old.index.parents.set }
+    ensures rows_room { length kept.new.held.rows.slots ≤ 2 * length kept.new.held.rows.rows }
+    ensures marks_room { length kept.new.held.marks.slots ≤ 2 * length kept.new.held.marks.rows }
+    ensures children_room { length kept.new.index.children.room ≤ 2 * length kept.new.index.children.set }
+    ensures parents_room { length kept.new.index.parents.room ≤ 2 * length kept.new.index.parents.set }
+{
+    kept.held.rows.sweep_if_due();
+    kept.held.marks.sweep_if_due();
+    kept.index.children.sweep_if_due();
+    kept.index.parents.sweep_if_due();
 }
 
 // What a draft changes, with the memory for it taken.
@@ -236,7 +283,12 @@ fn planned(alloc: Global, kept: &mut Kept, draft: Draft) -> Result<MembershipPla
     ensures marks_ready { IfOk result (λ plan. IsReady key_cmp kept.new.held.marks.slots plan.marks) }
     ensures children_ready { IfOk result (λ plan. IsReady entry_cmp kept.new.index.children.room plan.children) }
     ensures parents_ready { IfOk result (λ plan. IsReady entry_cmp kept.new.index.parents.room plan.parents) }
+    ensures rows_room { IfOk result (λ plan. length kept.new.held.rows.slots ≤ 2 * length kept.new.held.rows.rows + length plan.rows) }
+    ensures marks_room { IfOk result (λ plan. length kept.new.held.marks.slots ≤ 2 * length kept.new.held.marks.rows + length plan.marks) }
+    ensures children_room { IfOk result (λ plan. length kept.new.index.children.room ≤ 2 * length kept.new.index.children.set + length plan.children) }
+    ensures parents_room { IfOk result (λ plan. length kept.new.index.parents.room ≤ 2 * length kept.new.index.parents.set + length plan.parents) }
 {
+    sweep_if_due(kept);
     let marks = mark_edits(alloc, &draft.marks)?;
     let Draft { rows, index, .. } = draft;
     let DraftIndexes { children, parents } = index;

@@ -1,5 +1,5 @@
 //! Sets of subscribers.
-ghost use Rattle.std.specs.Prelude.{◌≡◌, ◌<◌, ◌==◌, ◌||◌, ℕ, false};
+ghost use Rattle.std.specs.Prelude.{◌≡◌, ◌<◌, ◌==◌, ◌||◌, ℕ, true, false, IsTrue};
 ghost use Rattle.merge_part.specs.Sites.{has_site};
 
 use merge_types::Exact;
@@ -36,6 +36,13 @@ impl Sites {
         ensures { (place : ℕ) → has_site result place ≡ (has_site self place || has_site other place) }
     {
         Sites(self.0 | other.0)
+    }
+
+    /// Whether each subscriber of the other set is among these.
+    pub fn covers(self, other: Sites) -> bool
+        ensures { IsTrue result → (place : ℕ) → has_site other place ≡ true → has_site self place ≡ true }
+    {
+        self.0 | other.0 == self.0
     }
 
     /// The set with one subscriber more.

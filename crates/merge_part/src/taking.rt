@@ -1,8 +1,6 @@
 //! Takes changes of rows up into a draft.
 ghost use Rattle.std.specs.Prelude.{◌≡◌, ◌≤◌, ◌<◌, ◌+◌, ◌*◌, [], All, length, IfOk, OnOk, IsTrue};
-ghost use Rattle.merge_part.specs.declared.sites.Sites.{Sites as OneSites};
-ghost use Rattle.merge_types.specs.declared.row_key.RowKey.{RowKey as OneKey};
-ghost use Rattle.merge_part.specs.Draft.{rows_in};
+ghost use Rattle.merge_part.specs.Draft.{rows_in, marks_in};
 ghost use Rattle.std.specs.Map.{keys_of};
 ghost use Rattle.merge_part.specs.Index.{AreDrafted, children_found};
 ghost use Rattle.merge_part.specs.Waiting.{AreReached};
@@ -15,7 +13,8 @@ ghost use Rattle.merge_part.specs.Rules.{AreRules, IsKept, AreTaken};
 
 use crate::change::RowChange;
 use crate::content::Content;
-use crate::draft::{Draft, DraftRows};
+use crate::covering::Others;
+use crate::draft::{Draft, DraftRows, marks_at};
 use crate::entering::enter_row;
 use crate::filtering::filtered;
 use crate::index::{DraftIndexes, Finder};
@@ -69,31 +68,39 @@ pub fn take_up<L: Ledger>(
     requires children { IsStrictlySortedBy entry_cmp kept.now.index.children.set }
     requires parents { IsStrictlySortedBy entry_cmp kept.now.index.parents.set }
     requires drafted { AreDrafted kept.now.rules.links kept.now.index draft.old.index (rows_in kept.now.held.rows.rows draft.old.rows) }
-    requires reached { AreReached kept.now.rules.links (children_found kept.now.index draft.old.index) (keys_of draft.old.waiting.values.rows) draft.old.waiting.rows.items }
-    ensures reached { OnOk result (AreReached kept.now.rules.links (children_found kept.now.index draft.new.index) (keys_of draft.new.waiting.values.rows) draft.new.waiting.rows.items) }
+    requires reached { AreReached kept.now.rules.links (children_found kept.now.index draft.old.index) (keys_of draft.old.waiting.values.rows) (keys_of draft.old.waiting.rows.rows) }
+    ensures reached { OnOk result (AreReached kept.now.rules.links (children_found kept.now.index draft.new.index) (keys_of draft.new.waiting.values.rows) (keys_of draft.new.waiting.rows.rows)) }
     ensures edits { OnOk result (TakesUp publication.now change.now draft.old.rows draft.new.rows) }
     ensures marks { draft.new.marks ≡ draft.old.marks }
     ensures cost { steps.new ≤ steps.old + length publication.now.subscriptions * count_if_some change.now.new }
     ensures drafted { OnOk result (AreDrafted kept.now.rules.links kept.now.index draft.new.index (rows_in kept.now.held.rows.rows draft.new.rows)) }
-    ensures met { OnOk result ((marks : OneKey → OneSites) → LinksAreWithin kept.now.rules.links kept.now.rules.order → IsTrue (is_among kept.now.rules.order change.now.article)
-        → AllMeet kept.now.rules.links (rows_in kept.now.held.rows.rows draft.old.rows) marks (pends kept.now.rules.order draft.old.waiting.rows.items)
-        → AllMeet kept.now.rules.links (rows_in kept.now.held.rows.rows draft.new.rows) marks (pends kept.now.rules.order draft.new.waiting.rows.items)) }
+    ensures met { OnOk result (LinksAreWithin kept.now.rules.links kept.now.rules.order → IsTrue (is_among kept.now.rules.order change.now.article)
+        → AllMeet kept.now.rules.links (rows_in kept.now.held.rows.rows draft.old.rows) (marks_in kept.now.held.marks.rows draft.old.marks.rows) (pends kept.now.rules.order (keys_of draft.old.waiting.rows.rows))
+        → AllMeet kept.now.rules.links (rows_in kept.now.held.rows.rows draft.new.rows) (marks_in kept.now.held.marks.rows draft.old.marks.rows) (pends kept.now.rules.order (keys_of draft.new.waiting.rows.rows))) }
 {
     let key = change.key();
     let links = kept.rules.links.as_slice();
     let content = content_of(publication, change, steps)?;
     kept.held.rows.is_ordered();
     let old = draft.rows.get(&kept.held.rows, &key);
-    draft.waiting.rows.push(key)?;
+    draft.waiting.rows.insert(key, ())?;
     enter_row(links, &mut draft.index, key, old, content.as_ref())?;
     let children = Finder {
         links,
         held: &kept.index.children,
         come: &draft.index.children.come,
     };
+    let others = Others {
+        kept,
+        rows: &draft.rows,
+        marks: &draft.marks,
+        come: &draft.index.parents.come,
+        key,
+        sites: marks_at(&kept.held.marks, &draft.marks, &key),
+    };
     wait_by_row(
         &children,
-        key.article,
+        &others,
         old,
         content.as_ref(),
         &mut draft.waiting,
@@ -114,8 +121,8 @@ pub fn take_up_all<L: Ledger>(
     requires fits { All (FitsArticle publication.now) changes.now }
     requires kept { IsKept publication.now kept.now.rules.links kept.now.index.children.set kept.now.index.parents.set kept.now.held.rows.rows kept.now.held.marks.rows }
     ensures marks { IfOk result (λ draft. draft.marks.rows ≡ []) }
-    ensures reached { IfOk result (λ draft. AreReached kept.now.rules.links (children_found kept.now.index draft.index) (keys_of draft.waiting.values.rows) draft.waiting.rows.items) }
-    ensures taken { IfOk result (λ draft. AreTaken publication.now kept.now.rules kept.now.index draft.index kept.now.held.rows.rows kept.now.held.marks.rows changes.now draft.rows draft.waiting.rows.items) }
+    ensures reached { IfOk result (λ draft. AreReached kept.now.rules.links (children_found kept.now.index draft.index) (keys_of draft.waiting.values.rows) (keys_of draft.waiting.rows.rows)) }
+    ensures taken { IfOk result (λ draft. AreTaken publication.now kept.now.rules kept.now.index draft.index kept.now.held.rows.rows kept.now.held.marks.rows changes.now draft.rows (keys_of draft.waiting.rows.rows)) }
     ensures cost { steps.new ≤ steps.old + length publication.now.subscriptions * living changes.now }
 {
     let mut draft = Draft {
@@ -123,8 +130,9 @@ pub fn take_up_all<L: Ledger>(
         index: DraftIndexes::new(alloc),
         marks: Table::new(alloc),
         waiting: Waiting {
-            rows: Vec::new(alloc),
+            rows: Table::new(alloc),
             values: Table::new(alloc),
+            asked: Table::new(alloc),
         },
     };
     kept.held.rows.is_ordered();

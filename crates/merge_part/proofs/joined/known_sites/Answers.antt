@@ -22,3 +22,6 @@ pub returns-clause-given : goal.returns-clause-given
 returns-clause-given c = λ article known link at child.
     subst (λ (l : Link). AreGiven (parents_found c.args.kept.now.index c.args.draft.now.index) (rows_in c.args.kept.now.held.rows.rows c.args.draft.now.rows) (marks_in c.args.kept.now.held.marks.rows c.args.draft.now.marks.rows) c.args.number l c.args.value.now c.in_ok-sites.sites)
     (same_link c.args.kept.now.rules.links c.args.number _ link (link_at c.args.kept.now.rules.links c.args.number c.requires.number) at) (rw c.as_slice.ensures at c.in_ok-sites.ensures)
+
+pub sites_anew-requires-clause-link : goal.sites_anew-requires-clause-link
+sites_anew-requires-clause-link c = rw c.as_slice.ensures (link_at c.args.kept.now.rules.links c.args.number c.requires.number)

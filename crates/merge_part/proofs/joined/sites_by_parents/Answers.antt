@@ -13,7 +13,7 @@ use Rattle.merge_part.proofs.joined.sites_by_parents.Goals as goal
 pub loop-entry-preserved : goal.loop-entry-preserved
 loop-entry-preserved c = λ place.
     let test : RowId → Bool = row_gives (rows_in c.args.kept.now.held.rows.rows c.args.draft.now.rows) (marks_in c.args.kept.now.held.marks.rows c.args.draft.now.marks.rows) c.args.value.now c.args.link.now place in
-    rw (c.union-found.ensures place, c.given.ensures place, c.get-content.ensures, c.marks_at-sites.ensures)
+    rw (c.union-found.ensures place, c.given_by-sites.ensures place)
     (or_assoc (has_site c.loop-entry.found place) (test c.in-Some.entry.now.child) (list_any (λ (entry : JoinEntry). test entry.child) (keys_of c.next.new.self)) ∙ (rw c.in-Some.ensures.steps at (c.loop-entry.invariant place)))
 
 pub returns : goal.returns

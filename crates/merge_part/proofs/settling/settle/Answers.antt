@@ -1,5 +1,14 @@
 use Rattle.std.proofs.Common.{◌≡◌, ◌∷◌, ◌+◌, ◌<◌, length, sym, ap, ◌∙◌, drop, drop-cons, add-one, get_or}
+use Rattle.std.specs.Map.{keys_of}
+use Rattle.merge_part.specs.Draft.{rows_in, marks_in}
+use Rattle.merge_part.proofs.Settled.{quiet_by}
 use Rattle.merge_part.proofs.settling.settle.Goals as goal
+
+pub settle_article-requires-clause-met : goal.settle_article-requires-clause-met
+settle_article-requires-clause-met c =
+    rw c.loop-article.invariant.rows
+    (quiet_by c.args.kept.now.rules.links (rows_in c.args.kept.now.held.rows.rows c.args.draft.now.rows) (marks_in c.args.kept.now.held.marks.rows c.loop-article.draft.marks.rows)
+    (drop c.loop-article.article-index c.args.kept.now.rules.order) (keys_of c.loop-article.draft.waiting.rows.rows) c.loop-article.invariant.met)
 
 pub loop-article-preserved : goal.loop-article-preserved
 loop-article-preserved c =

@@ -10,6 +10,6 @@ abbrev pub invariant-loop-article : goal.invariant-loop-article
 invariant-loop-article l = record {
   rows : l.draft.rows ≡ l.fn.draft.rows;
   index : l.draft.index ≡ l.fn.draft.index;
-  reached : AreReached l.kept.rules.links (children_found l.kept.index l.fn.draft.index) (keys_of l.draft.waiting.values.rows) l.draft.waiting.rows.items;
-  met : AllMeet l.kept.rules.links (rows_in l.kept.held.rows.rows l.fn.draft.rows) (marks_in l.kept.held.marks.rows l.draft.marks.rows) (pends (drop l.article-index l.kept.rules.order) l.draft.waiting.rows.items);
+  reached : AreReached l.kept.rules.links (children_found l.kept.index l.fn.draft.index) (keys_of l.draft.waiting.values.rows) (keys_of l.draft.waiting.rows.rows);
+  met : AllMeet l.kept.rules.links (rows_in l.kept.held.rows.rows l.fn.draft.rows) (marks_in l.kept.held.marks.rows l.draft.marks.rows) (pends (drop l.article-index l.kept.rules.order) (keys_of l.draft.waiting.rows.rows));
 }

@@ -4,7 +4,7 @@ use Rattle.merge_part.proofs.settling.settle_row.Goals as goal
 
 pub returns-clause-ok : goal.returns-clause-ok
 returns-clause-ok c =
-    settled_by _ _ _ _ _ _ c.args.key c.in_ok-sites.sites _ c.in_ok-insert.ensures.rows c.in_ok-sites.ensures.marks (rw (c.as_slice.ensures, c.get-content.ensures) at c.in_ok-wait_by_marks.ensures.ok)
+    settled_by _ _ _ _ _ _ c.args.key c.in_ok-sites.sites _ _ c.in_ok-insert.ensures.rows c.in_ok-sites.ensures.marks (rw c.marks_at-before.ensures at c.union.ensures) (rw (c.as_slice.ensures, c.get-content.ensures) at c.in_ok-wait_by_marks.ensures.ok)
 
 pub wait_by_marks-requires : goal.wait_by_marks-requires
 wait_by_marks-requires c = record { reached = rw c.as_slice.ensures c.requires.reached }

@@ -28,7 +28,7 @@ begun links index draft rows none_child none_parent exact = record {
 }
 
 pub loop-change-init : goal.loop-change-init
-loop-change-init g c = rw (c.new.ensures, c.new-4.ensures.items) record {
+loop-change-init g c = rw (c.new.ensures, c.new-4.ensures.rows) record {
   reached = rw c.new-5.ensures.rows (none_reached _ _ []);
   marks = c.new-3.ensures.rows;
   live = refl;
@@ -57,7 +57,7 @@ loop-change-preserved g c =
           (λ q. ap (λ edits. rows_in c.args.kept.now.held.rows.rows edits q) taken.1 ∙ changed_to c.args.kept.now.held.rows.rows c.is_ordered.ensures.rows c.loop-change.draft.rows (key_of_change c.change-item.result) taken.0 q)
           c.loop-change.invariant.filtered;
       drafted = c.in_ok-take_up.ensures.drafted;
-      met = c.in_ok-take_up.ensures.met (marks_of c.args.kept.now.held.marks.rows) c.requires.rules.within (c.requires.rules.all c.change-item.result.article (article_in_range c.args.publication.now c.change-item.result fits)) c.loop-change.invariant.met;
+      met = (rw c.loop-change.invariant.marks at c.in_ok-take_up.ensures.met) c.requires.rules.within (c.requires.rules.all c.change-item.result.article (article_in_range c.args.publication.now c.change-item.result fits)) c.loop-change.invariant.met;
       cost = cost_step (length c.args.publication.now.subscriptions) (count_if_some c.change-item.result.new) (living (drop (c.loop-change.change-index + 1) c.args.changes.now)) (living c.args.changes.now) c.args.steps.now c.loop-change.steps c.take_up.new.steps
           c.in_ok-take_up.ensures.cost (rw split at c.loop-change.invariant.cost);
     }

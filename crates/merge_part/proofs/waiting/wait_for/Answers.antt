@@ -9,8 +9,8 @@ loop-entry-init c = record { kept = λ key h. h; added = λ row h. or_right _ (l
 
 pub loop-entry-preserved : goal.loop-entry-preserved
 loop-entry-preserved c = record {
-  kept = λ key h. rw c.in_ok-push.ensures.items (waits_on c.loop-entry.waiting.items _ key (c.loop-entry.invariant.kept key h));
-  added = λ row h. rw c.in_ok-push.ensures.items (wait_step c.args.article row c.loop-entry.waiting.items c.in-Some.entry.now (keys_of c.next.new.self) (rw c.in-Some.ensures.steps at (c.loop-entry.invariant.added row h)));
+  kept = λ key h. rw c.in_ok-insert.ensures.rows (waits_on c.loop-entry.waiting.rows _ key (c.loop-entry.invariant.kept key h));
+  added = λ row h. rw c.in_ok-insert.ensures.rows (wait_step c.args.article row c.loop-entry.waiting.rows c.in-Some.entry.now (keys_of c.next.new.self) (rw c.in-Some.ensures.steps at (c.loop-entry.invariant.added row h)));
 }
 
 pub returns-clause-ok : goal.returns-clause-ok

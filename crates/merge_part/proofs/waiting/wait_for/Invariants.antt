@@ -8,6 +8,6 @@ use Rattle.merge_part.proofs.waiting.wait_for.Given as goal
 
 abbrev pub invariant-loop-entry : goal.invariant-loop-entry
 invariant-loop-entry l = record {
-  kept : KeepsWaiting l.fn.waiting.items l.waiting.items;
-  added : (row : RowId) → list_any (is_row row) (keys_of l.fn.entries) ≡ true → (waits l.waiting.items (record { article = l.article; row = row }) || list_any (is_row row) (keys_of l.entry-iterator)) ≡ true;
+  kept : KeepsWaiting (keys_of l.fn.waiting.rows) (keys_of l.waiting.rows);
+  added : (row : RowId) → list_any (is_row row) (keys_of l.fn.entries) ≡ true → (waits (keys_of l.waiting.rows) (record { article = l.article; row = row }) || list_any (is_row row) (keys_of l.entry-iterator)) ≡ true;
 }
