@@ -24,7 +24,7 @@ use Rattle.merge_model.specs.Failing.{Slips, faulty}
 use Rattle.merge_model.specs.History.{History, Line, MadeChange, Past, past_at, pasts_with}
 use Rattle.merge_model.specs.Judge.{PublisherJudge}
 use Rattle.merge_model.specs.Tables.Keys.{put_number}
-use Rattle.merge_model.specs.History.Model.{Model, did_something, empty_model, model, model_step, noted, noted_anew_at, noted_if, noted_letter, noted_make, noted_request, pasts_in, with_posted}
+use Rattle.merge_model.specs.History.Model.{Model, did_something, empty_model, model, model_step, noted_action, noted_anew_at, noted_if, noted_letter, noted_make, noted_request, pasts_in, with_posted}
 use Rattle.merge_model.specs.History.Noting
 use Rattle.merge_model.specs.History.Pasts.{past_after}
 use Rattle.merge_model.specs.Tables.Publications.{by_site}
@@ -139,7 +139,7 @@ module _ (publication : Publication) where
         let lines : List Line = map (Noting.gone_line (last_closed p + 1)) (flat_map (Noting.old_left publication (judges.publisher 0) p) (map Noting.site_of_subscription (by_site publication))) in
         same-fine h (Noting.with_lines lines (fold Noting.with_purged h keys)) (lines-on lines (fold Noting.with_purged h keys) ∙ fold-leave (λ (x : History). x.made) Noting.with_purged (λ x key. refl) keys h) fine
 
-    notes-fine : (action : Action) → IsSaid publication action → Fine (noted publication says judges w action h)
+    notes-fine : (action : Action) → IsSaid publication action → Fine (noted_action publication says judges w action h)
     notes-fine (Make site change) said = make-fine site change said
     notes-fine (Deliver number) said = found-fine number (letter_at w number) refl
     notes-fine (MakeAnew site) said = same-fine h (noted_anew_at judges site w h) (anew-leave (λ (x : History). x.made) (λ x pasts. refl) (λ x lost. refl) judges site (subscriber_at w site) h) fine
@@ -164,7 +164,7 @@ module _ (publication : Publication) where
     step-fine : (action : Action) → IsSaid publication action → Fine (model_step publication says m action).0.history
     step-fine action said =
         let done : World × Outcome = step_by publication says judges w action in
-        posted-fine done.0 done.1 (noted_if (did_something done.1) (noted publication says judges w action h) h) (noted-fine (did_something done.1) (noted publication says judges w action h) (notes-fine action said))
+        posted-fine done.0 done.1 (noted_if (did_something done.1) (noted_action publication says judges w action h) h) (noted-fine (did_something done.1) (noted_action publication says judges w action h) (notes-fine action said))
 
   pub exist-always : (says : Saying) (tallies : List ℕ) (slips : Slips) (events : List Event) → (resolvers : ℕ) × IsValid resolvers publication → AllExist publication (model_behind publication says tallies slips events).history.made
   exist-always says tallies slips events valid = (runs-said publication (model publication says) (λ (m : Model). Kept publication m × Fine m.history)

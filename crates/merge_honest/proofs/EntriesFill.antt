@@ -19,7 +19,7 @@ use Rattle.merge_batch.specs.declared.request.Upload.{Upload}
 use Rattle.merge_model.specs.Publisher.Acts.{Act}
 use Rattle.merge_model.specs.Judge.ByHistory.{by_history, by_made, by_past}
 use Rattle.merge_model.specs.Publisher.Entries as entry
-use Rattle.merge_model.specs.Publisher.Entries.{Changing, Entries, Parts, Touched, changing_entries, entry_count, moves_of, parts_of, returned, rows_after, touched_by, with_entries}
+use Rattle.merge_model.specs.Publisher.Entries.{Changing, Entries, Parts, Touched, changing_entries, entry_count, moves_of, parts_of, returned_rows, rows_after, touched_by, with_entries}
 use Rattle.merge_model.specs.History.{History, Line, Past, no_history, pasts_with}
 use Rattle.merge_model.specs.Judge.{PublisherJudge}
 use Rattle.merge_model.specs.Tables.Keys.{put_number}
@@ -146,7 +146,7 @@ module _ (publication : Publication) (judge : PublisherJudge) (changing : Changi
       let more : List Line = lines_of_entries other entries in
       subst (λ (n : ℕ). Fills (entries_in (fold added lines more)) (filled_by p.gens.filling n)) (sym all-counted)
       (fills-more p.gens.filling count (entries_in lines) (entries_in (fold added lines more)) low f
-      (λ generation. added-counts generation more lines ∙ ap (λ (n : ℕ). n + entries_in lines generation) (step-counts generation other touched.changed step_moves (returned judge touched parts touched.changed) generations many)))
+      (λ generation. added-counts generation more lines ∙ ap (λ (n : ℕ). n + entries_in lines generation) (step-counts generation other touched.changed step_moves (returned_rows judge touched parts touched.changed) generations many)))
 
 -- Worlds.
 

@@ -13,7 +13,7 @@ use Rattle.merge_model.specs.History.Model.{Model, model}
 use Rattle.merge_model.specs.Laws.Promises.{IsSettled}
 use Rattle.merge_model.specs.Failing.Runs.{model_behind}
 use Rattle.merge_model.specs.World.Session.{Session, Stepping, session}
-use Rattle.merge_model.specs.Laws.SlipLaws.{is_slip, shown}
+use Rattle.merge_model.specs.Laws.SlipLaws.{is_slip, shows_refusal}
 use Rattle.merge_model.specs.Tables.{SubscriberTables}
 use Rattle.merge_model.specs.World.{Saying, subscriber_at}
 use Rattle.merge_model.specs.declared.answer.Answer.{Answer}
@@ -41,7 +41,7 @@ unfolding stop_of
 answer-stop uploads downloads watermark None = refl
 answer-stop uploads downloads watermark (Some refusal) = refl
 
-answer-shown : (uploads downloads watermark : ℕ) (stop : Option Refusal) (b : Bool) → slips_by stop ≡ b → (let answer : Answer = elim stop [ None ↦ Done uploads downloads watermark | Some refusal ↦ Stopped uploads downloads refusal ] in shown is_slip answer ≡ b)
+answer-shown : (uploads downloads watermark : ℕ) (stop : Option Refusal) (b : Bool) → slips_by stop ≡ b → (let answer : Answer = elim stop [ None ↦ Done uploads downloads watermark | Some refusal ↦ Stopped uploads downloads refusal ] in shows_refusal is_slip answer ≡ b)
 answer-shown uploads downloads watermark None b is = is
 answer-shown uploads downloads watermark (Some refusal) b is = is
 
@@ -83,10 +83,10 @@ module _ (publication : Publication) (says : Saying) (m : Model) (slips : Slips)
     pub world : failed.world.world ≡ plain.world
     pub stop : failed.stop ≡ plain.stop
 
-  none-shown : slips_by failed.stop ≡ false → list_any (shown is_slip) (answers publication fails (faulty m slips) (event.Sync site ∷ [])) ≡ false
+  none-shown : slips_by failed.stop ≡ false → list_any (shows_refusal is_slip) (answers publication fails (faulty m slips) (event.Sync site ∷ [])) ≡ false
   none-shown none =
-      let here : shown is_slip (session_answer publication fails site failed) ≡ false = answer-shown failed.uploads failed.downloads (watermark publication fails site subscribes failed) failed.stop false none in
-      ap (λ (told : List Answer). list_any (shown is_slip) told) (sync-answers publication fails site subscribes (faulty m slips)) ∙ (let all : (shown is_slip (session_answer publication fails site failed) || false) ≡ false = grind (arith, here) in all)
+      let here : shows_refusal is_slip (session_answer publication fails site failed) ≡ false = answer-shown failed.uploads failed.downloads (watermark publication fails site subscribes failed) failed.stop false none in
+      ap (λ (told : List Answer). list_any (shows_refusal is_slip) told) (sync-answers publication fails site subscribes (faulty m slips)) ∙ (let all : (shows_refusal is_slip (session_answer publication fails site failed) || false) ≡ false = grind (arith, here) in all)
 
   first : List Answer → Option (Option Refusal)
   first [] = None

@@ -20,7 +20,7 @@ use Rattle.merge_model.specs.Judge.ByHistory.{by_made, by_past}
 use Rattle.merge_model.specs.Tables.Changes.{key_of, version_after}
 use Rattle.merge_model.specs.History.{History, MadeChange, made_at, no_history, past_at, pasts_with}
 use Rattle.merge_model.specs.Judge.{SubscriberJudge}
-use Rattle.merge_model.specs.Laws.{AreSubSorted}
+use Rattle.merge_model.specs.Laws.{SubscriberIsSorted}
 use Rattle.merge_model.specs.History.Noting
 use Rattle.merge_model.specs.History.Pasts.{past_after}
 use Rattle.merge_model.specs.Subscriber.Reinit.{reinitialised}
@@ -138,7 +138,7 @@ module _ (publication : Publication) (says : Saying) where
   order-at w h s g at = (g.numbered.subscribers s.site.0 s at).order (λ zero. found-named w.subscribers s.site.0 s g.none at zero)
 
   unfilled-at : (w : World) (h : History) (s : SubscriberTables) → Ground publication w h → subscriber_at w s.site ≡ Some s → s.gens.filling.filled < entry_limit
-  unfilled-at w h s g at = (all-found AreSubSorted w.subscribers s.site.0 s g.rows at).generations_ascend.unfilled
+  unfilled-at w h s g at = (all-found SubscriberIsSorted w.subscribers s.site.0 s g.rows at).generations_ascend.unfilled
 
   change-filled : (w : World) (h : History) (s : SubscriberTables) (change : Change) (d : Value × List (ℕ × Holder)) → Ground publication w h → AreFilled w h → subscriber_at w s.site ≡ Some s → subscriber_local_refusal publication change s ≡ None
       → AreFilled (with_subscriber (subscriber_made_locally publication change d (subscriber_at_moment w.moment s)).0 w) (Noting.with_change publication (subscriber_next_dot s) (subscriber_last_closed s + 1) change d.0 h)

@@ -28,7 +28,7 @@ use Rattle.merge_model.specs.World.{Saying, World}
 use Rattle.merge_model.specs.declared.letter.Letter.{Letter}
 use Rattle.merge_model.specs.declared.outcome.Outcome.{Outcome}
 use Rattle.merge_model.specs.declared.outcome.Outcome.TheVariants.{NoLetter, Posted, Refuses}
-use Rattle.merge_laws.specs.Laws.ActsOnce.{delivered}
+use Rattle.merge_laws.specs.Laws.ActsOnce.{step_of_delivery}
 use Rattle.merge_laws.specs.Laws.Effects.{history_judge}
 use Rattle.merge_laws.specs.Laws.{OfEveryValidRun}
 use Rattle.merge_honest.specs.Delivered.{IsRequest, NoneIsRefusedFor, is_unexpected, refusal_of}
@@ -130,10 +130,10 @@ request-answered publication says judge site (request.Upload m) w = unless-answe
 request-answered publication says judge site (request.Ranges m) w = unless-answered w _ _ _ (_, refl)
 request-answered publication says judge site (request.Download m) w = unless-answered w _ _ _ (_, refl)
 
-delivered-answered : (publication : Publication) (says : Saying) (m : Model) (number : ℕ) (site : SiteId) (r : Request) → IsRequest m number site r → IsAnswered (refusal_of publication (history_judge m number) m.world.moment r m.world.publisher) (delivered publication says m number).1
+delivered-answered : (publication : Publication) (says : Saying) (m : Model) (number : ℕ) (site : SiteId) (r : Request) → IsRequest m number site r → IsAnswered (refusal_of publication (history_judge m number) m.world.moment r m.world.publisher) (step_of_delivery publication says m number).1
 delivered-answered publication says m number site r at =
     let w : World = m.world in
-    let is : (delivered publication says m number).1 ≡ (deliver_request publication says (history_judge m number) site r w).1 =
+    let is : (step_of_delivery publication says m number).1 ≡ (deliver_request publication says (history_judge m number) site r w).1 =
     ap (λ (found : Option Letter). (let done : World × Outcome = elim found [ None ↦ (w, NoLetter) | Some letter ↦ deliver_letter publication says (by_history m.history) number w letter ] in done.1)) at in
     subst (IsAnswered (refusal_of publication (history_judge m number) w.moment r w.publisher)) (sym is) (request-answered publication says (history_judge m number) site r w)
 
@@ -145,8 +145,8 @@ taken-in : (publication : Publication) (says : Saying) (m : Model) → NoneIsRef
 taken-in publication says m few number site r at =
     let judge : PublisherJudge = history_judge m number in
     let answered = delivered-answered publication says m number site r at in
-    let same = same-reasons publication judge m.world.moment r m.world.publisher (λ why is. few number site r why at (refuses-why (refusal_of publication judge m.world.moment r m.world.publisher) (delivered publication says m number).1 why answered is)) in
-    subst (λ (found : Option Refusal). IsAnswered found (delivered publication says m number).1) same answered
+    let same = same-reasons publication judge m.world.moment r m.world.publisher (λ why is. few number site r why at (refuses-why (refusal_of publication judge m.world.moment r m.world.publisher) (step_of_delivery publication says m number).1 why answered is)) in
+    subst (λ (found : Option Refusal). IsAnswered found (step_of_delivery publication says m number).1) same answered
 
 pub honest-taken : IsKept 12 → OfEveryValidRun HonestAreTaken
 honest-taken twelve resolvers publication valid says tallies slips events = taken-in publication says (model_behind publication says tallies slips events) (none-unexpected twelve resolvers publication valid says tallies slips events)

@@ -37,7 +37,7 @@ use Rattle.merge_model.specs.Failing.{Slips}
 use Rattle.merge_model.specs.History.{History}
 use Rattle.merge_model.specs.Judge.{SubscriberJudge}
 use Rattle.merge_model.specs.Tables.Keys.{drop_row, put_number, put_row, row_at}
-use Rattle.merge_model.specs.Laws.{AreSubSorted}
+use Rattle.merge_model.specs.Laws.{SubscriberIsSorted}
 use Rattle.merge_model.specs.Subscriber.Reinit.{reinitialised}
 use Rattle.merge_model.specs.Failing.Runs.{model_behind}
 use Rattle.merge_model.specs.Subscriber.Sending.{upload_end, upload_item, upload_sent, with_message}
@@ -171,7 +171,7 @@ item-own : (n from to : ℕ) (entry : Key × ℕ) (found : Option SubscriberRow)
 item-own n from to entry None has is = tt
 item-own n from to entry (Some row) has is = between-own n from to row.generations row.version.lineage is has
 
-items-of : (n from to : ℕ) (s : SubscriberTables) → AreSubSorted s → AllOwn n s.rows → AllByRecursion (λ (item : UploadItem). has_pair_of n item.version.lineage ≡ true) (filter_map (upload_item s) (changed_between_by_rows s from to))
+items-of : (n from to : ℕ) (s : SubscriberTables) → SubscriberIsSorted s → AllOwn n s.rows → AllByRecursion (λ (item : UploadItem). has_pair_of n item.version.lineage ≡ true) (filter_map (upload_item s) (changed_between_by_rows s from to))
 items-of n from to s sorted all = all-filter_map (λ (entry : Key × ℕ). is_some (row_at (changed_between_by_rows s from to) entry.0) ≡ true) (λ (item : UploadItem). has_pair_of n item.version.lineage ≡ true) (upload_item s)
     (λ entry there. item-own n from to entry (row_at s.rows entry.0) (row-own n s.rows entry.0 all) (ap (λ (found : Option ℕ). is_some found) (sym (rows-changed from to entry.0 s.rows sorted.rows_ascend)) ∙ there))
     (changed_between_by_rows s from to) (keys-found (changed_between_by_rows s from to))
@@ -199,7 +199,7 @@ module _ (publication : Publication) (says : Saying) where
       let named : s.site.0 ≡ 0 → ⊥ = found-named w.subscribers s.site.0 s g.none at in
       let alike = decides-alike (record { world = w; history = h }) (g.received, (g.numbered, g.rows)) g.unsent s named at in
       let same : changed_between_by_rows c s.received to ≡ changed_between_by_made h s.site s.received to = alike.changed_between s.received to (omega arith) in
-      let sorted : AreSubSorted s = all-found AreSubSorted w.subscribers s.site.0 s g.rows at in
+      let sorted : SubscriberIsSorted s = all-found SubscriberIsSorted w.subscribers s.site.0 s g.rows at in
       subst (λ (entries : List (Key × ℕ)). AllByRecursion (λ (item : UploadItem). has_pair_of s.site.0 item.version.lineage ≡ true) (filter_map (upload_item c) entries)) same
       (items-of s.site.0 s.received to s sorted (here-own w h s i at))
 

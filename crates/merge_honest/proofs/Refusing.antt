@@ -35,7 +35,7 @@ use Rattle.merge_model.specs.declared.letter.Letter.{Letter}
 use Rattle.merge_model.specs.declared.outcome.Outcome.{Outcome}
 use Rattle.merge_model.specs.declared.outcome.Outcome.TheVariants.{NoLetter, Posted, Refuses}
 use Rattle.merge_model.proofs.Lists.Finding.{some_same}
-use Rattle.merge_laws.specs.Laws.ActsOnce.{delivered}
+use Rattle.merge_laws.specs.Laws.ActsOnce.{step_of_delivery}
 use Rattle.merge_laws.specs.Laws.Effects.{history_judge}
 use Rattle.merge_honest.specs.Delivered.{IsRequest, NoneIsRefusedFor, refusal_of}
 
@@ -138,10 +138,10 @@ request-why publication says judge site (request.Ranges m) w why e = unless-why 
 request-why publication says judge site (request.Download m) w why e = unless-why w _ _ _ why (λ is. no-post _ why is) e
 
 pub delivered-why : (publication : Publication) (says : Saying) (m : Model) (number : ℕ) (site : SiteId) (r : Request) (why : Refusal) → IsRequest m number site r
-    → (delivered publication says m number).1 ≡ Refuses why → refusal_of publication (history_judge m number) m.world.moment r m.world.publisher ≡ Some why
+    → (step_of_delivery publication says m number).1 ≡ Refuses why → refusal_of publication (history_judge m number) m.world.moment r m.world.publisher ≡ Some why
 delivered-why publication says m number site r why at e =
     let w : World = m.world in
-    let is : (delivered publication says m number).1 ≡ (deliver_request publication says (history_judge m number) site r w).1 =
+    let is : (step_of_delivery publication says m number).1 ≡ (deliver_request publication says (history_judge m number) site r w).1 =
     ap (λ (found : Option Letter). (let done : World × Outcome = elim found [ None ↦ (w, NoLetter) | Some letter ↦ deliver_letter publication says (by_history m.history) number w letter ] in done.1)) at in
     request-why publication says (history_judge m number) site r w why (sym is ∙ e)
 

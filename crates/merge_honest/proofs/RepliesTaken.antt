@@ -25,7 +25,7 @@ use Rattle.merge_model.specs.declared.outcome.Outcome.{Outcome}
 use Rattle.merge_model.specs.declared.outcome.Outcome.TheVariants.{NoLetter, Refuses, Took}
 use Rattle.merge_model.specs.declared.outcome.Taken.{Taken}
 use Rattle.merge_model.specs.declared.outcome.Taken.TheVariants.{Acted, Missed}
-use Rattle.merge_laws.specs.Laws.ActsOnce.{delivered}
+use Rattle.merge_laws.specs.Laws.ActsOnce.{step_of_delivery}
 use Rattle.merge_laws.specs.Laws.{OfEveryValidRun}
 use Rattle.merge_honest.specs.Answered.{MessageAnswers}
 use Rattle.merge_honest.specs.Replied.{IsReply, NoReplyIsRefused, RepliesFit}
@@ -91,10 +91,10 @@ found-not publication m site r fits None there is why e = absurd is
 found-not publication m site r fits (Some s) there is why e =
     taken-not publication m site r fits s (take_reply publication (by_made m.history s.site) m.world.moment r s) (take-not publication m site r fits s (by_made m.history s.site) there) why e
 
-pub deliver-not : (publication : Publication) (says : Saying) (m : Model) → Known publication m → (number : ℕ) (site : SiteId) (r : Reply) → IsReply m number site r → Fits publication m site r → (why : Refusal) → (delivered publication says m number).1 ≡ Refuses why → ⊥
+pub deliver-not : (publication : Publication) (says : Saying) (m : Model) → Known publication m → (number : ℕ) (site : SiteId) (r : Reply) → IsReply m number site r → Fits publication m site r → (why : Refusal) → (step_of_delivery publication says m number).1 ≡ Refuses why → ⊥
 deliver-not publication says m k number site r at fits why e =
     let w : World = m.world in
-    let is : (delivered publication says m number).1 ≡ (let done : World × Outcome = elim (subscriber_at w site) [ None ↦ (w, Refuses (UnknownSite site)) | Some s ↦ deliver_reply publication (by_history m.history) r w s ] in done.1) =
+    let is : (step_of_delivery publication says m number).1 ≡ (let done : World × Outcome = elim (subscriber_at w site) [ None ↦ (w, Refuses (UnknownSite site)) | Some s ↦ deliver_reply publication (by_history m.history) r w s ] in done.1) =
     ap (λ (found : Option Letter). (let done : World × Outcome = elim found [ None ↦ (w, NoLetter) | Some letter ↦ deliver_letter publication says (by_history m.history) number w letter ] in done.1)) at in
     found-not publication m site r fits (subscriber_at w site) refl (answered-here publication m k number site r at).0 why (sym is ∙ e)
 

@@ -32,7 +32,7 @@ use Rattle.merge_model.specs.Judge.ByHistory.{by_history, by_made}
 use Rattle.merge_model.specs.History.{History}
 use Rattle.merge_model.specs.Judge.{PublisherJudge, SubscriberJudge}
 use Rattle.merge_model.specs.Tables.Keys.{at_number}
-use Rattle.merge_model.specs.History.Model.{Model, did_something, model_step, noted, noted_if, noted_letter, with_posted}
+use Rattle.merge_model.specs.History.Model.{Model, did_something, model_step, noted_action, noted_if, noted_letter, with_posted}
 use Rattle.merge_model.specs.Laws.Promises.{is_expired_at}
 use Rattle.merge_model.specs.Publisher.{counters, later, no_state, state_of}
 use Rattle.merge_model.specs.Publisher.PublisherDownload.{asked, download_refusal, reply_to}
@@ -314,6 +314,6 @@ module _ (publication : Publication) (says : Saying) where
 
       pub deliver-ends : HonestAreTaken publication says k → (r : Request) (why : Refusal) → IsRequest k number site r → number ≡ length k.world.pool → IsFresh k site r → (model_step publication says k (Deliver number)).1 ≡ Refuses why → EndsFor (model_step publication says k (Deliver number)).0 site why
       deliver-ends taken r why at last fresh is =
-          let same : (model_step publication says k (Deliver number)).0 ≡ k = left-same (noted publication says (by_history k.history) k.world (Deliver number) k.history) (step_by publication says (by_history k.history) k.world (Deliver number)) why is (step_by-leaves publication says (by_history k.history) k.world (Deliver number) why is) in
+          let same : (model_step publication says k (Deliver number)).0 ≡ k = left-same (noted_action publication says (by_history k.history) k.world (Deliver number) k.history) (step_by publication says (by_history k.history) k.world (Deliver number)) why is (step_by-leaves publication says (by_history k.history) k.world (Deliver number) why is) in
           subst (λ (n : Model). EndsFor n site why) (sym same)
           (fresh-why r why at last fresh (refused-why (first_refusal (reasons publication judge k.world.moment r k.world.publisher)) (model_step publication says k (Deliver number)).1 why (taken number site r at) is))

@@ -17,7 +17,7 @@ use Rattle.merge_model.specs.Tables.{PublisherTables}
 use Rattle.merge_model.specs.World.{Saying, letter_at}
 use Rattle.merge_model.specs.declared.letter.Message.TheVariants.{Asks}
 use Rattle.merge_model.specs.declared.outcome.Outcome.TheVariants.{Refuses}
-use Rattle.merge_laws.specs.Laws.ActsOnce.{delivered}
+use Rattle.merge_laws.specs.Laws.ActsOnce.{step_of_delivery}
 use Rattle.merge_laws.specs.Laws.Effects.{history_judge}
 
 -- a letter of the pool is a request
@@ -33,7 +33,7 @@ refusal_of publication judge now (request.Download m) p = download_refusal publi
 
 -- No delivery of a request of the pool is refused for what a test says.
 abbrev pub NoneIsRefusedFor : (Refusal → Bool) → Publication → Saying → Model → Type 0
-NoneIsRefusedFor test publication says m = (number : ℕ) (site : SiteId) (r : Request) (why : Refusal) → IsRequest m number site r → (delivered publication says m number).1 ≡ Refuses why → test why ≡ false
+NoneIsRefusedFor test publication says m = (number : ℕ) (site : SiteId) (r : Request) (why : Refusal) → IsRequest m number site r → (step_of_delivery publication says m number).1 ≡ Refuses why → test why ≡ false
 
 -- the tests
 
@@ -69,4 +69,4 @@ is_unexpected other = true
 -- A delivery that is refused tells the first of the publisher's reasons.
 abbrev pub FirstReasonIsTold : Type 0
 FirstReasonIsTold = (publication : Publication) (says : Saying) (m : Model) (number : ℕ) (site : SiteId) (r : Request) (why : Refusal) → IsRequest m number site r
-    → (delivered publication says m number).1 ≡ Refuses why → refusal_of publication (history_judge m number) m.world.moment r m.world.publisher ≡ Some why
+    → (step_of_delivery publication says m number).1 ≡ Refuses why → refusal_of publication (history_judge m number) m.world.moment r m.world.publisher ≡ Some why

@@ -23,7 +23,7 @@ use Rattle.merge_model.specs.Subscriber.Taking.{seq_of}
 use Rattle.merge_model.specs.World.{Saying, letter_at, subscriber_at}
 use Rattle.merge_model.specs.declared.letter.Message.TheVariants.{Replies}
 use Rattle.merge_model.specs.declared.outcome.Outcome.TheVariants.{Refuses}
-use Rattle.merge_laws.specs.Laws.ActsOnce.{delivered}
+use Rattle.merge_laws.specs.Laws.ActsOnce.{step_of_delivery}
 
 -- a letter of the pool is a reply
 abbrev pub IsReply : Model → ℕ → SiteId → Reply → Type 0
@@ -36,7 +36,7 @@ RepliesFit publication says m = (number : ℕ) (site : SiteId) (r : Reply) (s : 
 
 -- No delivery of a reply of the pool is refused.
 abbrev pub NoReplyIsRefused : Publication → Saying → Model → Type 0
-NoReplyIsRefused publication says m = (number : ℕ) (site : SiteId) (r : Reply) (why : Refusal) → IsReply m number site r → (delivered publication says m number).1 ≡ Refuses why → ⊥
+NoReplyIsRefused publication says m = (number : ℕ) (site : SiteId) (r : Reply) (why : Refusal) → IsReply m number site r → (step_of_delivery publication says m number).1 ≡ Refuses why → ⊥
 
 -- A reply of the pool that has the number of its site's outstanding message is of the kind that the message asks for, and tells
 -- what it was asked: an upload was taken to its end, and a download begins where it was asked.

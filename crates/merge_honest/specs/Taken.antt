@@ -19,7 +19,7 @@ use Rattle.merge_model.specs.Tables.{PublisherTables}
 use Rattle.merge_model.specs.World.{Saying}
 use Rattle.merge_model.specs.declared.outcome.Outcome.{Outcome}
 use Rattle.merge_model.specs.declared.outcome.Outcome.TheVariants.{Posted, Refuses}
-use Rattle.merge_laws.specs.Laws.ActsOnce.{delivered}
+use Rattle.merge_laws.specs.Laws.ActsOnce.{step_of_delivery}
 use Rattle.merge_laws.specs.Laws.Effects.{history_judge}
 use Rattle.merge_honest.specs.Delivered.{IsRequest}
 
@@ -46,4 +46,4 @@ IsAnswered (Some why) outcome = outcome ≡ Refuses why
 
 abbrev pub HonestAreTaken : Publication → Saying → Model → Type 0
 HonestAreTaken publication says m = (number : ℕ) (site : SiteId) (r : Request) → IsRequest m number site r
-    → IsAnswered (first_refusal (reasons publication (history_judge m number) m.world.moment r m.world.publisher)) (delivered publication says m number).1
+    → IsAnswered (first_refusal (reasons publication (history_judge m number) m.world.moment r m.world.publisher)) (step_of_delivery publication says m number).1

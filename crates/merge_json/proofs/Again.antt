@@ -18,7 +18,7 @@ use Rattle.merge_types.proofs.Guids.{IsGuidText-guid_text}
 use Rattle.merge_units.specs.declared.version.Cell.{Cell}
 use Rattle.merge_lineage.specs.Lineage.{ascending}
 use Rattle.merge_json.specs.Reading.{◌>>=◌, Reader, whole_at, below_at, signed_at, each_at, list_at}
-use Rattle.merge_json.specs.Written.{ReadsBack, whole, signed, list_of, dot_data, guid_data, value_data, cell_data}
+use Rattle.merge_json.specs.Written.{ReadsBack, whole, signed_data, list_of, dot_data, guid_data, value_data, cell_data}
 use Rattle.merge_json.specs.Values.{guid_of, bytes_at, day_at, guid_at, count_of, tagged_at, int_at, value_at}
 use Rattle.merge_json.specs.Rows.{site_at, dot_at, lineage_at, row_at, cell_at}
 use Rattle.merge_json.proofs.DayTexts.{day_again}
@@ -32,7 +32,7 @@ pub whole_again : (n : ℕ) → whole_at (whole n) ≡ Some n
 unfolding whole_at
 whole_again n = refl
 
-pub signed_again : (z : ℤ) → FitsSigned w64 z → signed_at (signed z) ≡ Some z
+pub signed_again : (z : ℤ) → FitsSigned w64 z → signed_at (signed_data z) ≡ Some z
 unfolding signed_at
 signed_again (pos n) fits = let lt : n < 2 ^ 63 = omega (arith, fits) in rw (lt-ltb n (2 ^ 63) lt) refl
 signed_again (negsuc n) fits = refl

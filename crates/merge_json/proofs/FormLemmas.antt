@@ -4,7 +4,7 @@ use Rattle.std.specs.Prelude.{nat_lt}
 use Rattle.std.proofs.lemmas.Bool.{ltb-true, lt-ltb}
 use Rattle.serde_json.specs.Data.{Data, Num, unsigned, negative, float, null, boolean, number, string, array, object, Items, no_items, item}
 use Rattle.serde_json.specs.Find.{get, as_i64, as_str, as_array}
-use Rattle.merge_json.specs.Reading.{◌>>=◌, Reader, field_at, whole_at, below_at, signed_at, bit_at, each_at, list_at, placed, mapped, numbered_at}
+use Rattle.merge_json.specs.Reading.{◌>>=◌, Reader, field_at, whole_at, below_at, signed_at, bit_at, each_at, list_at, placed, mapped_result, numbered_at}
 use Rattle.merge_json.specs.Written.{whole}
 use Rattle.merge_json.specs.Forms.{HasMember, AreEach, IsList, HasBadMember, IsWhole, IsBelow, IsInteger, IsSigned, IsBit}
 use Rattle.merge_json.proofs.Readers.{some_same, none_by, cond_some, bind_some, placed_ok, mapped_ok, mapped_err}
@@ -157,7 +157,7 @@ list_member key read Is form = field_form key (list_at read) (λ xs d. IsList Is
 pub numbered_found : {A : Type 0} (read : Reader A) (Is : A → Data → Type 0) → IsForm read Is → (place : ℕ) (ds : Items) (xs : List A) → numbered_at read place ds ≡ Ok xs → AreEach Is xs ds
 numbered_found {A = A} read Is form place no_items xs e = let same : [] ≡ xs = cc in subst (λ (ys : List A). AreEach Is ys no_items) same tt
 numbered_found {A = A} read Is form place (item d ds) xs e =
-    let s = placed_ok place (read d) (λ x. mapped (λ ys. x ∷ ys) (numbered_at read (suc place) ds)) xs e in
+    let s = placed_ok place (read d) (λ x. mapped_result (λ ys. x ∷ ys) (numbered_at read (suc place) ds)) xs e in
     let t = mapped_ok (λ ys. s.0 ∷ ys) (numbered_at read (suc place) ds) xs s.2 in
     subst (λ (ys : List A). AreEach Is ys (item d ds)) t.2 (form.found d s.0 s.1, numbered_found read Is form (suc place) ds t.0 t.1)
 
@@ -178,7 +178,7 @@ pub numbered_bad : {A : Type 0} (read : Reader A) (Is : A → Data → Type 0) �
 numbered_bad read Is form place no_items n e = absurd cc
 numbered_bad {A = A} read Is form place (item d ds) n e = by (read d) refl e (numbered_bad read Is form (suc place) ds n)
   where
-    by : (o : Option A) → read d ≡ o → placed place o (λ x. mapped (λ xs. x ∷ xs) (numbered_at read (suc place) ds)) ≡ Err n → (numbered_at read (suc place) ds ≡ Err n → BadFrom Is (suc place) ds n) → BadFrom Is place (item d ds) n
+    by : (o : Option A) → read d ≡ o → placed place o (λ x. mapped_result (λ xs. x ∷ xs) (numbered_at read (suc place) ds)) ≡ Err n → (numbered_at read (suc place) ds ≡ Err n → BadFrom Is (suc place) ds n) → BadFrom Is place (item d ds) n
     by None is f later = let same : place ≡ n = cc in (0, omega (arith, same), λ x h. not_some (read d) x is (form.only d x h))
     by (Some x) is f later =
         let h = later (mapped_err (λ xs. x ∷ xs) (numbered_at read (suc place) ds) n f) in

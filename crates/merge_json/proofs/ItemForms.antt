@@ -2,7 +2,7 @@
 use Rattle.std.proofs.Common.{◌≡◌, ◌∙◌, ◌+◌, ℕ, suc, List, codes, Option, Some, None, Result, Ok, Err, refl, sym, ap, subst, arith}
 use Rattle.serde_json.specs.Data.{Data, array, Items}
 use Rattle.serde_json.specs.Find.{get, as_array}
-use Rattle.merge_json.specs.Reading.{Reader, field_at, placed, mapped, numbered_at}
+use Rattle.merge_json.specs.Reading.{Reader, field_at, placed, mapped_result, numbered_at}
 use Rattle.merge_json.specs.Forms.{HasMember, IsList, HasBadMember}
 use Rattle.merge_json.specs.Messages.{HasItems}
 use Rattle.merge_json.proofs.Readers.{bind_some, placed_ok, mapped_ok, mapped_err}
@@ -18,13 +18,13 @@ items_at d ds e = rw e refl
 
 -- how all but the items comes first, and then the items by their numbers
 abbrev pub both_at : {F M A : Type 0} → Reader F → (F → List A → M) → Reader A → Data → Result M ℕ
-both_at front made read d = placed 0 (front d) (λ f. placed 0 (field_at (codes "items") as_array d) (λ ds. mapped (made f) (numbered_at read 1 ds)))
+both_at front made read d = placed 0 (front d) (λ f. placed 0 (field_at (codes "items") as_array d) (λ ds. mapped_result (made f) (numbered_at read 1 ds)))
 
 module _ {F M A : Type 0} (front : Reader F) (made : F → List A → M) (read : Reader A) (Is : A → Data → Type 0) (form : IsForm read Is) (d : Data) where
   pub both_found : (m : M) → both_at front made read d ≡ Ok m → (f : F) × (xs : List A) × (front d ≡ Some f) × HasMember (codes "items") (λ ys v. IsList Is ys v) xs d × (made f xs ≡ m)
   both_found m e =
-      let s = placed_ok 0 (front d) (λ f. placed 0 (field_at (codes "items") as_array d) (λ ds. mapped (made f) (numbered_at read 1 ds))) m e in
-      let t = placed_ok 0 (field_at (codes "items") as_array d) (λ ds. mapped (made s.0) (numbered_at read 1 ds)) m s.2 in
+      let s = placed_ok 0 (front d) (λ f. placed 0 (field_at (codes "items") as_array d) (λ ds. mapped_result (made f) (numbered_at read 1 ds))) m e in
+      let t = placed_ok 0 (field_at (codes "items") as_array d) (λ ds. mapped_result (made s.0) (numbered_at read 1 ds)) m s.2 in
       let u = mapped_ok (made s.0) (numbered_at read 1 t.0) m t.2 in
       (s.0, u.0, s.1, (array t.0, items_is d t.0 t.1, (t.0, refl, numbered_found read Is form 1 t.0 u.0 u.1)), u.2)
 
@@ -37,20 +37,20 @@ module _ {F M A : Type 0} (front : Reader F) (made : F → List A → M) (read :
   pub both_bad : (n : ℕ) → both_at front made read d ≡ Err (suc n) → (f : F) × (front d ≡ Some f) × HasItems d (HasBadMember Is n)
   both_bad n e = by (front d) refl e
     where
-      later : (f : F) (o : Option Items) → field_at (codes "items") as_array d ≡ o → front d ≡ Some f → placed 0 o (λ ds. mapped (made f) (numbered_at read 1 ds)) ≡ Err (suc n) → (f : F) × (front d ≡ Some f) × HasItems d (HasBadMember Is n)
+      later : (f : F) (o : Option Items) → field_at (codes "items") as_array d ≡ o → front d ≡ Some f → placed 0 o (λ ds. mapped_result (made f) (numbered_at read 1 ds)) ≡ Err (suc n) → (f : F) × (front d ≡ Some f) × HasItems d (HasBadMember Is n)
       later f None is first h = absurd cc
       later f (Some ds) is first h =
           let b = numbered_bad read Is form 1 ds (suc n) (mapped_err (made f) (numbered_at read 1 ds) (suc n) h) in
           let same : b.0 ≡ n = omega (arith, b.1) in
           (f, first, (ds, items_is d ds is, subst (λ (k : ℕ). HasBadMember Is k ds) same b.2))
 
-      by : (o : Option F) → front d ≡ o → placed 0 o (λ f. placed 0 (field_at (codes "items") as_array d) (λ ds. mapped (made f) (numbered_at read 1 ds))) ≡ Err (suc n) → (f : F) × (front d ≡ Some f) × HasItems d (HasBadMember Is n)
+      by : (o : Option F) → front d ≡ o → placed 0 o (λ f. placed 0 (field_at (codes "items") as_array d) (λ ds. mapped_result (made f) (numbered_at read 1 ds))) ≡ Err (suc n) → (f : F) × (front d ≡ Some f) × HasItems d (HasBadMember Is n)
       by None is h = absurd cc
       by (Some f) is h = later f (field_at (codes "items") as_array d) refl is h
 
   pub both_bad_rest : (f : F) (ds : Items) → front d ≡ Some f → get (codes "items") d ≡ Some (array ds) → both_at front made read d ≡ Err 0 → ⊥
   both_bad_rest f ds is listed e =
-      let split : both_at front made read d ≡ mapped (made f) (numbered_at read 1 ds) = rw (is, items_at d ds listed) refl in
+      let split : both_at front made read d ≡ mapped_result (made f) (numbered_at read 1 ds) = rw (is, items_at d ds listed) refl in
       let b = numbered_bad read Is form 1 ds 0 (mapped_err (made f) (numbered_at read 1 ds) 0 (sym split ∙ e)) in
       omega (arith, b.1)
 

@@ -23,7 +23,7 @@ use Rattle.merge_types.specs.declared.values.Value.TheVariants.{Null, Int, Bit, 
 use Rattle.merge_units.specs.Length.{value_count}
 use Rattle.merge_units.specs.Length as units
 use Rattle.merge_units.specs.declared.version.Cell.{Cell}
-use Rattle.merge_json.specs.Written.{list_of, dot_data, guid_data, tagged, value_data, cell_data}
+use Rattle.merge_json.specs.Written.{list_of, dot_data, guid_data, tagged_data, value_data, cell_data}
 use Rattle.merge_json.specs.Forms.{AreEach, IsList, IsValue, IsCell}
 use Rattle.merge_json.proofs.Weights.{weight, items_weight}
 
@@ -148,7 +148,7 @@ unfolding escape_byte
 guid_key = refl
 
 -- by the number of bytes that are stored, and the number of values
-tag_short : (key text : List ℕ) (k n : ℕ) → length (quoted key) ≤ k → length (quoted text) ≤ n → weight (tagged key text) ≤ k + n + 4
+tag_short : (key text : List ℕ) (k n : ℕ) → length (quoted key) ≤ k → length (quoted text) ≤ n → weight (tagged_data key text) ≤ k + n + 4
 tag_short key text k n h t = omega (arith, h, t)
 
 day_length : (day : ℤ) → length (day_text day) ≡ 10
@@ -157,7 +157,7 @@ day_length day = refl
 
 bytes_plain : (bytes : List ℕ) → IsValue (Bytes bytes) (value_data (Bytes bytes)) → length (quoted (encode_lower bytes)) ≡ 2 * length bytes + 2
 bytes_plain bytes is =
-    let told : tagged (codes "bytes") (encode_lower bytes) ≡ tagged (codes "bytes") is.0 = is.1 in
+    let told : tagged_data (codes "bytes") (encode_lower bytes) ≡ tagged_data (codes "bytes") is.0 = is.1 in
     let same : encode_lower bytes ≡ is.0 = cc in
     let ok = decode_of-ok is.0 bytes is.2 in
     let digits = subst (λ (t : List ℕ). AllByRecursion (λ x. is_hex_digit x ≡ true) t) (sym same) (recursion_from_All (λ x. is_hex_digit x ≡ true) is.0 ok.1) in

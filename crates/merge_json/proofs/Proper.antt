@@ -10,7 +10,7 @@ use Rattle.merge_types.specs.declared.values.Value.TheVariants.{Null, Int, Bit, 
 use Rattle.merge_types.specs.Day.{IsDay}
 use Rattle.merge_types.specs.Literal.{IsProper}
 use Rattle.merge_units.specs.declared.version.Cell.{Cell}
-use Rattle.merge_json.specs.Reading.{◌>>=◌, Reader, each_at, list_at, mapped, numbered_at}
+use Rattle.merge_json.specs.Reading.{◌>>=◌, Reader, each_at, list_at, mapped_result, numbered_at}
 use Rattle.merge_json.specs.Days.{day_of}
 use Rattle.merge_json.specs.Values.{guid_of, when_ok, bytes_at, day_at, guid_at, tag_at, count_of, tagged_at, int_at, value_at}
 use Rattle.merge_json.specs.Rows.{dot_at, cell_at}
@@ -31,7 +31,7 @@ list_all_read read P h d xs e = let s = bind_some (as_array d) (each_at read) xs
 pub numbered_all : {A : Type 0} (read : Reader A) (P : A → Type 0) → ((d : Data) (x : A) → read d ≡ Some x → P x) → (place : ℕ) (ds : Items) (xs : List A) → numbered_at read place ds ≡ Ok xs → All P xs
 numbered_all read P h place no_items xs e = let same : [] ≡ xs = cc in subst (All P) same (All-nil P)
 numbered_all read P h place (item d ds) xs e =
-    let s = placed_ok place (read d) (λ x. mapped (λ ys. x ∷ ys) (numbered_at read (suc place) ds)) xs e in
+    let s = placed_ok place (read d) (λ x. mapped_result (λ ys. x ∷ ys) (numbered_at read (suc place) ds)) xs e in
     let t = mapped_ok (λ ys. s.0 ∷ ys) (numbered_at read (suc place) ds) xs s.2 in
     subst (All P) t.2 (All-cons P s.0 t.0 (h d s.0 s.1) (numbered_all read P h (suc place) ds t.0 t.1))
 

@@ -20,7 +20,7 @@ use Rattle.merge_batch.specs.declared.reply.Downloaded.{Downloaded}
 use Rattle.merge_batch.specs.declared.reply.DownloadItem.{DownloadItem}
 use Rattle.merge_batch.specs.declared.reply.Act.{Act as Order}
 use Rattle.merge_batch.specs.declared.reply.Act.TheVariants as order
-use Rattle.merge_json.specs.Reading.{◌>>=◌, whole_at, below_at, list_at, placed, mapped, numbered_at}
+use Rattle.merge_json.specs.Reading.{◌>>=◌, whole_at, below_at, list_at, placed, mapped_result, numbered_at}
 use Rattle.merge_json.specs.Rows.{dot_at, lineage_at, row_at, cell_at}
 use Rattle.merge_json.specs.Requests.{join_at, ask_at, download_at, body_of, body_at, upload_item_at, upload_front_at, upload_at, request_at, kind_at}
 use Rattle.merge_json.specs.Requests as requests
@@ -55,8 +55,8 @@ item_proper d i e =
 upload_proper : (d : Data) (u : Upload) → upload_at d ≡ Ok u → All IsProperItem u.items
 unfolding upload_at
 upload_proper d u e =
-    let a = placed_ok 0 (upload_front_at d) (λ front. placed 0 (get (codes "items") d >>= as_array) (λ ds. mapped (requests.with_items front) (numbered_at upload_item_at 1 ds))) u e in
-    let b = placed_ok 0 (get (codes "items") d >>= as_array) (λ ds. mapped (requests.with_items a.0) (numbered_at upload_item_at 1 ds)) u a.2 in
+    let a = placed_ok 0 (upload_front_at d) (λ front. placed 0 (get (codes "items") d >>= as_array) (λ ds. mapped_result (requests.with_items front) (numbered_at upload_item_at 1 ds))) u e in
+    let b = placed_ok 0 (get (codes "items") d >>= as_array) (λ ds. mapped_result (requests.with_items a.0) (numbered_at upload_item_at 1 ds)) u a.2 in
     let c = mapped_ok (requests.with_items a.0) (numbered_at upload_item_at 1 b.0) u b.2 in
     subst (λ (v : Upload). All IsProperItem v.items) c.2 (numbered_all upload_item_at IsProperItem item_proper 1 b.0 c.0 c.1)
 
@@ -113,8 +113,8 @@ order_proper d i e =
 downloaded_proper : (d : Data) (w : Downloaded) → downloaded_at d ≡ Ok w → All IsProperOrder w.items
 unfolding downloaded_at
 downloaded_proper d w e =
-    let a = placed_ok 0 (downloaded_head_at d) (λ head. placed 0 (get (codes "items") d >>= as_array) (λ ds. mapped (replies.with_items head) (numbered_at download_item_at 1 ds))) w e in
-    let b = placed_ok 0 (get (codes "items") d >>= as_array) (λ ds. mapped (replies.with_items a.0) (numbered_at download_item_at 1 ds)) w a.2 in
+    let a = placed_ok 0 (downloaded_head_at d) (λ head. placed 0 (get (codes "items") d >>= as_array) (λ ds. mapped_result (replies.with_items head) (numbered_at download_item_at 1 ds))) w e in
+    let b = placed_ok 0 (get (codes "items") d >>= as_array) (λ ds. mapped_result (replies.with_items a.0) (numbered_at download_item_at 1 ds)) w a.2 in
     let c = mapped_ok (replies.with_items a.0) (numbered_at download_item_at 1 b.0) w b.2 in
     subst (λ (v : Downloaded). All IsProperOrder v.items) c.2 (numbered_all download_item_at IsProperOrder order_proper 1 b.0 c.0 c.1)
 

@@ -1,6 +1,6 @@
 -- Chains of readers that have an answer, or none.
 use Rattle.std.proofs.Common.{◌≡◌, ℕ, Bool, true, false, cond, Option, Some, None, Result, Ok, Err, refl}
-use Rattle.merge_json.specs.Reading.{◌>>=◌, placed, mapped}
+use Rattle.merge_json.specs.Reading.{◌>>=◌, placed, mapped_result}
 
 pub some_same : {A : Type 0} (a b : A) → Some a ≡ Some b → a ≡ b
 some_same a b e = cc
@@ -31,11 +31,11 @@ pub placed_ok : {A B : Type 0} (place : ℕ) (o : Option A) (go : A → Result B
 placed_ok place (Some a) go b e = (a, refl, e)
 placed_ok place None go b e = absurd cc
 
-pub mapped_ok : {A B : Type 0} (f : A → B) (r : Result A ℕ) (b : B) → mapped f r ≡ Ok b → (a : A) × (r ≡ Ok a) × (f a ≡ b)
+pub mapped_ok : {A B : Type 0} (f : A → B) (r : Result A ℕ) (b : B) → mapped_result f r ≡ Ok b → (a : A) × (r ≡ Ok a) × (f a ≡ b)
 mapped_ok f (Ok a) b e = (a, refl, cc)
 mapped_ok f (Err place) b e = absurd cc
 
-pub mapped_err : {A B : Type 0} (f : A → B) (r : Result A ℕ) (n : ℕ) → mapped f r ≡ Err n → r ≡ Err n
+pub mapped_err : {A B : Type 0} (f : A → B) (r : Result A ℕ) (n : ℕ) → mapped_result f r ≡ Err n → r ≡ Err n
 mapped_err f (Ok a) n e = absurd cc
 mapped_err f (Err place) n e = cc
 

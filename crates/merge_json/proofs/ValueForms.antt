@@ -22,7 +22,7 @@ use Rattle.merge_units.specs.declared.version.Cell.{Cell}
 use Rattle.merge_lineage.specs.Lineage.{ascending}
 use Rattle.merge_lineage.proofs.Ascending.{ascending_sound, ascending_complete}
 use Rattle.merge_json.specs.Reading.{◌>>=◌, field_at, whole_at, below_at, list_at}
-use Rattle.merge_json.specs.Written.{whole, tagged}
+use Rattle.merge_json.specs.Written.{whole, tagged_data}
 use Rattle.merge_json.specs.Days.{day_of}
 use Rattle.merge_json.specs.Values.{guid_of, when_ok, bytes_at, day_at, guid_at, tag_at, count_of, tagged_at, int_at, value_at}
 use Rattle.merge_json.specs.Rows.{site_at, pair_at, dot_at, if_ascending, lineage_at, row_at, cell_at}
@@ -157,7 +157,7 @@ single_is key k d e h = by (slice_cmp nat_cmp key k) refl h
     by Equal is f = (sym ((bytes_eq-Decides key k).0 (sym (is_eq-slice_cmp key k) ∙ ap is_eq is)), some_same d e f)
     by Greater is f = absurd cc
 
-tag_is : (k key : List ℕ) (d v : Data) (text : List ℕ) → k ≡ key → d ≡ v → v ≡ string text → single k d ≡ tagged key text
+tag_is : (k key : List ℕ) (d v : Data) (text : List ℕ) → k ≡ key → d ≡ v → v ≡ string text → single k d ≡ tagged_data key text
 tag_is k key d v text p q r = rw (p, q, r) refl
 
 tag_found : (k : List ℕ) (d : Data) (v : Value) (a b c : Option Data) → get (codes "bytes") (single k d) ≡ a → get (codes "day") (single k d) ≡ b → get (codes "guid") (single k d) ≡ c
@@ -207,15 +207,15 @@ value_found (string text) v e = subst (λ (u : Value). IsValue u (string text)) 
 value_found (array ds) v e = absurd cc
 value_found (object ms) v e = tagged_found ms v e
 
-day_tag : (text : List ℕ) (day : ℤ) → IsDayText text day → value_at (tagged (codes "day") text) ≡ Some (Day day)
+day_tag : (text : List ℕ) (day : ℤ) → IsDayText text day → value_at (tagged_data (codes "day") text) ≡ Some (Day day)
 unfolding value_at tagged_at count_of day_at serde_json_on_literals
 day_tag text day is = ap (λ (o : Option ℤ). o >>= λ y. Some (Day y)) (day_is text day is)
 
-guid_tag : (text : List ℕ) (n : ℕ) → IsGuidText text n → value_at (tagged (codes "guid") text) ≡ Some (Guid n)
+guid_tag : (text : List ℕ) (n : ℕ) → IsGuidText text n → value_at (tagged_data (codes "guid") text) ≡ Some (Guid n)
 unfolding value_at tagged_at count_of guid_at serde_json_on_literals
 guid_tag text n is = ap (λ (o : Option ℕ). o >>= λ k. Some (Guid k)) (guid_is text n is)
 
-bytes_tag : (text bytes : List ℕ) → decode_of text ≡ Ok bytes → value_at (tagged (codes "bytes") text) ≡ Some (Bytes bytes)
+bytes_tag : (text bytes : List ℕ) → decode_of text ≡ Ok bytes → value_at (tagged_data (codes "bytes") text) ≡ Some (Bytes bytes)
 unfolding value_at tagged_at count_of bytes_at serde_json_on_literals
 bytes_tag text bytes is = rw is refl
 

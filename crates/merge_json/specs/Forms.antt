@@ -12,7 +12,7 @@ use Rattle.merge_types.specs.Day.{IsDayText}
 use Rattle.merge_types.specs.Guid.{IsGuidText}
 use Rattle.merge_units.specs.declared.version.Cell.{Cell}
 use Rattle.merge_lineage.specs.Lineage.{IsAscending}
-use Rattle.merge_json.specs.Written.{whole, dot_data, tagged}
+use Rattle.merge_json.specs.Written.{whole, dot_data, tagged_data}
 
 -- the member with this key is of that form. Of a key that the text has twice the last member counts, and nothing is asked of other keys
 abbrev pub HasMember : {A : Type 0} → List ℕ → (A → Data → Type 0) → A → Data → Type 0
@@ -78,9 +78,9 @@ IsValue Null d = d ≡ null
 IsValue (Int z) d = IsSigned z d
 IsValue (Bit b) d = IsBit b d
 IsValue (Text text) d = d ≡ string text
-IsValue (Day day) d = (text : List ℕ) × (d ≡ tagged (codes "day") text) × IsDayText text day
-IsValue (Guid n) d = (text : List ℕ) × (d ≡ tagged (codes "guid") text) × IsGuidText text n
-IsValue (Bytes bytes) d = (text : List ℕ) × (d ≡ tagged (codes "bytes") text) × (decode_of text ≡ Ok bytes)
+IsValue (Day day) d = (text : List ℕ) × (d ≡ tagged_data (codes "day") text) × IsDayText text day
+IsValue (Guid n) d = (text : List ℕ) × (d ≡ tagged_data (codes "guid") text) × IsGuidText text n
+IsValue (Bytes bytes) d = (text : List ℕ) × (d ≡ tagged_data (codes "bytes") text) × (decode_of text ≡ Ok bytes)
 
 pub record IsCell (cell : Cell) (d : Data) : Type 0 where
   pub top : HasMember (codes "top") IsDot cell.top d

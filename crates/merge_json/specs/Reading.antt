@@ -42,10 +42,10 @@ abbrev pub placed : {A B : Type 0} → ℕ → Option A → (A → Result B ℕ)
 placed place None go = Err place
 placed place (Some x) go = go x
 
-abbrev pub mapped : {A B : Type 0} → (A → B) → Result A ℕ → Result B ℕ
-mapped f (Ok x) = Ok (f x)
-mapped f (Err place) = Err place
+abbrev pub mapped_result : {A B : Type 0} → (A → B) → Result A ℕ → Result B ℕ
+mapped_result f (Ok x) = Ok (f x)
+mapped_result f (Err place) = Err place
 
 abbrev pub numbered_at : {A : Type 0} → Reader A → ℕ → Items → Result (List A) ℕ
 numbered_at read place no_items = Ok []
-numbered_at read place (item d ds) = placed place (read d) (λ x. mapped (λ xs. x ∷ xs) (numbered_at read (suc place) ds))
+numbered_at read place (item d ds) = placed place (read d) (λ x. mapped_result (λ xs. x ∷ xs) (numbered_at read (suc place) ds))

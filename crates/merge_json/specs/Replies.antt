@@ -16,7 +16,7 @@ use Rattle.merge_batch.specs.declared.reply.DownloadItem.{DownloadItem}
 use Rattle.merge_batch.specs.declared.reply.Act.{Act as Order}
 use Rattle.merge_batch.specs.declared.reply.Act.TheVariants as order
 use Rattle.merge_json.specs.declared.downloads.Head.{Head}
-use Rattle.merge_json.specs.Reading.{◌>>=◌, Reader, field_at, whole_at, below_at, signed_at, list_at, placed, mapped, numbered_at}
+use Rattle.merge_json.specs.Reading.{◌>>=◌, Reader, field_at, whole_at, below_at, signed_at, list_at, placed, mapped_result, numbered_at}
 use Rattle.merge_json.specs.Rows.{lineage_at, row_at, cell_at}
 
 unfoldable pub joined_at : Reader Joined
@@ -86,7 +86,7 @@ with_items h items = record { seq = h.seq; from = h.from; to = h.to; last = h.la
 
 -- all but the items comes first and has the place 0, then the items by their numbers
 unfoldable pub downloaded_at : Data → Result Downloaded ℕ
-downloaded_at d = placed 0 (downloaded_head_at d) (λ head. placed 0 (field_at (codes "items") as_array d) (λ ds. mapped (with_items head) (numbered_at download_item_at 1 ds)))
+downloaded_at d = placed 0 (downloaded_head_at d) (λ head. placed 0 (field_at (codes "items") as_array d) (λ ds. mapped_result (with_items head) (numbered_at download_item_at 1 ds)))
 
 -- how many fields a refusal has that is told, by its number
 abbrev pub field_count : ℕ → Option ℕ
@@ -117,5 +117,5 @@ unfoldable pub reply_at : Kind → Data → Result Reply ℕ
 reply_at kind.Join d = placed 0 (joined_at d) (λ joined. Ok (reply.Joined joined))
 reply_at kind.Upload d = placed 0 (uploaded_at d) (λ uploaded. Ok (reply.Uploaded uploaded))
 reply_at kind.Ranges d = placed 0 (ranged_at d) (λ ranged. Ok (reply.Ranged ranged))
-reply_at kind.Download d = mapped reply.Downloaded (downloaded_at d)
+reply_at kind.Download d = mapped_result reply.Downloaded (downloaded_at d)
 reply_at kind.Refused d = placed 0 (refused_at d) (λ refused. Ok refused)

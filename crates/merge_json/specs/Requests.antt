@@ -15,7 +15,7 @@ use Rattle.merge_batch.specs.declared.request.RangeAsk.{RangeAsk}
 use Rattle.merge_batch.specs.declared.request.Want.{Want}
 use Rattle.merge_batch.specs.declared.request.Download.{Download}
 use Rattle.merge_json.specs.declared.uploads.Front.{Front}
-use Rattle.merge_json.specs.Reading.{◌>>=◌, Reader, field_at, whole_at, below_at, bit_at, list_at, placed, mapped, numbered_at}
+use Rattle.merge_json.specs.Reading.{◌>>=◌, Reader, field_at, whole_at, below_at, bit_at, list_at, placed, mapped_result, numbered_at}
 use Rattle.merge_json.specs.Rows.{site_at, dot_at, lineage_at, row_at, cell_at}
 
 unfoldable pub join_at : Reader Join
@@ -79,12 +79,12 @@ with_items f items = record { site = f.site; seq = f.seq; from = f.from; to = f.
 
 -- all but the items comes first and has the place 0, then the items by their numbers
 unfoldable pub upload_at : Data → Result Upload ℕ
-upload_at d = placed 0 (upload_front_at d) (λ front. placed 0 (field_at (codes "items") as_array d) (λ ds. mapped (with_items front) (numbered_at upload_item_at 1 ds)))
+upload_at d = placed 0 (upload_front_at d) (λ front. placed 0 (field_at (codes "items") as_array d) (λ ds. mapped_result (with_items front) (numbered_at upload_item_at 1 ds)))
 
 -- a request of a kind. There is no request that is a refusal
 unfoldable pub request_at : Kind → Data → Result Request ℕ
 request_at kind.Join d = placed 0 (join_at d) (λ join. Ok (request.Join join))
-request_at kind.Upload d = mapped request.Upload (upload_at d)
+request_at kind.Upload d = mapped_result request.Upload (upload_at d)
 request_at kind.Ranges d = placed 0 (ask_at d) (λ ask. Ok (request.Ranges ask))
 request_at kind.Download d = placed 0 (download_at d) (λ download. Ok (request.Download download))
 request_at kind.Refused d = Err 0

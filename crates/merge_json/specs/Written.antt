@@ -19,8 +19,8 @@ ReadsBack read write x = read (write x) ≡ Some x
 abbrev pub whole : ℕ → Data
 whole n = number (unsigned n)
 
-abbrev pub signed : ℤ → Data
-signed z = number (of_integer z)
+abbrev pub signed_data : ℤ → Data
+signed_data z = number (of_integer z)
 
 abbrev pub list_of : {A : Type 0} → (A → Data) → List A → Data
 list_of data_of xs = array (items_of (map data_of xs))
@@ -33,17 +33,17 @@ abbrev pub guid_data : ℕ → Data
 guid_data n = string (guid_text n)
 
 -- an object with one key, which tells the type
-abbrev pub tagged : List ℕ → List ℕ → Data
-tagged key text = object (member key (string text) no_members)
+abbrev pub tagged_data : List ℕ → List ℕ → Data
+tagged_data key text = object (member key (string text) no_members)
 
 abbrev pub value_data : Value → Data
 value_data Null = null
-value_data (Int z) = signed z
+value_data (Int z) = signed_data z
 value_data (Bit b) = boolean b
 value_data (Text text) = string text
-value_data (Day day) = tagged (codes "day") (day_text day)
-value_data (Guid n) = tagged (codes "guid") (guid_text n)
-value_data (Bytes bytes) = tagged (codes "bytes") (encode_lower bytes)
+value_data (Day day) = tagged_data (codes "day") (day_text day)
+value_data (Guid n) = tagged_data (codes "guid") (guid_text n)
+value_data (Bytes bytes) = tagged_data (codes "bytes") (encode_lower bytes)
 
 abbrev pub cell_data : Cell → Data
 cell_data cell =

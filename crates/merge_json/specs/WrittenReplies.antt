@@ -12,7 +12,7 @@ use Rattle.merge_batch.specs.declared.reply.Downloaded.{Downloaded}
 use Rattle.merge_batch.specs.declared.reply.DownloadItem.{DownloadItem}
 use Rattle.merge_batch.specs.declared.reply.Act.{Act as Order}
 use Rattle.merge_batch.specs.declared.reply.Act.TheVariants as order
-use Rattle.merge_json.specs.Written.{whole, signed, list_of, dot_data, guid_data, cell_data}
+use Rattle.merge_json.specs.Written.{whole, signed_data, list_of, dot_data, guid_data, cell_data}
 
 abbrev pub joined_data : Joined → Data
 joined_data j = object (member (codes "seq") (whole j.seq) no_members)
@@ -25,14 +25,14 @@ uploaded_data u =
 abbrev pub grant_data : RangeGrant → Data
 grant_data g =
     object (member (codes "article") (whole g.article)
-    (member (codes "begin") (signed g.begin)
-    (member (codes "end") (signed g.end)
+    (member (codes "begin") (signed_data g.begin)
+    (member (codes "end") (signed_data g.end)
     (member (codes "number") (whole g.number) no_members))))
 
 abbrev pub ended_data : Ended → Data
 ended_data e =
     object (member (codes "article") (whole e.article)
-    (member (codes "greatest") (signed e.greatest)
+    (member (codes "greatest") (signed_data e.greatest)
     (member (codes "next") (whole e.next) no_members)))
 
 abbrev pub ranged_data : Ranged → Data

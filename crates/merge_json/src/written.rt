@@ -8,7 +8,7 @@ ghost use Rattle.merge_types.specs.declared.values.Value.TheVariants as datum;
 ghost use Rattle.merge_types.specs.Literal.{IsProper, printed as printed_text};
 ghost use Rattle.merge_json.specs.Rows.{dot_at, lineage_at, row_at, cell_at};
 ghost use Rattle.merge_json.specs.Values.{value_at};
-ghost use Rattle.merge_json.specs.Written.{ReadsBack, list_of, dot_data, guid_data, tagged, value_data, cell_data};
+ghost use Rattle.merge_json.specs.Written.{ReadsBack, list_of, dot_data, guid_data, tagged_data, value_data, cell_data};
 ghost use Rattle.merge_json.specs.Sendable.{HasProperDays};
 
 use merge_lineage::Lineage;
@@ -55,7 +55,7 @@ pub(crate) fn row_value(alloc: Global, row: RowId) -> Result<Value, NoMemory>
 }
 
 fn day_value(alloc: Global, text: String) -> Result<Value, AllocError>
-    ensures { IfOk result (λ v. view v ≡ tagged (codes "day") (string_bytes text)) }
+    ensures { IfOk result (λ v. view v ≡ tagged_data (codes "day") (string_bytes text)) }
 {
     json!(in alloc; {"day": text})
 }
@@ -70,13 +70,13 @@ fn guid_value(alloc: Global, number: u128) -> Result<Value, NoMemory>
 }
 
 fn guid_object(alloc: Global, text: String) -> Result<Value, AllocError>
-    ensures { IfOk result (λ v. view v ≡ tagged (codes "guid") (string_bytes text)) }
+    ensures { IfOk result (λ v. view v ≡ tagged_data (codes "guid") (string_bytes text)) }
 {
     json!(in alloc; {"guid": text})
 }
 
 fn bytes_value(alloc: Global, bytes: &[u8]) -> Result<Value, AllocError>
-    ensures told { IfOk result (λ v. view v ≡ tagged (codes "bytes") (encode_lower bytes.now)) }
+    ensures told { IfOk result (λ v. view v ≡ tagged_data (codes "bytes") (encode_lower bytes.now)) }
     ensures again { IfOk result (λ v. value_at (value_data (datum.Bytes bytes.now)) ≡ Some (datum.Bytes bytes.now)) }
 {
     let text = hex::encode(alloc, bytes)?;
@@ -85,7 +85,7 @@ fn bytes_value(alloc: Global, bytes: &[u8]) -> Result<Value, AllocError>
 }
 
 fn text_value(alloc: Global, text: String) -> Result<Value, AllocError>
-    ensures { IfOk result (λ v. view v ≡ tagged (codes "bytes") (string_bytes text)) }
+    ensures { IfOk result (λ v. view v ≡ tagged_data (codes "bytes") (string_bytes text)) }
 {
     json!(in alloc; {"bytes": text})
 }

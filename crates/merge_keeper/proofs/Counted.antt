@@ -18,7 +18,7 @@ use Rattle.merge_keeper.specs.Counts.{count_at}
 use Rattle.merge_keeper.specs.declared.stored.PublisherStored.{PublisherStored}
 use Rattle.merge_keeper.specs.declared.stored.SubscriberStored.{SubscriberStored}
 use Rattle.merge_keeper.specs.PublisherStart.{IsCounted}
-use Rattle.merge_keeper.specs.SubscriberStart.{times_in, IsCounted as IsSubCounted}
+use Rattle.merge_keeper.specs.SubscriberStart.{times_in, IsCounted as IsSubscriberCounted}
 
 -- a list with one member more sums and counts it
 pub sum_push : {X : Type 0} (f : X → ℕ) (xs : List X) (x : X) → sum_by f (xs ++ x ∷ []) ≡ sum_by f xs + f x
@@ -84,7 +84,7 @@ move_counted old new t place move counted more g =
     ∙ ap (λ (n : ℕ). rows_in t g + n) (sym (count_push (λ (move : RowSite × Mapping). g == move.1.generation) t.mappings (place, move)))
 
 -- the index of a subscriber goes on with a row more
-pub subscriber_row_counted : (old new : Counts) (t : SubscriberStored) (key : RowKey) (row : SubscriberRow) → IsSubCounted old t
-    → ((g : ℕ) → t.received < g → count_at new g ≡ count_at old g + times_in g (key, row)) → IsSubCounted new (record t { rows = t.rows ++ (key, row) ∷ [] })
+pub subscriber_row_counted : (old new : Counts) (t : SubscriberStored) (key : RowKey) (row : SubscriberRow) → IsSubscriberCounted old t
+    → ((g : ℕ) → t.received < g → count_at new g ≡ count_at old g + times_in g (key, row)) → IsSubscriberCounted new (record t { rows = t.rows ++ (key, row) ∷ [] })
 subscriber_row_counted old new t key row counted more g above =
     more g above ∙ ap (λ (n : ℕ). n + times_in g (key, row)) (counted g above) ∙ sym (sum_push (times_in g) t.rows (key, row))

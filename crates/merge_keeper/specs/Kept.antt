@@ -42,16 +42,16 @@ abbrev pub after_load : Kept → Kept
 after_load k = if is_refused k then with_fault (after_call k) else after_call k
 
 -- the edits are made
-abbrev pub committed : List EntryEdit → Kept → Kept
-committed edits k = record k { map = map_after edits k.map; left = map_after edits k.map }
+abbrev pub with_edits : List EntryEdit → Kept → Kept
+with_edits edits k = record k { map = map_after edits k.map; left = map_after edits k.map }
 
 -- a stop leaves the map from before the edits, or the map from after them, and tells the one from before
-abbrev pub stopped : Bool → List EntryEdit → Kept → Kept
-stopped is_after edits k = record k { left = (if is_after then map_after edits k.map else k.map); is_stopped = true }
+abbrev pub with_stop : Bool → List EntryEdit → Kept → Kept
+with_stop is_after edits k = record k { left = (if is_after then map_after edits k.map else k.map); is_stopped = true }
 
 abbrev pub after_stop : Option Bool → List EntryEdit → Kept → Kept
-after_stop None edits k = committed edits k
-after_stop (Some is_after) edits k = with_fault (stopped is_after edits k)
+after_stop None edits k = with_edits edits k
+after_stop (Some is_after) edits k = with_fault (with_stop is_after edits k)
 
 -- what a commit makes of the keeper where there is memory
 abbrev pub after_commit : List EntryEdit → Kept → Kept

@@ -61,8 +61,8 @@ loaded_behind l t [] = Ok t
 loaded_behind l t (e ∷ es) = go_on l (λ next. loaded_behind l next es) t e.0 (l.reading e)
 
 -- one entry
-abbrev pub taken : {T R : Type 0} → Loading T R → T → EntryKey × List ℕ → Loaded T
-taken l t e = go_on l (λ next. Ok next) t e.0 (l.reading e)
+abbrev pub one_loaded : {T R : Type 0} → Loading T R → T → EntryKey × List ℕ → Loaded T
+one_loaded l t e = go_on l (λ next. Ok next) t e.0 (l.reading e)
 
 -- an entry that has no reading, or breaks a rule behind those before it
 abbrev pub IsBroken : {T R : Type 0} → Loading T R → T → EntryKey × List ℕ → Type 0

@@ -1,9 +1,10 @@
 //! A start of the publisher: one pass over the entries of its store.
-ghost use Rattle.std.specs.Prelude.{◌≡◌, ◌<◌, ◌^◌, ◌++◌, ◌∷◌, [], true, false, IfOk, OnOk};
+ghost use Rattle.std.specs.Prelude.{◌≡◌, ◌<◌, ◌++◌, ◌∷◌, [], true, false, IfOk, OnOk};
+ghost use Rattle.merge_types.specs.Limits.{number_limit};
 ghost use Rattle.merge_ident.specs.Holders.{AreKept};
 ghost use Rattle.merge_ident.specs.Stored.{can_follow};
 ghost use Rattle.merge_keeper.specs.Grants.{grants_in};
-ghost use Rattle.merge_keeper.specs.Start.{Gives, last_conflict, loaded_behind, own_grants, taken};
+ghost use Rattle.merge_keeper.specs.Start.{Gives, last_conflict, loaded_behind, one_loaded, own_grants};
 ghost use Rattle.merge_keeper.specs.PublisherStart.{begun, closing_is_sound, grant_is_sound, has_space, is_held, is_sound, limit_of, loading, move_is_sound, no_state, own_is_sound, publisher_loaded, reading_of, row_is_sound, site_is_sound, state_is_sound, tables_of, tables_with, with_record, CanAdd, GoesOn, is_indexed};
 
 use crate::counts::Counts;
@@ -270,7 +271,7 @@ fn take_in(
     value: &Octets,
 ) -> Result<(), StartFault>
     requires on { GoesOn so_far.old }
-    ensures given { Gives (λ u. tables_of so_far.new) result (taken (loading publication.now owns.now) (tables_of so_far.old) (key.now, value.now)) }
+    ensures given { Gives (λ u. tables_of so_far.new) result (one_loaded (loading publication.now owns.now) (tables_of so_far.old) (key.now, value.now)) }
     ensures on { OnOk result (GoesOn so_far.new) }
 {
     match record_in(alloc, key, value.as_slice())? {
@@ -332,7 +333,7 @@ fn first_state(
     value: &Octets,
 ) -> Result<Front, StartFault>
     ensures given { Gives (λ state. state) result (begun last key.now (reading_of (key.now, value.now))) }
-    ensures small { IfOk result (λ state. state.changes < 2 ^ 62) }
+    ensures small { IfOk result (λ state. state.changes < number_limit) }
 {
     match record_in(alloc, key, value.as_slice())? {
         Some(PublisherRecord::State(state)) if state_is_sound(last, state) => Ok(state),
@@ -364,7 +365,7 @@ fn start_behind(
     requires rows { tables.rows ≡ [] }
     requires mappings { tables.mappings ≡ [] }
     requires grants { tables.grants ≡ [] }
-    requires small { tables.changes < 2 ^ 62 }
+    requires small { tables.changes < number_limit }
     ensures { Gives (λ t. t) result (loaded_behind (loading publication.now owns.now) tables entries.entry) }
 {
     let mut so_far = PublisherSoFar {

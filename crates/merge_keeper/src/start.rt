@@ -1,6 +1,7 @@
 //! What a start makes of a store: what both kinds of site have in common.
-ghost use Rattle.std.specs.Prelude.{◌≡◌, ◌↔◌, ◌<◌, ◌^◌, All, IsTrue, true, IfOk};
+ghost use Rattle.std.specs.Prelude.{◌≡◌, ◌↔◌, ◌<◌, All, IsTrue, true, IfOk};
 ghost use Rattle.std.specs.List.{list_all};
+ghost use Rattle.merge_types.specs.Limits.{number_limit};
 ghost use Rattle.merge_ident.specs.Holders.{AreKept, HasValues, IsNextIn};
 ghost use Rattle.merge_batch.specs.Lineages.{knows_tops as body_knows_tops};
 ghost use Rattle.merge_keeper.specs.Start.{are_kept, cell_site_is_known, conflict_is_sound, conflict_reading, conflict_row, dot_site_is_known, has_values, holds_last, identity_at, is_counter, is_next_in, last_conflict, last_own, number_in, own_count, own_grant, own_grants, pair_reading, replaced, row_was_made, same_range, top_sites_are_known, version_is_sound, was_made, with_held};
@@ -222,7 +223,7 @@ fn was_made(site: SiteId, changes: u64, dot: Dot) -> bool
 /// Whether neither the lineage of a row nor its maker is a change that this site has yet to make.
 #[tactic(auto, unfolding(crate::specs::Start::row_was_made))]
 pub(crate) fn row_was_made(site: SiteId, changes: u64, key: RowKey, version: &Version) -> bool
-    requires { changes < 2 ^ 62 }
+    requires { changes < number_limit }
     ensures { result ≡ row_was_made site.0 changes key version.now }
 {
     let next = Dot {

@@ -1,9 +1,10 @@
 //! A start of a subscriber: one pass over the entries of its store.
-ghost use Rattle.std.specs.Prelude.{◌≡◌, ◌<◌, ◌^◌, ◌+◌, ◌++◌, ◌∷◌, [], ◌==◌, true, false, count_by, ℕ, IfOk, OnOk};
+ghost use Rattle.std.specs.Prelude.{◌≡◌, ◌<◌, ◌+◌, ◌++◌, ◌∷◌, [], ◌==◌, true, false, count_by, ℕ, IfOk, OnOk};
 ghost use Rattle.std.specs.List.{list_all};
+ghost use Rattle.merge_types.specs.Limits.{number_limit};
 ghost use Rattle.merge_ident.specs.Holders.{AreKept};
 ghost use Rattle.merge_keeper.specs.Counts.{count_at};
-ghost use Rattle.merge_keeper.specs.Start.{Gives, last_conflict, loaded_behind, taken};
+ghost use Rattle.merge_keeper.specs.Start.{Gives, last_conflict, loaded_behind, one_loaded};
 ghost use Rattle.merge_keeper.specs.SubscriberStart.{begun, closing_is_sound, first_missing, generation_in, has_closings, has_space, held_is_sound, is_sound, last_number, limit_of, loading, message_of, no_state, outstanding_of, passed, reading_of, row_is_sound, state_is_sound, subscriber_loaded, tables_with, talk_is_sound, with_record, CanAdd, GoesOn};
 
 use crate::counts::Counts;
@@ -45,7 +46,7 @@ fn generation_in(alloc: Global, key: &EntryKey) -> Result<Option<u64>, NoMemory>
 
 // The generation behind one, where that is the one, and is at most the last.
 fn passed(last: u64, next: u64, generation: Option<u64>) -> u64
-    requires { last < 2 ^ 62 }
+    requires { last < number_limit }
     ensures { result ≡ passed last next generation }
 {
     match generation {
@@ -56,7 +57,7 @@ fn passed(last: u64, next: u64, generation: Option<u64>) -> u64
 
 // The first generation from one on, up to the last, that has no key.
 fn first_missing(alloc: Global, last: u64, from: u64, entries: &Entries) -> Result<u64, NoMemory>
-    requires { last < 2 ^ 62 }
+    requires { last < number_limit }
     ensures { IfOk result (λ missing. missing ≡ first_missing last from entries.now) }
 {
     let mut next = from;
@@ -94,8 +95,8 @@ fn state_is_sound(site: SiteId, last: u64, state: &SubscriberState) -> bool
 
 // Whether each closed generation that is not received is there.
 fn has_closings(alloc: Global, entries: &Entries, state: &SubscriberState) -> Result<bool, NoMemory>
-    requires closed { state.now.front.last_closed < 2 ^ 62 }
-    requires received { state.now.talk.received < 2 ^ 62 }
+    requires closed { state.now.front.last_closed < number_limit }
+    requires received { state.now.talk.received < number_limit }
     ensures { IfOk result (λ has. has ≡ has_closings entries.now state.now) }
 {
     let last = state.front.last_closed;
@@ -260,7 +261,7 @@ fn take_in(
     value: &Octets,
 ) -> Result<(), StartFault>
     requires on { GoesOn so_far.old }
-    ensures given { Gives (λ u. so_far.new.tables) result (taken (loading publication.now) so_far.old.tables (key.now, value.now)) }
+    ensures given { Gives (λ u. so_far.new.tables) result (one_loaded (loading publication.now) so_far.old.tables (key.now, value.now)) }
     ensures on { OnOk result (GoesOn so_far.new) }
 {
     match record_in(alloc, key, value.as_slice())? {
@@ -378,7 +379,7 @@ fn first_state(
     value: &Octets,
 ) -> Result<SubscriberState, StartFault>
     ensures given { Gives (λ state. state) result (begun site entries.now key.now (reading_of (key.now, value.now))) }
-    ensures small { IfOk result (λ state. state.front.changes < 2 ^ 62) }
+    ensures small { IfOk result (λ state. state.front.changes < number_limit) }
 {
     if let Some(SubscriberRecord::State(state)) = record_in(alloc, key, value.as_slice())? {
         let last = last_conflict(alloc, entries)?;
@@ -397,7 +398,7 @@ fn start_behind(
     entries: Rows<'_, EntryKey, Octets>,
 ) -> Result<SubscriberStored, StartFault>
     requires rows { tables.rows ≡ [] }
-    requires small { tables.changes < 2 ^ 62 }
+    requires small { tables.changes < number_limit }
     ensures { Gives (λ t. t) result (loaded_behind (loading publication.now) tables entries.entry) }
 {
     let counts = Counts::new(alloc);

@@ -38,7 +38,7 @@ use Rattle.merge_model.specs.World.Faults.{reply_fault}
 use Rattle.merge_model.specs.History.{History, pasts_with}
 use Rattle.merge_model.specs.Judge.{PublisherJudge, SubscriberJudge}
 use Rattle.merge_model.specs.Tables.Keys.{at_number, put_number}
-use Rattle.merge_model.specs.History.Model.{Model, model_step, noted, noted_if, noted_letter, did_something, with_letter, with_posted}
+use Rattle.merge_model.specs.History.Model.{Model, model_step, noted_action, noted_if, noted_letter, did_something, with_letter, with_posted}
 use Rattle.merge_model.specs.History.Noting
 use Rattle.merge_model.specs.Publisher.{at_moment, closed, counters, last_closed}
 use Rattle.merge_model.specs.Publisher.PublisherDownload.{asked, download_refusal, reply_to}
@@ -260,7 +260,7 @@ module _ (publication : Publication) (says : Saying) (B P : World → History �
       sub-refused change (Some why) named is = p
       sub-refused change None named is = sub-drawn change (subscriber_drawn s change) named is refl
 
-    make-after : (site : SiteId) (change : Change) → After (make_at publication (by_history h) site change w) (noted publication says (by_history h) w (Make site change) h) h
+    make-after : (site : SiteId) (change : Change) → After (make_at publication (by_history h) site change w) (noted_action publication says (by_history h) w (Make site change) h) h
     make-after site change = if-after (site.0 == 0) (make_at_publisher publication (by_history h) change w) (at_subscriber site w (make_at_subscriber publication change w))
         (Noting.noted_at_publisher publication (by_past h (pasts_with h 0)) change (here w) h) (let after : History = elim (subscriber_at w site) [ None ↦ h | Some s ↦ Noting.noted_at_subscriber publication change s h ] in after) h
         (λ own. own-after change)
@@ -420,7 +420,7 @@ module _ (publication : Publication) (says : Saying) (B P : World → History �
     letter-come number None is = p
     letter-come number (Some letter) is = message-come number letter.site letter.message is
 
-    action-after : (action : Action) → After (step_by publication says (by_history h) w action) (noted publication says (by_history h) w action h) h
+    action-after : (action : Action) → After (step_by publication says (by_history h) w action) (noted_action publication says (by_history h) w action h) h
     action-after (Pass seconds) = keeps.moment w h (record { 0 = w.moment.0 + seconds }) b p
     action-after (Make site change) = make-after site change
     action-after (CloseAt site) = close-after site

@@ -25,7 +25,7 @@ use Rattle.merge_model.specs.World.{World, Saying, empty_world, by_tables}
 use Rattle.merge_model.specs.World.Events.{machine}
 use Rattle.merge_model.specs.Judge.ByHistory.{by_history}
 use Rattle.merge_model.specs.History.Model.{Model, model, empty_model}
-use Rattle.merge_model.specs.Laws.{AreSorted, AreSubSorted}
+use Rattle.merge_model.specs.Laws.{AreSorted, SubscriberIsSorted}
 use Rattle.merge_model.specs.Failing.{Slips, faulty}
 use Rattle.merge_model.specs.Failing.Runs.{model_behind, world_behind}
 use Rattle.merge_model.proofs.Failing.KeptFailing.{runs-keep}
@@ -68,19 +68,19 @@ publisher_stays_sorted publication says tallies slips events =
     runs-keep publication (machine publication says) (λ (w : World). AreSorted w.publisher) (λ w action h. step-sorted publication says (by_tables w) w action h) (λ w others h. h) events
     (faulty (empty_world publication tallies) slips) (nothing_sorted publication)
 
-new_sorted : (publication : Publication) (site : SiteId) → AreSubSorted (empty_subscriber publication site)
+new_sorted : (publication : Publication) (site : SiteId) → SubscriberIsSorted (empty_subscriber publication site)
 unfolding IsStrictlySortedBy
 new_sorted publication site = record {
   rows_ascend = tt;
   generations_ascend = record { unfilled = omega arith; ascending = λ i j d before within. absurd (omega arith); closed = λ i d within. absurd (omega arith) };
 }
 
-all_new : (publication : Publication) (entries : List (ℕ × Subscription)) → AllHold AreSubSorted (map (λ (s : ℕ × Subscription). (s.0, empty_subscriber publication s.1.site)) entries)
+all_new : (publication : Publication) (entries : List (ℕ × Subscription)) → AllHold SubscriberIsSorted (map (λ (s : ℕ × Subscription). (s.0, empty_subscriber publication s.1.site)) entries)
 all_new publication [] = tt
 all_new publication (entry ∷ entries) = (new_sorted publication entry.1.site, all_new publication entries)
 
 pub subscribers_stay_sorted : (publication : Publication) (says : Saying) (tallies : List ℕ) (slips : Slips) (events : List Event)
-    → AllHold AreSubSorted (world_behind publication says tallies slips events).subscribers
+    → AllHold SubscriberIsSorted (world_behind publication says tallies slips events).subscribers
 subscribers_stay_sorted publication says tallies slips events =
-    runs-keep publication (machine publication says) (λ (w : World). AllHold AreSubSorted w.subscribers) (λ w action h. step-sub-sorted publication says (by_tables w) w action h) (λ w others h. h) events
+    runs-keep publication (machine publication says) (λ (w : World). AllHold SubscriberIsSorted w.subscribers) (λ w action h. step-sub-sorted publication says (by_tables w) w action h) (λ w others h. h) events
     (faulty (empty_world publication tallies) slips) (all_new publication (by_site publication))

@@ -38,7 +38,7 @@ use Rattle.merge_model.specs.declared.outcome.Taken.TheVariants.{Acted, Missed}
 use Rattle.merge_model.specs.Subscriber.Reinit.{reinitialise, reinitialised}
 use Rattle.merge_model.specs.World.{World, Judges, Saying}
 use Rattle.merge_model.specs.World.Steps.{Action, step_by}
-use Rattle.merge_model.specs.Laws.{SubscriberRises, SubscriberNumbersRise, AreSubSorted}
+use Rattle.merge_model.specs.Laws.{SubscriberRises, SubscriberNumbersRise, SubscriberIsSorted}
 use Rattle.merge_model.proofs.Publishers.Sorted.{key_total, closed_filling-small, closed_filling-rises, entered-sound, closed-sound}
 use Rattle.std.specs.BTreeMap.{is_at}
 use Rattle.merge_table.proofs.Sorted.{sorted_put, sorted_take}
@@ -157,7 +157,7 @@ above-keys : (received : ℕ) (rows : List (Key × SubscriberRow)) → keys_of (
 above-keys received [] = refl
 above-keys received (row ∷ rows) = ap (λ (ks : List Key). row.0 ∷ ks) (above-keys received rows)
 
-received-sorted : (received : ℕ) (s : SubscriberTables) → AreSubSorted s → AreSubSorted (with_received received s)
+received-sorted : (received : ℕ) (s : SubscriberTables) → SubscriberIsSorted s → SubscriberIsSorted (with_received received s)
 received-sorted received s k = record {
   rows_ascend = subst (λ (ks : List Key). IsStrictlySortedBy key_cmp ks) (sym (above-keys received s.rows)) k.rows_ascend;
   generations_ascend = sound_kept s.gens (λ (closing : Closing). nat_lt received closing.generation) k.generations_ascend;
@@ -177,29 +177,29 @@ items-sorted judge received [] rows k = k
 items-sorted judge received (item ∷ items) rows k = items-sorted judge received items (with_item judge received rows item)
     (if-sorted (judge.is_unsent received (key_of_download item)) rows (with_order (key_of_download item) item.act rows) k (order-sorted (key_of_download item) item.act rows k))
 
-at_moment-sorted : (now : Moment) (s : SubscriberTables) → AreSubSorted s → AreSubSorted (subscriber_at_moment now s)
+at_moment-sorted : (now : Moment) (s : SubscriberTables) → SubscriberIsSorted s → SubscriberIsSorted (subscriber_at_moment now s)
 at_moment-sorted now s k = record { rows_ascend = k.rows_ascend; generations_ascend = k.generations_ascend }
 
-version-sorted : (key : Key) (version : Option Version) (s : SubscriberTables) → AreSubSorted s → AreSubSorted (with_version_if key version s)
+version-sorted : (key : Key) (version : Option Version) (s : SubscriberTables) → SubscriberIsSorted s → SubscriberIsSorted (with_version_if key version s)
 version-sorted key None s k = k
 version-sorted key (Some version) s k = record {
   rows_ascend = sorted_put key_cmp key_total key _ s.rows k.rows_ascend;
   generations_ascend = entered-sound s.gens 1 (record { 0 = s.changes }) k.generations_ascend;
 }
 
-made-sorted : (publication : Publication) (change : Change) (d : Value × List (ℕ × Holder)) (t : SubscriberTables) → AreSubSorted t → AreSubSorted (subscriber_made_locally publication change d t).0
+made-sorted : (publication : Publication) (change : Change) (d : Value × List (ℕ × Holder)) (t : SubscriberTables) → SubscriberIsSorted t → SubscriberIsSorted (subscriber_made_locally publication change d t).0
 made-sorted publication change d t k =
     let u : SubscriberTables = record t { changes = t.changes + 1; held = d.1 } in
     version-sorted (key_of (subscriber_next_dot t) change) (version_after publication (subscriber_next_dot t) d.0 change (subscriber_version_at t (key_of (subscriber_next_dot t) change))) u
     (record { rows_ascend = k.rows_ascend; generations_ascend = k.generations_ascend })
 
-closing-sorted : (now : Moment) (s : SubscriberTables) → AreSubSorted s → AreSubSorted (subscriber_closed (subscriber_at_moment now s))
+closing-sorted : (now : Moment) (s : SubscriberTables) → SubscriberIsSorted s → SubscriberIsSorted (subscriber_closed (subscriber_at_moment now s))
 closing-sorted now s k = record { rows_ascend = k.rows_ascend; generations_ascend = closed-sound s.gens (record { 0 = s.changes }) k.generations_ascend }
 
-message-sorted : (sent : Outstanding) (s : SubscriberTables) → AreSubSorted s → AreSubSorted (with_message sent s)
+message-sorted : (sent : Outstanding) (s : SubscriberTables) → SubscriberIsSorted s → SubscriberIsSorted (with_message sent s)
 message-sorted sent s k = record { rows_ascend = k.rows_ascend; generations_ascend = k.generations_ascend }
 
-taken-sorted : (judge : SubscriberJudge) (now : Moment) (m : Reply) (s : SubscriberTables) → AreSubSorted s → AreSubSorted (taken judge now m s)
+taken-sorted : (judge : SubscriberJudge) (now : Moment) (m : Reply) (s : SubscriberTables) → SubscriberIsSorted s → SubscriberIsSorted (taken judge now m s)
 taken-sorted judge now (reply.Joined m) s k = record { rows_ascend = k.rows_ascend; generations_ascend = k.generations_ascend }
 taken-sorted judge now (reply.Uploaded m) s k =
     let t : SubscriberTables = record (subscriber_at_moment now s) { outstanding = None } in
@@ -207,23 +207,23 @@ taken-sorted judge now (reply.Uploaded m) s k =
 taken-sorted judge now (reply.Ranged m) s k = record { rows_ascend = k.rows_ascend; generations_ascend = k.generations_ascend }
 taken-sorted judge now (reply.Downloaded m) s k =
     let t : SubscriberTables = record (subscriber_at_moment now s) { outstanding = None } in
-    let r : AreSubSorted (with_received m.received t) = received-sorted m.received t (record { rows_ascend = k.rows_ascend; generations_ascend = k.generations_ascend }) in
+    let r : SubscriberIsSorted (with_received m.received t) = received-sorted m.received t (record { rows_ascend = k.rows_ascend; generations_ascend = k.generations_ascend }) in
     record { rows_ascend = items-sorted judge m.received m.items (with_received m.received t).rows r.rows_ascend; generations_ascend = r.generations_ascend }
 taken-sorted judge now (reply.Refused number values) s k = record { rows_ascend = k.rows_ascend; generations_ascend = k.generations_ascend }
 
-anew-sorted : (judge : SubscriberJudge) (now : Moment) (s : SubscriberTables) → AreSubSorted s → AreSubSorted (reinitialised judge (subscriber_at_moment now s)).0
+anew-sorted : (judge : SubscriberJudge) (now : Moment) (s : SubscriberTables) → SubscriberIsSorted s → SubscriberIsSorted (reinitialised judge (subscriber_at_moment now s)).0
 unfolding IsStrictlySortedBy
 anew-sorted judge now s k = record {
   rows_ascend = tt;
   generations_ascend = record { unfilled = closed_filling-small s.gens.filling k.generations_ascend.unfilled; ascending = λ i j d before within. absurd (omega arith); closed = λ i d within. absurd (omega arith) };
 }
 
-pub step-sub-sorted : (publication : Publication) (says : Saying) (judges : Judges) (w : World) (action : Action) → AllHold AreSubSorted w.subscribers → AllHold AreSubSorted (step_by publication says judges w action).0.subscribers
-step-sub-sorted publication says judges w action k = sub-step-holds publication AreSubSorted
-    (λ now change s h. subscriber_local-ok AreSubSorted publication now change s (λ d. made-sorted publication change d (subscriber_at_moment now s) (at_moment-sorted now s h)))
-    (λ now s h. close-ok AreSubSorted now s (closing-sorted now s h))
+pub step-sub-sorted : (publication : Publication) (says : Saying) (judges : Judges) (w : World) (action : Action) → AllHold SubscriberIsSorted w.subscribers → AllHold SubscriberIsSorted (step_by publication says judges w action).0.subscribers
+step-sub-sorted publication says judges w action k = sub-step-holds publication SubscriberIsSorted
+    (λ now change s h. subscriber_local-ok SubscriberIsSorted publication now change s (λ d. made-sorted publication change d (subscriber_at_moment now s) (at_moment-sorted now s h)))
+    (λ now s h. close-ok SubscriberIsSorted now s (closing-sorted now s h))
     message-sorted
     closing-sorted
-    (λ judge now m s h. reply-ok AreSubSorted publication judge now m s h (taken-sorted judge now m s h))
-    (λ judge now s h. anew-ok AreSubSorted judge now s (anew-sorted judge now s h))
+    (λ judge now m s h. reply-ok SubscriberIsSorted publication judge now m s h (taken-sorted judge now m s h))
+    (λ judge now s h. anew-ok SubscriberIsSorted judge now s (anew-sorted judge now s h))
     says judges w action k

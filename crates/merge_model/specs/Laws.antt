@@ -146,10 +146,10 @@ pub record SubscriberNumbersRise : Type 0 where
   pub by_anew : (judge : SubscriberJudge) (now : Moment) (s : SubscriberTables) → IfOk (reinitialise judge now s) (λ done. SubscriberRises s done.0)
 
 -- Every subscriber's rows and closed generations ascend, after every list of events.
-pub record AreSubSorted (s : SubscriberTables) : Type 0 where
+pub record SubscriberIsSorted (s : SubscriberTables) : Type 0 where
   pub rows_ascend : IsStrictlySortedBy key_cmp (keys_of s.rows)
   pub generations_ascend : IsSound s.gens
 
 abbrev pub SubscribersStaySorted : Type 0
 SubscribersStaySorted = (publication : Publication) (says : Saying) (tallies : List ℕ) (slips : Slips) (events : List Event)
-    → AllByRecursion (λ (entry : ℕ × SubscriberTables). AreSubSorted entry.1) (world_behind publication says tallies slips events).subscribers
+    → AllByRecursion (λ (entry : ℕ × SubscriberTables). SubscriberIsSorted entry.1) (world_behind publication says tallies slips events).subscribers

@@ -1,5 +1,5 @@
 //! What holds of runs in which steps may fail. These functions do nothing: their contracts are the laws.
-ghost use Rattle.merge_model.specs.Laws.Quiet.{QuietClosings, QuietReplies, QuietRequests, QuietSubClosings};
+ghost use Rattle.merge_model.specs.Laws.Quiet.{QuietClosings, QuietReplies, QuietRequests, QuietSubscriberClosings};
 ghost use Rattle.merge_model.specs.Laws.SlipLaws.{CallsAreSteps, FailuresShow, FailuresShowInModel, NoneFails, NoneFailsInModel};
 
 /// Where no step fails, a run is that of a world in which none can.
@@ -25,6 +25,6 @@ pub fn calls_are_steps()
 pub fn quiet_calls_change_nothing()
     ensures requests { QuietRequests }
     ensures closings { QuietClosings }
-    ensures subscriber_closings { QuietSubClosings }
+    ensures subscriber_closings { QuietSubscriberClosings }
     ensures replies { QuietReplies }
 {}

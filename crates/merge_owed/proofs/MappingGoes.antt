@@ -17,7 +17,7 @@ use Rattle.merge_gens.specs.declared.moves.RowSite.{RowSite}
 use Rattle.merge_resolve.specs.Priorities.{subscription_at}
 use Rattle.merge_schema.specs.declared.publication.Publication.{Publication}
 use Rattle.merge_model.specs.Publisher.Entries as entry
-use Rattle.merge_model.specs.Publisher.Entries.{Changing, Parts, Touched, changed_by, comes_back, move_of, moves_of, parts_of, returned, rows_after, touched_by, with_move}
+use Rattle.merge_model.specs.Publisher.Entries.{Changing, Parts, Touched, changed_by, comes_back, move_of, moves_of, parts_of, returned_rows, rows_after, touched_by, with_move}
 use Rattle.merge_model.specs.Judge.{PublisherJudge}
 use Rattle.merge_model.specs.Tables.Keys.{at_row_site, has_key, same_key}
 use Rattle.merge_model.specs.Publisher.PublisherDownload.{inside_keys}
@@ -105,8 +105,8 @@ module _ (judge : PublisherJudge) (touched : Touched) (key : Key) (n : ℕ) (bef
       (all-kept (λ (part : Parts). IsBack (place_for k part)) (comes_back judge touched k) parts
       (all-weaker (IsPart n before after) (λ (part : Parts). comes_back judge touched k part ≡ true → IsBack (place_for k part)) (λ part fits back. back-here k part fits back) parts are))
 
-  pub back-facts : (parts : List Parts) (keys : List Key) → AllByRecursion (IsPart n before after) parts → has_place (returned judge touched parts keys) key n ≡ true → BackTo
-  back-facts parts keys are is = any-leads (is_place key n) BackTo (returned judge touched parts keys)
+  pub back-facts : (parts : List Parts) (keys : List Key) → AllByRecursion (IsPart n before after) parts → has_place (returned_rows judge touched parts keys) key n ≡ true → BackTo
+  back-facts parts keys are is = any-leads (is_place key n) BackTo (returned_rows judge touched parts keys)
       (all-flat IsBack (λ (k : Key). map (place_for k) (filter (comes_back judge touched k) parts)) (row-back parts are) keys) is
 
 -- a move that is told says where the row is
@@ -164,7 +164,7 @@ module _ (publication : Publication) (valid : CanBeSaid publication) (judge : Pu
   numbered = zip moves (drop (length touched.changed) (generations_of p.gens.filling (length touched.changed + length moves)))
 
   abbrev gone : List RowSite
-  gone = returned judge touched parts touched.changed
+  gone = returned_rows judge touched parts touched.changed
 
   abbrev q : PublisherTables
   q = changed_by publication judge changing p

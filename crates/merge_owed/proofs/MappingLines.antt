@@ -37,7 +37,8 @@ use Rattle.merge_laws.proofs.LastLines.LastLineNotes.{acts-lines, anew-lines, pu
 use Rattle.merge_laws.proofs.LastLines.LastLineSteps.{LinesBase}
 use Rattle.merge_laws.proofs.Walking.{StepsKeep, acts_in, here, join_noted, own_noted, step-keeps}
 use Rattle.merge_owed.specs.Mappings.{IsKeptOrGone, OfEveryGoingActions, OfEveryGoingRun, ToldAreKeptOrGone, Went, WentByActions, kept_at}
-use Rattle.merge_owed.specs.Purged.{behind, behind_actions}
+use Rattle.merge_laws.specs.Laws.Effects.{behind_actions}
+use Rattle.merge_owed.specs.Purged.{behind}
 use Rattle.merge_owed.proofs.MappingRuns.{Based, Parted, based-begins, based-event, based-fails, parted, later-gone, later-went, stepping}
 use Rattle.merge_owed.proofs.MappingSteps.{Ends, fails-end}
 use Rattle.merge_owed.proofs.MappingTold.{IsTold, entries-told, gone-told}

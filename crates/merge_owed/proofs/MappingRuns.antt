@@ -29,7 +29,8 @@ use Rattle.merge_laws.proofs.Runs.OfActions.{of-events}
 use Rattle.merge_laws.proofs.Runs.Tallied.{received-tallied}
 use Rattle.merge_laws.proofs.Walking.{step-keeps}
 use Rattle.merge_owed.specs.Mappings.{KeptOrWent, KeptOrWentByActions, Went, WentByActions, is_forget, kept_at}
-use Rattle.merge_owed.specs.Purged.{behind, behind_actions}
+use Rattle.merge_laws.specs.Laws.Effects.{behind_actions}
+use Rattle.merge_owed.specs.Purged.{behind}
 use Rattle.merge_owed.proofs.MappingSteps.{fails-end, Ends}
 use Rattle.merge_owed.proofs.PurgeEvents.{IsOther, other-same, without_purges}
 

@@ -25,7 +25,7 @@ use Rattle.merge_schema.specs.declared.publication.Publication.{Publication}
 use Rattle.merge_schema.specs.declared.publication.Subscription.{Subscription}
 use Rattle.merge_model.specs.Judge.ByHistory.{line_site}
 use Rattle.merge_model.specs.Publisher.Entries as entry
-use Rattle.merge_model.specs.Publisher.Entries.{Changing, Entries, Parts, Touched, changed_by, changing_entries, move_at, move_of, moves_of, parts_of, partition_keys, returned, rows_after, touched_by, with_move, with_rows}
+use Rattle.merge_model.specs.Publisher.Entries.{Changing, Entries, Parts, Touched, changed_by, changing_entries, move_at, move_of, moves_of, parts_of, partition_keys, returned_rows, rows_after, touched_by, with_move, with_rows}
 use Rattle.merge_model.specs.History.{Line}
 use Rattle.merge_model.specs.Judge.{PublisherJudge}
 use Rattle.merge_model.specs.Tables.Keys.{at_row_site, has_key, put_row, same_key}
@@ -265,7 +265,7 @@ module _ (publication : Publication) (valid : CanBeSaid publication) (judge : Pu
   numbered = zip moves generations
 
   abbrev gone : List RowSite
-  gone = returned judge touched parts touched.changed
+  gone = returned_rows judge touched parts touched.changed
 
   abbrev q : PublisherTables
   q = changed_by publication judge changing p

@@ -14,7 +14,8 @@ use Rattle.merge_model.specs.World.{Saying}
 use Rattle.merge_model.proofs.Runs.Actions.{failing-actions-keep}
 use Rattle.merge_model.proofs.Failing.KeptFailing.{fails-keep}
 use Rattle.merge_model.proofs.Publishers.Sorted.{step-sorted}
-use Rattle.merge_owed.specs.Purged.{WasPurgedByActions, behind_actions}
+use Rattle.merge_laws.specs.Laws.Effects.{behind_actions}
+use Rattle.merge_owed.specs.Purged.{WasPurgedByActions}
 use Rattle.merge_owed.proofs.PurgeEvents.{IsLeft, IsMade, act-leaves, made-purged, old_in, purge-has, slip-either, step-has, without_purges}
 use Rattle.merge_owed.proofs.PurgedRows.{Dropped, keys_old, was-dropped}
 

@@ -21,7 +21,7 @@ use Rattle.merge_model.specs.History.{History, Line, Past, pasts_with}
 use Rattle.merge_model.specs.Judge.{PublisherJudge}
 use Rattle.merge_model.specs.Tables.Keys.{has_key, row_at}
 use Rattle.merge_model.specs.Laws.{AreSorted}
-use Rattle.merge_model.specs.History.Model.{Model, did_something, model, model_step, noted, noted_if, noted_letter, noted_make, noted_request, with_letter, with_posted}
+use Rattle.merge_model.specs.History.Model.{Model, did_something, model, model_step, noted_action, noted_if, noted_letter, noted_make, noted_request, with_letter, with_posted}
 use Rattle.merge_model.specs.History.Noting
 use Rattle.merge_model.specs.Tables.Publications.{by_site}
 use Rattle.merge_model.specs.Publisher.{at_moment, last_closed}
@@ -142,11 +142,11 @@ module _ (publication : Publication) (says : Saying) where
   abbrev pub steps_without : Stepping (Faulty Model)
   steps_without = failing publication (without_purges (model publication says))
 
-  step-leaves : (m : Model) (action : Action) → (let judges : Judges = by_history m.history in (noted publication says judges m.world action m.history).purged ≡ m.history.purged) → (model_step publication says m action).0.history.purged ≡ m.history.purged
+  step-leaves : (m : Model) (action : Action) → (let judges : Judges = by_history m.history in (noted_action publication says judges m.world action m.history).purged ≡ m.history.purged) → (model_step publication says m action).0.history.purged ≡ m.history.purged
   step-leaves m action same =
       let judges : Judges = by_history m.history in
       let done : World × Outcome = step_by publication says judges m.world action in
-      let new : History = noted publication says judges m.world action m.history in
+      let new : History = noted_action publication says judges m.world action m.history in
       posted-leaves done.0 done.1 (noted_if (did_something done.1) new m.history) ∙ noted-leaves (did_something done.1) new m.history same
 
   pub act-leaves : (m : Model) (action : Action) → (act_without (model publication says) m action).0.history.purged ≡ m.history.purged

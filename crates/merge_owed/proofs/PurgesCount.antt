@@ -13,9 +13,9 @@ use Rattle.merge_model.specs.World.Events.{happens, outcome_answer}
 use Rattle.merge_model.specs.Failing.{Slip, Slips, failing, fails, faulty, is_allowed, slip_if}
 use Rattle.merge_model.specs.Tables.Keys.{row_at}
 use Rattle.merge_model.specs.History.Model.{Model, model, model_step}
-use Rattle.merge_model.specs.Publisher.PublisherPurge.{cutoff, forgotten, is_old, is_old_left, is_old_tombstone}
+use Rattle.merge_model.specs.Publisher.PublisherPurge.{counts_of_purge, cutoff, is_old, is_old_left, is_old_tombstone}
 use Rattle.merge_model.specs.Failing.Runs.{model_behind_actions}
-use Rattle.merge_model.specs.Laws.SlipLaws.{is_slip, refused_for, shown}
+use Rattle.merge_model.specs.Laws.SlipLaws.{is_slip, refused_for, shows_refusal}
 use Rattle.merge_model.specs.World.Steps.{Action, Forget}
 use Rattle.merge_model.specs.Tables.{PublisherTables}
 use Rattle.merge_model.specs.World.{Saying}
@@ -42,12 +42,12 @@ same-counts a b c x y z first second third = ap (λ (n : ℕ). counted n b c) fi
 closed-old : (publication : Publication) (p : PublisherTables) (c : Closing) → Closes p.gens.closings c → nat_lt c.moment.0 (cutoff publication p).0 ≡ is_old publication p c.generation
 closed-old publication p c at = sym (ap (λ (found : Option ℕ). (let old : Bool = elim found [ None ↦ false | Some moment ↦ nat_lt moment (cutoff publication p).0 ] in old)) at)
 
-pub counts-by-lines : OfEveryValidActions (λ publication says m. forgotten publication (going_over m) ≡ forgotten_by_lines publication m)
+pub counts-by-lines : OfEveryValidActions (λ publication says m. counts_of_purge publication (going_over m) ≡ forgotten_by_lines publication m)
 counts-by-lines resolvers publication valid says tallies slips actions =
     let m : Model = model_behind_actions publication says tallies slips actions in
     let p : PublisherTables = going_over m in
     let based : Based publication m = based-by-actions publication says tallies slips actions in
-    same-counts (forgotten publication p).tombstones (forgotten publication p).mappings (forgotten publication p).generations
+    same-counts (counts_of_purge publication p).tombstones (counts_of_purge publication p).mappings (counts_of_purge publication p).generations
     (forgotten_by_lines publication m).tombstones (forgotten_by_lines publication m).mappings (forgotten_by_lines publication m).generations
     (count-same (is_old_tombstone publication p) (is_old_by_lines publication m) m.world.publisher.rows
     (all-weaker (Found m.world.publisher.rows) (λ (row : Key × PublisherRow). is_old_tombstone publication p row ≡ is_old_by_lines publication m row)
@@ -64,7 +64,7 @@ slip-shows : (fault : Bool) → (let why : Refusal = if fault then refusal.Store
 slip-shows true = refl
 slip-shows false = refl
 
-module _ (publication : Publication) (says : Saying) (m : Model) (counts : Forgotten) (same : forgotten publication (going_over m) ≡ counts) where
+module _ (publication : Publication) (says : Saying) (m : Model) (counts : Forgotten) (same : counts_of_purge publication (going_over m) ≡ counts) where
   slip-counts : (allowed : Bool) (slips : Slips) (slip : Slip) → (let outcome : Outcome = (slip_if publication (model publication says) allowed slips slip Forget m (model_step publication says m Forget)).1 in refused_for is_slip outcome ≡ false → outcome ≡ Forgot counts)
   slip-counts true slips slip none = absurd (let shows = slip-shows slip.is_fault in grind (arith, shows, none))
   slip-counts false slips slip none = ap (λ (f : Forgotten). (let outcome : Outcome = Forgot f in outcome)) same
@@ -75,11 +75,11 @@ module _ (publication : Publication) (says : Saying) (m : Model) (counts : Forgo
   purge-counts (Some slip ∷ slips) none = slip-counts (is_allowed publication m.world Forget slip (model_step publication says m Forget).1) slips slip none
 
   slip-answers : (allowed : Bool) (slips : Slips) (slip : Slip) → (let outcome : Outcome = (slip_if publication (model publication says) allowed slips slip Forget m (model_step publication says m Forget)).1 in
-      shown is_slip (outcome_answer 0 outcome) ≡ false → outcome_answer 0 outcome ≡ answer_of_counts counts)
+      shows_refusal is_slip (outcome_answer 0 outcome) ≡ false → outcome_answer 0 outcome ≡ answer_of_counts counts)
   slip-answers true slips slip none = absurd (let shows = slip-shows slip.is_fault in grind (arith, shows, none))
   slip-answers false slips slip none = ap answer_of_counts same
 
-  purge-answers : (slips : Slips) → (let answer : Answer = (happens publication (failing publication (model publication says)) (faulty m slips) event.Purge).1 in shown is_slip answer ≡ false → answer ≡ answer_of_counts counts)
+  purge-answers : (slips : Slips) → (let answer : Answer = (happens publication (failing publication (model publication says)) (faulty m slips) event.Purge).1 in shows_refusal is_slip answer ≡ false → answer ≡ answer_of_counts counts)
   purge-answers [] none = ap answer_of_counts same
   purge-answers (None ∷ slips) none = ap answer_of_counts same
   purge-answers (Some slip ∷ slips) none = slip-answers (is_allowed publication m.world Forget slip (model_step publication says m Forget).1) slips slip none

@@ -31,7 +31,7 @@ use Rattle.merge_model.specs.History.{History, Line, MadeChange, Past, past_at, 
 use Rattle.merge_model.specs.Judge.{PublisherJudge, SubscriberJudge}
 use Rattle.merge_types.specs.RowKeys.{key_cmp}
 use Rattle.merge_model.specs.Tables.Keys.{has_key, put_number, row_at, same_key}
-use Rattle.merge_model.specs.Laws.{AreSubSorted}
+use Rattle.merge_model.specs.Laws.{SubscriberIsSorted}
 use Rattle.merge_model.specs.History.Noting
 use Rattle.merge_model.specs.History.Pasts.{past_after}
 use Rattle.merge_model.specs.Tables.Publications.{by_site}
@@ -213,7 +213,7 @@ module _ (publication : Publication) (says : Saying) (P : Key → Version → Pa
     named = found-named w.subscribers s.site.0 s b.none at
 
     abbrev ordered : IsStrictlySortedBy key_cmp (keys_of s.rows)
-    ordered = (all-found AreSubSorted w.subscribers s.site.0 s b.rows at).rows_ascend
+    ordered = (all-found SubscriberIsSorted w.subscribers s.site.0 s b.rows at).rows_ascend
 
     on-subscriber : (t : SubscriberTables) (k : History) → t.site.0 ≡ s.site.0 → IsStrictlySortedBy key_cmp (keys_of t.rows) → Goes P s.site.0 h (subscriber_version_at t) t.conflicts k → Every P (with_subscriber t w) k
     on-subscriber t k site sorted g = subst (λ (n : ℕ). Every P (record w { subscribers = put_number w.subscribers n t }) k) (sym site) (subscriber-goes P w h k s.site.0 t named sorted g e)

@@ -25,7 +25,7 @@ use Rattle.merge_model.specs.Publisher.PublisherJoin.{is_left_of}
 use Rattle.merge_model.specs.Publisher.PublisherPurge.{is_old, is_old_left, is_old_tombstone}
 use Rattle.merge_model.specs.World.Reports.{unsent_count}
 use Rattle.merge_model.specs.Subscriber.Sending.{unsent_rows}
-use Rattle.merge_model.specs.Laws.SlipLaws.{is_slip, refused_for, shown}
+use Rattle.merge_model.specs.Laws.SlipLaws.{is_slip, refused_for, shows_refusal}
 use Rattle.merge_model.specs.World.Steps.{Forget}
 use Rattle.merge_model.specs.Tables.{PublisherTables, SubscriberTables}
 use Rattle.merge_model.specs.World.{Saying}
@@ -84,7 +84,7 @@ answer_of_counts counts = Purged counts.tombstones counts.mappings counts.genera
 
 abbrev pub PurgesAnswerByLines : Publication → Saying → Model → Type 0
 PurgesAnswerByLines publication says m = (slips : Slips)
-    → (let answer : Answer = (happens publication (failing publication (model publication says)) (faulty m slips) event.Purge).1 in shown is_slip answer ≡ false → answer ≡ answer_of_counts (forgotten_by_lines publication m))
+    → (let answer : Answer = (happens publication (failing publication (model publication says)) (faulty m slips) event.Purge).1 in shows_refusal is_slip answer ≡ false → answer ≡ answer_of_counts (forgotten_by_lines publication m))
 
 -- What the publisher tells of a site: how far its generations have acted, the last of its changes that did, and the last that was met.
 pub record TellsOfSite (h : History) (site : ℕ) (state : SiteState) : Type 0 where

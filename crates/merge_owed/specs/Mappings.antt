@@ -26,7 +26,8 @@ use Rattle.merge_model.specs.declared.event.Event.TheVariants as event
 use Rattle.merge_model.specs.declared.letter.Message.TheVariants.{Asks}
 use Rattle.merge_laws.specs.Laws.LastLines.{move_told}
 use Rattle.merge_owed.specs.Forgotten.{going_over}
-use Rattle.merge_owed.specs.Purged.{behind, behind_actions}
+use Rattle.merge_laws.specs.Laws.Effects.{behind_actions}
+use Rattle.merge_owed.specs.Purged.{behind}
 
 -- the mapping that the publisher keeps of a row and a site
 abbrev pub kept_at : PublisherTables → RowSite → Option Mapping

@@ -11,12 +11,12 @@ use Rattle.merge_model.specs.History.{has, is_accepted, past_at}
 use Rattle.merge_model.specs.Tables.Keys.{has_key, row_at}
 use Rattle.merge_model.specs.History.Model.{Model, empty_model, model}
 use Rattle.merge_model.specs.Publisher.PublisherPurge.{is_old_tombstone}
-use Rattle.merge_model.specs.Failing.Runs.{after_actions}
 use Rattle.merge_model.specs.World.Steps.{Action, Forget}
 use Rattle.merge_model.specs.World.{Saying}
 use Rattle.merge_model.specs.declared.event.Event.{Event}
 use Rattle.merge_model.specs.declared.event.Event.TheVariants as event
 use Rattle.merge_laws.specs.Facts.Knowledge.{is_made}
+use Rattle.merge_laws.specs.Laws.Effects.{behind_actions}
 use Rattle.merge_owed.specs.Forgotten.{going_over}
 
 -- behind some events, with the slips that are left
@@ -40,9 +40,6 @@ OfEveryPurgingRun Holds = (resolvers : ℕ) (publication : Publication) → IsVa
     → (let start : Faulty Model = faulty (empty_model publication tallies) slips in Holds (WasPurged publication says start events) (behind publication says start events).world)
 
 -- The same of lists of actions, in any order.
-abbrev pub behind_actions : Publication → Saying → Faulty Model → List Action → Faulty Model
-behind_actions publication says f actions = after_actions (failing publication (model publication says)) f actions
-
 pub record WasPurgedByActions (publication : Publication) (says : Saying) (f : Faulty Model) (actions : List Action) (key : Key) : Type 0 where
   pub before : List Action
   pub later : List Action

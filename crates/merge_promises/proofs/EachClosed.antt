@@ -19,7 +19,7 @@ use Rattle.merge_model.specs.History.Pasts.{past_after}
 use Rattle.merge_model.specs.History.{History, MadeChange, made_at, no_history, past_at, pasts_with}
 use Rattle.merge_model.specs.Judge.ByHistory.{by_made, by_past}
 use Rattle.merge_model.specs.Judge.{SubscriberJudge}
-use Rattle.merge_model.specs.Laws.{AreSubSorted}
+use Rattle.merge_model.specs.Laws.{SubscriberIsSorted}
 use Rattle.merge_model.specs.Subscriber.Reinit.{reinitialised}
 use Rattle.merge_model.specs.Subscriber.Sending.{upload_sent, with_message}
 use Rattle.merge_model.specs.Subscriber.Taking.{taken}
@@ -117,7 +117,7 @@ module _ (publication : Publication) (says : Saying) where
       let c : MadeChange = Noting.made_change publication (subscriber_next_dot s) (subscriber_last_closed s + 1) change d.0 key (past_after publication (subscriber_next_dot s) change (past_at h s.site.0 key)) in
       let k : History = Noting.with_change publication (subscriber_next_dot s) (subscriber_last_closed s + 1) change d.0 h in
       let t : SubscriberTables = (subscriber_made_locally publication change d (subscriber_at_moment w.moment s)).0 in
-      let sorted : AreSubSorted s = all-found AreSubSorted w.subscribers s.site.0 s b.0.rows at in
+      let sorted : SubscriberIsSorted s = all-found SubscriberIsSorted w.subscribers s.site.0 s b.0.rows at in
       let new : HasChanges (c ∷ made_at h s.site.0) t = version-has (made_at h s.site.0) c s refl sorted.generations_ascend.unfilled (here-has w h s f at) w.moment d.1 key (version_after publication (subscriber_next_dot s) d.0 change (subscriber_version_at s key)) (row-there publication change d.0 s fine) in
       put-beside (λ (n : ℕ) (x : SubscriberTables). HasChanges (made_at k n) x) w.subscribers s t (version-site _ _ _)
       (subst (λ (made : List MadeChange). HasChanges made t) (sym (made-same h c)) new)

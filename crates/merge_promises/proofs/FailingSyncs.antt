@@ -13,7 +13,7 @@ use Rattle.merge_model.specs.World.{Saying}
 use Rattle.merge_model.proofs.Failing.NoSlips.{Same, acts-or}
 use Rattle.merge_model.proofs.Runs.Alike.{Both, session-alike, stops_off}
 use Rattle.merge_laws.specs.Laws.{OfEveryValidRun}
-use Rattle.merge_promises.specs.Syncs.{AllSync, AllSyncFailing, FailingTwoRoundsSettle, Syncs, synced, synced_failing}
+use Rattle.merge_promises.specs.Syncs.{AllSync, AllSyncFailing, FailingTwoRoundsSettle, Syncs, session_of, synced_failing}
 use Rattle.merge_promises.proofs.SyncLaw.{two-rounds}
 
 -- the passing of time does not fail, and what is seen of a world is seen of the one in it
@@ -27,8 +27,8 @@ module _ {W : Type 0} (publication : Publication) (stepping : Stepping W) where
 module _ (publication : Publication) (says : Saying) where
   -- The session of the plain model leaves the same, and nothing refuses it either.
   record IsPlain (site : SiteId) (f : Faulty Model) : Type 0 where
-    world : (synced_failing publication says site f).world.world ≡ (synced publication says site f.world).world
-    ended : (synced publication says site f.world).stop ≡ None
+    world : (synced_failing publication says site f).world.world ≡ (session_of publication says site f.world).world
+    ended : (session_of publication says site f.world).stop ≡ None
 
   is-plain : (site : SiteId) (f : Faulty Model) → (synced_failing publication says site f).stop ≡ None → IsPlain site f
   is-plain site f ended =

@@ -16,7 +16,8 @@ use Rattle.merge_laws.specs.Facts.Received.{Received}
 use Rattle.merge_laws.proofs.LastLines.LastLineAdded.{added}
 use Rattle.merge_laws.proofs.Received.Models.{model-fine, received-always}
 use Rattle.merge_laws.proofs.Runs.Tallied.{received-tallied}
-use Rattle.merge_owed.specs.Purged.{behind, behind_actions}
+use Rattle.merge_laws.specs.Laws.Effects.{behind_actions}
+use Rattle.merge_owed.specs.Purged.{behind}
 use Rattle.merge_promises.specs.Leavings.{ActionLeavingsWereSeen, LeavingsWereSeen, RunLeavingsWereSeen, WasSeen, WasSeenByActions}
 use Rattle.merge_promises.proofs.LeavingSteps.{Adds, SeenLine, fails-add}
 

@@ -24,7 +24,7 @@ use Rattle.merge_batch.specs.declared.request.Request.TheVariants as request
 use Rattle.merge_batch.specs.declared.request.Upload.{Upload}
 use Rattle.merge_model.specs.Failing.{Slip, Slips, acting_with, fails, faulty, is_allowed, slip_if}
 use Rattle.merge_model.specs.History.{Changed, EnteredFor, GoneFor, History, LeftFor, Line, pasts_with}
-use Rattle.merge_model.specs.History.Model.{Model, did_something, model, model_step, noted, noted_anew_at, noted_if, noted_letter, noted_request, with_letter, with_posted}
+use Rattle.merge_model.specs.History.Model.{Model, did_something, model, model_step, noted_action, noted_anew_at, noted_if, noted_letter, noted_request, with_letter, with_posted}
 use Rattle.merge_model.specs.History.Noting
 use Rattle.merge_model.specs.History.Noting.{changed_line, gone_line, lines_of_entries, moved_line}
 use Rattle.merge_model.specs.Judge.ByHistory.{by_history, by_past}
@@ -249,7 +249,7 @@ module _ (resolvers : ℕ) (publication : Publication) (valid : IsValid resolver
   found-lines change None = refl
   found-lines change (Some s) = sub-lines change s (subscriber_drawn s change)
 
-  make-adds : (site : SiteId) (change : Change) → After (Make site change) (make_at publication judges site change w) (noted publication says judges w (Make site change) m.history)
+  make-adds : (site : SiteId) (change : Change) → After (Make site change) (make_at publication judges site change w) (noted_action publication says judges w (Make site change) m.history)
   make-adds site change =
       let action : Action = Make site change in
       let found : History = elim (subscriber_at w site) [ None ↦ m.history | Some s ↦ Noting.noted_at_subscriber publication change s m.history ] in
@@ -364,7 +364,7 @@ module _ (resolvers : ℕ) (publication : Publication) (valid : IsValid resolver
 
   -- A purge.
 
-  forget-adds : After Forget (step_by publication says judges w Forget) (noted publication says judges w Forget m.history)
+  forget-adds : After Forget (step_by publication says judges w Forget) (noted_action publication says judges w Forget m.history)
   forget-adds =
       let done : World × Outcome = step_by publication says judges w Forget in
       let places : List RowSite = flat_map (Noting.old_left publication (history_judge m 0) (here w)) (map Noting.site_of_subscription (by_site publication)) in
@@ -375,7 +375,7 @@ module _ (resolvers : ℕ) (publication : Publication) (valid : IsValid resolver
   -- Every step.
 
   abbrev StepAdds : Action → Type 0
-  StepAdds action = After action (step_by publication says judges w action) (noted publication says judges w action m.history)
+  StepAdds action = After action (step_by publication says judges w action) (noted_action publication says judges w action m.history)
 
   step-adds : (action : Action) → StepAdds action
   step-adds (Pass seconds) = quiet (Pass seconds) (step_by publication says judges w (Pass seconds)) m.history refl

@@ -6,7 +6,7 @@ use Rattle.merge_schema.specs.declared.publication.Publication.{Publication}
 use Rattle.merge_batch.specs.declared.request.Request.{Request}
 use Rattle.merge_batch.specs.declared.request.Request.TheVariants as request
 use Rattle.merge_model.specs.Failing.{Slip, Slips, acting_with, fails, faulty, is_allowed, slip_if}
-use Rattle.merge_model.specs.History.Model.{Model, did_something, model, model_step, noted, noted_if, noted_letter, noted_request, with_letter, with_posted}
+use Rattle.merge_model.specs.History.Model.{Model, did_something, model, model_step, noted_action, noted_if, noted_letter, noted_request, with_letter, with_posted}
 use Rattle.merge_model.specs.History.Noting
 use Rattle.merge_model.specs.History.{History, MadeChange, made_at, pasts_with}
 use Rattle.merge_model.specs.Judge.ByHistory.{by_history, by_past}
@@ -73,20 +73,20 @@ module _ (publication : Publication) (says : Saying) (m : Model) (n : ℕ) (name
   found-made number None = refl
   found-made number (Some letter) = message-made number letter.site letter.message
 
-  noted-same : (action : Action) → is_other action ≡ true → made_at (noted publication says judges w action h) n ≡ made_at h n
+  noted-same : (action : Action) → is_other action ≡ true → made_at (noted_action publication says judges w action h) n ≡ made_at h n
   noted-same (Pass seconds) other = refl
   noted-same (Make site change) other = absurd (cc other)
   noted-same (CloseAt site) other = refl
   noted-same (Send site sending) other = refl
   noted-same (Deliver number) other = found-made number (letter_at w number)
   noted-same (MakeAnew site) other = absurd (cc other)
-  noted-same Forget other = of-made (noted publication says judges w Forget h) h n (purge-made publication (judges.publisher 0) (here w) h)
+  noted-same Forget other = of-made (noted_action publication says judges w Forget h) h n (purge-made publication (judges.publisher 0) (here w) h)
   noted-same Look other = refl
 
   step-made : (action : Action) → is_other action ≡ true → made_at (model_step publication says m action).0.history n ≡ made_at h n
   step-made action other =
       let done : World × Outcome = step_by publication says judges w action in
-      let more : History = noted publication says judges w action h in
+      let more : History = noted_action publication says judges w action h in
       of-made (with_posted done.0 done.1 (noted_if (did_something done.1) more h)) (noted_if (did_something done.1) more h) n (posted-made done.0 done.1 (noted_if (did_something done.1) more h))
       ∙ noted-made (did_something done.1) more h n (noted-same action other)
 

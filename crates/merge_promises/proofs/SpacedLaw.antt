@@ -37,7 +37,7 @@ use Rattle.merge_laws.proofs.Settled.SettledLaw.{settled-by-actions, settled-ste
 use Rattle.merge_laws.proofs.Walking.{step-keeps}
 use Rattle.merge_honest.specs.Filled.{AreFilled, count_in}
 use Rattle.merge_honest.proofs.Filled.{counts-more, filled-begins, filled-keeps}
-use Rattle.merge_owed.specs.Purged.{behind_actions}
+use Rattle.merge_laws.specs.Laws.Effects.{behind_actions}
 use Rattle.merge_promises.specs.SpacedRounds.{AreOther, EachMeanwhile, HasSent, HasTaken, Meanwhile, SpacedRoundsSettle, is_other}
 use Rattle.merge_promises.proofs.EachClosed.{EachHasChanges, has-begins, has-keeps}
 use Rattle.merge_promises.proofs.OtherHistory.{fails-made}

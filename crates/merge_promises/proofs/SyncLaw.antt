@@ -23,7 +23,7 @@ use Rattle.merge_model.specs.World.Steps.{SendDownload, SendJoin, SendRanges, Se
 use Rattle.merge_model.specs.World.{Saying, subscriber_at}
 use Rattle.merge_model.proofs.Lists.Finding.{found-named}
 use Rattle.merge_laws.specs.Laws.{OfEveryValidRun}
-use Rattle.merge_laws.specs.Laws.Rounds.{is_among, started}
+use Rattle.merge_laws.specs.Laws.Rounds.{is_among, new_session}
 use Rattle.merge_laws.proofs.Lineages.LineagesAlways.{ground, kept-always}
 use Rattle.merge_laws.proofs.Received.Subscribing.{number-decided, same_number}
 use Rattle.merge_laws.proofs.Sessions.RoundStays.{Stays, Unmoved, stays-itself, stays-then}
@@ -31,7 +31,7 @@ use Rattle.merge_laws.proofs.Sessions.SessionLaw.{At, Known, Settles, exchange-s
 use Rattle.merge_laws.proofs.Sessions.SessionSteps.{Answered}
 use Rattle.merge_laws.proofs.Settled.SettledExpired.{expired_in}
 use Rattle.merge_laws.proofs.Walking.{same-sites}
-use Rattle.merge_promises.specs.Syncs.{AllSync, Syncs, TwoRoundsSettle, synced}
+use Rattle.merge_promises.specs.Syncs.{AllSync, Syncs, TwoRoundsSettle, session_of}
 use Rattle.merge_promises.proofs.SyncStays.{Calm, calm-itself, calm-then, calm-unmoved, download-calm, goes, leaves-others, nothing-sent, ranges-calm}
 use Rattle.merge_promises.proofs.SyncWalk.{Gone, rest-goes, session-goes, stopped-goes}
 
@@ -44,12 +44,12 @@ module _ (publication : Publication) (says : Saying) where
   -- One session.
   module _ (site : SiteId) (m : Model) (a : At publication says site m) where
     -- it settles its site
-    settles : (synced publication says site m).stop ≡ None → (s : SubscriberTables) → subscriber_at (synced publication says site m).world.world site ≡ Some s → IsSettled publication (synced publication says site m).world s
-    settles ended s there = subst (λ (x : SiteId). (synced publication says x m).stop ≡ None → subscriber_at (synced publication says x m).world.world x ≡ Some s → IsSettled publication (synced publication says x m).world s) (same-site publication says site m a)
+    settles : (session_of publication says site m).stop ≡ None → (s : SubscriberTables) → subscriber_at (session_of publication says site m).world.world site ≡ Some s → IsSettled publication (session_of publication says site m).world s
+    settles ended s there = subst (λ (x : SiteId). (session_of publication says x m).stop ≡ None → subscriber_at (session_of publication says x m).world.world x ≡ Some s → IsSettled publication (session_of publication says x m).world s) (same-site publication says site m a)
         (λ stop here. session-leaves-settled publication says m a.known.0 a.known.1 a.tables s (own publication says site m a) stop here) ended there
 
     -- and leaves the tables of the others, and what they made
-    others-stay : (synced publication says site m).stop ≡ None → Gone publication says site (Stays site) (stays-then site) m (synced publication says site m).world
+    others-stay : (session_of publication says site m).stop ≡ None → Gone publication says site (Stays site) (stays-then site) m (session_of publication says site m).world
     others-stay = session-goes publication says site (Stays site) (stays-then site) (λ sending k known. goes publication says Stays sending (λ n s at. leaves-others publication says n s at sending) site k known) m (a.known, stays-itself site m)
 
     -- Where it has nothing to send, it makes no upload.
@@ -67,9 +67,9 @@ module _ (publication : Publication) (says : Saying) where
       is-joined = ap (λ (found : Option SubscriberTables). unwrap_or (option_map (λ (s : SubscriberTables). s.is_joined) found) true) a.here ∙ quiet.joined
 
       -- so the session is calm
-      session-calm : (synced publication says site m).stop ≡ None → Gone publication says site (Calm site) (calm-then site) m (synced publication says site m).world
+      session-calm : (session_of publication says site m).stop ≡ None → Gone publication says site (Calm site) (calm-then site) m (session_of publication says site m).world
       session-calm =
-          let begun : Session Model = started m in
+          let begun : Session Model = new_session m in
           let as_is : Session Model → Session Model = as_it_is (model publication says) site in
           let joined : Session Model = joining (model publication says) site begun in
           rest-goes publication says site (Calm site) (calm-then site)
@@ -120,7 +120,7 @@ module _ (publication : Publication) (says : Saying) where
   -- one session more
   module _ (Holds : Model → SubscriberTables → Type 0) (b : SiteId) (m : Model) (stand : Stand m) (y : Syncs publication says b m) where
     abbrev n : Model
-    n = (synced publication says b m).world
+    n = (session_of publication says b m).world
 
     at : At publication says b m
     at = record { tables = y.tables; known = stand.known b; here = y.here }
@@ -170,7 +170,7 @@ module _ (publication : Publication) (says : Saying) where
 
   module _ (b : SiteId) (m : Model) (stand : Stand m) (quiets : Quiets m) (y : Syncs publication says b m) where
     abbrev later : Model
-    later = (synced publication says b m).world
+    later = (session_of publication says b m).world
 
     abbrev here : At publication says b m
     here = record { tables = y.tables; known = stand.known b; here = y.here }
@@ -184,9 +184,9 @@ module _ (publication : Publication) (says : Saying) where
   second-round : (sites : List SiteId) (m k : Model) → Stand m → Quiets m → Each Settled sites m → AllSync publication says sites m k → Each Settled [] k
   second-round [] m k stand quiets each same = subst (λ (x : Model). Each Settled [] x) same each
   second-round (b ∷ sites) m k stand quiets each all =
-      let c : Calm b m (synced publication says b m).world = calm b m stand quiets all.0 in
-      second-round sites (synced publication says b m).world k (stands-then Settled b m stand all.0) (quiets-then b m stand quiets all.0)
-      (each-then Settled b m stand all.0 (λ s is. is) (λ s differs named found was. still-settled b m (synced publication says b m).world s differs named c found was) sites each) all.1
+      let c : Calm b m (session_of publication says b m).world = calm b m stand quiets all.0 in
+      second-round sites (session_of publication says b m).world k (stands-then Settled b m stand all.0) (quiets-then b m stand quiets all.0)
+      (each-then Settled b m stand all.0 (λ s is. is) (λ s differs named found was. still-settled b m (session_of publication says b m).world s differs named c found was) sites each) all.1
 
   rounds-settle : (m : Model) → Stand m → TwoRoundsSettle publication says m
   rounds-settle m stand first second between end firsts seconds one other s found =

@@ -15,9 +15,9 @@ use Rattle.merge_model.specs.World.Steps.{Action, Deliver}
 use Rattle.merge_model.specs.World.{Saying}
 use Rattle.merge_model.specs.declared.event.Event.{Event}
 use Rattle.merge_laws.specs.Laws.ActsOnce.{IsUpload}
-use Rattle.merge_laws.specs.Laws.Effects.{history_judge}
+use Rattle.merge_laws.specs.Laws.Effects.{behind_actions, history_judge}
 use Rattle.merge_owed.specs.Mappings.{is_inside}
-use Rattle.merge_owed.specs.Purged.{behind, behind_actions}
+use Rattle.merge_owed.specs.Purged.{behind}
 
 -- An upload that this very site sent comes to the publisher, it is more than answered, and an item of the row acts.
 pub record ItsUploadActs (m : Model) (action : Action) (place : RowSite) : Type 0 where

@@ -15,7 +15,7 @@ use Rattle.merge_model.specs.Subscriber.Sending.{unsent_rows}
 use Rattle.merge_model.specs.Tables.{SubscriberTables}
 use Rattle.merge_model.specs.World.Steps.{Action, Make, MakeAnew}
 use Rattle.merge_model.specs.World.{Saying, subscriber_at}
-use Rattle.merge_owed.specs.Purged.{behind_actions}
+use Rattle.merge_laws.specs.Laws.Effects.{behind_actions}
 
 -- no site changes a row, and none is made anew
 abbrev pub is_other : Action → Bool

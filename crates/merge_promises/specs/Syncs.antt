@@ -12,19 +12,19 @@ use Rattle.merge_model.specs.World.{Saying, subscriber_at}
 use Rattle.merge_laws.specs.Laws.Rounds.{HasSubscribers}
 
 -- a session of a site from here
-abbrev pub synced : Publication → Saying → SiteId → Model → Session Model
-synced publication says site m = session (model publication says) site m
+abbrev pub session_of : Publication → Saying → SiteId → Model → Session Model
+session_of publication says site m = session (model publication says) site m
 
 -- a subscriber, whether or not it has joined, has a session that nothing refuses
 pub record Syncs (publication : Publication) (says : Saying) (site : SiteId) (m : Model) : Type 0 where
   pub tables : SubscriberTables
   pub here : subscriber_at m.world site ≡ Some tables
-  pub ended : (synced publication says site m).stop ≡ None
+  pub ended : (session_of publication says site m).stop ≡ None
 
 -- These sites have one, one after the other and nothing else between, and leave this model.
 abbrev pub AllSync : Publication → Saying → List SiteId → Model → Model → Type 0
 AllSync publication says [] m k = m ≡ k
-AllSync publication says (site ∷ sites) m k = Syncs publication says site m × AllSync publication says sites (synced publication says site m).world k
+AllSync publication says (site ∷ sites) m k = Syncs publication says site m × AllSync publication says sites (session_of publication says site m).world k
 
 -- When every subscriber has had a session, and then every one another, each is settled.
 abbrev pub TwoRoundsSettle : Publication → Saying → Model → Type 0

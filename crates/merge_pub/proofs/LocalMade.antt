@@ -41,7 +41,7 @@ use Rattle.merge_steps.specs.Drawing.{Draws, Gives, KeepsHeld, drawn_by}
 use Rattle.merge_steps.specs.Keeps.{FitsHere, KeepsRules, RowFits}
 use Rattle.merge_pub.specs.Local.{Refuses, changed_version, held_version, rows_refusal, versions_after}
 use Rattle.merge_pub.specs.Held.{Held, IsSound, publication_of, tables_of}
-use Rattle.merge_pub.specs.Making.{IsMade, counted}
+use Rattle.merge_pub.specs.Making.{IsMade, with_besides}
 use Rattle.merge_steps.specs.Step.{changing}
 use Rattle.merge_steps.specs.declared.changes.Besides.{Besides}
 use Rattle.merge_steps.specs.declared.changes.Changes.{Changes}
@@ -195,7 +195,7 @@ weaker-rows : (publication : Publication) (changes more : ℕ) → changes ≤ m
 weaker-rows publication changes more rises [] all = tt
 weaker-rows publication changes more rises (row ∷ rows) all = (record { fits = all.0.fits; known = (let known = all.0.known in omega (arith, known, rises)) }, weaker-rows publication changes more rises rows all.1)
 
-local-keeps : (publication : Publication) (now : Moment) (p : PublisherTables) (d : Draw) → KeepsRules publication p → KeepsHeld p.grants p.held d → KeepsRules publication (counted (besides_of now p d) p)
+local-keeps : (publication : Publication) (now : Moment) (p : PublisherTables) (d : Draw) → KeepsRules publication p → KeepsHeld p.grants p.held d → KeepsRules publication (with_besides (besides_of now p d) p)
 local-keeps publication now p d keeps kept = record {
   rows = weaker-rows publication p.changes (p.changes + 1) (omega arith) p.rows keeps.rows;
   rising = rw (append-nil p.conflicts) keeps.rising;
@@ -305,7 +305,7 @@ pub keeps-here : (h : Held) → IsSound h → (moment : Moment) (d : Draw) → K
     → q.changes ≡ h.changes + 1 → q.rows ≡ h.rows.rows → q.conflict_count ≡ h.conflict_count → q.conflicts ≡ h.conflicts.rows ++ [] → q.held ≡ rows_after_all nat_cmp h.held.rows d.held → q.grants ≡ grants_with_all h.grants.grants d.grants
     → KeepsRules publication q
 keeps-here h sound moment d kept publication q here changes rows count conflicts held grants =
-    rw here (same-rules (publication_of h) (counted (besides_of moment (tables_of h) d) (tables_of h)) q changes rows count conflicts held grants (local-keeps (publication_of h) moment (tables_of h) d sound.keeps kept))
+    rw here (same-rules (publication_of h) (with_besides (besides_of moment (tables_of h) d) (tables_of h)) q changes rows count conflicts held grants (local-keeps (publication_of h) moment (tables_of h) d sound.keeps kept))
 
 -- the change is made
 pub made-here : (h now : Held) → h ≡ now → (publication other : Publication) (moment : Moment) (dot : Dot) (change : Change) (d : Draw) (versions : List (Key × Version)) (acted : List Key) (p : PublisherTables) (besides : Besides) (c : Changes) (row : RowId)

@@ -27,7 +27,7 @@ use Rattle.merge_pub.specs.After.{after}
 use Rattle.merge_pub.specs.Held.{Held, tables_of}
 use Rattle.merge_steps.specs.Keeps.{FitsHere, KeepsRules}
 use Rattle.merge_steps.specs.Indexed.{AreIndexed, AreMoved}
-use Rattle.merge_pub.specs.Making.{IsMade, counted}
+use Rattle.merge_pub.specs.Making.{IsMade, with_besides}
 use Rattle.merge_steps.specs.MoveEntries.{move_entry_cmp}
 use Rattle.merge_steps.specs.Step.{Indexes, IndexesMoves, IsStep, KeepsFitting}
 use Rattle.merge_steps.specs.declared.changes.Besides.{Besides}
@@ -55,7 +55,7 @@ with_rows besides w = record {
 made-from : (publication : Publication) (changing : Changing) (p : PublisherTables) (besides : Besides) (w : Worked) → IsStep publication changing p.rows p.mappings p.gens besides.latest w
     → IsMade publication changing p besides (with_rows besides w)
 unfolding IsMade IsStep
-made-from publication changing p besides w step = λ judge left. step (counted besides p) judge left
+made-from publication changing p besides w step = λ judge left. step (with_besides besides p) judge left
 
 pub made-held : (changing : Changing) (h now : Held) → h ≡ now → (besides : Besides) (w : Worked) → IsStep h.membership.publication changing h.rows.rows h.mappings.rows h.gens.book besides.latest w
     → IsMade now.membership.publication changing (tables_of now) besides (with_rows besides w)
@@ -74,12 +74,12 @@ moved-from mappings mappings2 w entries entries2 follows sorted moved same_mappi
 
 -- the rules are kept in tables that have the same of what the rules ask
 pub kept-after : (versions : List (Key × Version)) (h now : Held) → h ≡ now → (publication : Publication) (p : PublisherTables) → publication ≡ h.membership.publication → (besides : Besides) (w : Worked)
-    → KeepsFitting h.membership.publication versions h.rows.rows w → KeepsRules now.membership.publication (counted besides (tables_of now)) → AllByRecursion (FitsHere now.membership.publication besides.changes) versions
+    → KeepsFitting h.membership.publication versions h.rows.rows w → KeepsRules now.membership.publication (with_besides besides (tables_of now)) → AllByRecursion (FitsHere now.membership.publication besides.changes) versions
     → p.changes ≡ besides.changes → p.rows ≡ rows_after_all key_cmp h.rows.rows w.rows → p.conflict_count ≡ besides.conflict_count → p.conflicts ≡ h.conflicts.rows ++ besides.conflicts.rows
     → p.held ≡ rows_after_all nat_cmp h.held.rows besides.held → p.grants ≡ grants_with_all h.grants.grants besides.grants → KeepsRules publication p
 unfolding KeepsFitting
 kept-after versions h now is publication p same besides w fitting keeps fit changes rows count conflicts held grants =
-    let kept : KeepsRules h.membership.publication (counted besides (tables_of h)) = subst (λ (x : Held). KeepsRules x.membership.publication (counted besides (tables_of x))) (sym is) keeps in
+    let kept : KeepsRules h.membership.publication (with_besides besides (tables_of h)) = subst (λ (x : Held). KeepsRules x.membership.publication (with_besides besides (tables_of x))) (sym is) keeps in
     let fits : AllByRecursion (FitsHere h.membership.publication besides.changes) versions = subst (λ (x : Held). AllByRecursion (FitsHere x.membership.publication besides.changes) versions) (sym is) fit in
     record {
       rows = rw (same, changes, rows) (fitting besides.changes kept.rows fits);

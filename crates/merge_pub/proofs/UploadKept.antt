@@ -24,7 +24,7 @@ use Rattle.merge_model.specs.Tables.{PublisherTables}
 use Rattle.merge_pub.specs.After.{after}
 use Rattle.merge_units.specs.declared.version.Version.{Version}
 use Rattle.merge_steps.specs.Keeps.{FitsHere, KeepsRules}
-use Rattle.merge_pub.specs.Making.{IsMade, counted}
+use Rattle.merge_pub.specs.Making.{IsMade, with_besides}
 use Rattle.merge_steps.specs.Step.{Subscribes, changing}
 use Rattle.merge_pub.specs.Uploaded.{IsActed, acted_tables, taken_tables, with_acting}
 use Rattle.merge_steps.specs.Uploading.{sites_with}
@@ -55,7 +55,7 @@ abbrev pub besides_with : Arrival → Acting → List (Edit ℕ SiteState) → C
 besides_with arrival acting sites plan = record { changes = acting.changes; conflict_count = acting.conflict_count; latest = arrival.moment; sites = sites; conflicts = plan; grants = []; held = [] }
 
 pub kept-acted : (publication : Publication) (p : PublisherTables) (arrival : Arrival) (acting : Acting) (sites : List (Edit ℕ SiteState)) (plan : ConflictPlan) → plan.rows ≡ acting.lost → KeepsRules publication p → IsActed publication p acting
-    → KeepsRules publication (counted (besides_with arrival acting sites plan) p)
+    → KeepsRules publication (with_besides (besides_with arrival acting sites plan) p)
 kept-acted publication p arrival acting sites plan lost keeps acted =
     record {
       rows = rows-raised publication p.changes acting.changes p.rows acted.changes keeps.rows;
@@ -70,7 +70,7 @@ pub acted-made : (publication : Publication) (p : PublisherTables) (m : Upload) 
 unfolding IsMade
 acted-made publication p m arrival acting sites plan c lost edited made =
     sym (made (by_numbers p) (λ key site. refl))
-    ∙ ap (λ (rows : List ConflictRow). changed_by publication (by_numbers p) (changing acting.versions acting.acted m.site.0) (record (counted (besides_with arrival acting sites plan) p) { conflicts = p.conflicts ++ rows })) lost
+    ∙ ap (λ (rows : List ConflictRow). changed_by publication (by_numbers p) (changing acting.versions acting.acted m.site.0) (record (with_besides (besides_with arrival acting sites plan) p) { conflicts = p.conflicts ++ rows })) lost
     ∙ ap (λ (states : List (ℕ × SiteState)). changed_by publication (by_numbers p) (changing acting.versions acting.acted m.site.0) (record (with_acting arrival m acting p) { sites = states })) edited
 
 -- an upload with news, and one without
@@ -88,11 +88,11 @@ taken-old publication p p' m arrival acting old made =
 
 -- The same, where a publisher's parts stand for what was said of it.
 
-pub keeps-at : (there publication : Publication) (besides b : Besides) (q p : PublisherTables) → there ≡ publication → besides ≡ b → q ≡ p → KeepsRules publication (counted b p) → KeepsRules there (counted besides q)
+pub keeps-at : (there publication : Publication) (besides b : Besides) (q p : PublisherTables) → there ≡ publication → besides ≡ b → q ≡ p → KeepsRules publication (with_besides b p) → KeepsRules there (with_besides besides q)
 keeps-at there publication besides b q p here is same keeps =
-    subst (λ (x : Publication). KeepsRules x (counted besides q)) (sym here)
-    (subst (λ (x : Besides). KeepsRules publication (counted x q)) (sym is)
-    (subst (λ (x : PublisherTables). KeepsRules publication (counted b x)) (sym same) keeps))
+    subst (λ (x : Publication). KeepsRules x (with_besides besides q)) (sym here)
+    (subst (λ (x : Besides). KeepsRules publication (with_besides x q)) (sym is)
+    (subst (λ (x : PublisherTables). KeepsRules publication (with_besides b x)) (sym same) keeps))
 
 pub fits-at : (there publication : Publication) (n changes : ℕ) (xs versions : List (Key × Version)) → there ≡ publication → n ≡ changes → xs ≡ versions → AllByRecursion (FitsHere publication changes) versions → AllByRecursion (FitsHere there n) xs
 fits-at there publication n changes xs versions here is same fits =

@@ -13,8 +13,8 @@ use Rattle.merge_pub.specs.After.{after}
 use Rattle.merge_steps.specs.Step.{SeesLeft}
 
 -- the tables after what a step changes but for rows, mappings and generations
-abbrev pub counted : Besides → PublisherTables → PublisherTables
-counted b p = record p {
+abbrev pub with_besides : Besides → PublisherTables → PublisherTables
+with_besides b p = record p {
   changes = b.changes;
   conflict_count = b.conflict_count;
   latest = b.latest;
@@ -26,4 +26,4 @@ counted b p = record p {
 
 -- the changes make what the step does
 unfoldable pub IsMade : Publication → Changing → PublisherTables → Besides → Changes → Type 0
-IsMade publication changing p besides c = (judge : PublisherJudge) → SeesLeft judge p.mappings → changed_by publication judge changing (counted besides p) ≡ after c p
+IsMade publication changing p besides c = (judge : PublisherJudge) → SeesLeft judge p.mappings → changed_by publication judge changing (with_besides besides p) ≡ after c p

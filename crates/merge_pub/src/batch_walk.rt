@@ -1,7 +1,7 @@
 //! Batches of a download: how far one reaches, and what a site does with the rows of it.
-ghost use Rattle.std.specs.Prelude.{◌≡◌, ◌<◌, ◌≤◌, ◌+◌, ◌-◌, ◌++◌, ◌^◌, IfOk, OnOk, cond, count_by, filter, filter_map, is_some, length, map, min};
+ghost use Rattle.std.specs.Prelude.{◌≡◌, ◌<◌, ◌≤◌, ◌+◌, ◌-◌, ◌++◌, IfOk, OnOk, cond, count_by, filter, filter_map, is_some, length, map, min};
 ghost use Rattle.std.specs.Option.{option_to_list};
-ghost use Rattle.merge_types.specs.Limits.{generation_limit};
+ghost use Rattle.merge_types.specs.Limits.{generation_limit, number_limit};
 ghost use Rattle.merge_batch.specs.Orders.{order_by};
 ghost use Rattle.merge_model.specs.Judge.ByNumbers.{by_numbers};
 ghost use Rattle.merge_model.specs.Publisher.PublisherDownload.{batch_end, is_between, item_of, touched_rows};
@@ -28,7 +28,7 @@ fn one_if_some(found: Option<bool>) -> usize
 // The last generation that a batch may reach which begins behind one.
 fn end_of(from: u64, last: u64) -> u64
     requires order { from ≤ last }
-    requires low { last < 2 ^ 62 }
+    requires low { last < number_limit }
     ensures end { result ≡ from + min generation_limit (last - from) }
     ensures low { result ≤ last }
 {
@@ -50,7 +50,7 @@ impl Publisher {
 
     // How many rows were touched for the site in the generation behind one.
     fn count_touched(&self, site: SiteId, before: u64) -> Result<usize, NoMemory>
-        requires { before < 2 ^ 62 }
+        requires { before < number_limit }
         ensures { IfOk result (λ count. count ≡ count_by (is_between before (before + 1)) (touched_rows (publication_of self.now) (by_numbers (tables_of self.now)) site (tables_of self.now))) }
     {
         let keys = self.due_rows(site, before, before + 1)?;
@@ -62,7 +62,7 @@ impl Publisher {
     // and stops at the first that is one too many.
     pub(crate) fn batch_end(&self, site: SiteId, from: u64, last: u64) -> Result<u64, NoMemory>
         requires order { from ≤ last }
-        requires low { last < 2 ^ 62 }
+        requires low { last < number_limit }
         ensures { IfOk result (λ to. to ≡ batch_end (touched_up_to (publication_of self.now) (tables_of self.now) site from) from last) }
     {
         let end = end_of(from, last);
@@ -128,7 +128,7 @@ impl Publisher {
 
     // What the site does with each row that was touched between, by article and row.
     pub(crate) fn items(&self, site: SiteId, from: u64, to: u64) -> Result<DownloadItems, NoMemory>
-        requires { from < 2 ^ 62 }
+        requires { from < number_limit }
         ensures { IfOk result (λ items. items ≡ map (item_of (tables_of self.now)) (filter (is_between from to) (touched_rows (publication_of self.now) (by_numbers (tables_of self.now)) site (tables_of self.now)))) }
     {
         let keys = self.due_rows(site, from, to)?;

@@ -1,5 +1,6 @@
 //! The open generation closes.
-ghost use Rattle.std.specs.Prelude.{◌≡◌, ◌<◌, ◌⊎◌, ◌∷◌, ◌^◌, [], None, Some, Ok, Err, IfOk, IfErr, OnOk};
+ghost use Rattle.std.specs.Prelude.{◌≡◌, ◌<◌, ◌⊎◌, ◌∷◌, [], None, Some, Ok, Err, IfOk, IfErr, OnOk};
+ghost use Rattle.merge_types.specs.Limits.{counter_limit};
 ghost use Rattle.merge_batch.specs.LocalChanges.{counter_end};
 ghost use Rattle.merge_batch.specs.declared.refusal.Refusal.{Refusal as OneRefusal};
 ghost use Rattle.merge_batch.specs.declared.refusal.Refusal.TheVariants.{NoMemory as no_memory};
@@ -22,9 +23,9 @@ use std::alloc::Global;
 pub fn counters_go_on(changes: u64, last_closed: u64, conflict_count: u64) -> Result<(), Refusal>
     ensures ok { OnOk result (counter_end (changes ∷ last_closed ∷ conflict_count ∷ []) ≡ None) }
     ensures err { IfErr result (λ refusal. counter_end (changes ∷ last_closed ∷ conflict_count ∷ []) ≡ Some refusal) }
-    ensures changes_low { OnOk result (changes < 2 ^ 61) }
-    ensures closed_low { OnOk result (last_closed < 2 ^ 61) }
-    ensures conflicts_low { OnOk result (conflict_count < 2 ^ 61) }
+    ensures changes_low { OnOk result (changes < counter_limit) }
+    ensures closed_low { OnOk result (last_closed < counter_limit) }
+    ensures conflicts_low { OnOk result (conflict_count < counter_limit) }
 {
     check_counters(&[changes, last_closed, conflict_count])
 }

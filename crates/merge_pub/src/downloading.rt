@@ -1,5 +1,6 @@
 //! A site asks for what was touched.
-ghost use Rattle.std.specs.Prelude.{◌≡◌, ◌<◌, ◌≤◌, ◌⊎◌, ◌^◌, Err, IfOk, Ok, OnOk, Some};
+ghost use Rattle.std.specs.Prelude.{◌≡◌, ◌<◌, ◌≤◌, ◌⊎◌, Err, IfOk, Ok, OnOk, Some};
+ghost use Rattle.merge_types.specs.Limits.{counter_limit, number_limit};
 ghost use Rattle.merge_batch.specs.declared.refusal.Refusal.{Refusal as OneRefusal};
 ghost use Rattle.merge_batch.specs.declared.refusal.Refusal.TheVariants.{NoMemory as no_memory};
 ghost use Rattle.merge_model.specs.Judge.ByNumbers.{by_numbers};
@@ -24,7 +25,7 @@ impl Publisher {
         ensures state { IfOk result (λ state. at_number (tables_of self.now).sites m.now.site.0 ≡ Some state) }
         ensures refusal { refusal_of result ≡ download_refusal (publication_of self.now) now m.now (tables_of self.now) }
         ensures order { OnOk result (m.now.from ≤ self.now.gens.book.filling.last_closed) }
-        ensures low { OnOk result (self.now.gens.book.filling.last_closed < 2 ^ 61) }
+        ensures low { OnOk result (self.now.gens.book.filling.last_closed < counter_limit) }
     {
         let state = self.check_site(now, m.site, m.seq)?;
         let last = self.gens.last_closed();
@@ -37,10 +38,10 @@ impl Publisher {
 
     // The last closed generation once the open one closes.
     fn last_after_closing(&self) -> u64
-        requires { self.now.gens.book.filling.last_closed < 2 ^ 61 }
+        requires { self.now.gens.book.filling.last_closed < counter_limit }
         ensures last { result ≡ (closed (tables_of self.now)).gens.filling.last_closed }
         ensures onward { self.now.gens.book.filling.last_closed ≤ result }
-        ensures low { result < 2 ^ 62 }
+        ensures low { result < number_limit }
     {
         if self.gens.filled() == 0 {
             return self.gens.last_closed();
@@ -52,7 +53,7 @@ impl Publisher {
     // the generations up to `received`.
     fn reply(&self, m: &Download, received: u64) -> Result<Downloaded, NoMemory>
         requires order { m.now.from ≤ self.now.gens.book.filling.last_closed }
-        requires low { self.now.gens.book.filling.last_closed < 2 ^ 61 }
+        requires low { self.now.gens.book.filling.last_closed < counter_limit }
         ensures { IfOk result (λ reply. received ≡ (by_numbers (tables_of self.now)).received m.now.site.0 → reply ≡ reply_to (publication_of self.now) (by_numbers (tables_of self.now)) m.now (closed (tables_of self.now))) }
     {
         let last = self.last_after_closing();

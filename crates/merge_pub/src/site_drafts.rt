@@ -1,5 +1,6 @@
 //! Drafts that change no row and no mapping.
-ghost use Rattle.std.specs.Prelude.{◌≡◌, ◌<◌, ◌∷◌, ◌^◌, [], IfOk, IsOk, None};
+ghost use Rattle.std.specs.Prelude.{◌≡◌, ◌<◌, ◌∷◌, [], IfOk, IsOk, None};
+ghost use Rattle.merge_types.specs.Limits.{counter_limit};
 ghost use Rattle.merge_table.specs.declared.edit.Edit.TheVariants.{Put};
 ghost use Rattle.merge_ident.specs.Books as granting;
 ghost use Rattle.merge_model.specs.Publisher.{closed, with_state};
@@ -77,7 +78,7 @@ impl Publisher {
         site: SiteId,
         state: SiteState,
     ) -> Result<Draft, NoMemory>
-        requires { self.old.gens.book.filling.last_closed < 2 ^ 61 }
+        requires { self.old.gens.book.filling.last_closed < counter_limit }
         ensures made { IfOk result (λ d. after d.changes (tables_of self.old) ≡ closed (with_state site state (record (tables_of self.old) { latest = latest }))) }
         ensures ready { IfOk result (λ d. IsDrafted self.new d) }
         ensures same { tables_of self.new ≡ tables_of self.old }

@@ -1,5 +1,6 @@
 //! Which rows were touched for a site, found by their generations.
-ghost use Rattle.std.specs.Prelude.{◌≡◌, ◌<◌, ◌^◌, IfOk};
+ghost use Rattle.std.specs.Prelude.{◌≡◌, ◌<◌, IfOk};
+ghost use Rattle.merge_types.specs.Limits.{number_limit};
 ghost use Rattle.merge_model.specs.Judge.ByNumbers.{touch_by_mapping, touch_inside, touch_outside};
 ghost use Rattle.merge_model.specs.Tables.Keys.{has_key};
 ghost use Rattle.merge_model.specs.Publisher.PublisherDownload.{inside_keys};
@@ -80,7 +81,7 @@ impl Publisher {
     // The rows that changed, or moved for the site, in the generations behind one, up to another, by
     // article and row. The time grows with these.
     pub(crate) fn due_rows(&self, site: SiteId, from: u64, to: u64) -> Result<Vec<RowKey>, NoMemory>
-        requires { from < 2 ^ 62 }
+        requires { from < number_limit }
         ensures { IfOk result (λ keys. HasTouched (publication_of self.now) (tables_of self.now) site from to keys.items) }
     {
         self.rows.is_ordered();

@@ -1,6 +1,6 @@
 //! A site uploads rows.
 ghost use Rattle.std.specs.Prelude.{◌≡◌, ◌⊎◌, ◌≤◌, ◌<◌, ◌+◌, ◌*◌, ◌&&◌, ◌++◌, ◌^◌, ℕ, [], true, None, Some, Ok, Err, IfOk, OnOk, count_by, length, map, nat_lt, take};
-ghost use Rattle.merge_types.specs.Limits.{rows_limit};
+ghost use Rattle.merge_types.specs.Limits.{counter_limit, item_limit, rows_limit};
 ghost use Rattle.merge_types.specs.declared.identifiers.Moment.{Moment as OneMoment};
 ghost use Rattle.merge_conflict.specs.Rising.{AreRising};
 ghost use Rattle.merge_conflict.specs.Table as losing;
@@ -70,9 +70,9 @@ fn makes_row(rows: &Table<RowKey, PublisherRow>, arrival: Arrival, item: &Upload
 
 // How many rows the items make.
 fn rows_made(rows: &Table<RowKey, PublisherRow>, arrival: Arrival, items: &[UploadItem]) -> u64
-    requires { length items.now ≤ 2000 }
+    requires { length items.now ≤ item_limit }
     ensures made { result ≡ count_by (makes_row_in rows.now.rows arrival) items.now }
-    ensures few { result ≤ 2000 }
+    ensures few { result ≤ item_limit }
 {
     let mut made = 0;
     for item in items {
@@ -185,7 +185,7 @@ impl Publisher {
 
     // Refuses new rows that are too many.
     fn check_new_rows(&self, arrival: Arrival, upload: &Upload) -> Result<(), Refusal>
-        requires few { length upload.now.items ≤ 2000 }
+        requires few { length upload.now.items ≤ item_limit }
         requires arrival { (now : OneMoment) × (arrival ≡ arrival_of now upload.now (tables_of self.now)) }
         ensures { refusal_of result ≡ too_many_new (acts_of (by_numbers (tables_of self.now)) upload.now [] (tables_of self.now)) (tables_of self.now) }
     {
@@ -202,9 +202,9 @@ impl Publisher {
         ensures arrival { IfOk result (λ arrival. arrival ≡ arrival_of now upload.now (tables_of self.now)) }
         ensures valid { OnOk result (IsValidUpload (publication_of self.now) (known_in (publication_of self.now) (tables_of self.now)) upload.now) }
         ensures subscribes { OnOk result (is_subscription (publication_of self.now) upload.now.site.0 ≡ true) }
-        ensures changes_low { OnOk result ((tables_of self.now).changes < 2 ^ 61) }
-        ensures closed_low { OnOk result ((tables_of self.now).gens.filling.last_closed < 2 ^ 61) }
-        ensures conflicts_low { OnOk result ((tables_of self.now).conflict_count < 2 ^ 61) }
+        ensures changes_low { OnOk result ((tables_of self.now).changes < counter_limit) }
+        ensures closed_low { OnOk result ((tables_of self.now).gens.filling.last_closed < counter_limit) }
+        ensures conflicts_low { OnOk result ((tables_of self.now).conflict_count < counter_limit) }
     {
         let state = self.check_site(now, upload.site, upload.seq)?;
         self.check_start(upload, state)?;
@@ -224,8 +224,8 @@ impl Publisher {
     ) -> Result<Acting, NoMemory>
         requires arrival { (now : OneMoment) × (arrival ≡ arrival_of now upload.now (tables_of self.now)) }
         requires valid { IsValidUpload (publication_of self.now) (known_in (publication_of self.now) (tables_of self.now)) upload.now }
-        requires changes { (tables_of self.now).changes < 2 ^ 61 }
-        requires conflicts { (tables_of self.now).conflict_count < 2 ^ 61 }
+        requires changes { (tables_of self.now).changes < counter_limit }
+        requires conflicts { (tables_of self.now).conflict_count < counter_limit }
         ensures passed { IfOk result (λ acting. pass_at acting (map (λ r. tally_of r) resolvers.new.items)
             ≡ after_items (publication_of self.now) (tables_of self.now).rows arrival (says_at (λ r. says r) resolvers.old.items) (pass_at (none_acted (tables_of self.now)) (map (λ r. tally_of r) resolvers.old.items)) upload.now.items) }
         ensures acted { IfOk result (λ acting. IsActed (publication_of self.now) (tables_of self.now) acting) }
@@ -273,7 +273,7 @@ impl Publisher {
     ) -> Result<(Draft, Listing<Decision>), NoMemory>
         requires acted { IsActed (publication_of self.old) (tables_of self.old) acting }
         requires subscribes { is_subscription (publication_of self.old) upload.now.site.0 ≡ true }
-        requires low { (tables_of self.old).gens.filling.last_closed < 2 ^ 61 }
+        requires low { (tables_of self.old).gens.filling.last_closed < counter_limit }
         ensures made { IfOk result (λ d. after d.0.changes (tables_of self.old) ≡ acted_tables (publication_of self.old) (by_numbers (tables_of self.old)) arrival upload.now acting (tables_of self.old)) }
         ensures ready { IfOk result (λ d. IsDrafted self.new d.0) }
         ensures decided { IfOk result (λ d. d.1 ≡ acting.decisions) }
@@ -320,7 +320,7 @@ impl Publisher {
     ) -> Result<(Draft, Listing<Decision>), NoMemory>
         requires acted { IsActed (publication_of self.old) (tables_of self.old) acting }
         requires subscribes { is_subscription (publication_of self.old) upload.now.site.0 ≡ true }
-        requires low { (tables_of self.old).gens.filling.last_closed < 2 ^ 61 }
+        requires low { (tables_of self.old).gens.filling.last_closed < counter_limit }
         ensures made { IfOk result (λ d. after d.0.changes (tables_of self.old) ≡ taken_tables (publication_of self.old) (by_numbers (tables_of self.old)) arrival upload.now acting (tables_of self.old)) }
         ensures ready { IfOk result (λ d. IsDrafted self.new d.0) }
         ensures decided { IfOk result (λ d. d.1 ≡ acting.decisions) }

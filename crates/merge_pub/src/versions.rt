@@ -1,5 +1,5 @@
 //! Rows get versions.
-ghost use Rattle.std.specs.Prelude.{◌≡◌, ◌≤◌, ◌<◌, ◌+◌, ◌*◌, ◌^◌, map, length, IfOk};
+ghost use Rattle.std.specs.Prelude.{◌≡◌, ◌≤◌, ◌<◌, ◌+◌, ◌*◌, map, length, IfOk};
 ghost use Rattle.std.specs.Ordering.{nat_cmp};
 ghost use Rattle.merge_types.specs.RowKeys.{key_cmp};
 ghost use Rattle.merge_table.specs.Edits.{IsReady};
@@ -7,9 +7,10 @@ ghost use Rattle.merge_gens.specs.Moves.{row_site_cmp};
 ghost use Rattle.merge_ident.specs.Books as granting;
 ghost use Rattle.merge_conflict.specs.Table as losing;
 ghost use Rattle.std.specs.List.{AllByRecursion};
+ghost use Rattle.merge_types.specs.Limits.{counter_limit};
 ghost use Rattle.merge_part.specs.Taking.{EachRowOnce, living};
 ghost use Rattle.merge_pub.specs.Held.{IsDrafted, publication_of, tables_of};
-ghost use Rattle.merge_pub.specs.Making.{IsMade, counted};
+ghost use Rattle.merge_pub.specs.Making.{IsMade, with_besides};
 ghost use Rattle.merge_steps.specs.Keeps.{FitsHere, KeepsRules};
 ghost use Rattle.merge_steps.specs.MoveEntries.{move_entry_cmp};
 ghost use Rattle.merge_steps.specs.Step.{Subscribes, changing};
@@ -81,9 +82,9 @@ impl Publisher {
         requires rows { AllByRecursion (FitsHere self.old.membership.publication besides.changes) versions.items }
         requires once { EachRowOnce (map work.row_change versions.items) }
         requires subscribes { Subscribes self.old.membership.publication acted.now site }
-        requires low { self.old.gens.book.filling.last_closed < 2 ^ 61 }
-        requires few { length versions.items < 2 ^ 61 }
-        requires keeps { KeepsRules self.old.membership.publication (counted besides (tables_of self.old)) }
+        requires low { self.old.gens.book.filling.last_closed < counter_limit }
+        requires few { length versions.items < counter_limit }
+        requires keeps { KeepsRules self.old.membership.publication (with_besides besides (tables_of self.old)) }
         requires conflicts { losing.IsReady self.old.conflicts besides.conflicts }
         requires grants { granting.IsReady self.old.grants besides.grants }
         ensures made { IfOk result (λ d. IsMade self.old.membership.publication (changing versions.items acted.now site) (tables_of self.old) besides d.changes) }

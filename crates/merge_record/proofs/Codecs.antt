@@ -8,7 +8,7 @@ use Rattle.std.proofs.lemmas.Nat.{be_bytes_2, be_bytes_4, be_bytes_8, from_be_by
 use Rattle.std.proofs.lemmas.Int.{of_z-to_z, to_z-of_z}
 use mir.Val.{bits}
 use mir.Facts.{Fits-of_z, Fits-lt-pow, sfits_to_z}
-use Rattle.merge_record.specs.Codec.{IsBytes, Takes, IsCodec, IsRecord, AreRecords, counted, string_bytes_of, signed_bytes, AreCounted, IsShort, IsBelow}
+use Rattle.merge_record.specs.Codec.{IsBytes, Takes, IsCodec, IsRecord, AreRecords, counted_bytes, string_bytes_of, signed_bytes, AreCounted, IsShort, IsBelow}
 use Rattle.merge_record.specs.Reading.{◌>>=◌, Reader, both_at, pair_at, many_at, number_at, counted_at, tested_at, wrapped_at, signed_at, string_at, whole_of}
 
 pub IsBytes-drop : (n : ℕ) (bytes : List ℕ) → IsBytes bytes → IsBytes (drop n bytes)
@@ -155,7 +155,7 @@ number w limit wide = record { again = number_again w limit wide; takes = number
 
 -- ---- a count, and so many members
 
-pub counted_is : {A : Type 0} (w : Width) (limit : ℕ) (wide : IsWide w limit) (s : A → List ℕ) (r : Reader A) (F : A → Type 0) → IsCodec s r F → IsCodec (counted w s) (counted_at w r) (AreCounted limit F)
+pub counted_is : {A : Type 0} (w : Width) (limit : ℕ) (wide : IsWide w limit) (s : A → List ℕ) (r : Reader A) (F : A → Type 0) → IsCodec s r F → IsCodec (counted_bytes w s) (counted_at w r) (AreCounted limit F)
 counted_is {A = A} w limit wide s r F p = record {
   again = λ xs rest fits.
       ap (counted_at w r) (append_assoc (to_be_bytes w (length xs)) (flat_map s xs) rest)

@@ -6,7 +6,7 @@ use Rattle.merge_gens.specs.declared.moves.MoveKind.{MoveKind}
 use Rattle.merge_gens.specs.declared.moves.MoveKind.TheVariants.{Entered, Left}
 use Rattle.merge_ident.specs.declared.grants.Range.{Range}
 use Rattle.merge_record.specs.Reading.{number_at, signed_at, counted_at, pair_at}
-use Rattle.merge_record.specs.Codec.{IsBytes, Takes, IsCodec, signed_bytes, counted, AreCounted, IsBelow}
+use Rattle.merge_record.specs.Codec.{IsBytes, Takes, IsCodec, signed_bytes, counted_bytes, AreCounted, IsBelow}
 use Rattle.merge_record.specs.Versions.{version_at, version_bytes, IsVersion}
 use Rattle.merge_record.specs.Rows.{version_changed, publisher_row_at, publisher_row_bytes, IsPublisherRow, numbers_ascend, generations_at, AreGenerations, version_generations, subscriber_row_at, subscriber_row_bytes, IsSubscriberRow}
 use Rattle.merge_record.specs.Tables.{article_row, row_key_at, row_key_bytes, IsRowKey, key_site, row_site_at, row_site_bytes, IsRowSite, kind_at, kind_bytes, kind_generation, mapping_at, mapping_bytes, IsMapping, grant_key_of, grant_key_at, grant_key_bytes, IsGrantKey, begin_end, range_at, range_bytes, IsRange, at_most_two, ranges_at, held_of, held_at, held_bytes, AreRanges, IsHeld, site_state_of, site_state_at, site_state_bytes, IsSiteState}
@@ -30,13 +30,13 @@ pub publisher_row_is : IsCodec publisher_row_bytes publisher_row_at IsPublisherR
 unfolding publisher_row_at
 publisher_row_is = both version_bytes (to_be_bytes w64) version_at (number_at w64) IsVersion (IsBelow (2 ^ 64)) version_changed (λ r. r.version) (λ r. r.changed) (λ r. refl) (λ a b. refl) (λ a b. refl) version_is num64
 
-generations_is : IsCodec (counted w64 (to_be_bytes w64)) generations_at AreGenerations
+generations_is : IsCodec (counted_bytes w64 (to_be_bytes w64)) generations_at AreGenerations
 unfolding generations_at
-generations_is = tested (counted w64 (to_be_bytes w64)) (counted_at w64 (number_at w64)) (AreCounted (2 ^ 64) (IsBelow (2 ^ 64))) numbers_ascend (counted_is w64 (2 ^ 64) wide64 (to_be_bytes w64) (number_at w64) (IsBelow (2 ^ 64)) num64)
+generations_is = tested (counted_bytes w64 (to_be_bytes w64)) (counted_at w64 (number_at w64)) (AreCounted (2 ^ 64) (IsBelow (2 ^ 64))) numbers_ascend (counted_is w64 (2 ^ 64) wide64 (to_be_bytes w64) (number_at w64) (IsBelow (2 ^ 64)) num64)
 
 pub subscriber_row_is : IsCodec subscriber_row_bytes subscriber_row_at IsSubscriberRow
 unfolding subscriber_row_at
-subscriber_row_is = both version_bytes (counted w64 (to_be_bytes w64)) version_at generations_at IsVersion AreGenerations version_generations (λ r. r.version) (λ r. r.generations) (λ r. refl) (λ a b. refl) (λ a b. refl) version_is generations_is
+subscriber_row_is = both version_bytes (counted_bytes w64 (to_be_bytes w64)) version_at generations_at IsVersion AreGenerations version_generations (λ r. r.version) (λ r. r.generations) (λ r. refl) (λ a b. refl) (λ a b. refl) version_is generations_is
 
 pub row_key_is : IsCodec row_key_bytes row_key_at IsRowKey
 unfolding row_key_at
@@ -76,17 +76,17 @@ pub range_is : IsCodec range_bytes range_at IsRange
 unfolding range_at
 range_is = both (signed_bytes w64) (signed_bytes w64) (signed_at w64) (signed_at w64) (FitsSigned w64) (FitsSigned w64) begin_end (λ r. r.begin) (λ r. r.end) (λ r. refl) (λ a b. refl) (λ a b. refl) int64 int64
 
-ranges_is : IsCodec (counted w8 range_bytes) ranges_at AreRanges
+ranges_is : IsCodec (counted_bytes w8 range_bytes) ranges_at AreRanges
 unfolding ranges_at
-ranges_is = tested (counted w8 range_bytes) (counted_at w8 range_at) (AreCounted (2 ^ 8) IsRange) at_most_two (counted_is w8 (2 ^ 8) wide8 range_bytes range_at IsRange range_is)
+ranges_is = tested (counted_bytes w8 range_bytes) (counted_at w8 range_at) (AreCounted (2 ^ 8) IsRange) at_most_two (counted_is w8 (2 ^ 8) wide8 range_bytes range_at IsRange range_is)
 
 pub held_is : IsCodec held_bytes held_at IsHeld
 unfolding held_at
-held_is = both (to_be_bytes w64) (λ (p : ℤ × (List Range × ℤ)). signed_bytes w64 p.0 ++ (counted w8 range_bytes p.1.0 ++ signed_bytes w64 p.1.1)) (number_at w64) (pair_at (signed_at w64) (pair_at ranges_at (signed_at w64)))
+held_is = both (to_be_bytes w64) (λ (p : ℤ × (List Range × ℤ)). signed_bytes w64 p.0 ++ (counted_bytes w8 range_bytes p.1.0 ++ signed_bytes w64 p.1.1)) (number_at w64) (pair_at (signed_at w64) (pair_at ranges_at (signed_at w64)))
     (IsBelow (2 ^ 64)) (λ (p : ℤ × (List Range × ℤ)). FitsSigned w64 p.0 × (AreRanges p.1.0 × FitsSigned w64 p.1.1))
     held_of (λ h. h.have) (λ h. (h.last_end, (h.ranges, h.next))) (λ h. refl) (λ a b. refl) (λ a b. refl) num64
-    (paired (signed_bytes w64) (λ (p : List Range × ℤ). counted w8 range_bytes p.0 ++ signed_bytes w64 p.1) (signed_at w64) (pair_at ranges_at (signed_at w64)) (FitsSigned w64) (λ (p : List Range × ℤ). AreRanges p.0 × FitsSigned w64 p.1) int64
-    (paired (counted w8 range_bytes) (signed_bytes w64) ranges_at (signed_at w64) AreRanges (FitsSigned w64) ranges_is int64))
+    (paired (signed_bytes w64) (λ (p : List Range × ℤ). counted_bytes w8 range_bytes p.0 ++ signed_bytes w64 p.1) (signed_at w64) (pair_at ranges_at (signed_at w64)) (FitsSigned w64) (λ (p : List Range × ℤ). AreRanges p.0 × FitsSigned w64 p.1) int64
+    (paired (counted_bytes w8 range_bytes) (signed_bytes w64) ranges_at (signed_at w64) AreRanges (FitsSigned w64) ranges_is int64))
 
 -- several numbers of eight bytes
 two : IsCodec (λ (p : ℕ × ℕ). to_be_bytes w64 p.0 ++ to_be_bytes w64 p.1) (pair_at (number_at w64) (number_at w64)) (λ (p : ℕ × ℕ). (p.0 < 2 ^ 64) × (p.1 < 2 ^ 64))

@@ -9,7 +9,7 @@ use Rattle.merge_lineage.specs.Lineage.{ascending}
 use Rattle.merge_units.specs.declared.version.Body.{Body}
 use Rattle.merge_units.specs.declared.version.Body.TheVariants.{Live, Dead}
 use Rattle.merge_record.specs.Reading.{◌>>=◌, number_at, signed_at, counted_at, string_at}
-use Rattle.merge_record.specs.Codec.{IsBytes, Takes, IsCodec, signed_bytes, counted, string_bytes_of, AreCounted, IsShort, IsBelow}
+use Rattle.merge_record.specs.Codec.{IsBytes, Takes, IsCodec, signed_bytes, counted_bytes, string_bytes_of, AreCounted, IsShort, IsBelow}
 use Rattle.merge_record.specs.Versions.{site_number, dot_at, dot_bytes, IsDot, lineage_at, lineage_bytes, IsLineage, bit_at, text_at, is_day, day_at, tagged_at, value_at, bit_of, value_bytes, IsValue, top_values, cell_at, cell_bytes, IsCell, body_tagged_at, body_at, body_bytes, IsBody, lineage_body, version_at, version_bytes, IsVersion}
 use Rattle.merge_record.proofs.Codecs.{Takes-then, both, number, signed, wide8, wide16, wide32, wide64, counted_is, tested, wrapped, string_is, bind_some, some_is}
 use Rattle.merge_record.proofs.Wide.{wide128}
@@ -21,7 +21,7 @@ dot_is = both (to_be_bytes w16) (to_be_bytes w64) (number_at w16) (number_at w64
 
 pub lineage_is : IsCodec lineage_bytes lineage_at IsLineage
 unfolding lineage_at
-lineage_is = tested (counted w8 dot_bytes) (counted_at w8 dot_at) (AreCounted (2 ^ 8) IsDot) ascending (counted_is w8 (2 ^ 8) wide8 dot_bytes dot_at IsDot dot_is)
+lineage_is = tested (counted_bytes w8 dot_bytes) (counted_at w8 dot_at) (AreCounted (2 ^ 8) IsDot) ascending (counted_is w8 (2 ^ 8) wide8 dot_bytes dot_at IsDot dot_is)
 
 text_is : IsCodec string_bytes_of text_at (λ bs. IsShort bs × (is_utf8 bs ≡ true))
 unfolding text_at
@@ -114,10 +114,10 @@ value_is = record { again = value_again; takes = value_takes }
 
 pub cell_is : IsCodec cell_bytes cell_at IsCell
 unfolding cell_at
-cell_is = both dot_bytes (counted w8 value_bytes) dot_at (counted_at w8 value_at) IsDot (AreCounted (2 ^ 8) IsValue) top_values (λ c. c.top) (λ c. c.values) (λ c. refl) (λ a b. refl) (λ a b. refl)
+cell_is = both dot_bytes (counted_bytes w8 value_bytes) dot_at (counted_at w8 value_at) IsDot (AreCounted (2 ^ 8) IsValue) top_values (λ c. c.top) (λ c. c.values) (λ c. refl) (λ a b. refl) (λ a b. refl)
     dot_is (counted_is w8 (2 ^ 8) wide8 value_bytes value_at IsValue value_is)
 
-cells_is : IsCodec (counted w8 cell_bytes) (counted_at w8 cell_at) (AreCounted (2 ^ 8) IsCell)
+cells_is : IsCodec (counted_bytes w8 cell_bytes) (counted_at w8 cell_at) (AreCounted (2 ^ 8) IsCell)
 cells_is = counted_is w8 (2 ^ 8) wide8 cell_bytes cell_at IsCell cell_is
 
 body_tagged : (tag : ℕ) (bytes : List ℕ) → IsBytes bytes → (v : Body) (rest : List ℕ) → body_tagged_at tag bytes ≡ Some (v, rest)
@@ -125,8 +125,8 @@ body_tagged : (tag : ℕ) (bytes : List ℕ) → IsBytes bytes → (v : Body) (r
 unfolding body_tagged_at
 body_tagged zero bytes bs v rest e = absurd cc
 body_tagged (suc zero) bytes bs v rest e =
-    let d = wrapped (counted w8 cell_bytes) (counted_at w8 cell_at) (AreCounted (2 ^ 8) IsCell) Live cells_is bytes bs v rest e in
-    subst (λ (z : Body). (payload : List ℕ) × (body_bytes z ≡ 1 ∷ payload) × Takes bytes payload rest × IsBody z) d.1 (counted w8 cell_bytes d.0, refl, d.2, d.3)
+    let d = wrapped (counted_bytes w8 cell_bytes) (counted_at w8 cell_at) (AreCounted (2 ^ 8) IsCell) Live cells_is bytes bs v rest e in
+    subst (λ (z : Body). (payload : List ℕ) × (body_bytes z ≡ 1 ∷ payload) × Takes bytes payload rest × IsBody z) d.1 (counted_bytes w8 cell_bytes d.0, refl, d.2, d.3)
 body_tagged (suc (suc zero)) bytes bs v rest e =
     let d = wrapped dot_bytes dot_at IsDot Dead dot_is bytes bs v rest e in
     subst (λ (z : Body). (payload : List ℕ) × (body_bytes z ≡ 2 ∷ payload) × Takes bytes payload rest × IsBody z) d.1 (dot_bytes d.0, refl, d.2, d.3)
@@ -142,7 +142,7 @@ body_takes bytes bs v rest e =
 
 body_again : (v : Body) (rest : List ℕ) → IsBody v → body_at (body_bytes v ++ rest) ≡ Some (v, rest)
 unfolding body_at body_tagged_at
-body_again (Live cells) rest h = rw (tag_again 1 (counted w8 cell_bytes cells ++ rest) (lit< tt)) (ap (λ o. o >>= λ x. Some (Live x.0, x.1)) (cells_is.again cells rest h))
+body_again (Live cells) rest h = rw (tag_again 1 (counted_bytes w8 cell_bytes cells ++ rest) (lit< tt)) (ap (λ o. o >>= λ x. Some (Live x.0, x.1)) (cells_is.again cells rest h))
 body_again (Dead dot) rest h = rw (tag_again 2 (dot_bytes dot ++ rest) (lit< tt)) (ap (λ o. o >>= λ x. Some (Dead x.0, x.1)) (dot_is.again dot rest h))
 
 body_is : IsCodec body_bytes body_at IsBody

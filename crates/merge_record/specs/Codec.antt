@@ -27,8 +27,8 @@ abbrev pub signed_bytes : Width → ℤ → List ℕ
 signed_bytes w z = to_be_bytes w (cast_unsigned w z)
 
 -- a count, and each member
-abbrev pub counted : {A : Type 0} → Width → (A → List ℕ) → List A → List ℕ
-counted w spell xs = to_be_bytes w (length xs) ++ flat_map spell xs
+abbrev pub counted_bytes : {A : Type 0} → Width → (A → List ℕ) → List A → List ℕ
+counted_bytes w spell xs = to_be_bytes w (length xs) ++ flat_map spell xs
 
 -- as many members as a number of so many bytes can count, each of which has a spelling
 abbrev pub AreCounted : {A : Type 0} → ℕ → (A → Type 0) → List A → Type 0

@@ -5,7 +5,7 @@ use Rattle.merge_units.specs.declared.version.Version.{Version}
 use Rattle.merge_units.specs.declared.site_row.PublisherRow.{PublisherRow}
 use Rattle.merge_units.specs.declared.site_row.SubscriberRow.{SubscriberRow}
 use Rattle.merge_record.specs.Reading.{Reader, both_at, counted_at, number_at, tested_at}
-use Rattle.merge_record.specs.Codec.{counted, AreCounted, IsBelow}
+use Rattle.merge_record.specs.Codec.{counted_bytes, AreCounted, IsBelow}
 use Rattle.merge_record.specs.Versions.{version_at, version_bytes, IsVersion, IsShortVersion}
 
 -- ---- at the publisher: the version, and the generation of the last change
@@ -46,7 +46,7 @@ unfoldable pub subscriber_row_at : Reader SubscriberRow
 subscriber_row_at bytes = both_at version_generations version_at generations_at bytes
 
 abbrev pub subscriber_row_bytes : SubscriberRow → List ℕ
-subscriber_row_bytes row = version_bytes row.version ++ counted w64 (to_be_bytes w64) row.generations
+subscriber_row_bytes row = version_bytes row.version ++ counted_bytes w64 (to_be_bytes w64) row.generations
 
 abbrev pub AreGenerations : List ℕ → Type 0
 AreGenerations generations = AreCounted (2 ^ 64) (IsBelow (2 ^ 64)) generations × (numbers_ascend generations ≡ true)

@@ -11,7 +11,7 @@ use Rattle.merge_ident.specs.declared.grants.Range.{Range}
 use Rattle.merge_record.specs.declared.ranges.GrantKey.{GrantKey}
 use Rattle.merge_record.specs.declared.ranges.HeldRanges.{HeldRanges}
 use Rattle.merge_record.specs.Reading.{Reader, both_at, pair_at, counted_at, number_at, signed_at, tested_at}
-use Rattle.merge_record.specs.Codec.{counted, signed_bytes, AreCounted}
+use Rattle.merge_record.specs.Codec.{counted_bytes, signed_bytes, AreCounted}
 
 -- ---- rows: the article in one byte, and the identifier in sixteen
 
@@ -108,7 +108,7 @@ unfoldable pub held_at : Reader HeldRanges
 held_at bytes = both_at held_of (number_at w64) (pair_at (signed_at w64) (pair_at ranges_at (signed_at w64))) bytes
 
 abbrev pub held_bytes : HeldRanges → List ℕ
-held_bytes held = to_be_bytes w64 held.have ++ (signed_bytes w64 held.last_end ++ (counted w8 range_bytes held.ranges ++ signed_bytes w64 held.next))
+held_bytes held = to_be_bytes w64 held.have ++ (signed_bytes w64 held.last_end ++ (counted_bytes w8 range_bytes held.ranges ++ signed_bytes w64 held.next))
 
 abbrev pub AreRanges : List Range → Type 0
 AreRanges ranges = AreCounted (2 ^ 8) IsRange ranges × (at_most_two ranges ≡ true)

@@ -12,7 +12,7 @@ use Rattle.merge_units.specs.declared.version.Version.{Version}
 pub use Rattle.merge_types.specs.Day.{is_day}
 use Rattle.merge_lineage.specs.Lineage.{ascending}
 use Rattle.merge_record.specs.Reading.{◌>>=◌, Reader, both_at, counted_at, number_at, signed_at, string_at, tested_at, wrapped_at}
-use Rattle.merge_record.specs.Codec.{counted, signed_bytes, string_bytes_of, AreCounted, IsShort}
+use Rattle.merge_record.specs.Codec.{counted_bytes, signed_bytes, string_bytes_of, AreCounted, IsShort}
 
 -- ---- changes: a site in two bytes, and a number in eight
 
@@ -34,7 +34,7 @@ unfoldable pub lineage_at : Reader (List Dot)
 lineage_at bytes = tested_at ascending (counted_at w8 dot_at) bytes
 
 abbrev pub lineage_bytes : List Dot → List ℕ
-lineage_bytes dots = counted w8 dot_bytes dots
+lineage_bytes dots = counted_bytes w8 dot_bytes dots
 
 abbrev pub IsLineage : List Dot → Type 0
 IsLineage dots = AreCounted (2 ^ 8) IsDot dots × (ascending dots ≡ true)
@@ -107,7 +107,7 @@ unfoldable pub cell_at : Reader Cell
 cell_at bytes = both_at top_values dot_at (counted_at w8 value_at) bytes
 
 abbrev pub cell_bytes : Cell → List ℕ
-cell_bytes cell = dot_bytes cell.top ++ counted w8 value_bytes cell.values
+cell_bytes cell = dot_bytes cell.top ++ counted_bytes w8 value_bytes cell.values
 
 abbrev pub IsCell : Cell → Type 0
 IsCell cell = IsDot cell.top × AreCounted (2 ^ 8) IsValue cell.values
@@ -127,7 +127,7 @@ unfoldable pub body_at : Reader Body
 body_at bytes = number_at w8 bytes >>= λ tag. body_tagged_at tag.0 tag.1
 
 abbrev pub body_bytes : Body → List ℕ
-body_bytes (Live cells) = 1 ∷ counted w8 cell_bytes cells
+body_bytes (Live cells) = 1 ∷ counted_bytes w8 cell_bytes cells
 body_bytes (Dead dot) = 2 ∷ dot_bytes dot
 
 abbrev pub IsBody : Body → Type 0

@@ -2,7 +2,7 @@
 ghost use Rattle.std.specs.Prelude.{◌≡◌, ◌++◌, ◌^◌, OnOk};
 ghost use Rattle.std.specs.Int.{w8};
 ghost use Rattle.std.specs.List.{flat_map, AllByRecursion};
-ghost use Rattle.merge_record.specs.Codec.{AreCounted, counted};
+ghost use Rattle.merge_record.specs.Codec.{AreCounted, counted_bytes};
 ghost use Rattle.merge_record.specs.Reading.{Gives, many_at};
 
 use crate::{Field, Stop};
@@ -25,7 +25,7 @@ pub(crate) fn put_many<T: Field>(out: &mut Vec<u8>, members: &[T]) -> Result<(),
 pub(crate) fn put_counted<T: Field>(out: &mut Vec<u8>, members: &[T]) -> Result<(), NoMemory>
     requires { AreCounted (2 ^ 8) T.IsShort members.now }
     ensures fits { OnOk result (AreCounted (2 ^ 8) T.IsSpelled members.now) }
-    ensures bytes { OnOk result (out.new.items ≡ out.old.items ++ counted w8 T.spelling members.now) }
+    ensures bytes { OnOk result (out.new.items ≡ out.old.items ++ counted_bytes w8 T.spelling members.now) }
 {
     (members.len() as u8).put(out)?;
     put_many(out, members)

@@ -1,7 +1,7 @@
 //! Ranges of identity values: those that are granted, and those that a site holds.
 ghost use Rattle.std.specs.Prelude.{◌≡◌, ◌≤◌, ◌++◌, length, FitsSigned, OnOk};
 ghost use Rattle.std.specs.Int.{w8, w64};
-ghost use Rattle.merge_record.specs.Codec.{counted, signed_bytes};
+ghost use Rattle.merge_record.specs.Codec.{counted_bytes, signed_bytes};
 ghost use Rattle.merge_record.specs.Reading.{Gives};
 ghost use Rattle.merge_record.specs.Tables.{AreRanges, range_bytes, ranges_at};
 
@@ -94,7 +94,7 @@ impl Field for Range {
 fn put_next(out: &mut Vec<u8>, ranges: &[Range], next: i64) -> Result<(), NoMemory>
     requires { length ranges.now ≤ 2 }
     ensures fits { OnOk result (AreRanges ranges.now × FitsSigned w64 next) }
-    ensures bytes { OnOk result (out.new.items ≡ out.old.items ++ (counted w8 range_bytes ranges.now ++ signed_bytes w64 next)) }
+    ensures bytes { OnOk result (out.new.items ≡ out.old.items ++ (counted_bytes w8 range_bytes ranges.now ++ signed_bytes w64 next)) }
 {
     put_counted(out, ranges)?;
     next.put(out)
@@ -104,7 +104,7 @@ fn put_next(out: &mut Vec<u8>, ranges: &[Range], next: i64) -> Result<(), NoMemo
 fn put_ranges(out: &mut Vec<u8>, held: &HeldRanges) -> Result<(), NoMemory>
     requires { length held.now.ranges ≤ 2 }
     ensures fits { OnOk result (FitsSigned w64 held.now.last_end × (AreRanges held.now.ranges × FitsSigned w64 held.now.next)) }
-    ensures bytes { OnOk result (out.new.items ≡ out.old.items ++ (signed_bytes w64 held.now.last_end ++ (counted w8 range_bytes held.now.ranges ++ signed_bytes w64 held.now.next))) }
+    ensures bytes { OnOk result (out.new.items ≡ out.old.items ++ (signed_bytes w64 held.now.last_end ++ (counted_bytes w8 range_bytes held.now.ranges ++ signed_bytes w64 held.now.next))) }
 {
     held.last_end.put(out)?;
     put_next(out, held.ranges.as_slice(), held.next)

@@ -1,7 +1,7 @@
 //! Rows of both kinds of site.
 ghost use Rattle.std.specs.Prelude.{◌≡◌, ◌++◌, true, OnOk};
 ghost use Rattle.std.specs.Int.{w64, to_be_bytes};
-ghost use Rattle.merge_record.specs.Codec.{counted};
+ghost use Rattle.merge_record.specs.Codec.{counted_bytes};
 ghost use Rattle.merge_record.specs.Reading.{Gives};
 ghost use Rattle.merge_record.specs.Rows.{AreGenerations, ascend_behind, generations_at, numbers_ascend};
 
@@ -63,7 +63,7 @@ fn ascend_behind(number: u64, numbers: &[u64]) -> bool
 fn put_generations(out: &mut Vec<u8>, generations: &[u64]) -> Result<(), NoMemory>
     requires { numbers_ascend generations.now ≡ true }
     ensures fits { OnOk result (AreGenerations generations.now) }
-    ensures bytes { OnOk result (out.new.items ≡ out.old.items ++ counted w64 (to_be_bytes w64) generations.now) }
+    ensures bytes { OnOk result (out.new.items ≡ out.old.items ++ counted_bytes w64 (to_be_bytes w64) generations.now) }
 {
     (generations.len() as u64).put(out)?;
     put_many(out, generations)

@@ -12,18 +12,18 @@ use Rattle.merge_batch.specs.declared.refusal.Refusal.TheVariants.{UnknownSite, 
 use Rattle.merge_types.specs.Rows.{row_text}
 use Rattle.merge_units.specs.declared.version.Body.TheVariants.{Live}
 use Rattle.merge_model.specs.declared.answer.ShownRow.{ShownRow}
-use Rattle.merge_model.specs.Script.Text.{Names, body_words, cell_words, conflict_line, joined, refusal_words, row_line}
-use Rattle.merge_report.specs.Words.{cells_text, first_word, lost_words, reason_words, spaced, spaced_word, value_word}
+use Rattle.merge_model.specs.Script.Text.{Names, body_words, cell_words, conflict_line, joined_words, refusal_words, row_line}
+use Rattle.merge_report.specs.Words.{cells_text, first_word, lost_words, reason_words, spaced_words, spaced_word, value_word}
 
 -- the first word, and a blank before each other one
-pub joined_spaced : (word : List ℕ) (more : List (List ℕ)) → joined (word ∷ more) ≡ word ++ spaced more
+pub joined_spaced : (word : List ℕ) (more : List (List ℕ)) → joined_words (word ∷ more) ≡ word ++ spaced_words more
 joined_spaced word [] = sym (append-nil word)
 joined_spaced word (next ∷ more) = ap (λ (rest : List ℕ). word ++ 32 ∷ rest) (joined_spaced next more)
 
-pub spaced_values : (values : List Value) → spaced (map printed values) ≡ flat_map value_word values
+pub spaced_values : (values : List Value) → spaced_words (map printed values) ≡ flat_map value_word values
 spaced_values values = flat_map-map spaced_word printed values
 
-pub spaced_cells : (cells : List Cell) → spaced (flat_map cell_words cells) ≡ cells_text cells
+pub spaced_cells : (cells : List Cell) → spaced_words (flat_map cell_words cells) ≡ cells_text cells
 spaced_cells [] = refl
 spaced_cells (cell ∷ cells) = grind (arith, common_steps, flat_map-append spaced_word (cell_words cell) (flat_map cell_words cells), spaced_values cell.values, spaced_cells cells)
 
@@ -50,12 +50,12 @@ words_of_refusal column (UnknownName name) = refl
 words_of_refusal column NoMemory = refl
 
 -- the line of a refusal, by its first word and its fields
-pub joined_refusal : (column : ℕ → List ℕ) (refusal : Refusal) → joined (refusal_words column refusal) ≡ first_word (refusal_words column refusal) ++ spaced (drop 1 (refusal_words column refusal))
-joined_refusal column refusal = ap joined (words_of_refusal column refusal) ∙ joined_spaced (first_word (refusal_words column refusal)) (drop 1 (refusal_words column refusal))
+pub joined_refusal : (column : ℕ → List ℕ) (refusal : Refusal) → joined_words (refusal_words column refusal) ≡ first_word (refusal_words column refusal) ++ spaced_words (drop 1 (refusal_words column refusal))
+joined_refusal column refusal = ap joined_words (words_of_refusal column refusal) ∙ joined_spaced (first_word (refusal_words column refusal)) (drop 1 (refusal_words column refusal))
 
 -- words before a refusal
-pub joined_before : (column : ℕ → List ℕ) (refusal : Refusal) (word : List ℕ) → joined (word ∷ refusal_words column refusal) ≡ word ++ 32 ∷ joined (refusal_words column refusal)
-joined_before column refusal word = ap (λ (words : List (List ℕ)). joined (word ∷ words)) (words_of_refusal column refusal) ∙ sym (ap (λ (words : List (List ℕ)). word ++ 32 ∷ joined words) (words_of_refusal column refusal))
+pub joined_before : (column : ℕ → List ℕ) (refusal : Refusal) (word : List ℕ) → joined_words (word ∷ refusal_words column refusal) ≡ word ++ 32 ∷ joined_words (refusal_words column refusal)
+joined_before column refusal word = ap (λ (words : List (List ℕ)). joined_words (word ∷ words)) (words_of_refusal column refusal) ∙ sym (ap (λ (words : List (List ℕ)). word ++ 32 ∷ joined_words words) (words_of_refusal column refusal))
 
 -- Texts that are added one behind the other.
 
@@ -70,12 +70,12 @@ three_added old one two three a b c whole = two_added old (one ++ two) three (tw
 pub line_of_row : (row : ShownRow) → row_line row ≡ row_text row.row.0 ++ (flat_map value_word row.values ++ 10 ∷ [])
 line_of_row row = ap (λ (words : List ℕ). words ++ 10 ∷ []) (joined_spaced (row_text row.row.0) (map printed row.values) ∙ ap (λ (rest : List ℕ). row_text row.row.0 ++ rest) (spaced_values row.values)) ∙ append_assoc (row_text row.row.0) (flat_map value_word row.values) (10 ∷ [])
 
-pub words_of_live : (cells : List Cell) → spaced (body_words (Live cells)) ≡ codes " live" ++ cells_text cells
+pub words_of_live : (cells : List Cell) → spaced_words (body_words (Live cells)) ≡ codes " live" ++ cells_text cells
 words_of_live cells = ap (λ (rest : List ℕ). codes " live" ++ rest) (spaced_cells cells)
 
-pub line_of_conflict : (names : Names) (row : ConflictRow) → conflict_line names row ≡ (joined (lost_words names row) ++ spaced (reason_words row)) ++ (spaced (body_words row.losing.body) ++ 10 ∷ [])
+pub line_of_conflict : (names : Names) (row : ConflictRow) → conflict_line names row ≡ (joined_words (lost_words names row) ++ spaced_words (reason_words row)) ++ (spaced_words (body_words row.losing.body) ++ 10 ∷ [])
 line_of_conflict names row =
     let more : List (List ℕ) = names.article row.article ∷ row_text row.row.0 ∷ (reason_words row ++ body_words row.losing.body) in
-    let joins : joined (decimal row.number ∷ more) ≡ decimal row.number ++ spaced more = joined_spaced (decimal row.number) more in
-    let apart : decimal row.number ++ spaced more ≡ (joined (lost_words names row) ++ spaced (reason_words row)) ++ spaced (body_words row.losing.body) = simp append_assoc refl in
-    ap (λ (words : List ℕ). words ++ 10 ∷ []) (joins ∙ apart) ∙ append_assoc (joined (lost_words names row) ++ spaced (reason_words row)) (spaced (body_words row.losing.body)) (10 ∷ [])
+    let joins : joined_words (decimal row.number ∷ more) ≡ decimal row.number ++ spaced_words more = joined_spaced (decimal row.number) more in
+    let apart : decimal row.number ++ spaced_words more ≡ (joined_words (lost_words names row) ++ spaced_words (reason_words row)) ++ spaced_words (body_words row.losing.body) = simp append_assoc refl in
+    ap (λ (words : List ℕ). words ++ 10 ∷ []) (joins ∙ apart) ∙ append_assoc (joined_words (lost_words names row) ++ spaced_words (reason_words row)) (spaced_words (body_words row.losing.body)) (10 ∷ [])

@@ -16,8 +16,8 @@ abbrev pub spaced_word : List ℕ → List ℕ
 spaced_word word = 32 ∷ word
 
 -- words with a blank before each
-abbrev pub spaced : List (List ℕ) → List ℕ
-spaced words = flat_map spaced_word words
+abbrev pub spaced_words : List (List ℕ) → List ℕ
+spaced_words words = flat_map spaced_word words
 
 -- the first of some words
 abbrev pub first_word : List (List ℕ) → List ℕ
@@ -29,9 +29,9 @@ abbrev pub name_in : List Column → ℕ → List ℕ
 name_in columns place = unwrap_or (option_map (λ (column : Column). column.name) (slice_get columns place)) []
 
 -- what a column is called: by its name, or by its place where no columns are given
-abbrev pub called : Option (List Column) → ℕ → List ℕ
-called None = decimal
-called (Some columns) = name_in columns
+abbrev pub name_of_column : Option (List Column) → ℕ → List ℕ
+name_of_column None = decimal
+name_of_column (Some columns) = name_in columns
 
 -- a blank, and a value
 abbrev pub value_word : Value → List ℕ

@@ -5,7 +5,7 @@ ghost use Rattle.merge_types.specs.Rows.{row_text};
 ghost use Rattle.merge_model.specs.Script.Play.{names_of};
 ghost use Rattle.merge_model.specs.Script.Text.{line, refusal_words, text_of, texts_of};
 ghost use Rattle.merge_model.specs.Script.Proper.{IsProperAnswer};
-ghost use Rattle.merge_report.specs.Words.{called};
+ghost use Rattle.merge_report.specs.Words.{name_of_column};
 
 use crate::conflicts::add_conflicts;
 use crate::generations::{add_publisher, add_subscriber};
@@ -26,7 +26,7 @@ fn add_refused(
     columns: Option<&[Column]>,
     refusal: &Refusal,
 ) -> Result<(), NoMemory>
-    ensures { OnOk result (string_bytes text.new ≡ string_bytes text.old ++ line (refusal_words (called (option_copied columns.entry)) refusal.now)) }
+    ensures { OnOk result (string_bytes text.new ≡ string_bytes text.old ++ line (refusal_words (name_of_column (option_copied columns.entry)) refusal.now)) }
 {
     write!(text, "{}", phrase(refusal))?;
     add_fields(text, columns, refusal)?;
@@ -49,7 +49,7 @@ fn add_stopped(
     downloads: u64,
     refusal: &Refusal,
 ) -> Result<(), NoMemory>
-    ensures { OnOk result (string_bytes text.new ≡ string_bytes text.old ++ line (codes "stopped" ∷ decimal uploads ∷ decimal downloads ∷ refusal_words (called None) refusal.now)) }
+    ensures { OnOk result (string_bytes text.new ≡ string_bytes text.old ++ line (codes "stopped" ∷ decimal uploads ∷ decimal downloads ∷ refusal_words (name_of_column None) refusal.now)) }
 {
     write!(text, "stopped {uploads} {downloads} ")?;
     add_refused(text, None, refusal)

@@ -1,11 +1,11 @@
 //! Versions that lost.
 ghost use Rattle.std.specs.Prelude.{◌≡◌, ◌++◌, All, OnOk, string_bytes};
 ghost use Rattle.merge_model.specs.Script.Play.{names_of};
-ghost use Rattle.merge_model.specs.Script.Text.{body_words, conflict_line, conflicts_text, joined, verdict_text};
+ghost use Rattle.merge_model.specs.Script.Text.{body_words, conflict_line, conflicts_text, joined_words, verdict_text};
 ghost use Rattle.merge_conflict.specs.declared.row.ConflictRow.{ConflictRow as Lost};
 ghost use Rattle.merge_units.specs.declared.version.Cell.{Cell as ACell};
 ghost use Rattle.merge_model.specs.Script.Proper.{AreProper, IsProperBody};
-ghost use Rattle.merge_report.specs.Words.{cells_text, lost_words, reason_words, spaced};
+ghost use Rattle.merge_report.specs.Words.{cells_text, lost_words, reason_words, spaced_words};
 
 use crate::names::article_name;
 use crate::rows::add_values;
@@ -41,7 +41,7 @@ fn add_cells(alloc: Global, text: &mut String, cells: &[Cell]) -> Result<(), NoM
 // Adds the words of a body, with a blank before each.
 fn add_body(alloc: Global, text: &mut String, body: &Body) -> Result<(), NoMemory>
     requires { IsProperBody body.now }
-    ensures { OnOk result (string_bytes text.new ≡ string_bytes text.old ++ spaced (body_words body.now)) }
+    ensures { OnOk result (string_bytes text.new ≡ string_bytes text.old ++ spaced_words (body_words body.now)) }
 {
     match body {
         Body::Live(cells) => {
@@ -60,7 +60,7 @@ fn add_lost_row(
     publication: &Publication,
     row: &ConflictRow,
 ) -> Result<(), NoMemory>
-    ensures { OnOk result (string_bytes text.new ≡ string_bytes text.old ++ joined (lost_words (names_of publication.now) row.now)) }
+    ensures { OnOk result (string_bytes text.new ≡ string_bytes text.old ++ joined_words (lost_words (names_of publication.now) row.now)) }
 {
     let article = article_name(publication, row.article as usize);
     write!(text, "{} {article} {}", row.number, row.row.text(alloc)?)?;
@@ -69,7 +69,7 @@ fn add_lost_row(
 
 // Adds why, from where and when a version lost, with a blank before each word.
 fn add_reason(text: &mut String, row: &ConflictRow) -> Result<(), NoMemory>
-    ensures { OnOk result (string_bytes text.new ≡ string_bytes text.old ++ spaced (reason_words row.now)) }
+    ensures { OnOk result (string_bytes text.new ≡ string_bytes text.old ++ spaced_words (reason_words row.now)) }
 {
     let verdict = verdict_word(row.verdict);
     write!(text, " {} {} {verdict}", row.kind.number(), row.from.0)?;

@@ -2,7 +2,7 @@
 ghost use Rattle.std.specs.Prelude.{◌≡◌, ◌++◌, ◌∷◌, [], OnOk, string_bytes};
 ghost use Rattle.std.specs.Fmt.{decimal};
 ghost use Rattle.merge_model.specs.Script.Text.{line};
-ghost use Rattle.merge_report.specs.Words.{spaced};
+ghost use Rattle.merge_report.specs.Words.{spaced_words};
 
 use merge_types::NoMemory;
 
@@ -46,7 +46,7 @@ pub fn add_three(
 
 /// Adds a number with a blank before it.
 pub fn add_field(text: &mut String, number: u64) -> Result<(), NoMemory>
-    ensures { OnOk result (string_bytes text.new ≡ string_bytes text.old ++ spaced (decimal number ∷ [])) }
+    ensures { OnOk result (string_bytes text.new ≡ string_bytes text.old ++ spaced_words (decimal number ∷ [])) }
 {
     write!(text, " {number}")?;
     Ok(())
@@ -54,7 +54,7 @@ pub fn add_field(text: &mut String, number: u64) -> Result<(), NoMemory>
 
 /// Adds two numbers with a blank before each.
 pub fn add_pair(text: &mut String, first: u64, second: u64) -> Result<(), NoMemory>
-    ensures { OnOk result (string_bytes text.new ≡ string_bytes text.old ++ spaced (decimal first ∷ decimal second ∷ [])) }
+    ensures { OnOk result (string_bytes text.new ≡ string_bytes text.old ++ spaced_words (decimal first ∷ decimal second ∷ [])) }
 {
     write!(text, " {first} {second}")?;
     Ok(())

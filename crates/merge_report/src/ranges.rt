@@ -2,7 +2,7 @@
 ghost use Rattle.std.specs.Prelude.{◌≡◌, ◌≤◌, ◌++◌, OnOk, length, option_map, slice_get, string_bytes, sum_by};
 ghost use Rattle.merge_model.specs.Script.Play.{names_of};
 ghost use Rattle.merge_model.specs.Script.Text.{begin_and_end, grant_line, grants_text, held_count, holder_line, holders_text, next_and_end, number_words};
-ghost use Rattle.merge_report.specs.Words.{spaced};
+ghost use Rattle.merge_report.specs.Words.{spaced_words};
 
 use crate::names::article_name;
 use merge_ident::{Grant, Ranges};
@@ -66,7 +66,7 @@ fn held_count(ranges: &Ranges) -> u64
 
 // Adds both ends of a range, or `-` for each.
 fn add_ends(text: &mut String, numbers: Option<(i64, i64)>) -> Result<(), NoMemory>
-    ensures { OnOk result (string_bytes text.new ≡ string_bytes text.old ++ spaced (number_words numbers)) }
+    ensures { OnOk result (string_bytes text.new ≡ string_bytes text.old ++ spaced_words (number_words numbers)) }
 {
     match numbers {
         Some((first, second)) => write!(text, " {first} {second}")?,

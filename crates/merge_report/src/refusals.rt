@@ -2,7 +2,7 @@
 ghost use Rattle.std.specs.Prelude.{◌≡◌, ◌++◌, ◌∷◌, [], List, ℕ, OnOk, drop, option_copied, string_bytes};
 ghost use Rattle.std.specs.Fmt.{signed_decimal};
 ghost use Rattle.merge_model.specs.Script.Text.{refusal_words};
-ghost use Rattle.merge_report.specs.Words.{called, first_word, spaced};
+ghost use Rattle.merge_report.specs.Words.{name_of_column, first_word, spaced_words};
 
 use crate::lines::{add_field, add_pair};
 use crate::names::column_name;
@@ -38,7 +38,7 @@ pub fn phrase(refusal: &Refusal) -> &'static str
 
 // Adds what a column is called: its name, or its place where no columns are given.
 fn add_column(text: &mut String, columns: Option<&[Column]>, place: u8) -> Result<(), NoMemory>
-    ensures { OnOk result (string_bytes text.new ≡ string_bytes text.old ++ (32 ∷ called (option_copied columns.entry) place)) }
+    ensures { OnOk result (string_bytes text.new ≡ string_bytes text.old ++ (32 ∷ name_of_column (option_copied columns.entry) place)) }
 {
     match columns {
         Some(columns) => write!(text, " {}", column_name(columns, place))?,
@@ -49,7 +49,7 @@ fn add_column(text: &mut String, columns: Option<&[Column]>, place: u8) -> Resul
 
 // Adds where a range ends, with a blank before it.
 fn add_end(text: &mut String, end: i64) -> Result<(), NoMemory>
-    ensures { OnOk result (string_bytes text.new ≡ string_bytes text.old ++ spaced (signed_decimal end ∷ [])) }
+    ensures { OnOk result (string_bytes text.new ≡ string_bytes text.old ++ spaced_words (signed_decimal end ∷ [])) }
 {
     write!(text, " {end}")?;
     Ok(())
@@ -57,7 +57,7 @@ fn add_end(text: &mut String, end: i64) -> Result<(), NoMemory>
 
 // Adds a name with a blank before it.
 fn add_name(text: &mut String, name: &str) -> Result<(), NoMemory>
-    ensures { OnOk result (string_bytes text.new ≡ string_bytes text.old ++ spaced (name.now ∷ [])) }
+    ensures { OnOk result (string_bytes text.new ≡ string_bytes text.old ++ spaced_words (name.now ∷ [])) }
 {
     write!(text, " {name}")?;
     Ok(())
@@ -69,7 +69,7 @@ pub fn add_fields(
     columns: Option<&[Column]>,
     refusal: &Refusal,
 ) -> Result<(), NoMemory>
-    ensures { OnOk result (string_bytes text.new ≡ string_bytes text.old ++ spaced (drop 1 (refusal_words (called (option_copied columns.entry)) refusal.now))) }
+    ensures { OnOk result (string_bytes text.new ≡ string_bytes text.old ++ spaced_words (drop 1 (refusal_words (name_of_column (option_copied columns.entry)) refusal.now))) }
 {
     match refusal {
         Refusal::UnknownSite { site } => add_field(text, u64::from(site.0)),

@@ -19,7 +19,7 @@ use Rattle.merge_table.proofs.Sorted.{sorted_put}
 use Rattle.merge_part.specs.Moves.{AreMoves}
 use Rattle.merge_part.specs.declared.change.Move.{Move}
 use Rattle.merge_schema.specs.declared.publication.Publication.{Publication}
-use Rattle.merge_model.specs.Publisher.Entries.{Changing, Entries, changed_by, keys_of as all_keys, live_rows, moves_of, parts_of, returned, rows_after, touched_by, with_entries, with_generations, with_move, with_rows}
+use Rattle.merge_model.specs.Publisher.Entries.{Changing, Entries, changed_by, keys_of as all_keys, live_rows, moves_of, parts_of, returned_rows, rows_after, touched_by, with_entries, with_generations, with_move, with_rows}
 use Rattle.merge_model.specs.Judge.{PublisherJudge}
 use Rattle.merge_model.specs.Tables.Keys.{drop_row_site, has_key, put_row, put_row_site}
 use Rattle.merge_types.specs.RowKeys.{key_cmp}
@@ -134,7 +134,7 @@ module _ (publication : Publication) (valid : CanBeSaid publication) (p : Publis
   same-moves = whole-moves publication valid p.rows rows' (rows-sorted (map at_zero changing.versions) p.rows sorted) (λ key there. rows-stay (map at_zero changing.versions) p.rows key there) changed changing.acted changing.uploader subscribes moves are
 
   abbrev gone : List RowSite
-  gone = returned judge (touched_by changing) (parts_of publication p.rows rows') changed
+  gone = returned_rows judge (touched_by changing) (parts_of publication p.rows rows') changed
 
   same-gone : (held : List (RowSite × Mapping)) → IsStrictlySortedBy row_site_cmp (keys_of held) → fold drop_row_site held (returns p.mappings changed moves) ≡ fold drop_row_site held gone
   same-gone held held-sorted =

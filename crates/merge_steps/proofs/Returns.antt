@@ -17,7 +17,7 @@ use Rattle.merge_schema.specs.Partition.{LiveRow, is_in_at}
 use Rattle.merge_schema.specs.declared.publication.Publication.{Publication}
 use Rattle.merge_schema.specs.declared.publication.Subscription.{Subscription}
 use Rattle.merge_schema.proofs.ListMembers.{any_at, any_found, contains_cases, contains_filter, contains_flat_map, contains_from_filter, contains_from_flat_map, contains_none}
-use Rattle.merge_model.specs.Publisher.Entries.{Parts, Touched, comes_back, live_rows, parts_of, partition_keys, returned}
+use Rattle.merge_model.specs.Publisher.Entries.{Parts, Touched, comes_back, live_rows, parts_of, partition_keys, returned_rows}
 use Rattle.merge_model.specs.Judge.{PublisherJudge}
 use Rattle.merge_model.specs.Tables.Keys.{at_row_site, drop_row_site, has_key, same_key}
 use Rattle.merge_types.specs.RowKeys.{key_cmp}
@@ -173,9 +173,9 @@ module _ (publication : Publication) (valid : CanBeSaid publication) (rows rows'
   comes-at : (q : RowSite) (p : Parts) → Contains parts p → Comes q p
   comes-at q p there = all-at (Comes q) parts (comes-all q (by_site publication) (sites-found publication q.site valid)) p there
 
-  returned-back : (q : RowSite) → has_place (returned judge touched parts touched.changed) q ≡ true → back_there q ≡ true
+  returned-back : (q : RowSite) → has_place (returned_rows judge touched parts touched.changed) q ≡ true → back_there q ≡ true
   returned-back q found =
-      let at = any_found (is_at (row_site_cmp q)) (returned judge touched parts touched.changed) found in
+      let at = any_found (is_at (row_site_cmp q)) (returned_rows judge touched parts touched.changed) found in
       let by_key = contains_from_flat_map (λ (key : Key). map (λ (p : Parts). place key p.site) (filter (comes_back judge touched key) parts)) touched.changed at.0 at.1 in
       let by_part = contains-from_map (λ (p : Parts). place by_key.0 p.site) (filter (comes_back judge touched by_key.0) parts) at.0 by_key.2 in
       let kept = contains_from_filter (comes_back judge touched by_key.0) parts by_part.0 by_part.1 in
@@ -185,7 +185,7 @@ module _ (publication : Publication) (valid : CanBeSaid publication) (rows rows'
       let here : (by_part.0.site == q.site) ≡ true = grind (arith, nat_tests, number) in
       sym (comes-at q by_part.0 kept.0 here) ∙ subst (λ (k : Key). comes_back judge touched k by_part.0 ≡ true) (sym key) kept.1
 
-  back-returned : (q : RowSite) → back_there q ≡ true → has_place (returned judge touched parts touched.changed) q ≡ true
+  back-returned : (q : RowSite) → back_there q ≡ true → has_place (returned_rows judge touched parts touched.changed) q ≡ true
   back-returned q back =
       let facts = and4 (is_in_at publication (record { 0 = q.site }) (live_rows rows) q.key.article q.key.row) (is_in_at publication (record { 0 = q.site }) (live_rows rows') q.key.article q.key.row) (has_key touched.changed q.key) (has_left_at mappings q) back in
       let named = any_found (same_key q.key) touched.changed facts.2 in
@@ -193,14 +193,14 @@ module _ (publication : Publication) (valid : CanBeSaid publication) (rows rows'
       let stand = stands publication valid rows rows' sorted' stay touched.changed q rows' (λ k there. there) facts.1 in
       let at = any_found (λ (p : Parts). p.site == q.site) parts stand.1 in
       let comes : comes_back judge touched q.key at.0 ≡ true = comes-at q at.0 at.1 at.2 ∙ back in
-      any_at (is_at (row_site_cmp q)) (returned judge touched parts touched.changed) (place q.key at.0.site)
+      any_at (is_at (row_site_cmp q)) (returned_rows judge touched parts touched.changed) (place q.key at.0.site)
       (contains_flat_map (λ (k : Key). map (λ (p : Parts). place k p.site) (filter (comes_back judge touched k) parts)) touched.changed q.key (place q.key at.0.site) key
       (contains-map (λ (p : Parts). place q.key p.site) (filter (comes_back judge touched q.key) parts) at.0 (contains_filter (comes_back judge touched q.key) parts at.0 at.1 comes)))
       (place-is q q.key at.0.site ∙ (let one = key-itself q.key in let site = at.2 in grind (arith, one, site)))
 
   -- what comes back by a membership's moves leaves the same mappings
   pub returns-same : (moves : List Move) → AreMoves publication (live_rows rows) (live_rows rows') moves → (held : List (RowSite × Mapping)) → IsStrictlySortedBy row_site_cmp (keys_of held)
-      → fold drop_row_site held (returns mappings touched.changed moves) ≡ fold drop_row_site held (returned judge touched parts touched.changed)
-  returns-same moves are held sorted = dropped-same (returns mappings touched.changed moves) (returned judge touched parts touched.changed) held sorted
+      → fold drop_row_site held (returns mappings touched.changed moves) ≡ fold drop_row_site held (returned_rows judge touched parts touched.changed)
+  returns-same moves are held sorted = dropped-same (returns mappings touched.changed moves) (returned_rows judge touched parts touched.changed) held sorted
       (λ q. returns-has publication (live_rows rows) (live_rows rows') touched.changed mappings moves are q
-      ∙ sym (same-bool (has_place (returned judge touched parts touched.changed) q) (back_there q) (returned-back q) (back-returned q)))
+      ∙ sym (same-bool (has_place (returned_rows judge touched parts touched.changed) q) (back_there q) (returned-back q) (back-returned q)))

@@ -39,7 +39,7 @@ use Rattle.merge_types.specs.declared.row_key.RowKey.{RowKey as Key}
 use Rattle.merge_gens.specs.declared.moves.MoveKind.{MoveKind}
 use Rattle.merge_units.specs.declared.site_row.PublisherRow.{PublisherRow}
 use Rattle.merge_gens.specs.declared.moves.RowSite.{RowSite}
-use Rattle.merge_steps.specs.Tie.{entry_of, key_moved, told}
+use Rattle.merge_steps.specs.Tie.{entry_of, key_moved, told_moves}
 use Rattle.merge_steps.specs.Working.{Apart, all_indexing, all_told, found_entries, found_out, found_outs, is_move_at, is_out, keys_in, left_edit, move_edit, outs_of, row_change}
 use Rattle.merge_steps.proofs.Follows.{changed-indexed, live-follows, new-indexed, row-put}
 use Rattle.merge_model.proofs.Publishers.Sorted.{key_total, row_site_total}
@@ -194,6 +194,6 @@ pub entries-found : (publication : Publication) (before after : List LiveRow) (c
 entries-found publication before after changing moves are =
     let changed : List Key = keys_in changing.versions in
     let site : ℕ = changing.uploader in
-    rows-append [] (map move_edit (told changed moves)) (map (left_edit site) (found_outs publication site before moves changing.acted))
-    ∙ ap (λ (es : List (RowSite × MoveKind)). rows_after_all row_site_cmp es (map (left_edit site) (found_outs publication site before moves changing.acted))) (puts-all (told changed moves) (ordered publication before after changed moves are))
+    rows-append [] (map move_edit (told_moves changed moves)) (map (left_edit site) (found_outs publication site before moves changing.acted))
+    ∙ ap (λ (es : List (RowSite × MoveKind)). rows_after_all row_site_cmp es (map (left_edit site) (found_outs publication site before moves changing.acted))) (puts-all (told_moves changed moves) (ordered publication before after changed moves are))
     ∙ ap (λ (outs : List Key). all_told changed site outs moves) (outs-found publication before after moves are site changing.acted)

@@ -42,7 +42,7 @@ use Rattle.merge_gens.specs.declared.moves.RowSite.{RowSite}
 use Rattle.merge_gens.specs.declared.moves.MoveKind.{MoveKind}
 use Rattle.merge_gens.specs.declared.moves.MoveKind.TheVariants.{Entered, Left}
 use Rattle.merge_units.specs.declared.site_row.PublisherRow.{PublisherRow}
-use Rattle.merge_steps.specs.Tie.{Says, changed_alone, entry_of, is_entered, is_told, key_moved, told}
+use Rattle.merge_steps.specs.Tie.{Says, changed_alone, entry_of, is_entered, is_told, key_moved, told_moves}
 use Rattle.merge_model.proofs.Lists.Finding.{some_same}
 use Rattle.merge_model.proofs.Lists.KeyLookUps.{key-itself, keys-same}
 use Rattle.merge_model.proofs.Publishers.Sorted.{row_site_total}
@@ -206,13 +206,13 @@ module _ (publication : Publication) (before after : List LiveRow) (changed : Li
     pub kept-ordered : (keep : Move → Bool) → IsStrictlySortedBy row_site_cmp (keys_of (map entry_of (filter keep moves)))
     kept-ordered keep = kept-sorted keep moves moves-fit are.ascending
 
-    pub ordered : IsStrictlySortedBy row_site_cmp (keys_of (told changed moves))
+    pub ordered : IsStrictlySortedBy row_site_cmp (keys_of (told_moves changed moves))
     ordered = kept-ordered (is_told changed)
 
     pub exact : (x y : RowSite) → is_at (row_site_cmp x) y ≡ true → x ≡ y
     exact x y e = row_site_exact x y ((Equal-is (row_site_cmp x y)).0 e)
 
-    some-found : (q : RowSite) (kind : MoveKind) → Contains (told changed moves) (q, kind) → Some kind ≡ here q
+    some-found : (q : RowSite) (kind : MoveKind) → Contains (told_moves changed moves) (q, kind) → Some kind ≡ here q
     some-found q kind there =
         let at = contains-from_map entry_of (filter (is_told changed) moves) (q, kind) there in
         let kept = contains_from_filter (is_told changed) moves at.0 at.1 in
@@ -220,27 +220,27 @@ module _ (publication : Publication) (before after : List LiveRow) (changed : Li
         let e : Some (at.0.kind) ≡ here (entry_of at.0).0 = told-kind at.0.kind (was_there (entry_of at.0).0) (is_there (entry_of at.0).0) (has_key changed (key_moved at.0)) differs.0 differs.1 kept.1 in
         ap (λ (x : RowSite × MoveKind). Some x.1) (sym at.2) ∙ e ∙ ap (λ (x : RowSite × MoveKind). here x.0) at.2
 
-    move-there : (q : RowSite) (kind : MoveKind) → IsMade (was_there q) (is_there q) (has_key changed q.key) kind → Contains (told changed moves) (q, kind)
+    move-there : (q : RowSite) (kind : MoveKind) → IsMade (was_there q) (is_there q) (has_key changed q.key) kind → Contains (told_moves changed moves) (q, kind)
     move-there q kind made =
         let m : Move = record { article = q.key.article; row = q.key.row; site = record { 0 = q.site }; kind = kind } in
         let there : Contains moves m = (are.each m).1 (made.was, made.then_is) in
         let kept : Contains (filter (is_told changed) moves) m = contains_filter (is_told changed) moves m there made.said in
         contains-map entry_of (filter (is_told changed) moves) m kept
 
-    none-found : (q : RowSite) (made : Option MoveKind) → here q ≡ made → at_row_site (told changed moves) q ≡ None → None ≡ made
+    none-found : (q : RowSite) (made : Option MoveKind) → here q ≡ made → at_row_site (told_moves changed moves) q ≡ None → None ≡ made
     none-found q None e none = refl
     none-found q (Some kind) e none =
         let there = move-there q kind (made-kind (was_there q) (is_there q) (has_key changed q.key) kind e) in
-        let found : at_row_site (told changed moves) q ≡ Some kind =
-        lookup-from_Contains {eq = λ a b. is_at (row_site_cmp a) b} (eq_by_cmp_equiv row_site_total) q kind (told changed moves) (IsDistinct-from_sorted row_site_cmp (keys_of (told changed moves)) ordered) there in
+        let found : at_row_site (told_moves changed moves) q ≡ Some kind =
+        lookup-from_Contains {eq = λ a b. is_at (row_site_cmp a) b} (eq_by_cmp_equiv row_site_total) q kind (told_moves changed moves) (IsDistinct-from_sorted row_site_cmp (keys_of (told_moves changed moves)) ordered) there in
         let no : (let o : Option MoveKind = None in o) ≡ Some kind = sym none ∙ found in absurd cc
 
-    found-by : (q : RowSite) (found : Option MoveKind) → at_row_site (told changed moves) q ≡ found → found ≡ here q
+    found-by : (q : RowSite) (found : Option MoveKind) → at_row_site (told_moves changed moves) q ≡ found → found ≡ here q
     found-by q None e = none-found q (here q) refl e ∙ refl
-    found-by q (Some kind) e = some-found q kind (Contains-from_lookup {eq = λ a b. is_at (row_site_cmp a) b} exact q kind (told changed moves) e)
+    found-by q (Some kind) e = some-found q kind (Contains-from_lookup {eq = λ a b. is_at (row_site_cmp a) b} exact q kind (told_moves changed moves) e)
 
-    pub told-found : (q : RowSite) → at_row_site (told changed moves) q ≡ here q
-    told-found q = found-by q (at_row_site (told changed moves) q) refl
+    pub told-found : (q : RowSite) → at_row_site (told_moves changed moves) q ≡ here q
+    told-found q = found-by q (at_row_site (told_moves changed moves) q) refl
 
 -- The rows of partitions are held.
 
@@ -349,8 +349,8 @@ module _ (publication : Publication) (valid : CanBeSaid publication) (rows rows'
   moves-here q = moves-found (changed_alone changed) q (keys_of rows') (made q) parts (says-all q (by_site publication) (sites-found publication q.site valid)) ∙ whole-by q (made q) refl
 
   -- the moves of a membership are those of a local change
-  pub told-moves : (moves : List Move) → AreMoves publication (live_rows rows) (live_rows rows') moves → told changed moves ≡ moves_of (changed_alone changed) parts (all_keys rows' [])
+  pub told-moves : (moves : List Move) → AreMoves publication (live_rows rows) (live_rows rows') moves → told_moves changed moves ≡ moves_of (changed_alone changed) parts (all_keys rows' [])
   told-moves moves are = rw (keys-alone rows')
-      (rows_from_look_ups row_site_cmp row_site_total row_site_exact (told changed moves) (moves_of (changed_alone changed) parts (keys_of rows'))
+      (rows_from_look_ups row_site_cmp row_site_total row_site_exact (told_moves changed moves) (moves_of (changed_alone changed) parts (keys_of rows'))
       (ordered publication (live_rows rows) (live_rows rows') changed moves are) (moves-ascend (changed_alone changed) parts (keys_of rows') (parts-ascend publication rows rows') sorted')
       (λ q. told-found publication (live_rows rows) (live_rows rows') changed moves are q ∙ sym (moves-here q)))

@@ -27,7 +27,7 @@ use Rattle.merge_gens.specs.declared.moves.RowSite.{RowSite}
 use Rattle.merge_gens.specs.declared.moves.MoveKind.{MoveKind}
 use Rattle.merge_gens.specs.declared.moves.MoveKind.TheVariants.{Entered, Left}
 use Rattle.merge_units.specs.declared.site_row.PublisherRow.{PublisherRow}
-use Rattle.merge_steps.specs.Tie.{Says, told}
+use Rattle.merge_steps.specs.Tie.{Says, told_moves}
 use Rattle.merge_model.proofs.Entries.StepParts.{CanBeSaid}
 use Rattle.merge_steps.specs.Working.{all_told, is_out, left_edit, left_or, outs_of}
 use Rattle.merge_model.proofs.Lists.KeyLookUps.{keys-same}
@@ -112,13 +112,13 @@ module _ (publication : Publication) (before after : List LiveRow) (changed acte
 
   pub found-all : (moves : List Move) → AreMoves publication before after moves → (q : RowSite) → at_row_site (all_told changed site (outs_of publication site after acted) moves) q ≡ here_all q
   found-all moves are q =
-      at-lefts q site (outs_of publication site after acted) (told changed moves)
-      ∙ ap (λ (b : Bool). left_or (b && (site == q.site)) (at_row_site (told changed moves) q)) (has-kept (is_out publication site after) acted q.key)
+      at-lefts q site (outs_of publication site after acted) (told_moves changed moves)
+      ∙ ap (λ (b : Bool). left_or (b && (site == q.site)) (at_row_site (told_moves changed moves) q)) (has-kept (is_out publication site after) acted q.key)
       ∙ ap (λ (o : Option MoveKind). left_or ((has_key acted q.key && is_out publication site after q.key) && (site == q.site)) o) (told-found publication before after changed moves are q)
       ∙ split-all (has_key acted q.key) (is_out publication site after q.key) (site == q.site) (q.site == site) (was q) (is q) (has_key changed q.key) (grind (arith, nat_tests)) (out-here q)
 
   pub all-ordered : (moves : List Move) → AreMoves publication before after moves → IsStrictlySortedBy row_site_cmp (keys_of (all_told changed site (outs_of publication site after acted) moves))
-  all-ordered moves are = sorted_after_all row_site_cmp row_site_total (told changed moves) (map (left_edit site) (outs_of publication site after acted)) (ordered publication before after changed moves are)
+  all-ordered moves are = sorted_after_all row_site_cmp row_site_total (told_moves changed moves) (map (left_edit site) (outs_of publication site after acted)) (ordered publication before after changed moves are)
 
 -- All of it.
 

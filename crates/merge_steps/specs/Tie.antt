@@ -30,8 +30,8 @@ abbrev pub is_told : List Key → Move → Bool
 is_told changed move = not (is_entered move.kind && has_key changed (key_moved move))
 
 -- the entries of a membership's moves
-abbrev pub told : List Key → List Move → List (RowSite × MoveKind)
-told changed moves = map entry_of (filter (is_told changed) moves)
+abbrev pub told_moves : List Key → List Move → List (RowSite × MoveKind)
+told_moves changed moves = map entry_of (filter (is_told changed) moves)
 
 abbrev pub changed_alone : List Key → Touched
 changed_alone changed = record { changed = changed; acted = []; uploader = 0 }

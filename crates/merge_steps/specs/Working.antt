@@ -23,7 +23,7 @@ use Rattle.merge_gens.specs.declared.moves.Mapping.{Mapping}
 use Rattle.merge_gens.specs.declared.moves.MoveKind.{MoveKind}
 use Rattle.merge_units.specs.declared.site_row.PublisherRow.{PublisherRow}
 use Rattle.merge_gens.specs.declared.moves.RowSite.{RowSite}
-use Rattle.merge_steps.specs.Tie.{entry_of, is_entered, key_moved, told}
+use Rattle.merge_steps.specs.Tie.{entry_of, is_entered, key_moved, told_moves}
 
 -- an entry that a row left for a site
 abbrev pub left_edit : ℕ → Key → Edit RowSite MoveKind
@@ -39,7 +39,7 @@ outs_of publication site after acted = filter (is_out publication site after) ac
 
 -- the moves that make entries: those of the membership, and of each row that the uploader sent and may not hold
 abbrev pub all_told : List Key → ℕ → List Key → List Move → List (RowSite × MoveKind)
-all_told changed site outs moves = rows_after_all row_site_cmp (told changed moves) (map (left_edit site) outs)
+all_told changed site outs moves = rows_after_all row_site_cmp (told_moves changed moves) (map (left_edit site) outs)
 
 abbrev pub left_or : Bool → Option MoveKind → Option MoveKind
 left_or true other = Some Left
@@ -90,7 +90,7 @@ abbrev pub move_edit : RowSite × MoveKind → Edit RowSite MoveKind
 move_edit entry = Put entry.0 entry.1
 
 abbrev pub entry_edits : List Key → ℕ → List Key → List Move → List (Edit RowSite MoveKind)
-entry_edits changed site outs moves = map move_edit (told changed moves) ++ map (left_edit site) outs
+entry_edits changed site outs moves = map move_edit (told_moves changed moves) ++ map (left_edit site) outs
 
 abbrev pub found_entries : Publication → List LiveRow → Changing → List Move → List (RowSite × MoveKind)
 found_entries publication before changing moves =

@@ -2,6 +2,7 @@
 ghost use Rattle.std.specs.Prelude.{◌≡◌, ◌≤◌, ◌<◌, ◌+◌, ◌*◌, ◌++◌, ◌^◌, ◌∷◌, ℕ, List, [], true, false, None, Some, All, IfOk, OnOk, length, map};
 ghost use Rattle.std.specs.List.{AllByRecursion};
 ghost use Rattle.std.specs.Option.{option_to_list};
+ghost use Rattle.merge_types.specs.Limits.{counter_limit, item_limit, number_limit};
 ghost use Rattle.merge_resolve.specs.Asked.{says_at};
 ghost use Rattle.merge_schema.specs.Valid.{IsValid};
 ghost use Rattle.merge_schema.specs.declared.publication.Publication.{Publication as OnePublication};
@@ -158,8 +159,8 @@ fn come_new(
     requires item { ItemFits publication.now acting.old.changes item.now }
     requires made { is_made_by arrival (key_of_item item.now) ≡ true }
     requires none { lost ≡ [] }
-    requires changes { acting.old.changes < 2 ^ 62 }
-    requires conflicts { acting.old.conflict_count < 2 ^ 62 }
+    requires changes { acting.old.changes < number_limit }
+    requires conflicts { acting.old.conflict_count < number_limit }
     ensures passed { OnOk result ((says : Saying) (tallies : List ℕ) → pass_at acting.new tallies ≡ after_act publication.now arrival says (pass_at acting.old tallies) item.now None) }
     ensures grows { OnOk result (Grows acting.old acting.new) }
     ensures fits { OnOk result (KeepsFits publication.now acting.old acting.new) }
@@ -178,8 +179,8 @@ fn come_late(
     acting: &mut Acting,
 ) -> Result<(), NoMemory>
     requires made { is_made_by arrival (key_of_item item.now) ≡ false }
-    requires changes { acting.old.changes < 2 ^ 62 }
-    requires conflicts { acting.old.conflict_count < 2 ^ 62 }
+    requires changes { acting.old.changes < number_limit }
+    requires conflicts { acting.old.conflict_count < number_limit }
     ensures passed { OnOk result ((publication : OnePublication) (says : Saying) (tallies : List ℕ) → pass_at acting.new tallies ≡ after_act publication arrival says (pass_at acting.old tallies) item.now None) }
     ensures grows { OnOk result (Grows acting.old acting.new) }
     ensures fits { OnOk result ((publication : OnePublication) → KeepsFits publication acting.old acting.new) }
@@ -198,8 +199,8 @@ fn come_in(
     acting: &mut Acting,
 ) -> Result<(), NoMemory>
     requires item { ItemFits publication.now acting.old.changes item.now }
-    requires changes { acting.old.changes < 2 ^ 62 }
-    requires conflicts { acting.old.conflict_count < 2 ^ 62 }
+    requires changes { acting.old.changes < number_limit }
+    requires conflicts { acting.old.conflict_count < number_limit }
     ensures passed { OnOk result ((says : Saying) (tallies : List ℕ) → pass_at acting.new tallies ≡ after_act publication.now arrival says (pass_at acting.old tallies) item.now None) }
     ensures grows { OnOk result (Grows acting.old acting.new) }
     ensures fits { OnOk result (KeepsFits publication.now acting.old acting.new) }
@@ -231,8 +232,8 @@ fn act_on(
     requires valid { (count : ℕ) × IsValid count publication.now }
     requires rows { AllByRecursion (RowFits publication.now acting.old.changes) rows.now.rows }
     requires item { ItemFits publication.now acting.old.changes item.now }
-    requires changes { acting.old.changes < 2 ^ 62 }
-    requires conflicts { acting.old.conflict_count < 2 ^ 62 }
+    requires changes { acting.old.changes < number_limit }
+    requires conflicts { acting.old.conflict_count < number_limit }
     ensures passed { OnOk result (pass_at acting.new (map (λ r. tally_of r) resolvers.new.items)
         ≡ after_act publication.now arrival (says_at (λ r. says r) resolvers.old.items) (pass_at acting.old (map (λ r. tally_of r) resolvers.old.items)) item.now (row_at rows.now.rows (key_of_item item.now))) }
     ensures grows { OnOk result (Grows acting.old acting.new) }
@@ -274,8 +275,8 @@ fn act_if_due(
     requires valid { (count : ℕ) × IsValid count publication.now }
     requires rows { AllByRecursion (RowFits publication.now acting.old.changes) rows.now.rows }
     requires item { ItemFits publication.now acting.old.changes item.now }
-    requires changes { acting.old.changes < 2 ^ 62 }
-    requires conflicts { acting.old.conflict_count < 2 ^ 62 }
+    requires changes { acting.old.changes < number_limit }
+    requires conflicts { acting.old.conflict_count < number_limit }
     ensures passed { OnOk result (pass_at acting.new (map (λ r. tally_of r) resolvers.new.items)
         ≡ after_item publication.now rows.now.rows arrival (says_at (λ r. says r) resolvers.old.items) (pass_at acting.old (map (λ r. tally_of r) resolvers.old.items)) item.now) }
     ensures grows { OnOk result (Grows acting.old acting.new) }
@@ -304,9 +305,9 @@ pub fn act_on_all(
     requires valid { (count : ℕ) × IsValid count publication.now }
     requires rows { AllByRecursion (RowFits publication.now acting.old.changes) rows.now.rows }
     requires items { All (ItemFits publication.now acting.old.changes) items.now }
-    requires few { length items.now ≤ 2000 }
-    requires changes { acting.old.changes < 2 ^ 61 }
-    requires conflicts { acting.old.conflict_count < 2 ^ 61 }
+    requires few { length items.now ≤ item_limit }
+    requires changes { acting.old.changes < counter_limit }
+    requires conflicts { acting.old.conflict_count < counter_limit }
     ensures passed { OnOk result (pass_at acting.new (map (λ r. tally_of r) resolvers.new.items)
         ≡ after_items publication.now rows.now.rows arrival (says_at (λ r. says r) resolvers.old.items) (pass_at acting.old (map (λ r. tally_of r) resolvers.old.items)) items.now) }
     ensures rises { OnOk result (acting.old.changes ≤ acting.new.changes) }

@@ -1,6 +1,7 @@
 //! An item of an upload meets the version that the publisher holds.
 ghost use Rattle.std.specs.Prelude.{◌≡◌, ◌≤◌, ◌<◌, ◌+◌, ◌^◌, ℕ, true, false, [], if◌then◌else◌, None, Some, IfOk, OnOk, length, map};
 ghost use Rattle.std.specs.Option.{option_to_list};
+ghost use Rattle.merge_types.specs.Limits.{number_limit};
 ghost use Rattle.merge_units.specs.Cases.{case_of, is_conflict};
 ghost use Rattle.merge_units.specs.Results.{result_by};
 ghost use Rattle.merge_units.specs.Version.{HaveEqualCounts};
@@ -190,8 +191,8 @@ fn take_met(
     requires case { case.now ≡ case_of held.now item.now.version }
     requires counts { HaveEqualCounts held.now.body item.now.version.body }
     requires decision { MayDecide publication.now item.now.article held.now item.now.version decision }
-    requires changes { acting.old.changes < 2 ^ 62 }
-    requires conflicts { acting.old.conflict_count < 2 ^ 62 }
+    requires changes { acting.old.changes < number_limit }
+    requires conflicts { acting.old.conflict_count < number_limit }
     ensures passed { OnOk result (acting.new ≡ with_act publication.now arrival (met_act (acting.old.changes + 1) item.now held.now case.now decision) acting.old) }
     ensures grows { OnOk result (Grows acting.old acting.new) }
     ensures fits { OnOk result (KeepsFits publication.now acting.old acting.new) }
@@ -232,8 +233,8 @@ pub fn meet(
     requires valid { (count : ℕ) × IsValid count publication.now }
     requires held { FitsHere publication.now acting.old.changes (key_of_item item.now, held.now) }
     requires item { ItemFits publication.now acting.old.changes item.now }
-    requires changes { acting.old.changes < 2 ^ 62 }
-    requires conflicts { acting.old.conflict_count < 2 ^ 62 }
+    requires changes { acting.old.changes < number_limit }
+    requires conflicts { acting.old.conflict_count < number_limit }
     ensures passed { OnOk result (pass_at acting.new (map (λ r. tally_of r) resolvers.new.items)
         ≡ after_act publication.now arrival (says_at (λ r. says r) resolvers.old.items) (pass_at acting.old (map (λ r. tally_of r) resolvers.old.items)) item.now (Some (row_with held.now))) }
     ensures grows { OnOk result (Grows acting.old acting.new) }

@@ -1,6 +1,7 @@
 //! A step that gives rows versions, as edits of what a publisher holds.
-ghost use Rattle.std.specs.Prelude.{◌≡◌, ◌≤◌, ◌<◌, ◌+◌, ◌*◌, ◌^◌, ℕ, map, length, drop, take, All, IfOk};
+ghost use Rattle.std.specs.Prelude.{◌≡◌, ◌≤◌, ◌<◌, ◌+◌, ◌*◌, ℕ, map, length, drop, take, All, IfOk};
 ghost use Rattle.std.specs.List.{zip as zipped};
+ghost use Rattle.merge_types.specs.Limits.{counter_limit};
 ghost use Rattle.merge_gens.specs.Book.{entered};
 ghost use Rattle.merge_gens.specs.Filling.{generations_of};
 ghost use Rattle.merge_gens.specs.Plan as generations_plan;
@@ -136,8 +137,8 @@ fn work_out(
     found: Found,
     latest: Moment,
 ) -> Result<Worked, NoMemory>
-    requires low { gens.old.book.filling.last_closed < 2 ^ 61 }
-    requires few { length versions.items < 2 ^ 61 }
+    requires low { gens.old.book.filling.last_closed < counter_limit }
+    requires few { length versions.items < counter_limit }
     ensures rows { IfOk result (λ w. w.rows ≡ work.version_edits versions.items (take (length versions.items) (generations_of gens.old.book.filling (length versions.items + length found.entries)))) }
     ensures mappings { IfOk result (λ w. w.mappings ≡ row.mapping_edits found.entries (drop (length versions.items) (generations_of gens.old.book.filling (length versions.items + length found.entries))) (work.returns mappings.now.rows found.changed found.moves)) }
     ensures index { IfOk result (λ w. w.index ≡ work.all_indexing rows.now.rows (zipped versions.items (take (length versions.items) (generations_of gens.old.book.filling (length versions.items + length found.entries))))) }
@@ -179,8 +180,8 @@ pub fn draft_step<L: Ledger>(
     requires fits { All (FitsArticle membership.old.publication) (map work.row_change versions.items) }
     requires once { EachRowOnce (map work.row_change versions.items) }
     requires subscribes { Subscribes membership.old.publication acted.now site }
-    requires low { gens.old.book.filling.last_closed < 2 ^ 61 }
-    requires few { length versions.items < 2 ^ 61 }
+    requires low { gens.old.book.filling.last_closed < counter_limit }
+    requires few { length versions.items < counter_limit }
     ensures made { IfOk result (λ w. IsStep membership.old.publication (changing versions.items acted.now site) rows.now.rows mappings.now.rows gens.old.book latest w) }
     ensures index { IfOk result (λ w. Indexes rows.now.rows w) }
     ensures moved { IfOk result (λ w. IndexesMoves mappings.now.rows w) }
@@ -202,8 +203,8 @@ pub fn draft_step<L: Ledger>(
     ensures cost { steps.new ≤ steps.old + length membership.old.publication.subscriptions * living (map work.row_change versions.items) }
     ensures same { gens.new.book ≡ gens.old.book }
 {
-    let _ = rows.iter();
-    let _ = mappings.iter();
+    rows.is_ordered();
+    mappings.is_ordered();
     let found = find_entries(alloc, membership, &versions, acted, site, steps)?;
     let worked = work_out(alloc, rows, mappings, gens, versions, found, latest)?;
     Ok(worked)

@@ -37,7 +37,7 @@ use Rattle.merge_model.specs.Failing.{Slips}
 use Rattle.merge_model.specs.History.{History, made_at, no_history}
 use Rattle.merge_model.specs.Judge.{SubscriberJudge}
 use Rattle.merge_model.specs.Tables.Keys.{at_number, drop_row, put_number, put_row, row_at}
-use Rattle.merge_model.specs.Laws.{AreSubSorted}
+use Rattle.merge_model.specs.Laws.{SubscriberIsSorted}
 use Rattle.merge_model.specs.Subscriber.Reinit.{discarded, reinitialised}
 use Rattle.merge_model.specs.Failing.Runs.{model_behind}
 use Rattle.merge_model.specs.Subscriber.Sending.{upload_sent, with_message}
@@ -256,7 +256,7 @@ pub gens-ascend : (key : Key) (rows : Rows) → AllByRecursion Ascends rows → 
 gens-ascend key [] all = refl
 gens-ascend key (row ∷ rows) all = gens-by (is_at (key_cmp key) row.0) row.1 (row_at rows key) all.0 (gens-ascend key rows all.1)
 
-change-on : (key : Key) (found : Option Version) (now : Moment) (held : List (ℕ × Holder)) (s : SubscriberTables) → AreSubSorted s → RowsHaveRoom s
+change-on : (key : Key) (found : Option Version) (now : Moment) (held : List (ℕ × Holder)) (s : SubscriberTables) → SubscriberIsSorted s → RowsHaveRoom s
     → (let u : SubscriberTables = record (subscriber_at_moment now s) { changes = s.changes + 1; held = held } in RowsHaveRoom (with_version_if key found u))
 change-on key None now held s sorted b = record { few = (let low = b.few in omega (arith, low)); ascend = b.ascend; room = b.room }
 change-on key (Some version) now held s sorted b =
@@ -270,7 +270,7 @@ change-on key (Some version) now held s sorted b =
           let low = b.room generation in let room = entered-room s.gens.filling generation sorted.generations_ascend.unfilled in omega (arith, sums, low, room));
     }
 
-closing-on : (now : Moment) (s : SubscriberTables) → AreSubSorted s → RowsHaveRoom s → RowsHaveRoom (subscriber_closed (subscriber_at_moment now s))
+closing-on : (now : Moment) (s : SubscriberTables) → SubscriberIsSorted s → RowsHaveRoom s → RowsHaveRoom (subscriber_closed (subscriber_at_moment now s))
 closing-on now s sorted b = record {
   few = b.few;
   ascend = b.ascend;
@@ -296,7 +296,7 @@ discarded-few : (unsent : Key → Bool) (rows : Rows) → AllByRecursion (λ (ro
 discarded-few unsent [] all = omega arith
 discarded-few unsent (row ∷ rows) all = discarded-step (unsent row.0) row (filter_map (found_by unsent) rows) rows all.0 (discarded-few unsent rows all.1)
 
-anew-on : (h : History) (now : Moment) (s : SubscriberTables) → AreSubSorted s → RowsTell (made_at h s.site.0) s.received s.rows → RowsHaveRoom s → RowsHaveRoom (reinitialised (by_made h s.site) (subscriber_at_moment now s)).0
+anew-on : (h : History) (now : Moment) (s : SubscriberTables) → SubscriberIsSorted s → RowsTell (made_at h s.site.0) s.received s.rows → RowsHaveRoom s → RowsHaveRoom (reinitialised (by_made h s.site) (subscriber_at_moment now s)).0
 anew-on h now s sorted tell b =
     let u : SubscriberTables = subscriber_at_moment now s in
     let judge : SubscriberJudge = by_made h s.site in
@@ -321,8 +321,8 @@ module _ (publication : Publication) (says : Saying) where
   on : (w : World) (s t : SubscriberTables) → t.site.0 ≡ s.site.0 → RowsHaveRoom t → ((n : ℕ) (x : SubscriberTables) → at_number w.subscribers n ≡ Some x → RowsHaveRoom x) → (n : ℕ) (x : SubscriberTables) → at_number (put_number w.subscribers t.site.0 t) n ≡ Some x → RowsHaveRoom x
   on w s t same new all = put-each (λ (n : ℕ) (x : SubscriberTables). RowsHaveRoom x) w.subscribers s t same new all
 
-  sorted-of : (w : World) (h : History) (s : SubscriberTables) → Ground publication w h → subscriber_at w s.site ≡ Some s → AreSubSorted s
-  sorted-of w h s g at = all-found AreSubSorted w.subscribers s.site.0 s g.rows at
+  sorted-of : (w : World) (h : History) (s : SubscriberTables) → Ground publication w h → subscriber_at w s.site ≡ Some s → SubscriberIsSorted s
+  sorted-of w h s g at = all-found SubscriberIsSorted w.subscribers s.site.0 s g.rows at
 
   -- a message leaves what is kept
   sent-on : (s : SubscriberTables) (seq : ℕ) (sent : Outstanding) → RowsHaveRoom s → RowsHaveRoom (with_message sent s)

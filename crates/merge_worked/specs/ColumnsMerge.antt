@@ -1,32 +1,11 @@
 -- With column tracking, updates of different columns merge, and updates of one column conflict.
-use Rattle.std.specs.Prelude.{[], ◌∷◌, codes, None}
-use Rattle.merge_types.specs.declared.values.ColumnType.TheVariants as ty
-use Rattle.merge_types.specs.declared.changes.Tracking.TheVariants as tracking
-use Rattle.merge_schema.specs.declared.publication.Publication.{Publication}
-use Rattle.merge_schema.specs.declared.publication.SubscriptionKind.TheVariants as kind
+use Rattle.std.specs.Prelude.{codes}
+use Rattle.merge_worked.specs.Publications.{part_for_two}
 use Rattle.merge_worked.specs.Worked.{Worked}
-
-abbrev publication : Publication
-publication = record {
-  name = codes "first";
-  retention_days = 14;
-  conflict_retention_days = 14;
-  articles = (record {
-    name = codes "part";
-    columns = (record { name = codes "a"; ty = ty.Int } ∷ record { name = codes "b"; ty = ty.Int } ∷ []);
-    tracking = tracking.ByColumn;
-    filter = None;
-    joins = [];
-    identity = None;
-    resolver = 0;
-    resolver_column = None;
-  } ∷ []);
-  subscriptions = (record { site = record { 0 = 1 }; host = record { 0 = codes "h1" }; kind = kind.Client; priority = 0 } ∷ record { site = record { 0 = 2 }; host = record { 0 = codes "h2" }; kind = kind.Client; priority = 0 } ∷ []);
-}
 
 abbrev pub columns_merge : Worked
 columns_merge = record {
-  publication = publication;
+  publication = part_for_two;
   input = codes "---\ninsert 0 part a=1 b=1\nsync 1\nsync 2\nupdate 1 part 0.1 a=2\nupdate 2 part 0.1 b=3\nsync 1\nsync 2\nsync 1\nshow 1 part\nupdate 1 part 0.1 a=4 b=4\nupdate 2 part 0.1 a=5\nsync 1\nsync 2\nshow 2 part\nconflicts 0\n";
   answers = codes "row 00000000-0000-8000-8000-000000000001\ndone 0 1 1\ndone 0 1 1\nok\nok\ndone 1 1 2\ndone 1 1 3\ndone 0 1 3\n00000000-0000-8000-8000-000000000001 2 3\nrows 1\nok\nok\ndone 1 1 4\ndone 1 1 5\n00000000-0000-8000-8000-000000000001 4 4\nrows 1\n1 part 00000000-0000-8000-8000-000000000001 2 2 publisher 0 live 5 3\nconflicts 1\n";
 }

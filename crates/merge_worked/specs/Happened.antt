@@ -136,21 +136,21 @@ is_settled publication m s =
     && (s.watermark == last_closed m.world.publisher)
     && (m.world.publisher.gens.filling.filled == 0)
 
-abbrev pub settled : Publication → Model → List SubscriberTables
-settled publication m = filter (is_settled publication m) (subscribers_of m)
+abbrev pub settled_subscribers : Publication → Model → List SubscriberTables
+settled_subscribers publication m = filter (is_settled publication m) (subscribers_of m)
 
 abbrev pub settled_sites : Publication → Model → List ℕ
-settled_sites publication m = map (λ (s : SubscriberTables). s.site.0) (settled publication m)
+settled_sites publication m = map (λ (s : SubscriberTables). s.site.0) (settled_subscribers publication m)
 
 -- the live rows of each settled site, how many these are, and the rows of its partition as the publisher has them
 abbrev pub held_at_settled : Publication → Model → List (List (Key × Version))
-held_at_settled publication m = map versions_held (settled publication m)
+held_at_settled publication m = map versions_held (settled_subscribers publication m)
 
 abbrev pub rows_held : Publication → Model → List ℕ
 rows_held publication m = map (λ (rows : List (Key × Version)). length rows) (held_at_settled publication m)
 
 abbrev pub owed_to_settled : Publication → Model → List (List (Key × Version))
-owed_to_settled publication m = map (λ (s : SubscriberTables). versions_owed publication m.world s.site) (settled publication m)
+owed_to_settled publication m = map (λ (s : SubscriberTables). versions_owed publication m.world s.site) (settled_subscribers publication m)
 
 -- Whether a session of each subscriber would end without a refusal and leave the site settled.
 abbrev pub is_settled_in : Publication → Model → SiteId → Bool

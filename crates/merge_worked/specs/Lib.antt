@@ -1,4 +1,5 @@
 pub mod Worked
+pub mod Publications
 pub mod StepsFail
 pub mod SessionsFail
 pub mod ARowGoesOver

@@ -1,32 +1,11 @@
 -- A subscriber is made anew. What it had not sent is in its conflict table, and old messages are stale.
-use Rattle.std.specs.Prelude.{[], ◌∷◌, codes, None}
-use Rattle.merge_types.specs.declared.values.ColumnType.TheVariants as ty
-use Rattle.merge_types.specs.declared.changes.Tracking.TheVariants as tracking
-use Rattle.merge_schema.specs.declared.publication.Publication.{Publication}
-use Rattle.merge_schema.specs.declared.publication.SubscriptionKind.TheVariants as kind
+use Rattle.std.specs.Prelude.{codes}
+use Rattle.merge_worked.specs.Publications.{item_for_one}
 use Rattle.merge_worked.specs.Worked.{Worked}
-
-abbrev publication : Publication
-publication = record {
-  name = codes "first";
-  retention_days = 14;
-  conflict_retention_days = 14;
-  articles = (record {
-    name = codes "item";
-    columns = (record { name = codes "qty"; ty = ty.Int } ∷ []);
-    tracking = tracking.Row;
-    filter = None;
-    joins = [];
-    identity = None;
-    resolver = 0;
-    resolver_column = None;
-  } ∷ []);
-  subscriptions = (record { site = record { 0 = 1 }; host = record { 0 = codes "h1" }; kind = kind.Client; priority = 0 } ∷ []);
-}
 
 abbrev pub made_anew : Worked
 made_anew = record {
-  publication = publication;
+  publication = item_for_one;
   input = codes "---\ninsert 0 item qty=1\nsync 1\nupdate 1 item 0.1 qty=2\nsend 1 download\ndeliver 7\nreinit 1\ndeliver 8\ninsert 1 item qty=3\nsync 1\nshow 1 item\nconflicts 1\ndeliver 7\n";
   answers = codes "row 00000000-0000-8000-8000-000000000001\ndone 0 1 1\nok\nmessage 7\nmessage 8\ndiscarded 1\nignored 4 0\nrefused 15 joining\ndone 0 1 1\n00000000-0000-8000-8000-000000000001 1\nrows 1\n1 item 00000000-0000-8000-8000-000000000001 0 1 discarded 0 live 2\nconflicts 1\nrefused 3 stale 4 5\n";
 }

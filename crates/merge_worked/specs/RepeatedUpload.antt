@@ -1,32 +1,11 @@
 -- An upload that comes three times acts once.
-use Rattle.std.specs.Prelude.{[], ◌∷◌, codes, None}
-use Rattle.merge_types.specs.declared.values.ColumnType.TheVariants as ty
-use Rattle.merge_types.specs.declared.changes.Tracking.TheVariants as tracking
-use Rattle.merge_schema.specs.declared.publication.Publication.{Publication}
-use Rattle.merge_schema.specs.declared.publication.SubscriptionKind.TheVariants as kind
+use Rattle.std.specs.Prelude.{codes}
+use Rattle.merge_worked.specs.Publications.{item_for_one}
 use Rattle.merge_worked.specs.Worked.{Worked}
-
-abbrev publication : Publication
-publication = record {
-  name = codes "first";
-  retention_days = 14;
-  conflict_retention_days = 14;
-  articles = (record {
-    name = codes "item";
-    columns = (record { name = codes "qty"; ty = ty.Int } ∷ []);
-    tracking = tracking.Row;
-    filter = None;
-    joins = [];
-    identity = None;
-    resolver = 0;
-    resolver_column = None;
-  } ∷ []);
-  subscriptions = (record { site = record { 0 = 1 }; host = record { 0 = codes "h1" }; kind = kind.Client; priority = 0 } ∷ []);
-}
 
 abbrev pub repeated_upload : Worked
 repeated_upload = record {
-  publication = publication;
+  publication = item_for_one;
   input = codes "---\nsync 1\ninsert 1 item qty=5\nsend 1 upload\ndeliver 5\ndeliver 5\ndeliver 5\ndeliver 8\ndeliver 6\ngenerations 0\n";
   answers = codes "done 0 0 0\nrow 00000000-0001-8000-8000-000000000001\nmessage 5\nmessage 6\nmessage 7\nmessage 8\napplied\nignored 3 0\nclosed 0 open 1 kept 0\n1 joined 1 received 1 number 1 watermark 0 synced 0\n";
 }

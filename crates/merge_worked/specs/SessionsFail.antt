@@ -12,7 +12,7 @@ use Rattle.merge_model.specs.Failing.{Slip, Slips}
 use Rattle.merge_model.specs.Failing.Runs.{world_behind}
 use Rattle.merge_model.specs.Script.Reading.{events_of}
 use Rattle.merge_model.specs.Script.Resolvers.{rules_say}
-use Rattle.merge_worked.specs.StepsFail.{made, store_fails, wants_memory}
+use Rattle.merge_worked.specs.StepsFail.{no_slip, store_fails, wants_memory}
 use Rattle.merge_worked.specs.Worked.{Worked}
 
 -- how often each resolver was asked in a run with slips
@@ -28,20 +28,20 @@ store_fails_asked = Some (record { is_fault = true; asked = 1 })
 -- An insert at the publisher. The site joins: join and answer are three steps, there is no upload and no range to ask for, and two
 -- downloads are three steps each. Then an update at the publisher, and one of the same row at the site.
 abbrev starting : Slips
-starting = made ∷ made ∷ made ∷ made ∷ made ∷ made ∷ made ∷ made ∷ made ∷ made ∷ made ∷ made ∷ made ∷ made ∷ []
+starting = no_slip ∷ no_slip ∷ no_slip ∷ no_slip ∷ no_slip ∷ no_slip ∷ no_slip ∷ no_slip ∷ no_slip ∷ no_slip ∷ no_slip ∷ no_slip ∷ no_slip ∷ no_slip ∷ []
 
 -- The site's upload comes to the publisher, the resolver is asked about the conflict, and the commit is a fault.
 abbrev asking : Slips
-asking = made ∷ store_fails_asked ∷ []
+asking = no_slip ∷ store_fails_asked ∷ []
 
 -- The site wants memory for the next upload. The one behind it acts, the resolver is asked again, and the answer is a fault at the site.
 abbrev taking : Slips
-taking = wants_memory ∷ made ∷ made ∷ store_fails ∷ []
+taking = wants_memory ∷ no_slip ∷ no_slip ∷ store_fails ∷ []
 
 -- The upload comes again and is only answered. The answer is taken, and no further upload and no range is to be asked for. The
 -- publisher wants memory for the download. All steps of the last session are made.
 abbrev downloading : Slips
-downloading = made ∷ made ∷ made ∷ made ∷ made ∷ made ∷ wants_memory ∷ []
+downloading = no_slip ∷ no_slip ∷ no_slip ∷ no_slip ∷ no_slip ∷ no_slip ∷ wants_memory ∷ []
 
 abbrev pub slips : Slips
 slips = starting ++ asking ++ taking ++ downloading

@@ -24,8 +24,8 @@ IsToldWith slips worked = texts_of (names_of worked.publication) (model_says wor
 
 -- What becomes of each step, one after the other.
 
-abbrev pub made : Option Slip
-made = None
+abbrev pub no_slip : Option Slip
+no_slip = None
 
 abbrev pub wants_memory : Option Slip
 wants_memory = Some (record { is_fault = false; asked = 0 })
@@ -35,25 +35,25 @@ store_fails = Some (record { is_fault = true; asked = 0 })
 
 -- An insert at the publisher is a fault, and is made again.
 abbrev inserting : Slips
-inserting = store_fails ∷ made ∷ []
+inserting = store_fails ∷ no_slip ∷ []
 
 -- A join is made, and the publisher wants memory for it. The next one acts, and its answer is a fault at the site.
 abbrev joining : Slips
-joining = made ∷ wants_memory ∷ made ∷ made ∷ store_fails ∷ []
+joining = no_slip ∷ wants_memory ∷ no_slip ∷ no_slip ∷ store_fails ∷ []
 
 -- The third one joins the site: join and answer are three steps, there is no upload and no range to ask for, and two downloads
 -- are three steps each.
 abbrev joined : Slips
-joined = made ∷ made ∷ made ∷ made ∷ made ∷ made ∷ made ∷ made ∷ made ∷ made ∷ made ∷ []
+joined = no_slip ∷ no_slip ∷ no_slip ∷ no_slip ∷ no_slip ∷ no_slip ∷ no_slip ∷ no_slip ∷ no_slip ∷ no_slip ∷ no_slip ∷ []
 
 -- The site updates the row. Its upload acts at the publisher and is answered, and the site wants memory for the answer.
 abbrev uploading : Slips
-uploading = made ∷ made ∷ made ∷ wants_memory ∷ []
+uploading = no_slip ∷ no_slip ∷ no_slip ∷ wants_memory ∷ []
 
 -- A report is made. The upload comes again and is only answered, which is no commit: a store fault is none there. The answer is
 -- taken, and no further upload and no range is to be asked for. The reply to the download is a fault at the site.
 abbrev coming_again : Slips
-coming_again = made ∷ made ∷ store_fails ∷ made ∷ made ∷ made ∷ made ∷ made ∷ store_fails ∷ []
+coming_again = no_slip ∷ no_slip ∷ store_fails ∷ no_slip ∷ no_slip ∷ no_slip ∷ no_slip ∷ no_slip ∷ store_fails ∷ []
 
 abbrev pub slips : Slips
 slips = inserting ++ joining ++ joined ++ uploading ++ coming_again

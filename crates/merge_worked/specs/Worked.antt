@@ -2,7 +2,7 @@
 use Rattle.std.specs.Prelude.{◌≡◌, ℕ, List}
 use Rattle.merge_schema.specs.declared.publication.Publication.{Publication}
 use Rattle.merge_model.specs.World.Events.{after, machine}
-use Rattle.merge_model.specs.Script.Play.{machine_text, model_text, played, told}
+use Rattle.merge_model.specs.Script.Play.{machine_output, machine_text, model_output, model_text}
 use Rattle.merge_model.specs.Script.Reading.{events_of}
 use Rattle.merge_model.specs.World.{Saying, empty_world}
 use Rattle.merge_script.specs.Input.{script_of}
@@ -15,11 +15,11 @@ pub record Worked : Type 0 where
 
 -- the machine, which decides by tables, writes the answers
 abbrev pub IsPlayed : Worked → Type 0
-IsPlayed worked = played worked.publication worked.input ≡ worked.answers
+IsPlayed worked = machine_output worked.publication worked.input ≡ worked.answers
 
 -- and so does the model, which decides by histories
 abbrev pub IsTold : Worked → Type 0
-IsTold worked = told worked.publication worked.input ≡ worked.answers
+IsTold worked = model_output worked.publication worked.input ≡ worked.answers
 
 -- The same where a program hands in other resolvers, of which none was asked before.
 

@@ -15,7 +15,7 @@ use Rattle.merge_model.specs.Judge.ByNumbers.{received_by_number}
 use Rattle.merge_model.specs.World.Faults.{reply_fault}
 use Rattle.merge_model.specs.History.{History, MadeChange, Past, is_done, past_in, pasts_with}
 use Rattle.merge_model.specs.Judge.{SubscriberJudge}
-use Rattle.merge_model.specs.Laws.{AreSubSorted}
+use Rattle.merge_model.specs.Laws.{SubscriberIsSorted}
 use Rattle.merge_model.specs.Tables.Keys.{at_number, put_number}
 use Rattle.merge_model.specs.History.Noting
 use Rattle.merge_model.specs.History.Pasts.{cell_count}
@@ -128,7 +128,7 @@ module _ (publication : Publication) (w : World) (h : History) (s : SubscriberTa
       let takes : Takes publication found w.pool s.site away h (pasts_with h number) m.received (put_number w.subscribers s.site.0 u) u h = record {
         accounts = start;
         at = at_put_same s.site.0 u w.subscribers;
-        ascends = received-sorted m.received s.rows (all-found AreSubSorted w.subscribers s.site.0 s g.rows at).rows_ascend;
+        ascends = received-sorted m.received s.rows (all-found SubscriberIsSorted w.subscribers s.site.0 s g.rows at).rows_ascend;
         receives = refl;
         same = refl;
         held_made = held-made h g.known.knowledge;

@@ -26,7 +26,7 @@ use Rattle.merge_model.specs.declared.outcome.Outcome.{Outcome}
 use Rattle.merge_model.specs.Tables.{PublisherTables}
 use Rattle.merge_model.specs.World.{Saying}
 use Rattle.merge_model.specs.declared.letter.Letter.{Letter}
-use Rattle.merge_laws.specs.Laws.ActsOnce.{ActedItemsDoNothing, delivered, with_pool, without_acted}
+use Rattle.merge_laws.specs.Laws.ActsOnce.{ActedItemsDoNothing, step_of_delivery, with_pool, without_acted}
 use Rattle.merge_laws.proofs.ActsOnce.ActsOnceRules.{fewer-fine}
 use Rattle.merge_laws.proofs.ActsOnce.ActsOnceSteps.{answer, delivered-by, judge, refusal, taken_by}
 use Rattle.merge_model.proofs.Runs.Refusals.{first-none}
@@ -97,7 +97,7 @@ module _ (publication : Publication) (says : Saying) (m : Model) (number : ℕ) 
 
 pub acted-items-do-nothing : ActedItemsDoNothing
 acted-items-do-nothing publication says m number site u pool at there =
-    subst (λ (other : Model × Outcome). did_something (delivered publication says m number).1 ≡ true → other.0 ≡ with_pool other.0.world.pool (delivered publication says m number).0)
+    subst (λ (other : Model × Outcome). did_something (step_of_delivery publication says m number).1 ≡ true → other.0 ≡ with_pool other.0.world.pool (step_of_delivery publication says m number).0)
     (sym (delivered-by publication says (with_pool pool m) number site (without_acted m.history u) there))
     (subst (λ (done : Model × Outcome). (let other : Model × Outcome = taken_by publication says (with_pool pool m) number site (without_acted m.history u) (refusal publication says (with_pool pool m) number site (without_acted m.history u)) in
     did_something done.1 ≡ true → other.0 ≡ with_pool other.0.world.pool done.0))

@@ -38,7 +38,7 @@ use Rattle.merge_model.specs.Tables.{PublisherTables}
 use Rattle.merge_model.specs.World.{Saying, World}
 use Rattle.merge_model.specs.declared.letter.Letter.{Letter}
 use Rattle.merge_model.specs.declared.letter.Message.TheVariants.{Replies}
-use Rattle.merge_laws.specs.Laws.ActsOnce.{ActedRowsStay, ActedUploadsOnlyAnswer, AllActed, IsUpload, OnlyAnswers, delivered, of_row, row_has_acted}
+use Rattle.merge_laws.specs.Laws.ActsOnce.{ActedRowsStay, ActedUploadsOnlyAnswer, AllActed, IsUpload, OnlyAnswers, step_of_delivery, of_row, row_has_acted}
 use Rattle.merge_laws.proofs.ActsOnce.ActsOnceRows.{acting-elsewhere, acts-elsewhere, noted-stays, tables-stay}
 use Rattle.merge_model.proofs.Runs.Refusals.{first-none}
 use Rattle.merge_laws.proofs.Walking.Noted.{acts-own}
@@ -98,7 +98,7 @@ module _ (publication : Publication) (says : Saying) (m : Model) (number : ℕ) 
   taken-by (Some why) = refl
   taken-by None = ap (λ (k : History). (let after : Model = record { world = (post site answer.message world_after).0; history = k } in (after, Posted (length m.world.pool + 1)))) (posted-noted site answer.message world_after noted_after)
 
-  pub delivered-by : IsUpload m number site u → delivered publication says m number ≡ taken_by refusal
+  pub delivered-by : IsUpload m number site u → step_of_delivery publication says m number ≡ taken_by refusal
   delivered-by at = ap stepped at ∙ taken-by refusal
 
   pub is-fine : refusal ≡ None → (u.from < u.to) × All (λ (item : UploadItem). is_in_interval u item ≡ true) u.items

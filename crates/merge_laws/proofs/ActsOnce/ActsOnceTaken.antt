@@ -34,7 +34,7 @@ use Rattle.merge_model.specs.declared.letter.Message.{Message}
 use Rattle.merge_model.proofs.Runs.Actions.{failing-actions-keep}
 use Rattle.merge_laws.proofs.Runs.Tallied.{received-tallied}
 use Rattle.merge_laws.specs.Laws.{OfEveryActions}
-use Rattle.merge_laws.specs.Laws.ActsOnce.{AllActed, DoneStays, DoneStaysByActions, LettersStay, LettersStayByActions, OnlyAnswers, TakenHaveActed, TakenOnlyAnswer, TakenOnlyAnswerByActions, delivered}
+use Rattle.merge_laws.specs.Laws.ActsOnce.{AllActed, DoneStays, DoneStaysByActions, LettersStay, LettersStayByActions, OnlyAnswers, TakenHaveActed, TakenOnlyAnswer, TakenOnlyAnswerByActions, step_of_delivery}
 use Rattle.merge_laws.specs.Facts.Received.{Received}
 use Rattle.merge_laws.proofs.ActsOnce.ActsOnceSteps.{acted-uploads-only-answer, delivered-by, is-fine, judge, refusal, taken_by}
 use Rattle.merge_laws.proofs.Received.Models.{model-fine, received-by-actions}
@@ -156,7 +156,7 @@ module _ (publication : Publication) (says : Saying) where
 
   again-answers : (m : Model) → Received m.world m.history → TakenOnlyAnswerByActions publication says m
   again-answers m r number site u at did slips more =
-      let done : Model = (delivered publication says m number).0 in
+      let done : Model = (step_of_delivery publication says m number).0 in
       let there = step-keeps publication says Received (Stays m) (λ w h r. r) (stays-keep m publication says) m (Deliver number) r (λ k letter is. is, λ n generation is. is) in
       let later = both-stay done (model-fine publication says m (Deliver number) r) slips more in
       let acted : AllActed done.history u = delivered-acted m r number site u at did in
@@ -192,5 +192,5 @@ letters-stay publication says tallies slips actions number letter at others more
 
 pub taken-only-answer : OfEveryActions TakenOnlyAnswer
 taken-only-answer publication says tallies slips actions number site u at did others more =
-    of-later-events publication says (delivered publication says (model_behind_actions publication says tallies slips actions) number).0 others more (λ (n : Model). OnlyAnswers site u n (delivered publication says n number))
+    of-later-events publication says (step_of_delivery publication says (model_behind_actions publication says tallies slips actions) number).0 others more (λ (n : Model). OnlyAnswers site u n (step_of_delivery publication says n number))
     (taken-only-answer-by-actions publication says tallies slips actions number site u at did others)

@@ -21,8 +21,8 @@ use Rattle.merge_model.specs.Tables.{PublisherTables}
 use Rattle.merge_model.specs.World.{Saying}
 use Rattle.merge_model.specs.declared.outcome.Outcome.{Outcome}
 use Rattle.merge_model.proofs.Runs.Actions.{events-are-actions, failing-actions-keep}
-use Rattle.merge_laws.specs.Laws.ActsOnce.{AllActed, delivered}
-use Rattle.merge_laws.specs.Laws.Effects.{ActingTakeEffect, EffectAt, NewsIsUnmet, NoneTakesEffectTwice, NumbersTakeEffect, RunsAreSteps, TakesEffect, after_steps, history_judge}
+use Rattle.merge_laws.specs.Laws.ActsOnce.{AllActed, step_of_delivery}
+use Rattle.merge_laws.specs.Laws.Effects.{ActingTakeEffect, EffectAt, NewsIsUnmet, NoneTakesEffectTwice, NumbersTakeEffect, RunsAreSteps, TakesEffect, behind_actions, history_judge}
 use Rattle.merge_laws.specs.Laws.{OfEveryActions}
 use Rattle.merge_laws.specs.Facts.Received.{DoneIsReceived, Received}
 use Rattle.merge_laws.proofs.ActsOnce.ActsOnceSteps.{delivered-by, is-fine, refusal, taken_by}
@@ -35,11 +35,11 @@ use Rattle.merge_laws.proofs.Received.Worlds.{received-is}
 -- Steps, some of which may fail, keep what each step and other tallies keep.
 
 module _ (publication : Publication) (says : Saying) where
-  received-after : (actions : List Action) (f : Faulty Model) → Received f.world.world f.world.history → (let g : Faulty Model = after_steps publication says f actions in Received g.world.world g.world.history)
+  received-after : (actions : List Action) (f : Faulty Model) → Received f.world.world f.world.history → (let g : Faulty Model = behind_actions publication says f actions in Received g.world.world g.world.history)
   received-after actions f r = failing-actions-keep publication (model publication says) (λ (m : Model). Received m.world m.history) (λ m action h. model-fine publication says m action h) (λ m tallies h. received-tallied m.world tallies m.history h) actions f r
 
   stays-after : (m : Model) (actions : List Action) (f : Faulty Model) → Received f.world.world f.world.history → Stays m f.world.world f.world.history
-      → (let g : Faulty Model = after_steps publication says f actions in Stays m g.world.world g.world.history)
+      → (let g : Faulty Model = behind_actions publication says f actions in Stays m g.world.world g.world.history)
   stays-after m actions f r stays = (failing-actions-keep publication (model publication says) (λ (n : Model). Received n.world n.history × Stays m n.world n.history)
       (λ n action both. (model-fine publication says n action both.0, step-keeps publication says Received (Stays m) (λ w h r. r) (stays-keep m publication says) n action both.0 both.1))
       (λ n tallies both. (received-tallied n.world tallies n.history both.0, both.1)) actions f (r, stays)).1
@@ -61,16 +61,16 @@ module _ (publication : Publication) (says : Saying) where
   effect-acted : (f : Faulty Model) (number : ℕ) (u : Upload) (generation : ℕ) → Received f.world.world f.world.history → EffectAt publication says f number u generation
       → is_done (fails publication (model publication says) f (Deliver number)).0.world.history u.site.0 generation ≡ true
   effect-acted f number u generation r effect =
-      let made = acting-made f.slips (Deliver number) f.world (delivered publication says f.world number) effect.made in
-      let acted : AllActed (delivered publication says f.world number).0.history u = delivered-acted publication says f.world r number effect.site u effect.sent made.1 in
+      let made = acting-made f.slips (Deliver number) f.world (step_of_delivery publication says f.world number) effect.made in
+      let acted : AllActed (step_of_delivery publication says f.world number).0.history u = delivered-acted publication says f.world r number effect.site u effect.sent made.1 in
       ap (λ (m : Model). is_done m.history u.site.0 generation) made.0 ∙ acted generation effect.effect.above effect.effect.within
 
   twice-never : (f : Faulty Model) (between : List Action) (first second : ℕ) (u v : Upload) (generation : ℕ) → Received f.world.world f.world.history
-      → (let g : Faulty Model = after_steps publication says (fails publication (model publication says) f (Deliver first)).0 between in
+      → (let g : Faulty Model = behind_actions publication says (fails publication (model publication says) f (Deliver first)).0 between in
       v.site.0 ≡ u.site.0 → EffectAt publication says f first u generation → EffectAt publication says g second v generation → ⊥)
   twice-never f between first second u v generation r same one other =
       let behind : Faulty Model = (fails publication (model publication says) f (Deliver first)).0 in
-      let g : Faulty Model = after_steps publication says behind between in
+      let g : Faulty Model = behind_actions publication says behind between in
       let stays = stays-after behind.world between behind (received-after (Deliver first ∷ []) f r) (λ number letter at. at, λ site k is. is) in
       let acted : is_done g.world.history u.site.0 generation ≡ true = stays.1 u.site.0 generation (effect-acted f first u generation r one) in
       let unmet : is_done g.world.history v.site.0 generation ≡ false = other.effect.unmet in
@@ -79,7 +79,7 @@ module _ (publication : Publication) (says : Saying) where
 
 pub none-twice : NoneTakesEffectTwice
 none-twice publication says tallies slips before between first second u v generation same one other =
-    twice-never publication says (after_steps publication says (faulty (empty_model publication tallies) slips) before) between first second u v generation (received-after publication says before (faulty (empty_model publication tallies) slips) (begins publication tallies)) same one other
+    twice-never publication says (behind_actions publication says (faulty (empty_model publication tallies) slips) before) between first second u v generation (received-after publication says before (faulty (empty_model publication tallies) slips) (begins publication tallies)) same one other
 
 pub runs-are-steps : RunsAreSteps
 runs-are-steps publication says f events = events-are-actions (failing publication (model publication says)) publication events f

@@ -35,7 +35,7 @@ use Rattle.merge_model.specs.Subscriber.Taking.{row_above, taken}
 use Rattle.merge_model.specs.World.{Saying, World, subscriber_at, with_publisher, with_subscriber}
 use Rattle.merge_model.specs.declared.letter.Message.TheVariants.{Asks, Replies}
 use Rattle.merge_model.specs.declared.letter.Letter.{Letter}
-use Rattle.merge_model.specs.Laws.{AreSubSorted}
+use Rattle.merge_model.specs.Laws.{SubscriberIsSorted}
 use Rattle.merge_laws.specs.Facts.Knowledge.{changes_of}
 use Rattle.merge_laws.specs.Invariants.KnownMakers.{Ascend, HeldKnow, IsAfterMaker, KnownMakers, KnowsMaker}
 use Rattle.merge_laws.specs.Facts.LineagesStand.{OfMessage}
@@ -205,7 +205,7 @@ reply-makers publication w h s number m g i at came =
     let named : n ≡ 0 → ⊥ = found-named w.subscribers n s g.none at in
     let letter : Letter = record { site = s.site; message = Replies (reply.Downloaded m) } in
     let all = letter-zip (λ (x : Letter) (pasts : List (Key × Past)). OfMessage (λ (key : Key) (version : Version) (past : Past). KnowsMaker key past.known) pasts x.message) w h number letter i.letters came in
-    let sub : AreSubSorted s = all-found AreSubSorted w.subscribers n s g.rows at in
+    let sub : SubscriberIsSorted s = all-found SubscriberIsSorted w.subscribers n s g.rows at in
     let b : Beside n t.rows k = reply-beside judge m.received n incoming m.items (map (row_above m.received) s.rows) h all
     (record { rows_sorted = received-sorted m.received s.rows sub.rows_ascend; sorted = i.sorted n; know = above-know m.received s.rows (pasts_at h n) (i.there n s at) }) in
     let others : (x : ℕ) → (x ≡ n → ⊥) → pasts_at k x ≡ pasts_at h x =

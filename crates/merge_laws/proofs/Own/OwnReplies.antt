@@ -20,7 +20,7 @@ use Rattle.merge_model.specs.History.{History, MadeChange, Past, has, past_at, p
 use Rattle.merge_model.specs.Judge.{SubscriberJudge}
 use Rattle.merge_types.specs.RowKeys.{key_cmp}
 use Rattle.merge_model.specs.Tables.Keys.{drop_row, put_number, put_row, row_at, same_key}
-use Rattle.merge_model.specs.Laws.{AreSubSorted}
+use Rattle.merge_model.specs.Laws.{SubscriberIsSorted}
 use Rattle.merge_model.specs.History.Model.{Model}
 use Rattle.merge_model.specs.History.Noting
 use Rattle.merge_model.specs.Subscriber.Reinit.{discarded, reinitialised}
@@ -141,7 +141,7 @@ module _ (publication : Publication) (w : World) (h : History) (s : SubscriberTa
 
   reply-owned : (r : Reply) → ReplyAnswers (at_model w h) s.site.0 (pasts_with h number) (Replies r) → Owning r
   reply-owned (reply.Downloaded r) answers key there =
-      let sorted : AreSubSorted s = all-found AreSubSorted w.subscribers s.site.0 s b.0.0.rows at in
+      let sorted : SubscriberIsSorted s = all-found SubscriberIsSorted w.subscribers s.site.0 s b.0.0.rows at in
       (items-owned h.made (counts_in (at_model w h)) s.site.0 r.received judge (pasts_with h number) (λ q. refl) r.items (map (row_above r.received) s.rows) h answers
       (received-sorted r.received s.rows sorted.rows_ascend, λ q is. p.own s.site.0 s q low at (sym (above-held r.received s.rows q) ∙ is))).1 key there
   reply-owned (reply.Joined r) answers key there = p.own s.site.0 s key low at there

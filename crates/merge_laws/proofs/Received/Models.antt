@@ -26,7 +26,7 @@ use Rattle.merge_model.specs.declared.outcome.Outcome.{Outcome}
 use Rattle.merge_model.specs.declared.outcome.Outcome.TheVariants.{NoLetter}
 use Rattle.merge_model.specs.History.{History, is_done, pasts_with}
 use Rattle.merge_model.specs.History.Noting
-use Rattle.merge_model.specs.History.Model.{Model, model_step, noted, noted_if, noted_letter, did_something, with_posted}
+use Rattle.merge_model.specs.History.Model.{Model, model_step, noted_action, noted_if, noted_letter, did_something, with_posted}
 use Rattle.merge_model.proofs.Publishers.DoneOnce.{taker-done, make-done, anew-done, purge-done, posted-done}
 use Rattle.merge_model.proofs.Runs.Actions.{failing-actions-keep}
 use Rattle.merge_laws.proofs.Runs.Tallied.{received-tallied}
@@ -96,11 +96,11 @@ module _ (publication : Publication) (says : Saying) (w : World) (h : History) (
   found-fine number None at = r
   found-fine number (Some letter) at = message-fine number letter.site letter.message (letter-known number letter at)
 
-  action-fine : (action : Action) → Keeps (step_by publication says judges w action) (noted publication says judges w action h) h
+  action-fine : (action : Action) → Keeps (step_by publication says judges w action) (noted_action publication says judges w action h) h
   action-fine (Pass seconds) = moment-fine w h (record { 0 = w.moment.0 + seconds }) r
   action-fine (Make site change) =
       let done : World × Outcome = make_at publication judges site change w in
-      noted-same (did_something done.1) done.0 (noted publication says judges w (Make site change) h) h (make-done publication judges site change w h) (make-fine publication judges site change w h r)
+      noted-same (did_something done.1) done.0 (noted_action publication says judges w (Make site change) h) h (make-done publication judges site change w h) (make-fine publication judges site change w h r)
   action-fine (CloseAt site) = let done : World × Outcome = close_at site w in noted-same (did_something done.1) done.0 h h refl (close-fine site w h r)
   action-fine (Send site sending) =
       let done : World × Outcome = at_subscriber site w (send_from judges sending w) in
@@ -108,7 +108,7 @@ module _ (publication : Publication) (says : Saying) (w : World) (h : History) (
   action-fine (Deliver number) = found-fine number (letter_at w number) refl
   action-fine (MakeAnew site) =
       let done : World × Outcome = at_subscriber site w (make_anew judges w) in
-      noted-same (did_something done.1) done.0 (noted publication says judges w (MakeAnew site) h) h (anew-done judges site (subscriber_at w site) h) (at-fine w h r site (make_anew judges w) (λ s at. anew-fine w h r site s at judges))
+      noted-same (did_something done.1) done.0 (noted_action publication says judges w (MakeAnew site) h) h (anew-done judges site (subscriber_at w site) h) (at-fine w h r site (make_anew judges w) (λ s at. anew-fine w h r site s at judges))
   action-fine Forget = history-same (with_publisher (purge publication w.moment w.publisher).0 w) h (Noting.noted_purge publication (judges.publisher 0) (at_moment w.moment w.publisher) h)
       (purge-done publication (judges.publisher 0) (at_moment w.moment w.publisher) h) (sites-fine w h r (purge publication w.moment w.publisher).0 refl)
   action-fine Look = r
@@ -116,7 +116,7 @@ module _ (publication : Publication) (says : Saying) (w : World) (h : History) (
 pub model-fine : (publication : Publication) (says : Saying) (m : Model) (action : Action) → Received m.world m.history → (let n : Model = (model_step publication says m action).0 in Received n.world n.history)
 model-fine publication says m action r =
     let done : World × Outcome = step_by publication says (by_history m.history) m.world action in
-    let kept : History = noted_if (did_something done.1) (noted publication says (by_history m.history) m.world action m.history) m.history in
+    let kept : History = noted_if (did_something done.1) (noted_action publication says (by_history m.history) m.world action m.history) m.history in
     history-same done.0 kept (with_posted done.0 done.1 kept) (posted-done done.0 done.1 kept) (action-fine publication says m.world m.history r action)
 
 -- How it begins.

@@ -31,7 +31,7 @@ use Rattle.merge_model.proofs.Subscribers.{step-sub-sorted}
 use Rattle.merge_model.specs.Judge.ByHistory.{by_history, by_made}
 use Rattle.merge_model.specs.History.{History, no_history}
 use Rattle.merge_model.specs.Tables.Keys.{at_number, put_number}
-use Rattle.merge_model.specs.Laws.{AreSorted, AreSubSorted}
+use Rattle.merge_model.specs.Laws.{AreSorted, SubscriberIsSorted}
 use Rattle.merge_model.specs.History.Model.{Model, empty_model, model, model_step}
 use Rattle.merge_model.specs.Tables.Publications.{by_site}
 use Rattle.merge_model.specs.Subscriber.Reinit.{reinitialised}
@@ -58,7 +58,7 @@ pub record Ground (publication : Publication) (w : World) (h : History) : Type 0
   pub none : at_number w.subscribers 0 ≡ None
   pub received : Received w h
   pub numbered : Numbered w h
-  pub rows : AllByRecursion (λ (entry : ℕ × SubscriberTables). AreSubSorted entry.1) w.subscribers
+  pub rows : AllByRecursion (λ (entry : ℕ × SubscriberTables). SubscriberIsSorted entry.1) w.subscribers
   pub unsent : Unsent w h
   pub known : Known (changes_of w) h
   pub sorted : AreSorted w.publisher

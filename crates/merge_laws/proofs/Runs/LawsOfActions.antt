@@ -7,7 +7,7 @@ use Rattle.merge_schema.specs.declared.publication.Publication.{Publication}
 use Rattle.merge_model.specs.Judge.ByNumbers.{received_by_number}
 use Rattle.merge_model.specs.Judge.ByHistory.{by_history}
 use Rattle.merge_model.specs.Failing.{faulty}
-use Rattle.merge_model.specs.Laws.{AreSorted, AreSubSorted}
+use Rattle.merge_model.specs.Laws.{AreSorted, SubscriberIsSorted}
 use Rattle.merge_model.specs.History.Model.{Model, empty_model, model}
 use Rattle.merge_model.specs.Laws.Promises.{IdentitiesApart, NoneActsTwice, OldIsPast, RangesApart}
 use Rattle.merge_model.specs.Failing.Runs.{model_behind_actions}
@@ -168,5 +168,5 @@ pub lists-sorted : OfEveryActions (λ publication says m. AreSorted m.world.publ
 lists-sorted publication says tallies slips actions = failing-actions-keep publication (model publication says) (λ (m : Model). AreSorted m.world.publisher) (λ m action h. step-sorted publication says (by_history m.history) m.world action h) (λ m others h. h) actions
     (faulty (empty_model publication tallies) slips) (publisher_stays_sorted publication says tallies [] [])
 
-pub sub-lists-sorted : OfEveryActions (λ publication says m. AllByRecursion (λ (entry : ℕ × SubscriberTables). AreSubSorted entry.1) m.world.subscribers)
+pub sub-lists-sorted : OfEveryActions (λ publication says m. AllByRecursion (λ (entry : ℕ × SubscriberTables). SubscriberIsSorted entry.1) m.world.subscribers)
 sub-lists-sorted publication says tallies slips actions = (unsent-by-actions publication says tallies slips actions).0.1.1

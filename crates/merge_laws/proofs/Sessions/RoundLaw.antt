@@ -20,7 +20,7 @@ use Rattle.merge_model.specs.Tables.{SubscriberTables}
 use Rattle.merge_model.specs.World.{Saying}
 use Rattle.merge_model.proofs.Lists.Finding.{found-named, some_same}
 use Rattle.merge_laws.specs.Laws.{OfEveryValidActions}
-use Rattle.merge_laws.specs.Laws.Rounds.{AllComplete, Completes, HasSubscribers, RoundSettles, downloaded_by, is_among, started, uploaded_by}
+use Rattle.merge_laws.specs.Laws.Rounds.{AllComplete, Completes, HasSubscribers, RoundSettles, downloaded_by, is_among, new_session, uploaded_by}
 use Rattle.merge_laws.proofs.Sessions.RoundStays.{AskStays, Stays, Unmoved, answered-both, asks-then, download-stays, stays-itself, stays-then, stays-unmoved, upload-stays}
 use Rattle.merge_laws.proofs.Sessions.SessionChanges.{NoneBetween}
 use Rattle.merge_laws.proofs.Sessions.SessionExchanges.{DownloadLeaves, UploadLeaves, UploadRests, download-leaves, upload-leaves}
@@ -51,7 +51,7 @@ module _ (publication : Publication) (says : Saying) (site : SiteId) where
       (λ n g r. stays-unmoved site start k n s r.1)
 
   uploads-stay : (m : Model) → Joins publication says site m → (uploaded_by publication says site m).stop ≡ None → Stays site m (uploaded_by publication says site m).world
-  uploads-stay m j ended = uploading-stays m (unsent_generations (model publication says) site m) (started m) j (stays-itself site m) ended
+  uploads-stay m j ended = uploading-stays m (unsent_generations (model publication says) site m) (new_session m) j (stays-itself site m) ended
 
   -- What downloads of a site leave.
   one-download : (Q : Model → Type 0) (u : Session Model) (j : Joins publication says site u.world) (next : Downloaded → Session Model → Session Model)
@@ -81,7 +81,7 @@ module _ (publication : Publication) (says : Saying) (site : SiteId) where
       if-settles publication says site (AskStays site start) (nat_le target d.from) v (downloading (model publication says) site count target v) (λ is none. all) (λ is. downloading-stays start count target v joins all)))
 
   downloads-stay : (m : Model) → Joins publication says site m → (downloaded_by publication says site m).stop ≡ None → AskStays site m (downloaded_by publication says site m).world
-  downloads-stay m j ended = one-download (AskStays site m) (started m) j
+  downloads-stay m j ended = one-download (AskStays site m) (new_session m) j
       (λ (d : Downloaded) (t : Session Model). if nat_le d.last d.from then t else downloading (model publication says) site (d.last + 1 - d.from) d.last t)
       (λ v d joins stays. if-settles publication says site (AskStays site m) (nat_le d.last d.from) v (downloading (model publication says) site (d.last + 1 - d.from) d.last v)
       (λ is none. stays) (λ is. downloading-stays m (d.last + 1 - d.from) d.last v joins stays)) ended
@@ -165,7 +165,7 @@ module _ (publication : Publication) (says : Saying) where
       let at : At publication says b m = record { tables = c.tables; known = g b; here = c.here } in
       let j : Joins publication says b m = record { at = at; joined = c.joined } in
       let n : Model = (uploaded_by publication says b m).world in
-      let up : Uploaded publication says b n = uploads-settle publication says b (started m) j c.ended in
+      let up : Uploaded publication says b n = uploads-settle publication says b (new_session m) j c.ended in
       let stays : Stays b m n = uploads-stay publication says b m j c.ended in
       uploads-through sites n k (still-none b m n none (g b) up stays none at) (λ a. up.joins.at.known) (λ a at_next. sent-by b m n none (g b) up stays sites sent a (b.0 == a.0) refl (number-decided b.0 a.0) at_next) all.1
 
@@ -204,7 +204,7 @@ module _ (publication : Publication) (says : Saying) where
       let at : At publication says b m = record { tables = c.tables; known = g b; here = c.here } in
       let up : Uploaded publication says b m = ups b at in
       let n : Model = (downloaded_by publication says b m).world in
-      let f : Fetched publication says b n = downloads-settle publication says b (started m) up c.ended in
+      let f : Fetched publication says b n = downloads-settle publication says b (new_session m) up c.ended in
       let stays : AskStays b m n = downloads-stay publication says b m up.joins c.ended in
       let empty : NoZero n = stays.stays.others 0 (λ is. here-named b m none at (sym is)) ∙ none in
       downloads-through sites n k empty (λ a. f.fetches.uploaded.joins.at.known) (λ a next. ups-by b m n none (g b) f stays ups a (b.0 == a.0) (number-decided b.0 a.0) next)

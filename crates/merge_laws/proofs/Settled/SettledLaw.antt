@@ -13,7 +13,7 @@ use Rattle.merge_model.specs.Failing.Runs.{model_behind, model_behind_actions}
 use Rattle.merge_model.specs.History.{MadeChange, made_at}
 use Rattle.merge_types.specs.RowKeys.{key_cmp}
 use Rattle.merge_model.specs.Tables.Keys.{at_number, has_key, row_at}
-use Rattle.merge_model.specs.Laws.{AreSubSorted}
+use Rattle.merge_model.specs.Laws.{SubscriberIsSorted}
 use Rattle.merge_model.specs.History.Model.{Model, model_step}
 use Rattle.merge_model.specs.Laws.Promises.{HoldsPartition, IsSettled, SettledHoldsPartition, base_of, live_version, version_if_in}
 use Rattle.merge_model.specs.Publisher.PublisherDownload.{inside_keys}
@@ -118,7 +118,7 @@ module _ (publication : Publication) (m : Model) (g : Ground publication m.world
 
   pub holds-partition : HoldsPartition publication m s
   holds-partition =
-      let sorted : AreSubSorted s = all-found AreSubSorted w.subscribers n s g.rows is.is_here in
+      let sorted : SubscriberIsSorted s = all-found SubscriberIsSorted w.subscribers n s g.rows is.is_here in
       held-rows s.rows
       ∙ rows_from_look_ups key_cmp key_total keys-tied (kept_rows held_value s.rows) (kept_rows (owed_value inside) w.publisher.rows) (kept-ascend held_value s.rows sorted.rows_ascend) (kept-ascend (owed_value inside) w.publisher.rows g.sorted.rows_ascend)
       (λ q. kept-at held_value q s.rows sorted.rows_ascend ∙ held-found q (row_at s.rows q) ∙ rows-equal q ∙ sym (owed-found inside q (row_at w.publisher.rows q)) ∙ sym (kept-at (owed_value inside) q w.publisher.rows g.sorted.rows_ascend))

@@ -24,7 +24,7 @@ use Rattle.merge_model.specs.World.Faults.{reply_fault}
 use Rattle.merge_model.specs.History.{History, MadeChange, made_at, no_history, past_at, pasts_with}
 use Rattle.merge_model.specs.Judge.{PublisherJudge, SubscriberJudge}
 use Rattle.merge_model.specs.Tables.Keys.{at_number, has_key, put_number, same_key}
-use Rattle.merge_model.specs.Laws.{AreSubSorted}
+use Rattle.merge_model.specs.Laws.{SubscriberIsSorted}
 use Rattle.merge_model.specs.History.Noting
 use Rattle.merge_model.specs.History.Pasts.{past_after}
 use Rattle.merge_model.specs.Laws.Promises.{base_of}
@@ -253,7 +253,7 @@ module _ (publication : Publication) (says : Saying) where
           let v = site_view publication w.publisher (made_in h.made n) n in
           let settles = pool-at (LetterSettles publication w.publisher h.made w.subscribers) w number (record { site = s.site; message = Replies m }) came i.letters in
           let order = order-of n s at in
-          let sorted : AreSubSorted s = all-found AreSubSorted w.subscribers n s g.rows at in
+          let sorted : SubscriberIsSorted s = all-found SubscriberIsSorted w.subscribers n s g.rows at in
           goes s (taken judge w.moment m s) (Noting.noted_reply judge s.site (pasts_with h number) m h) (reply-keep (λ (x : History). Alike h x) (alike-notes h) judge s.site (pasts_with h number) m h (alike-itself h)).made at (reply-site judge w.moment m s)
           (reply-keeps publication v judge w.moment (made_in h.made n) (received_by_number w.publisher n) (joined_at w.publisher (record { 0 = n })) sent m s (record {
             unseen = λ key low. if-none (has_key (inside_keys publication (record { 0 = n }) w.publisher) key) (touched_at publication w.publisher (record { 0 = n }) key) (version_at w.publisher key) (order.live key) low;

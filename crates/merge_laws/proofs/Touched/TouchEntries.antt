@@ -14,7 +14,7 @@ use Rattle.merge_schema.specs.declared.publication.Publication.{Publication}
 use Rattle.merge_schema.specs.declared.publication.Subscription.{Subscription}
 use Rattle.merge_schema.proofs.Searches.{any_map}
 use Rattle.merge_model.specs.Publisher.Entries as entry
-use Rattle.merge_model.specs.Publisher.Entries.{Changing, Entries, Parts, Touched, changed_by, changing_entries, entry_count, live_rows, move_of, moves_of, parts_of, returned, rows_after, touched_by, with_move, with_rows}
+use Rattle.merge_model.specs.Publisher.Entries.{Changing, Entries, Parts, Touched, changed_by, changing_entries, entry_count, live_rows, move_of, moves_of, parts_of, returned_rows, rows_after, touched_by, with_move, with_rows}
 use Rattle.merge_model.specs.Judge.{PublisherJudge}
 use Rattle.merge_types.specs.RowKeys.{key_cmp}
 use Rattle.merge_gens.specs.Moves.{row_site_cmp}
@@ -133,7 +133,7 @@ module _ (publication : Publication) (judge : PublisherJudge) (changing : Changi
   move_generations = drop (length touched.changed) generations
 
   abbrev gone : List RowSite
-  gone = returned judge touched parts touched.changed
+  gone = returned_rows judge touched parts touched.changed
 
   abbrev q : PublisherTables
   q = changed_by publication judge changing p

@@ -25,7 +25,7 @@ use Rattle.merge_model.specs.World.Faults.{reply_fault}
 use Rattle.merge_model.specs.History.{History, MadeChange, made_at, no_history, past_at, pasts_with}
 use Rattle.merge_model.specs.Judge.{PublisherJudge, SubscriberJudge}
 use Rattle.merge_model.specs.Tables.Keys.{at_number, put_number}
-use Rattle.merge_model.specs.Laws.{AreSubSorted}
+use Rattle.merge_model.specs.Laws.{SubscriberIsSorted}
 use Rattle.merge_model.specs.History.Model.{Model, empty_model, model, model_step}
 use Rattle.merge_model.specs.History.Noting
 use Rattle.merge_model.specs.History.Pasts.{past_after}
@@ -62,7 +62,7 @@ use Rattle.merge_laws.proofs.Runs.OfActions.{of-events}
 
 -- what is known besides
 abbrev pub Base : World → History → Type 0
-Base w h = Received w h × (Numbered w h × AllByRecursion (λ (entry : ℕ × SubscriberTables). AreSubSorted entry.1) w.subscribers)
+Base w h = Received w h × (Numbered w h × AllByRecursion (λ (entry : ℕ × SubscriberTables). SubscriberIsSorted entry.1) w.subscribers)
 
 found-step : (S : SubscriberTables → Type 0) (b : Bool) (t s : SubscriberTables) (rest : Option SubscriberTables) → S t → (rest ≡ Some s → S s) → (let found : Option SubscriberTables = cond b (Some t) rest in found) ≡ Some s → S s
 found-step S true t s rest first more e = let same : t ≡ s = cc in subst S same first
@@ -99,7 +99,7 @@ same-rows w h k s t u at same site goes = unsent-on w h k s t u (λ n named diff
 
 -- What a subscriber does.
 
-reply-rows : (publication : Publication) (made : List MadeChange) (judge : SubscriberJudge) (now : Moment) (sent : Outstanding) (m : Reply) (s : SubscriberTables) → ((key : Key) (received : ℕ) → judge.is_unsent received key ≡ is_changed_above received key made) → AreSubSorted s
+reply-rows : (publication : Publication) (made : List MadeChange) (judge : SubscriberJudge) (now : Moment) (sent : Outstanding) (m : Reply) (s : SubscriberTables) → ((key : Key) (received : ℕ) → judge.is_unsent received key ≡ is_changed_above received key made) → SubscriberIsSorted s
     → reply_fault publication sent m s ≡ None → s.outstanding ≡ Some (seq_of m, sent) → ((seq from to : ℕ) → s.outstanding ≡ Some (seq, ask.Upload from to) → s.received ≤ to)
     → RowsTell made s.received s.rows → RowsTell made (taken judge now m s).received (taken judge now m s).rows
 reply-rows publication made judge now sent (reply.Joined m) s judges sorted none out knows f = f
@@ -166,7 +166,7 @@ module _ (publication : Publication) (says : Saying) where
       let judge : SubscriberJudge = by_made h s.site in
       let k : History = Noting.noted_reply judge s.site (pasts_with h number) m h in
       let a : Alike h k = reply-keep (λ (x : History). Alike h x) (alike-notes h) judge s.site (pasts_with h number) m h (alike-itself h) in
-      let sorted : AreSubSorted s = all-found AreSubSorted w.subscribers s.site.0 s b.1.1 at in
+      let sorted : SubscriberIsSorted s = all-found SubscriberIsSorted w.subscribers s.site.0 s b.1.1 at in
       same-rows w h k s (taken judge w.moment m s) u at a.made (reply-site judge w.moment m s)
       (λ named f. reply-rows publication (made_at h s.site.0) judge w.moment sent m s (λ key received. refl) sorted none out (b.1.0.subscribers s.site.0 s at).sent f)
 
@@ -200,7 +200,7 @@ unsent-begins : (publication : Publication) (tallies : List ℕ) → Unsent (emp
 unsent-begins publication tallies n s named at = begins-with publication (λ (k : ℕ) (t : SubscriberTables). RowsTell [] t.received t.rows)
     (λ k site keyed. record { unsent = λ key above up. refl; between = λ key from to up. refl }) n s at
 
-sorted-begins : (publication : Publication) (es : List (ℕ × Subscription)) → AllByRecursion (λ (entry : ℕ × SubscriberTables). AreSubSorted entry.1) (map (λ (s : ℕ × Subscription). (s.0, empty_subscriber publication s.1.site)) es)
+sorted-begins : (publication : Publication) (es : List (ℕ × Subscription)) → AllByRecursion (λ (entry : ℕ × SubscriberTables). SubscriberIsSorted entry.1) (map (λ (s : ℕ × Subscription). (s.0, empty_subscriber publication s.1.site)) es)
 unfolding IsStrictlySortedBy
 sorted-begins publication [] = tt
 sorted-begins publication (e ∷ es) = (
@@ -234,7 +234,7 @@ pub decides-alike : (m : Model) → Base m.world m.history → Unsent m.world m.
 decides-alike m b u s named at =
     let f : RowsTell (made_at m.history s.site.0) s.received s.rows = u s.site.0 s named at in
     let o : InOrder s.changes (subscriber_last_closed s + 1) (made_at m.history s.site.0) = (b.1.0.subscribers s.site.0 s at).order named in
-    let sorted : AreSubSorted s = all-found AreSubSorted m.world.subscribers s.site.0 s b.1.1 at in
+    let sorted : SubscriberIsSorted s = all-found SubscriberIsSorted m.world.subscribers s.site.0 s b.1.1 at in
     record {
       changed_between = λ from to up. changed-same from to s.received s.changes (subscriber_last_closed s + 1) s.rows (made_at m.history s.site.0) up sorted.rows_ascend o f;
       is_unsent = λ received key up. f.unsent key received up;

@@ -17,7 +17,7 @@ use Rattle.merge_schema.specs.declared.publication.Publication.{Publication}
 use Rattle.merge_model.specs.Judge.ByHistory.{by_history, by_past}
 use Rattle.merge_model.specs.History.{History, pasts_with}
 use Rattle.merge_model.specs.Judge.{PublisherJudge}
-use Rattle.merge_model.specs.History.Model.{did_something, noted, noted_if, noted_letter, noted_request, with_posted}
+use Rattle.merge_model.specs.History.Model.{did_something, noted_action, noted_if, noted_letter, noted_request, with_posted}
 use Rattle.merge_model.specs.Publisher.{close_generation}
 use Rattle.merge_model.specs.Publisher.PublisherDownload.{download}
 use Rattle.merge_model.specs.Publisher.PublisherJoin.{join}
@@ -114,7 +114,7 @@ module _ (publication : Publication) (says : Saying) (w : World) (h : History) (
   letter-shaped number (Some letter) at = message-shaped number letter.site letter.message at
 
   -- every step
-  pub step-shaped : (action : Action) → After (step_by publication says (by_history h) w action) (noted publication says (by_history h) w action h)
+  pub step-shaped : (action : Action) → After (step_by publication says (by_history h) w action) (noted_action publication says (by_history h) w action h)
   step-shaped (Pass seconds) = shapes.passes seconds _
   step-shaped (Make site change) = if-shaped (site.0 == 0) (make_at_publisher publication (by_history h) change w) (at_subscriber site w (make_at_subscriber publication change w)) _
       (unless-shaped (local publication ((by_history h).publisher 0) w.moment change w.publisher) _ _ (λ a. shapes.publisher a.0 _))

@@ -32,8 +32,8 @@ abbrev pub IsUpload : Model → ℕ → SiteId → Upload → Type 0
 IsUpload m number site u = letter_at m.world number ≡ Some (record { site = site; message = Asks (request.Upload u) })
 
 -- a letter comes to where it goes
-abbrev pub delivered : Publication → Saying → Model → ℕ → Model × Outcome
-delivered publication says m number = model_step publication says m (Deliver number)
+abbrev pub step_of_delivery : Publication → Saying → Model → ℕ → Model × Outcome
+step_of_delivery publication says m number = model_step publication says m (Deliver number)
 
 -- What the publisher has of a row: the version that it holds with the generation of its change, what that comes from, the versions that lost, and the changes that were made of the row.
 pub record OfRow : Type 0 where
@@ -59,7 +59,7 @@ row_has_acted h u key = list_all (λ (item : UploadItem). not (same_key key (key
 -- Such a row stays as it is, whatever the other items do, and whatever came before.
 abbrev pub ActedRowsStay : Type 0
 ActedRowsStay = (publication : Publication) (says : Saying) (m : Model) (number : ℕ) (site : SiteId) (u : Upload) (key : Key) → IsUpload m number site u → row_has_acted m.history u key ≡ true
-    → (let n : Model = (delivered publication says m number).0 in of_row n.world.publisher n.history key ≡ of_row m.world.publisher m.history key)
+    → (let n : Model = (step_of_delivery publication says m number).0 in of_row n.world.publisher n.history key ≡ of_row m.world.publisher m.history key)
 
 -- Items of generations that have acted do nothing at all. Where the pool had the upload without them, the same would come of its delivery, but for the pool itself.
 abbrev pub without_acted : History → Upload → Upload
@@ -70,8 +70,8 @@ with_pool pool m = record m { world = record m.world { pool = pool } }
 
 abbrev pub ActedItemsDoNothing : Type 0
 ActedItemsDoNothing = (publication : Publication) (says : Saying) (m : Model) (number : ℕ) (site : SiteId) (u : Upload) (pool : List Letter) → IsUpload m number site u → IsUpload (with_pool pool m) number site (without_acted m.history u)
-    → (let done : Model × Outcome = delivered publication says m number in
-    let other : Model = (delivered publication says (with_pool pool m) number).0 in
+    → (let done : Model × Outcome = step_of_delivery publication says m number in
+    let other : Model = (step_of_delivery publication says (with_pool pool m) number).0 in
     did_something done.1 ≡ true → other ≡ with_pool other.world.pool done.0)
 
 -- each generation of the upload has acted
@@ -98,12 +98,12 @@ OnlyAnswers site u m done = done.0 ≡ (if did_something done.1 then with_answer
 -- An upload whose generations have all acted is only answered, or refused.
 abbrev pub ActedUploadsOnlyAnswer : Type 0
 ActedUploadsOnlyAnswer = (publication : Publication) (says : Saying) (m : Model) (number : ℕ) (site : SiteId) (u : Upload) → IsUpload m number site u → AllActed m.history u
-    → OnlyAnswers site u m (delivered publication says m number)
+    → OnlyAnswers site u m (step_of_delivery publication says m number)
 
 -- After a delivery that is not refused each generation of the upload has acted,
 abbrev pub TakenHaveActed : Publication → Saying → Model → Type 0
 TakenHaveActed publication says m = (number : ℕ) (site : SiteId) (u : Upload) → IsUpload m number site u
-    → (let done : Model × Outcome = delivered publication says m number in did_something done.1 ≡ true → AllActed done.0.history u)
+    → (let done : Model × Outcome = step_of_delivery publication says m number in did_something done.1 ≡ true → AllActed done.0.history u)
 
 -- what has acted stays so, whatever happens,
 abbrev pub DoneStays : Publication → Saying → Model → Type 0
@@ -116,8 +116,8 @@ LettersStay publication says m = (number : ℕ) (letter : Letter) → letter_at 
 -- so that another delivery, at once or after whatever events, is only answered, or refused.
 abbrev pub TakenOnlyAnswer : Publication → Saying → Model → Type 0
 TakenOnlyAnswer publication says m = (number : ℕ) (site : SiteId) (u : Upload) → IsUpload m number site u
-    → (let done : Model × Outcome = delivered publication says m number in did_something done.1 ≡ true → (slips : Slips) (more : List Event)
-    → (let later : Model = model_after publication says done.0 slips more in OnlyAnswers site u later (delivered publication says later number)))
+    → (let done : Model × Outcome = step_of_delivery publication says m number in did_something done.1 ≡ true → (slips : Slips) (more : List Event)
+    → (let later : Model = model_after publication says done.0 slips more in OnlyAnswers site u later (step_of_delivery publication says later number)))
 
 -- The same where single actions come afterwards, in any order.
 
@@ -129,5 +129,5 @@ LettersStayByActions publication says m = (number : ℕ) (letter : Letter) → l
 
 abbrev pub TakenOnlyAnswerByActions : Publication → Saying → Model → Type 0
 TakenOnlyAnswerByActions publication says m = (number : ℕ) (site : SiteId) (u : Upload) → IsUpload m number site u
-    → (let done : Model × Outcome = delivered publication says m number in did_something done.1 ≡ true → (slips : Slips) (more : List Action)
-    → (let later : Model = model_after_actions publication says done.0 slips more in OnlyAnswers site u later (delivered publication says later number)))
+    → (let done : Model × Outcome = step_of_delivery publication says m number in did_something done.1 ≡ true → (slips : Slips) (more : List Action)
+    → (let later : Model = model_after_actions publication says done.0 slips more in OnlyAnswers site u later (step_of_delivery publication says later number)))

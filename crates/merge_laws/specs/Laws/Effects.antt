@@ -18,16 +18,16 @@ use Rattle.merge_model.specs.Failing.Runs.{after_actions}
 use Rattle.merge_model.specs.World.Steps.{Action, Deliver}
 use Rattle.merge_model.specs.World.{Saying}
 use Rattle.merge_model.specs.declared.event.Event.{Event}
-use Rattle.merge_laws.specs.Laws.ActsOnce.{IsUpload, delivered}
+use Rattle.merge_laws.specs.Laws.ActsOnce.{IsUpload, step_of_delivery}
 
 -- Steps one after the other, of which some may fail.
-abbrev pub after_steps : Publication → Saying → Faulty Model → List Action → Faulty Model
-after_steps publication says f actions = after_actions (failing publication (model publication says)) f actions
+abbrev pub behind_actions : Publication → Saying → Faulty Model → List Action → Faulty Model
+behind_actions publication says f actions = after_actions (failing publication (model publication says)) f actions
 
 -- Every list of events is such steps, since a session is.
 abbrev pub RunsAreSteps : Type 0
 RunsAreSteps = (publication : Publication) (says : Saying) (f : Faulty Model) (events : List Event)
-    → (actions : List Action) × (after_steps publication says f actions ≡ after publication (failing publication (model publication says)) f events)
+    → (actions : List Action) × (behind_actions publication says f actions ≡ after publication (failing publication (model publication says)) f events)
 
 -- Where an upload is taken, this generation of it takes effect: the upload is more than answered, and the generation is one of its
 -- own that has not acted, by what the publisher decides by.
@@ -50,13 +50,13 @@ pub record EffectAt (publication : Publication) (says : Saying) (f : Faulty Mode
 -- Of two deliveries of uploads of a site, the same or others, one after the other, no generation takes effect at both.
 abbrev pub NoneTakesEffectTwice : Type 0
 NoneTakesEffectTwice = (publication : Publication) (says : Saying) (tallies : List ℕ) (slips : Slips) (before between : List Action) (first second : ℕ) (u v : Upload) (generation : ℕ)
-    → (let f : Faulty Model = after_steps publication says (faulty (empty_model publication tallies) slips) before in
-    let g : Faulty Model = after_steps publication says (fails publication (model publication says) f (Deliver first)).0 between in
+    → (let f : Faulty Model = behind_actions publication says (faulty (empty_model publication tallies) slips) before in
+    let g : Faulty Model = behind_actions publication says (fails publication (model publication says) f (Deliver first)).0 between in
     v.site.0 ≡ u.site.0 → EffectAt publication says f first u generation → EffectAt publication says g second v generation → ⊥)
 
 -- Each item of an upload that does something stands in a generation that takes effect.
 abbrev pub ActingTakeEffect : Type 0
-ActingTakeEffect = (publication : Publication) (says : Saying) (m : Model) (number : ℕ) (site : SiteId) (u : Upload) → IsUpload m number site u → did_something (delivered publication says m number).1 ≡ true
+ActingTakeEffect = (publication : Publication) (says : Saying) (m : Model) (number : ℕ) (site : SiteId) (u : Upload) → IsUpload m number site u → did_something (step_of_delivery publication says m number).1 ≡ true
     → (let judge : PublisherJudge = history_judge m number in brings_news judge u ≡ true → AllByRecursion (λ (item : UploadItem). TakesEffect judge u item.generation) (acting_items judge u))
 
 -- By the publisher's numbers the same generations take effect.

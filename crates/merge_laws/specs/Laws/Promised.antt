@@ -6,7 +6,7 @@ use Rattle.merge_schema.specs.Valid.{IsValid}
 use Rattle.merge_schema.specs.declared.publication.Publication.{Publication}
 use Rattle.merge_model.specs.Laws.Bridge.{PublisherDecidesAlike}
 use Rattle.merge_model.specs.Failing.{Slips}
-use Rattle.merge_model.specs.Laws.{AreSorted, AreSubSorted}
+use Rattle.merge_model.specs.Laws.{AreSorted, SubscriberIsSorted}
 use Rattle.merge_model.specs.History.Model.{Model}
 use Rattle.merge_model.specs.Laws.Promises.{AllAccounted, AllStand, IdentitiesApart, NoneActsTwice, OldIsPast, RangesApart, RepliesStayInside, SessionSettles, SettledHoldsPartition}
 use Rattle.merge_model.specs.Tables.Publications.{rules_of}
@@ -100,7 +100,7 @@ pub record Promised (publication : Publication) (says : Saying) (m : Model) : Ty
   pub held : HeldWereGranted m
   -- rows and closed generations ascend, at the publisher mappings and sites too
   pub sorted : AreSorted m.world.publisher
-  pub subscriber_sorted : AllByRecursion (λ (entry : ℕ × SubscriberTables). AreSubSorted entry.1) m.world.subscribers
+  pub subscriber_sorted : AllByRecursion (λ (entry : ℕ × SubscriberTables). SubscriberIsSorted entry.1) m.world.subscribers
 
 -- Tables are those of a model of which all is promised.
 pub record HasPromises (publication : Publication) (says : Saying) (w : World) : Type 0 where

@@ -10,14 +10,14 @@ use Rattle.merge_model.specs.Tables.{SubscriberTables}
 use Rattle.merge_model.specs.World.{Saying, subscriber_at}
 
 -- a part of a session from here
-abbrev pub started : Model → Session Model
-started m = record { world = m; uploads = 0; downloads = 0; stop = None }
+abbrev pub new_session : Model → Session Model
+new_session m = record { world = m; uploads = 0; downloads = 0; stop = None }
 
 abbrev pub uploaded_by : Publication → Saying → SiteId → Model → Session Model
-uploaded_by publication says site m = all_uploads (model publication says) site (started m)
+uploaded_by publication says site m = all_uploads (model publication says) site (new_session m)
 
 abbrev pub downloaded_by : Publication → Saying → SiteId → Model → Session Model
-downloaded_by publication says site m = all_downloads (model publication says) site (started m)
+downloaded_by publication says site m = all_downloads (model publication says) site (new_session m)
 
 -- a subscriber that has joined completes a part: nothing is refused
 pub record Completes (part : SiteId → Model → Session Model) (site : SiteId) (m : Model) : Type 0 where

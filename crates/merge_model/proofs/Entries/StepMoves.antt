@@ -3,7 +3,7 @@ use Rattle.std.specs.Prelude.{◌≡◌, ◌==◌, ◌&&◌, ◌||◌, ℕ, List
 use Rattle.std.specs.List.{AllByRecursion, list_any}
 use Rattle.std.proofs.Common.{arith, sym, ap, ◌∙◌}
 use Rattle.std.proofs.lemmas.Bool.Decides.{nat_tests}
-use Rattle.merge_model.specs.Publisher.Entries.{Parts, Touched, comes_back, move_at, move_of, moves_of, returned}
+use Rattle.merge_model.specs.Publisher.Entries.{Parts, Touched, comes_back, move_at, move_of, moves_of, returned_rows}
 use Rattle.merge_model.specs.Judge.{PublisherJudge}
 use Rattle.merge_model.specs.Tables.Keys.{has_key, same_key}
 use Rattle.merge_types.specs.declared.row_key.RowKey.{RowKey as Key}
@@ -91,5 +91,5 @@ module _ (touched : Touched) (key : Key) (n : ℕ) (before after : List Key) whe
     back-none_here k [] all = refl
     back-none_here k (part ∷ parts) all = back-head k part (filter (comes_back judge touched k) parts) (comes_back judge touched k part) refl all.0 (back-none_here k parts all.1)
 
-    pub none-returned : (parts : List Parts) (keys : List Key) → AllByRecursion (IsPart n before after) parts → has_place (returned judge touched parts keys) key n ≡ false
+    pub none-returned : (parts : List Parts) (keys : List Key) → AllByRecursion (IsPart n before after) parts → has_place (returned_rows judge touched parts keys) key n ≡ false
     none-returned parts keys all = none-flat (is_place key n) (λ (k : Key). map (place_for k) (filter (comes_back judge touched k) parts)) (λ k. back-none_here k parts all) keys

@@ -10,7 +10,7 @@ use Rattle.merge_model.specs.World.Steps.{Action, CloseAt, Deliver, Forget, Look
 use Rattle.merge_model.specs.declared.event.Event.{Event}
 use Rattle.merge_model.specs.declared.outcome.Outcome.{Outcome}
 use Rattle.merge_model.specs.Failing.Reach.{AreNone}
-use Rattle.merge_model.specs.Laws.SlipLaws.{is_slip, refused_for, shown}
+use Rattle.merge_model.specs.Laws.SlipLaws.{is_slip, refused_for, shows_refusal}
 use Rattle.merge_model.proofs.Runs.Alike.{Both, BothOr, events-alike, events-or}
 
 module _ {W : Type 0} (publication : Publication) (stepping : Stepping W) where
@@ -76,6 +76,6 @@ module _ {W : Type 0} (publication : Publication) (stepping : Stepping W) where
   looks-same : (f : Faulty W) (w : W) → Same f w → stepping.look f.world ≡ stepping.look w
   looks-same f w same = ap (λ (v : W). stepping.look v) same
 
-  pub failures-show : (w : W) (slips : Slips) (events : List Event) → list_any (shown is_slip) (answers publication (failing publication stepping) (faulty w slips) events) ≡ false
+  pub failures-show : (w : W) (slips : Slips) (events : List Event) → list_any (shows_refusal is_slip) (answers publication (failing publication stepping) (faulty w slips) events) ≡ false
       → (answers publication (failing publication stepping) (faulty w slips) events ≡ answers publication stepping w events) × ((after publication (failing publication stepping) (faulty w slips) events).world ≡ after publication stepping w events)
   failures-show w slips events none = events-or (failing publication stepping) stepping Same is_slip acts-or passes-same looks-same publication events (faulty w slips) w refl none

@@ -43,7 +43,7 @@ use Rattle.merge_model.specs.Publisher.PublisherJoin.{join_acts, join_refusal, j
 use Rattle.merge_model.specs.Publisher.PublisherRanges.{plans, ranged, ranges_refusal, with_grants}
 use Rattle.merge_model.specs.Publisher.PublisherUpload.{brings_news, taken_in, upload_refusal, uploaded}
 use Rattle.merge_model.specs.Tables.Refusals.{counter_end, unless}
-use Rattle.merge_model.specs.Laws.Quiet.{QuietClosings, QuietReplies, QuietRequests, QuietSubClosings}
+use Rattle.merge_model.specs.Laws.Quiet.{QuietClosings, QuietReplies, QuietRequests, QuietSubscriberClosings}
 use Rattle.merge_model.specs.Subscriber.{subscriber_at_moment, subscriber_closed, subscriber_counters, subscriber_last_closed}
 use Rattle.merge_model.specs.World.Steps.{kept_decisions, upload_questions}
 use Rattle.merge_model.specs.Tables.{PublisherTables, SubscriberTables}
@@ -120,7 +120,7 @@ closings-quiet now p done made quiet =
     made-same (counter_end (counters p)) (closed (at_moment now p)) p (last_closed (closed (at_moment now p))) done
     (λ fine. ap closed (moment-stays now p both.0) ∙ closed-stays p both.1) made
 
-pub sub-closings-quiet : QuietSubClosings
+pub sub-closings-quiet : QuietSubscriberClosings
 sub-closings-quiet now s done made quiet =
     let both = neither (is_later now s.latest) (nat_lt 0 s.gens.filling.filled) quiet in
     made-same (counter_end (subscriber_counters s)) (subscriber_closed (subscriber_at_moment now s)) s (subscriber_last_closed (subscriber_closed (subscriber_at_moment now s))) done

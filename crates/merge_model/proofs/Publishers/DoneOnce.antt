@@ -50,7 +50,7 @@ use Rattle.merge_model.specs.declared.outcome.Outcome.{Outcome}
 use Rattle.merge_model.specs.declared.outcome.Outcome.TheVariants.{Posted}
 use Rattle.merge_model.specs.History.{History, Past, Line, is_done, past_at, past_in, pasts_with}
 use Rattle.merge_model.specs.History.Noting
-use Rattle.merge_model.specs.History.Model.{Model, model, empty_model, model_step, with_posted, with_letter, noted, noted_if, did_something, noted_make, noted_letter, noted_request}
+use Rattle.merge_model.specs.History.Model.{Model, model, empty_model, model_step, with_posted, with_letter, noted_action, noted_if, did_something, noted_make, noted_letter, noted_request}
 use Rattle.merge_model.specs.Judge.ByHistory.{by_history}
 use Rattle.merge_model.specs.World.Events.{after}
 use Rattle.merge_model.specs.Laws.Promises.{NoneActsTwice, is_generation_of, acting_generations}
@@ -284,7 +284,7 @@ purge-done publication judge p h =
     let lines : List Line = map (Noting.gone_line (last_closed p + 1)) (flat_map (Noting.old_left publication judge p) (map Noting.site_of_subscription (by_site publication))) in
     lines-done lines (fold Noting.with_purged h rows) ∙ purged-done rows h
 
-noted-once : (publication : Publication) (says : Saying) (judges : Judges) (w : World) (action : Action) (h : History) → Once h.done → Once (noted publication says judges w action h).done
+noted-once : (publication : Publication) (says : Saying) (judges : Judges) (w : World) (action : Action) (h : History) → Once h.done → Once (noted_action publication says judges w action h).done
 noted-once publication says judges w (Pass seconds) h once = once
 noted-once publication says judges w (Make site change) h once = same-once h (noted_make publication judges site change w h) (make-done publication judges site change w h) once
 noted-once publication says judges w (CloseAt site) h once = once
@@ -310,7 +310,7 @@ pub step-once : (publication : Publication) (says : Saying) (m : Model) (action 
 step-once publication says m action once =
     let judges : Judges = by_history m.history in
     let done : World × Outcome = step_by publication says judges m.world action in
-    let new : History = noted publication says judges m.world action m.history in
+    let new : History = noted_action publication says judges m.world action m.history in
     let kept : History = noted_if (did_something done.1) new m.history in
     subst (λ (d : List (ℕ × ℕ)). Once d) (sym (posted-done done.0 done.1 kept))
     (if_noted-once (did_something done.1) new m.history (noted-once publication says judges m.world action m.history once) once)

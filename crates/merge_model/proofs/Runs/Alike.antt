@@ -23,7 +23,7 @@ use Rattle.merge_model.specs.World.Steps.{Action, CloseAt, Deliver, Forget, Look
 use Rattle.merge_model.specs.declared.outcome.Outcome.TheVariants.{Passed, Posted, Refuses, Took}
 use Rattle.merge_model.specs.declared.outcome.Outcome.{Outcome}
 use Rattle.merge_model.specs.World.{World}
-use Rattle.merge_model.specs.Laws.SlipLaws.{refused_for, shown}
+use Rattle.merge_model.specs.Laws.SlipLaws.{refused_for, shows_refusal}
 
 abbrev answer_by : ℕ → ℕ → ℕ → Option Refusal → Answer
 answer_by uploads downloads watermark None = Done uploads downloads watermark
@@ -48,7 +48,7 @@ module _ {V W : Type 0} (one : Stepping V) (other : Stepping W) (R : V → W →
   Acted x y = BothOr R (refused_for off) x y
 
   abbrev pub Told : V × Answer → W × Answer → Type 0
-  Told x y = BothOr R (shown off) x y
+  Told x y = BothOr R (shows_refusal off) x y
 
   if-told : (b : Bool) (x u : V × Answer) (y v : W × Answer) → Told x y → Told u v → Told (if b then x else u) (if b then y else v)
   if-told true x u y v first second = first
@@ -222,7 +222,7 @@ module _ {V W : Type 0} (one : Stepping V) (other : Stepping W) (R : V → W →
     looked-alike f g same v w (Refuses refusal) r = (refl, r)
     looked-alike f g same v w outcome r = (same v w r, r)
 
-    looked-off : (f : V → Answer) (x : V × Outcome) → refused_for off x.1 ≡ true → shown off (looked publication one f x).1 ≡ true
+    looked-off : (f : V → Answer) (x : V × Outcome) → refused_for off x.1 ≡ true → shows_refusal off (looked publication one f x).1 ≡ true
     looked-off f (v, Refuses refusal) is = is
     looked-off f (v, outcome) is = absurd (cc is)
 
@@ -234,19 +234,19 @@ module _ {V W : Type 0} (one : Stepping V) (other : Stepping W) (R : V → W →
     looking-alike f g same v w r = looked-pair f g same (one.act v Look) (other.act w Look) (acts v w Look r)
 
     -- what is answered by the outcome alone
-    answered-alike : (answer : Outcome → Answer) → ((outcome : Outcome) → refused_for off outcome ≡ true → shown off (answer outcome) ≡ true) → (x : V × Outcome) (y : W × Outcome) → Acted x y → Told (answered_by publication one answer x) (answered_by publication other answer y)
+    answered-alike : (answer : Outcome → Answer) → ((outcome : Outcome) → refused_for off outcome ≡ true → shows_refusal off (answer outcome) ≡ true) → (x : V × Outcome) (y : W × Outcome) → Acted x y → Told (answered_by publication one answer x) (answered_by publication other answer y)
     answered-alike answer excused x y (inl b) = inl (ap answer b.0, b.1)
     answered-alike answer excused x y (inr is) = inr (excused x.1 is)
 
-    outcome-off : (number : ℕ) (outcome : Outcome) → refused_for off outcome ≡ true → shown off (outcome_answer number outcome) ≡ true
+    outcome-off : (number : ℕ) (outcome : Outcome) → refused_for off outcome ≡ true → shows_refusal off (outcome_answer number outcome) ≡ true
     outcome-off number (Refuses refusal) is = is
     outcome-off number outcome is = absurd (cc is)
 
-    refused-off : (change : Change) (refusal : Refusal) → off refusal ≡ true → shown off (refused_change change refusal) ≡ true
+    refused-off : (change : Change) (refusal : Refusal) → off refusal ≡ true → shows_refusal off (refused_change change refusal) ≡ true
     refused-off change NoMemory is = is
     refused-off change refusal is = is
 
-    change-off : (change : Change) (outcome : Outcome) → refused_for off outcome ≡ true → shown off (change_answer change outcome) ≡ true
+    change-off : (change : Change) (outcome : Outcome) → refused_for off outcome ≡ true → shows_refusal off (change_answer change outcome) ≡ true
     change-off change (Refuses refusal) is = refused-off change refusal is
     change-off change outcome is = absurd (cc is)
 
@@ -271,7 +271,7 @@ module _ {V W : Type 0} (one : Stepping V) (other : Stepping W) (R : V → W →
         ∙ (ap (λ (n : ℕ). answer_by t.uploads n (watermark_in publication one site s.world) t.stop) a.downloads
         ∙ ap (λ (n : ℕ). answer_by t.uploads t.downloads n t.stop) (by-look (λ (x : World). watermark_in publication whole site x) s.world t.world a.world)))
 
-    stopped-off : (uploads downloads watermark : ℕ) (stop : Option Refusal) → stops_off off stop ≡ true → shown off (answer_by uploads downloads watermark stop) ≡ true
+    stopped-off : (uploads downloads watermark : ℕ) (stop : Option Refusal) → stops_off off stop ≡ true → shows_refusal off (answer_by uploads downloads watermark stop) ≡ true
     stopped-off uploads downloads watermark None is = absurd (cc is)
     stopped-off uploads downloads watermark (Some refusal) is = is
 
@@ -320,15 +320,15 @@ module _ {V W : Type 0} (one : Stepping V) (other : Stepping W) (R : V → W →
     either-none true y is = absurd (cc is)
     either-none false y is = (refl, is)
 
-    told-alike : (x : V × Answer) (y : W × Answer) → shown off x.1 ≡ false → Told x y → Both R x y
+    told-alike : (x : V × Answer) (y : W × Answer) → shows_refusal off x.1 ≡ false → Told x y → Both R x y
     told-alike x y none (inl both) = both
     told-alike x y none (inr is) = absurd (cc (none, is))
 
-    pub events-or : (events : List Event) (v : V) (w : W) → R v w → list_any (shown off) (answers_to publication one v events) ≡ false
+    pub events-or : (events : List Event) (v : V) (w : W) → R v w → list_any (shows_refusal off) (answers_to publication one v events) ≡ false
         → (answers_to publication one v events ≡ answers_to publication other w events) × R (after publication one v events) (after publication other w events)
     events-or [] v w r none = (refl, r)
     events-or (e ∷ events) v w r none =
-        let each = either-none (shown off (happens publication one v e).1) (list_any (shown off) (answers_to publication one (happens publication one v e).0 events)) none in
+        let each = either-none (shows_refusal off (happens publication one v e).1) (list_any (shows_refusal off) (answers_to publication one (happens publication one v e).0 events)) none in
         let first = told-alike (happens publication one v e) (happens publication other w e) each.0 (happens-or v w e r) in
         let rest = events-or events (happens publication one v e).0 (happens publication other w e).0 first.1 each.1 in
         (ap (λ (answer : Answer). answer ∷ answers_to publication one (happens publication one v e).0 events) first.0 ∙ ap (λ (more : List Answer). (happens publication other w e).1 ∷ more) rest.0, rest.1)
@@ -338,15 +338,15 @@ module _ {V W : Type 0} (one : Stepping V) (other : Stepping W) (R : V → W →
 abbrev never : Refusal → Bool
 never refusal = false
 
-never-shown : (answer : Answer) → shown never answer ≡ false
+never-shown : (answer : Answer) → shows_refusal never answer ≡ false
 never-shown (Refused refusal) = refl
 never-shown (RefusedIn article refusal) = refl
 never-shown (Stopped uploads downloads refusal) = refl
 never-shown answer = refl
 
-none-shown : (answers : List Answer) → list_any (shown never) answers ≡ false
+none-shown : (answers : List Answer) → list_any (shows_refusal never) answers ≡ false
 none-shown [] = refl
-none-shown (answer ∷ answers) = ap (λ (b : Bool). b || list_any (shown never) answers) (never-shown answer) ∙ none-shown answers
+none-shown (answer ∷ answers) = ap (λ (b : Bool). b || list_any (shows_refusal never) answers) (never-shown answer) ∙ none-shown answers
 
 module _ {V W : Type 0} (one : Stepping V) (other : Stepping W) (R : V → W → Type 0) (acts : (v : V) (w : W) (action : Action) → R v w → Both R (one.act v action) (other.act w action)) (looks : (v : V) (w : W) → R v w → one.look v ≡ other.look w) where
   pub events-alike : (publication : Publication) (events : List Event) (v : V) (w : W) → R v w → (answers_to publication one v events ≡ answers_to publication other w events) × R (after publication one v events) (after publication other w events)

@@ -101,12 +101,12 @@ noted_anew_at judges site w h = elim (subscriber_at w site) [
   | Some s ↦ noted_anew (judges.subscriber site s) s h
 ]
 
-abbrev pub noted : Publication → Saying → Judges → World → Action → History → History
-noted publication says judges w (Make site change) h = noted_make publication judges site change w h
-noted publication says judges w (Deliver number) h = noted_deliver publication says judges number w h
-noted publication says judges w (MakeAnew site) h = noted_anew_at judges site w h
-noted publication says judges w Forget h = noted_purge publication (judges.publisher 0) (at_moment w.moment w.publisher) h
-noted publication says judges w action h = h
+abbrev pub noted_action : Publication → Saying → Judges → World → Action → History → History
+noted_action publication says judges w (Make site change) h = noted_make publication judges site change w h
+noted_action publication says judges w (Deliver number) h = noted_deliver publication says judges number w h
+noted_action publication says judges w (MakeAnew site) h = noted_anew_at judges site w h
+noted_action publication says judges w Forget h = noted_purge publication (judges.publisher 0) (at_moment w.moment w.publisher) h
+noted_action publication says judges w action h = h
 
 -- a refusal notes nothing, nor does a reply that did not act
 abbrev pub did_something : Outcome → Bool
@@ -123,7 +123,7 @@ abbrev pub after_step : Publication → Saying → Model → Judges → Action �
 after_step publication says m judges action done = (
   record {
     world = done.0;
-    history = with_posted done.0 done.1 (noted_if (did_something done.1) (noted publication says judges m.world action m.history) m.history);
+    history = with_posted done.0 done.1 (noted_if (did_something done.1) (noted_action publication says judges m.world action m.history) m.history);
   },
   done.1,
 )

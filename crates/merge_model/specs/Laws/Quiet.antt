@@ -23,8 +23,8 @@ QuietRequests = (publication : Publication) (says : Saying) (tallies : List ℕ)
 abbrev pub QuietClosings : Type 0
 QuietClosings = (now : Moment) (p : PublisherTables) (done : PublisherTables × ℕ) → close_generation now p ≡ Ok done → closing_commits now p.latest p.gens done.1 ≡ false → done.0 ≡ p
 
-abbrev pub QuietSubClosings : Type 0
-QuietSubClosings = (now : Moment) (s : SubscriberTables) (done : SubscriberTables × ℕ) → close_subscriber_generation now s ≡ Ok done → closing_commits now s.latest s.gens done.1 ≡ false → done.0 ≡ s
+abbrev pub QuietSubscriberClosings : Type 0
+QuietSubscriberClosings = (now : Moment) (s : SubscriberTables) (done : SubscriberTables × ℕ) → close_subscriber_generation now s ≡ Ok done → closing_commits now s.latest s.gens done.1 ≡ false → done.0 ≡ s
 
 -- a reply
 abbrev pub QuietReplies : Type 0

@@ -24,11 +24,11 @@ use Rattle.merge_model.specs.declared.outcome.Outcome.TheVariants.{Refuses}
 use Rattle.merge_batch.specs.declared.refusal.Refusal.TheVariants as refusal
 
 -- Answers that tell of refusals that pass a test: of an event, or of what ended a session
-abbrev pub shown : (Refusal → Bool) → Answer → Bool
-shown test (Refused refusal) = test refusal
-shown test (RefusedIn article refusal) = test refusal
-shown test (Stopped uploads downloads refusal) = test refusal
-shown test answer = false
+abbrev pub shows_refusal : (Refusal → Bool) → Answer → Bool
+shows_refusal test (Refused refusal) = test refusal
+shows_refusal test (RefusedIn article refusal) = test refusal
+shows_refusal test (Stopped uploads downloads refusal) = test refusal
+shows_refusal test answer = false
 
 -- and outcomes of single steps that are such refusals
 abbrev pub refused_for : (Refusal → Bool) → Outcome → Bool
@@ -45,14 +45,14 @@ is_slip other = false
 -- which no step can fail, and the same world is behind them.
 abbrev pub FailuresShow : Type 0
 FailuresShow = (publication : Publication) (says : Saying) (w : World) (slips : Slips) (events : List Event)
-    → list_any (shown is_slip) (answers publication (stepping publication says) (faulty w slips) events) ≡ false
+    → list_any (shows_refusal is_slip) (answers publication (stepping publication says) (faulty w slips) events) ≡ false
     → (answers publication (stepping publication says) (faulty w slips) events ≡ answers publication (machine publication says) w events)
     × ((after publication (stepping publication says) (faulty w slips) events).world ≡ after publication (machine publication says) w events)
 
 -- And the same of the model.
 abbrev pub FailuresShowInModel : Type 0
 FailuresShowInModel = (publication : Publication) (says : Saying) (m : Model) (slips : Slips) (events : List Event)
-    → list_any (shown is_slip) (answers publication (failing publication (model publication says)) (faulty m slips) events) ≡ false
+    → list_any (shows_refusal is_slip) (answers publication (failing publication (model publication says)) (faulty m slips) events) ≡ false
     → (answers publication (failing publication (model publication says)) (faulty m slips) events ≡ answers publication (model publication says) m events)
     × ((after publication (failing publication (model publication says)) (faulty m slips) events).world ≡ after publication (model publication says) m events)
 

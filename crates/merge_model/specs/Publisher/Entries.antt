@@ -76,8 +76,8 @@ moves_of touched parts keys = flat_map (λ (key : Key). filter_map (move_at touc
 abbrev pub comes_back : PublisherJudge → Touched → Key → Parts → Bool
 comes_back judge touched key parts = not (has_key parts.before key) && has_key parts.after key && has_key touched.changed key && judge.has_left key parts.site
 
-abbrev pub returned : PublisherJudge → Touched → List Parts → List Key → List RowSite
-returned judge touched parts keys = flat_map (λ (key : Key). map (λ (p : Parts). record { key = key; site = p.site }) (filter (comes_back judge touched key) parts)) keys
+abbrev pub returned_rows : PublisherJudge → Touched → List Parts → List Key → List RowSite
+returned_rows judge touched parts keys = flat_map (λ (key : Key). map (λ (p : Parts). record { key = key; site = p.site }) (filter (comes_back judge touched key) parts)) keys
 
 -- The entries of a step with their generations, and the rows that came back, which are no entries.
 pub record Entries : Type 0 where
@@ -101,7 +101,7 @@ abbrev pub entries_of : Publication → PublisherJudge → Touched → Publisher
 entries_of publication judge touched p rows =
     let parts = parts_of publication p.rows rows in
     let keys = keys_of rows touched.acted in
-    with_generations p touched.changed (moves_of touched parts keys) (returned judge touched parts touched.changed)
+    with_generations p touched.changed (moves_of touched parts keys) (returned_rows judge touched parts touched.changed)
 
 -- The tables with the entries.
 

@@ -36,8 +36,8 @@ abbrev pub is_old_left : Publication → PublisherTables → RowSite × Mapping 
 is_old_left publication p entry = is_left entry.1.kind && is_old publication p entry.1.generation
 
 -- how many tombstones, mappings and closed generations are forgotten
-abbrev pub forgotten : Publication → PublisherTables → Forgotten
-forgotten publication p = record {
+abbrev pub counts_of_purge : Publication → PublisherTables → Forgotten
+counts_of_purge publication p = record {
   tombstones = count_by (is_old_tombstone publication p) p.rows;
   mappings = count_by (is_old_left publication p) p.mappings;
   generations = count_by (λ (closing : Closing). nat_lt closing.moment.0 (cutoff publication p).0) p.gens.closings;
@@ -52,4 +52,4 @@ after_purge publication p = record p {
 }
 
 abbrev pub purge : Publication → Moment → PublisherTables → PublisherTables × Forgotten
-purge publication now p = let here = at_moment now p in (after_purge publication here, forgotten publication here)
+purge publication now p = let here = at_moment now p in (after_purge publication here, counts_of_purge publication here)

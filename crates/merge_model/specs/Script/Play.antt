@@ -38,15 +38,15 @@ abbrev pub machine_text : Publication → Saying → List ℕ → List ℕ → L
 machine_text publication says tallies script = texts_of (names_of publication) (machine_answers publication says tallies (events_of (lines_of script)))
 
 -- the same for the whole input of the program with its five resolvers, none of which was asked before
-abbrev pub played : Publication → List ℕ → List ℕ
-played publication input = machine_text publication rules_say (0 ∷ 0 ∷ 0 ∷ 0 ∷ 0 ∷ []) (script_of input)
+abbrev pub machine_output : Publication → List ℕ → List ℕ
+machine_output publication input = machine_text publication rules_say (0 ∷ 0 ∷ 0 ∷ 0 ∷ 0 ∷ []) (script_of input)
 
 -- the same by the model
 abbrev pub model_text : Publication → Saying → List ℕ → List ℕ → List ℕ
 model_text publication says tallies script = texts_of (names_of publication) (model_answers publication says tallies (events_of (lines_of script)))
 
-abbrev pub told : Publication → List ℕ → List ℕ
-told publication input = model_text publication rules_say (0 ∷ 0 ∷ 0 ∷ 0 ∷ 0 ∷ []) (script_of input)
+abbrev pub model_output : Publication → List ℕ → List ℕ
+model_output publication input = model_text publication rules_say (0 ∷ 0 ∷ 0 ∷ 0 ∷ 0 ∷ []) (script_of input)
 
 -- all that computes here and is shut elsewhere
 unfoldable pub opened_play : List ℕ

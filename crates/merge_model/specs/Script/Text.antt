@@ -31,13 +31,13 @@ pub record Names : Type 0 where
   pub column : ℕ → ℕ → List ℕ
 
 -- words with a blank between each two
-abbrev pub joined : List (List ℕ) → List ℕ
-joined [] = []
-joined (word ∷ []) = word
-joined (word ∷ next ∷ more) = word ++ 32 ∷ joined (next ∷ more)
+abbrev pub joined_words : List (List ℕ) → List ℕ
+joined_words [] = []
+joined_words (word ∷ []) = word
+joined_words (word ∷ next ∷ more) = word ++ 32 ∷ joined_words (next ∷ more)
 
 abbrev pub line : List (List ℕ) → List ℕ
-line words = joined words ++ 10 ∷ []
+line words = joined_words words ++ 10 ∷ []
 
 -- how many there are of what was told
 abbrev pub count_line : List ℕ → ℕ → List ℕ

@@ -2,7 +2,7 @@ use Rattle.std.specs.Prelude.{ℕ, All}
 use Rattle.std.specs.List.{AllByRecursion}
 use Rattle.std.proofs.Common.{subst, sym}
 use Rattle.merge_ident.specs.Books.{IsRule}
-use Rattle.merge_model.specs.Laws.{AreSorted, AreSubSorted}
+use Rattle.merge_model.specs.Laws.{AreSorted, SubscriberIsSorted}
 use Rattle.merge_model.specs.Tables.Publications.{rules_of}
 use Rattle.merge_model.specs.Failing.Runs.{model_behind}
 use Rattle.merge_model.specs.Tables.{SubscriberTables}
@@ -66,7 +66,7 @@ returns-clause-model c resolvers publication valid says tallies slips events =
       in_step = c.runs_keep_what_laws_rest_on.ensures.received publication says tallies slips events;
       held = c.runs_keep_what_laws_rest_on.ensures.held resolvers publication valid says tallies slips events;
       sorted = subst (λ (w : World). AreSorted w.publisher) same (c.lists_stay_sorted.ensures.publisher publication says tallies slips events);
-      subscriber_sorted = subst (λ (w : World). AllByRecursion (λ (entry : ℕ × SubscriberTables). AreSubSorted entry.1) w.subscribers) same (c.lists_stay_sorted.ensures.subscribers publication says tallies slips events);
+      subscriber_sorted = subst (λ (w : World). AllByRecursion (λ (entry : ℕ × SubscriberTables). SubscriberIsSorted entry.1) w.subscribers) same (c.lists_stay_sorted.ensures.subscribers publication says tallies slips events);
     }
 
 pub returns-clause-machine : goal.returns-clause-machine

@@ -8,20 +8,20 @@ pub returns-clause-made : goal.returns-clause-made
 returns-clause-made g c =
     let f = c.in_ok-found.ensures in
     let w = c.in_ok-worked.ensures in
-    step-made-held _ c.requires.valid _ _ _ _ _ c.iter.ensures.ordered c.iter-2.ensures.ordered c.requires.subscribes _ c.requires.held _ (rw c.deref.ensures.value at f.moves) _ (rw c.deref.ensures.value at f.changed) _ _ (rw c.deref.ensures.value at f.entries) w.rows w.mappings w.gens
+    step-made-held _ c.requires.valid _ _ _ _ _ c.is_ordered.ensures.rows c.is_ordered-2.ensures.rows c.requires.subscribes _ c.requires.held _ (rw c.deref.ensures.value at f.moves) _ (rw c.deref.ensures.value at f.changed) _ _ (rw c.deref.ensures.value at f.entries) w.rows w.mappings w.gens
 
 pub returns-clause-index : goal.returns-clause-index
 returns-clause-index g c = step-indexed _ _ _ _ c.requires.once (took _ _ _) c.in_ok-worked.ensures.rows c.in_ok-worked.ensures.index
 
 pub returns-clause-follows : goal.returns-clause-follows
 returns-clause-follows g c = rw c.in_ok-worked.ensures.plan
-    ((rw c.deref.ensures.value at c.in_ok-found.ensures.plan) ∙ step-live-held _ _ c.requires.held _ _ _ c.iter.ensures.ordered (took _ _ _) c.in_ok-worked.ensures.rows)
+    ((rw c.deref.ensures.value at c.in_ok-found.ensures.plan) ∙ step-live-held _ _ c.requires.held _ _ _ c.is_ordered.ensures.rows (took _ _ _) c.in_ok-worked.ensures.rows)
 
 pub returns-clause-moved : goal.returns-clause-moved
 returns-clause-moved g c =
     let f = c.in_ok-found.ensures in
     let w = c.in_ok-worked.ensures in
-    step-moved _ _ _ _ _ c.iter-2.ensures.ordered _ (rw c.deref.ensures.value at f.moves) _ (rw c.deref.ensures.value at f.changed) _ (rw c.deref.ensures.value at f.entries) _ _ w.mappings w.moved
+    step-moved _ _ _ _ _ c.is_ordered-2.ensures.rows _ (rw c.deref.ensures.value at f.moves) _ (rw c.deref.ensures.value at f.changed) _ (rw c.deref.ensures.value at f.entries) _ _ w.mappings w.moved
 
 pub returns-clause-kept : goal.returns-clause-kept
 returns-clause-kept g c = step-fitting _ _ _ _ _ c.in_ok-worked.ensures.rows
