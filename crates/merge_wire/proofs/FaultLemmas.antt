@@ -1,5 +1,5 @@
 -- Faults of the parts of a request are faults of the request.
-use Rattle.std.proofs.Common.{◌≡◌, ◌∙◌, ◌≤◌, ◌<◌, ◌⊎◌, inl, inr, ℕ, List, ◌++◌, length, map, take, ap, subst, arith}
+use Rattle.std.proofs.Common.{◌≡◌, ◌∙◌, ◌≤◌, ◌<◌, ◌⊎◌, inl, inr, ℕ, List, ◌++◌, length, map, take, sym, ap, subst, arith}
 use Rattle.std.specs.declared.option.Option.{Option}
 use Rattle.std.specs.Io.KnownBytes.{Consumes, IsAtEnd}
 use Rattle.httparse.specs.Spans.{header_bytes, name_and_value}
@@ -10,6 +10,7 @@ use Rattle.merge_ports.proofs.Known.{Consumes-append}
 use Rattle.merge_wire.specs.declared.fault.WireFault.{WireFault}
 use Rattle.merge_wire.specs.declared.fault.WireFault.TheVariants as fault
 use Rattle.merge_wire.specs.Fields.{Pair, HasLength, IsLengthFault, body_limit}
+use Rattle.merge_wire.specs.Heads.{NoRequestCan}
 use Rattle.merge_wire.specs.Faults.{Took, TookLast, HasLengthFault, LacksBody, IsRequestFault, IsHeadFault, IsBodyFault}
 use Rattle.merge_wire.proofs.MessageLemmas.{Parsed}
 
@@ -21,6 +22,9 @@ head_fault old new before after fault.Ended h = (h.0, h.1, h.2, inl h.3)
 head_fault old new before after fault.ReadFault h = h
 head_fault old new before after fault.WriteFault h = absurd h
 head_fault old new before after fault.NoMemory h = tt
+
+pub bad_head : (old new : Option (List ℕ)) (before after : ℕ) (bytes : List ℕ) (e : WireFault) → e ≡ fault.BadHead → Consumes old new bytes → NoRequestCan bytes → IsHeadFault old new before after e
+bad_head old new before after bytes e is took bad = subst (λ (x : WireFault). IsHeadFault old new before after x) (sym is) (bytes, took, inl bad)
 
 -- the fields that the spans cover are those of the head
 with_pairs : (fs gs : List Pair) (e : WireFault) → fs ≡ gs → IsLengthFault fs e → IsLengthFault gs e

@@ -9,3 +9,7 @@ pub mod OneMessage
 pub mod ResponseWritten
 pub mod PieceLemmas
 pub mod NoFault
+pub mod LineEnds
+pub mod Targets
+pub mod BadHeads
+pub mod OneFault

@@ -31,20 +31,20 @@ shorter a b c d e none lt =
 
 -- ---- requests
 
-took_is : (bytes : List ℕ) (new : Option (List ℕ)) (q : List ℕ) → Consumes (Some bytes) new q → (rest : List ℕ) × (new ≡ Some rest) × (bytes ≡ q ++ rest)
+pub took_is : (bytes : List ℕ) (new : Option (List ℕ)) (q : List ℕ) → Consumes (Some bytes) new q → (rest : List ℕ) × (new ≡ Some rest) × (bytes ≡ q ++ rest)
 took_is bytes (Some rest) q took = (rest, refl, took)
 took_is bytes None q took = absurd took
 
-end_is : (new : Option (List ℕ)) (rest : List ℕ) → new ≡ Some rest → IsAtEnd new → rest ≡ []
+pub end_is : (new : Option (List ℕ)) (rest : List ℕ) → new ≡ Some rest → IsAtEnd new → rest ≡ []
 end_is (Some r) rest is end = let same : r ≡ rest = cc in sym same ∙ end
 end_is None rest is end = absurd cc
 
 reads : (bytes front rest : List ℕ) (m : Message) → bytes ≡ front ++ rest → (x : IsRequest front m) → ReadsRequest bytes x.head (m.body ++ rest)
 reads bytes front rest m e x = (x.taken.valid, e ∙ ap (λ (l : List ℕ). l ++ rest) x.spelled ∙ append_assoc (print_request x.head) m.body rest)
 
-no_bad_head : (bytes q r : List ℕ) (h : RequestHead) (rest : List ℕ) → IsTakenRequest h → ReadsRequest bytes h rest → bytes ≡ q ++ r → IsBadRequest q → ⊥
+pub no_bad_head : (bytes q r : List ℕ) (h : RequestHead) (rest : List ℕ) → IsTakenRequest h → ReadsRequest bytes h rest → bytes ≡ q ++ r → IsBadRequest q → ⊥
 no_bad_head bytes q r h rest taken read e (inl over) =
-    let many = over r h rest (subst (λ (l : List ℕ). ReadsRequest l h rest) e read) in
+    let many = over.over r h rest (subst (λ (l : List ℕ). ReadsRequest l h rest) e read) in
     omega (arith, many, taken.few)
 no_bad_head bytes q r h rest taken read e (inr full) =
     let b = begins q r (print_request h) rest (sym e ∙ read.1) (omega (arith, full.0, taken.short)) in
@@ -88,9 +88,9 @@ request_at_no_fault bytes front rest m new count fault.NoMemory p x f = inr refl
 
 -- ---- responses
 
-no_bad_response : (bytes : List ℕ) (h : ResponseHead) (rest : List ℕ) → IsTakenResponse h → ReadsResponse bytes h rest → IsBadResponse bytes → ⊥
+pub no_bad_response : (bytes : List ℕ) (h : ResponseHead) (rest : List ℕ) → IsTakenResponse h → ReadsResponse bytes h rest → IsBadResponse bytes → ⊥
 no_bad_response bytes h rest taken read (inl over) =
-    let many = over (drop 8192 bytes) h rest (subst (λ (l : List ℕ). ReadsResponse l h rest) (sym (take-append-drop 8192 bytes)) read) in
+    let many = over.over (drop 8192 bytes) h rest (subst (λ (l : List ℕ). ReadsResponse l h rest) (sym (take-append-drop 8192 bytes)) read) in
     omega (arith, many, taken.few)
 no_bad_response bytes h rest taken read (inr full) =
     let b = begins (take 8192 bytes) (drop 8192 bytes) (print_response h) rest (take-append-drop 8192 bytes ∙ read.1) (omega (arith, full.0, taken.short, length-take 8192 bytes)) in

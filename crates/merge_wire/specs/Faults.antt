@@ -68,6 +68,10 @@ IsByteFault new before after fault.Ended = IsAtEnd new
 IsByteFault new before after fault.ReadFault = Rose before after
 IsByteFault new before after _ = ⊥
 
+-- a fault that comes whatever the bytes are: of a read that failed, or for want of memory
+abbrev pub IsOfOutside : WireFault → Type 0
+IsOfOutside e = (e ≡ fault.ReadFault) ⊎ (e ≡ fault.NoMemory)
+
 -- Each fault of reading a response, by its bytes.
 pub record LacksResponseBody (bytes : List ℕ) : Type 0 where
   pub head : ResponseHead

@@ -2,13 +2,15 @@
 ghost use Rattle.std.specs.Prelude.{◌≡◌, ◌≤◌, ◌⊎◌, [], ◌∷◌, length, Err, IfOk, IfErr, IfSome, IfNone, IsErr};
 ghost use Rattle.std.specs.Io.KnownBytes.{Consumes, Keeps};
 ghost use Rattle.httparse.specs.Grammar.{HasNoRequest, MayBecomeRequest};
-ghost use Rattle.httparse.specs.Spans.{IsRequestOf, IsRequestWithin, RequestOverflows};
+ghost use Rattle.httparse.specs.Spans.{IsRequestOf, IsRequestWithin};
 ghost use Rattle.merge_ports.specs.Parts.{ConsumesFront};
 ghost use Rattle.merge_wire.specs.Faults.{IsHeadFault, IsByteFault};
-ghost use Rattle.merge_wire.specs.Heads.{head_limit, field_limit};
+ghost use Rattle.merge_wire.specs.Heads.{head_limit, line_limit, lines as line_count, NoRequestCan};
 
 use crate::WireFault;
+use crate::lines::{LINE_LIMIT, lines};
 use crate::message::HEAD_LIMIT;
+use crate::target::ends_in_target;
 use httparse::Status;
 use httparse::spans::{HeaderSpan, RequestSpans, parse_request};
 use merge_ports::Source;
@@ -16,7 +18,7 @@ use merge_types::Octets;
 use std::alloc::Global;
 
 // Reads a head and no byte behind it.
-#[tactic(auto, using(crate::proofs::HeadLemmas::no_empty, crate::proofs::HeadLemmas::empty_hopeful))]
+#[tactic(auto, using(crate::proofs::HeadLemmas::no_empty, crate::proofs::HeadLemmas::empty_hopeful, crate::proofs::LineEnds::empty_few))]
 pub fn read_head<S: Source>(
     alloc: Global,
     source: &mut S,
@@ -43,18 +45,31 @@ pub fn read_head<S: Source>(
     Err(WireFault::BadHead)
 }
 
-// The head at the front of the bytes, and none where more bytes are wanted.
+// The head at the front of the bytes, and none where more bytes are wanted. A target is judged at its end.
 fn head_of(bytes: &[u8], fields: &mut [HeaderSpan; 32]) -> Result<Option<RequestSpans>, WireFault>
     ensures some { IfOk result (λ found. IfSome found (IsRequestOf bytes.now fields.new)) }
     ensures within { IfOk result (λ found. IfSome found (IsRequestWithin bytes.now fields.new)) }
     ensures none { IfOk result (λ found. IfNone found (HasNoRequest bytes.now)) }
     ensures hopeful { IfOk result (λ found. IfNone found (MayBecomeRequest bytes.now)) }
-    ensures bad { IfErr result (λ e. (e ≡ WireFault.BadHead) × RequestOverflows field_limit bytes.now) }
+    ensures few { IfOk result (λ found. IfNone found (line_count bytes.now ≤ line_limit)) }
+    ensures bad { IfErr result (λ e. (e ≡ WireFault.BadHead) × NoRequestCan bytes.now) }
 {
     match parse_request(bytes, fields) {
         Ok(Status::Complete(spans)) => Ok(Some(spans)),
-        Ok(Status::Partial) => Ok(None),
-        Err(_) => Err(WireFault::BadHead),
+        Ok(Status::Partial) => {
+            if lines(bytes) <= LINE_LIMIT {
+                Ok(None)
+            } else {
+                Err(WireFault::BadHead)
+            }
+        }
+        Err(_) => {
+            if ends_in_target(bytes, fields) {
+                Ok(None)
+            } else {
+                Err(WireFault::BadHead)
+            }
+        }
     }
 }
 

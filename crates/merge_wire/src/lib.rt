@@ -6,9 +6,11 @@ mod fault;
 mod fields;
 mod head;
 mod laws;
+mod lines;
 mod message;
 mod request;
 mod response;
+mod target;
 mod write;
 
 pub use fault::WireFault;

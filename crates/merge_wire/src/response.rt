@@ -7,6 +7,7 @@ ghost use Rattle.merge_wire.specs.Messages.{IsResponse};
 ghost use Rattle.merge_wire.specs.Faults.{IsResponseFault};
 
 use crate::fields::body_length;
+use crate::lines::{LINE_LIMIT, lines};
 use crate::message::HEAD_LIMIT;
 use crate::{Message, WireFault};
 use httparse::Status;
@@ -56,13 +57,16 @@ fn copy_front(alloc: Global, bytes: &[u8], length: u64) -> Result<Octets, NoMemo
     Ok(Octets::new(bytes[..length as usize].to_vec(alloc)?))
 }
 
-// No head is there yet. More bytes can bring one only where a head may have more than there are.
+// No head is there yet. More bytes can bring one only where a head may have more than there are, and more fields.
 fn unfinished(bytes: &[u8]) -> WireFault
     requires open_head { HasNoResponse (take head_limit bytes.now) }
     requires hopeful { MayBecomeResponse (take head_limit bytes.now) }
     ensures { IsResponseFault bytes.now result }
 {
-    if bytes.len() < HEAD_LIMIT {
+    if bytes.len() >= HEAD_LIMIT {
+        return WireFault::BadHead;
+    }
+    if lines(bytes) <= LINE_LIMIT {
         WireFault::Ended
     } else {
         WireFault::BadHead

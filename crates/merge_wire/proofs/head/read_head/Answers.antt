@@ -1,6 +1,10 @@
 -- The bytes that were taken are the head, and nothing behind it.
-use Rattle.std.proofs.Common.{◌≡◌, ◌∙◌, ℕ, List, length, ap}
+use Rattle.std.proofs.Common.{◌≡◌, ◌∙◌, ℕ, List, length, sym, ap, subst}
+use Rattle.std.specs.Io.KnownBytes.{Consumes}
+use Rattle.std.proofs.lemmas.Result.{err_from_is_err_and}
 use Rattle.merge_ports.proofs.Known.{Consumes-append}
+use Rattle.merge_wire.specs.Heads.{NoRequestCan}
+use Rattle.merge_wire.proofs.FaultLemmas.{bad_head}
 use Rattle.merge_wire.proofs.HeadLemmas.{whole_is}
 use Rattle.merge_wire.proofs.head.read_head.Goals as goal
 
@@ -20,3 +24,16 @@ returns-in-Some-clause-front g c = (
   _,
   Consumes-append _ (g.S.Source.left c.loop.source) _ _ _ c.loop.invariant.taken c.in_ok-byte.ensures.taken,
 )
+
+pub returns-in_err-spans-clause-fault : goal.returns-in_err-spans-clause-fault
+returns-in_err-spans-clause-fault g c =
+    let p = err_from_is_err_and c.from_residual-in_err-spans.result c.from_residual-in_err-spans.ensures.1 in
+    rw (p.1, p.2)
+    (bad_head _ _ _ _ _ c.in_err-spans.field-0.0 c.in_err-spans.ensures.bad.0
+    (Consumes-append _ (g.S.Source.left c.loop.source) _ _ _ c.loop.invariant.taken c.in_ok-byte.ensures.taken)
+    (subst (λ (l : List ℕ). NoRequestCan l) (c.as_slice.ensures ∙ c.in_ok-push.ensures.ok) c.in_err-spans.ensures.bad.1))
+
+pub returns-in-Some-clause-taken : goal.returns-in-Some-clause-taken
+returns-in-Some-clause-taken g c =
+    subst (λ (l : List ℕ). Consumes (g.S.Source.left c.args.source.now) (g.S.Source.left c.next.new.source) l) (sym c.in_ok-push.ensures.ok)
+    (Consumes-append _ (g.S.Source.left c.loop.source) _ _ _ c.loop.invariant.taken c.in_ok-byte.ensures.taken)
