@@ -1,8 +1,8 @@
 -- A subscriber is made anew.
-use Rattle.std.specs.Prelude.{◌≡◌, ◌+◌, ◌<◌, ◌≤◌, ◌==◌, ◌&&◌, ◌||◌, ◌++◌, ℕ, All, Bool, true, false, not, List, [], ◌∷◌, None, Ok, Option, Some, cond, filter, filter_map, if◌then◌else◌, length, map, nat_lt, refl}
+use Rattle.std.specs.Prelude.{◌≡◌, ◌+◌, ◌<◌, ◌≤◌, ◌==◌, ◌&&◌, ◌||◌, ◌++◌, ℕ, All, Bool, true, false, not, List, [], ◌∷◌, None, Option, Some, cond, filter, length, map, nat_lt, refl}
 use Rattle.std.specs.BTreeMap.{is_at}
 use Rattle.std.specs.FinSet as set
-use Rattle.std.specs.List.{AllByRecursion, cons_option, flat_map, list_any}
+use Rattle.std.specs.List.{AllByRecursion, flat_map, list_any}
 use Rattle.std.specs.List.Sorted.{IsStrictlySortedBy}
 use Rattle.std.specs.Map.{keys_of, remove_entry}
 use Rattle.std.specs.Ordering.{is_eq, nat_cmp, ordering_reverse}
@@ -17,7 +17,7 @@ use Rattle.merge_types.specs.declared.identifiers.Moment.{Moment}
 use Rattle.merge_types.specs.declared.row_key.RowKey.{RowKey}
 use Rattle.merge_table.specs.Edits.{rows_after_all}
 use Rattle.merge_units.specs.declared.site_row.SubscriberRow.{SubscriberRow}
-use Rattle.merge_units.specs.declared.version.Version.{Version}
+use Rattle.merge_batch.specs.declared.request.UploadItem.{UploadItem}
 use Rattle.merge_schema.specs.declared.publication.Publication.{Publication}
 use Rattle.merge_gens.specs.Entries.{entry_cmp}
 use Rattle.merge_gens.specs.Index.{entries_after_all}
@@ -36,12 +36,10 @@ use Rattle.merge_conflict.specs.Rising.{AreRising, RiseAbove}
 use Rattle.merge_conflict.specs.declared.row.ConflictRow.{ConflictRow}
 use Rattle.merge_conflict.proofs.RisingRows.{go_on_above}
 use Rattle.merge_ident.specs.Holders.{Holder}
-use Rattle.merge_model.specs.Judge.ByNumbers.{by_rows, is_unsent_by_rows}
 use Rattle.merge_model.specs.Tables.Keys.{row_at, same_key}
-use Rattle.merge_model.specs.Subscriber.Reinit.{discarded, made_anew, numbered_from, reinitialise}
+use Rattle.merge_model.specs.Subscriber.Reinit.{made_anew}
 use Rattle.merge_model.specs.Publisher.{later}
-use Rattle.merge_model.specs.Tables.Refusals.{counter_end}
-use Rattle.merge_model.specs.Subscriber.{subscriber_at_moment, subscriber_closed, subscriber_counters}
+use Rattle.merge_model.specs.Subscriber.{subscriber_at_moment, subscriber_closed}
 use Rattle.merge_model.proofs.Lists.{all-append}
 use Rattle.merge_model.specs.Tables.{SubscriberTables}
 use Rattle.merge_model.proofs.Lists.KeyLookUps.{key-test, keys-same}
@@ -49,9 +47,9 @@ use Rattle.merge_model.proofs.Publishers.Sorted.{key_total}
 use Rattle.merge_table.proofs.Room.{AreAbove}
 use Rattle.merge_sub.proofs.Indexed.{entries-append, is_among, taken-all}
 use Rattle.merge_sub.proofs.Opened.{GoesOn, forgotten-filling}
-use Rattle.merge_sub.specs.Anew.{dropped_entries, dropped_rows, is_unsent, lost_from, lost_row, row_entries}
+use Rattle.merge_sub.specs.Anew.{dropped_entries, dropped_rows, lost_from, row_entries}
 use Rattle.merge_sub.specs.Drafts.{after}
-use Rattle.merge_sub.specs.Held.{AreFitting, AreIndexed, AreMade, AreNumbered, Held, IsSound, KeepOpened, entry_behind, keeps, kept_by, tables_of}
+use Rattle.merge_sub.specs.Held.{AreFitting, AreIndexed, AreMade, AreNumbered, Held, IsSound, KeepOpened, entry_behind, keeps, tables_of}
 use Rattle.merge_sub.specs.declared.changes.Changes.{Changes}
 use Rattle.merge_sub.specs.declared.anew.Discarding.{Discarding}
 
@@ -125,59 +123,29 @@ rows-found (row ∷ rows) sorted =
     let first : is_at (key_cmp row.0) row.0 ≡ true = ap is_eq (tied_itself key_total row.0) in
     (ap (λ (b : Bool). (let found : Option SubscriberRow = cond b (Some row.1) (row_at rows row.0) in found)) first, found-behind row rows rows sorted.0 (rows-found rows sorted.1))
 
-abbrev lost_version : SubscriberTables → RowKey × SubscriberRow → Option (RowKey × Version)
-lost_version s row = if is_unsent_by_rows s s.received row.0 then Some (row.0, row.1.version) else None
-
-lost-step : (s t : SubscriberTables) (number : ℕ) (row : RowKey × SubscriberRow) (rows : Rows) (unsent there : Bool) → unsent ≡ there
-    → ((n : ℕ) → lost_from (record { site = t.site; received = s.received; latest = t.latest }) n rows ≡ numbered_from t n (filter_map (lost_version s) rows))
-    → (let lost : List ConflictRow = if unsent then lost_row (record { site = t.site; received = s.received; latest = t.latest }) number row ∷ lost_from (record { site = t.site; received = s.received; latest = t.latest }) (number + 1) rows else lost_from (record { site = t.site; received = s.received; latest = t.latest }) number rows in lost)
-    ≡ numbered_from t number (let kept : Option (RowKey × Version) = if there then Some (row.0, row.1.version) else None in cons_option kept (filter_map (lost_version s) rows))
-lost-step s t number row rows true true is more = ap (λ (rest : List ConflictRow). lost_row (record { site = t.site; received = s.received; latest = t.latest }) number row ∷ rest) (more (number + 1))
-lost-step s t number row rows true false is more = absurd cc
-lost-step s t number row rows false true is more = absurd cc
-lost-step s t number row rows false false is more = more number
-
-pub lost-numbered : (s t : SubscriberTables) (rows : Rows) → AreFound s.rows rows → (number : ℕ) → lost_from (record { site = t.site; received = s.received; latest = t.latest }) number rows ≡ numbered_from t number (filter_map (lost_version s) rows)
-lost-numbered s t [] found number = refl
-lost-numbered s t (row ∷ rows) found number =
-    lost-step s t number row rows (is_unsent s.received row.1) (is_unsent_by_rows s s.received row.0)
-    (sym (ap (λ (o : Option SubscriberRow). list_any (λ (g : ℕ). nat_lt s.received g) (kept_by o)) found.0))
-    (lost-numbered s t rows found.1)
-
 -- The numbers of what is discarded go on from those before.
 
-rise-step : (d : Discarding) (above number : ℕ) (row : RowKey × SubscriberRow) (rows : Rows) (unsent : Bool) → above < number → ((low n : ℕ) → low < n → RiseAbove low (lost_from d n rows))
-    → RiseAbove above (let lost : List ConflictRow = if unsent then lost_row d number row ∷ lost_from d (number + 1) rows else lost_from d number rows in lost)
-rise-step d above number row rows true less more = (less, more number (number + 1) (omega arith))
-rise-step d above number row rows false less more = more above number less
-
-lost-rises : (d : Discarding) (rows : Rows) (above number : ℕ) → above < number → RiseAbove above (lost_from d number rows)
+lost-rises : (d : Discarding) (items : List UploadItem) (above number : ℕ) → above < number → RiseAbove above (lost_from d number items)
 lost-rises d [] above number less = tt
-lost-rises d (row ∷ rows) above number less = rise-step d above number row rows (is_unsent d.received row.1) less (lost-rises d rows)
+lost-rises d (item ∷ items) above number less = (less, lost-rises d items number (number + 1) (omega arith))
 
-up-to-step : (d : Discarding) (most number : ℕ) (row : RowKey × SubscriberRow) (rows : Rows) (unsent : Bool) → ((n : ℕ) → n + length (lost_from d n rows) ≤ most + 1 → AllByRecursion (λ (lost : ConflictRow). lost.number ≤ most) (lost_from d n rows))
-    → number + length (let lost : List ConflictRow = if unsent then lost_row d number row ∷ lost_from d (number + 1) rows else lost_from d number rows in lost) ≤ most + 1
-    → AllByRecursion (λ (lost : ConflictRow). lost.number ≤ most) (let lost : List ConflictRow = if unsent then lost_row d number row ∷ lost_from d (number + 1) rows else lost_from d number rows in lost)
-up-to-step d most number row rows true more few = (omega (arith, few), more (number + 1) (omega (arith, few)))
-up-to-step d most number row rows false more few = more number few
-
-lost-up-to : (d : Discarding) (most : ℕ) (rows : Rows) (number : ℕ) → number + length (lost_from d number rows) ≤ most + 1 → AllByRecursion (λ (lost : ConflictRow). lost.number ≤ most) (lost_from d number rows)
+lost-up-to : (d : Discarding) (most : ℕ) (items : List UploadItem) (number : ℕ) → number + length (lost_from d number items) ≤ most + 1 → AllByRecursion (λ (lost : ConflictRow). lost.number ≤ most) (lost_from d number items)
 lost-up-to d most [] number few = tt
-lost-up-to d most (row ∷ rows) number few = up-to-step d most number row rows (is_unsent d.received row.1) (lost-up-to d most rows) few
+lost-up-to d most (item ∷ items) number few = (omega (arith, few), lost-up-to d most items (number + 1) (omega (arith, few)))
 
 raised : (low high : ℕ) (rows : List ConflictRow) → low ≤ high → AllByRecursion (λ (row : ConflictRow). row.number ≤ low) rows → AllByRecursion (λ (row : ConflictRow). row.number ≤ high) rows
 raised low high [] less all = tt
 raised low high (row ∷ rows) less all = (omega (arith, less, all.0), raised low high rows less all.1)
 
-pub discarded-rising : (d : Discarding) (rows : Rows) (count : ℕ) (conflicts lost : List ConflictRow) → lost ≡ lost_from d (count + 1) rows → AreRising conflicts → AreNumbered count conflicts → AreRising (conflicts ++ lost)
+pub discarded-rising : (d : Discarding) (items : List UploadItem) (count : ℕ) (conflicts lost : List ConflictRow) → lost ≡ lost_from d (count + 1) items → AreRising conflicts → AreNumbered count conflicts → AreRising (conflicts ++ lost)
 unfolding AreNumbered
-discarded-rising d rows count conflicts lost is rising numbered = rw is (go_on_above count conflicts (lost_from d (count + 1) rows) rising (All-from_recursion _ _ numbered) (lost-rises d rows count (count + 1) (omega arith)))
+discarded-rising d items count conflicts lost is rising numbered = rw is (go_on_above count conflicts (lost_from d (count + 1) items) rising (All-from_recursion _ _ numbered) (lost-rises d items count (count + 1) (omega arith)))
 
-pub discarded-numbered : (d : Discarding) (rows : Rows) (count : ℕ) (conflicts lost : List ConflictRow) → lost ≡ lost_from d (count + 1) rows → AreNumbered count conflicts → AreNumbered (count + length lost) (conflicts ++ lost)
+pub discarded-numbered : (d : Discarding) (items : List UploadItem) (count : ℕ) (conflicts lost : List ConflictRow) → lost ≡ lost_from d (count + 1) items → AreNumbered count conflicts → AreNumbered (count + length lost) (conflicts ++ lost)
 unfolding AreNumbered
-discarded-numbered d rows count conflicts lost is numbered =
+discarded-numbered d items count conflicts lost is numbered =
     all-append (λ (row : ConflictRow). row.number ≤ count + length lost) conflicts lost (raised count (count + length lost) conflicts (omega arith) numbered)
-    (subst (λ (l : List ConflictRow). AllByRecursion (λ (row : ConflictRow). row.number ≤ count + length l) l) (sym is) (lost-up-to d (count + length (lost_from d (count + 1) rows)) rows (count + 1) (omega arith)))
+    (subst (λ (l : List ConflictRow). AllByRecursion (λ (row : ConflictRow). row.number ≤ count + length l) l) (sym is) (lost-up-to d (count + length (lost_from d (count + 1) items)) items (count + 1) (omega arith)))
 
 -- The generations that are kept are forgotten.
 
@@ -215,41 +183,25 @@ emptied-sound publication s entries sound made none held within limited numbered
   numbered = numbered;
 }
 
-pub anew-made : (s : SubscriberTables) (now : Moment) → counter_end (subscriber_counters s) ≡ None → IsStrictlySortedBy key_cmp (keys_of s.rows) → (latest : Moment) → latest ≡ later now s.latest
-    → (lost : List ConflictRow) → lost ≡ lost_from (record { site = s.site; received = s.received; latest = latest }) (s.conflict_count + 1) s.rows → (made : SubscriberTables) → made ≡ made_anew lost (subscriber_closed (subscriber_at_moment now s)) → (count : ℕ) → count ≡ length lost
-    → reinitialise (by_rows s) now s ≡ Ok (made, count)
-anew-made s now below sorted latest late lost is made done count all =
-    let numbered : lost ≡ numbered_from (subscriber_at_moment now s) (s.conflict_count + 1) (discarded (by_rows s) (subscriber_at_moment now s)) =
-    is ∙ ap (λ (m : Moment). lost_from (record { site = s.site; received = s.received; latest = m }) (s.conflict_count + 1) s.rows) late ∙ lost-numbered s (subscriber_at_moment now s) s.rows (rows-found s.rows sorted) (s.conflict_count + 1) in
-    rw (below, done, all, numbered) refl
+-- The loop over what would be sent.
 
--- The loop over the rows.
-
--- so many rows are discarded, and these are left
-pub record Losing (d : Discarding) (start : ℕ) (all : Rows) (lost : List ConflictRow) (number : ℕ) (rest : Rows) : Type 0 where
+-- so much is discarded, and this is left
+pub record Losing (d : Discarding) (start : ℕ) (all : List UploadItem) (lost : List ConflictRow) (number : ℕ) (rest : List UploadItem) : Type 0 where
   pub more : lost ++ lost_from d (number + 1) rest ≡ lost_from d (start + 1) all
   pub counted : number ≡ start + length lost
   pub few : length lost + length rest ≤ length all
 
 -- The same for what is held.
 
-pub anew-rising : (h now : Held) → h ≡ now → AreRising h.conflicts.rows → IsSound h.publication (tables_of h) h.unsent.entries → (d : Discarding) (lost : List ConflictRow) → lost ≡ lost_from d (h.state.conflict_count + 1) h.rows.rows
+pub anew-rising : (h now : Held) → h ≡ now → AreRising h.conflicts.rows → IsSound h.publication (tables_of h) h.unsent.entries → (d : Discarding) (items : List UploadItem) (lost : List ConflictRow) → lost ≡ lost_from d (h.state.conflict_count + 1) items
     → AreRising (now.conflicts.rows ++ lost)
-anew-rising h now view rising sound d lost is =
-    subst (λ (x : Held). AreRising (x.conflicts.rows ++ lost)) view (discarded-rising d h.rows.rows h.state.conflict_count h.conflicts.rows lost is rising sound.numbered)
+anew-rising h now view rising sound d items lost is =
+    subst (λ (x : Held). AreRising (x.conflicts.rows ++ lost)) view (discarded-rising d items h.state.conflict_count h.conflicts.rows lost is rising sound.numbered)
 
-pub anew-numbered : (h now : Held) → h ≡ now → IsSound h.publication (tables_of h) h.unsent.entries → (d : Discarding) (lost : List ConflictRow) → lost ≡ lost_from d (h.state.conflict_count + 1) h.rows.rows
+pub anew-numbered : (h now : Held) → h ≡ now → IsSound h.publication (tables_of h) h.unsent.entries → (d : Discarding) (items : List UploadItem) (lost : List ConflictRow) → lost ≡ lost_from d (h.state.conflict_count + 1) items
     → AreNumbered (now.state.conflict_count + length lost) (now.conflicts.rows ++ lost)
-anew-numbered h now view sound d lost is =
-    subst (λ (x : Held). AreNumbered (x.state.conflict_count + length lost) (x.conflicts.rows ++ lost)) view (discarded-numbered d h.rows.rows h.state.conflict_count h.conflicts.rows lost is sound.numbered)
-
-pub anew-done : (h now : Held) → h ≡ now → (moment : Moment) → counter_end (subscriber_counters (tables_of now)) ≡ None → IsStrictlySortedBy key_cmp (keys_of h.rows.rows) → (latest : Moment) → latest ≡ later moment h.state.latest
-    → (lost : List ConflictRow) → lost ≡ lost_from (record { site = h.site; received = h.state.received; latest = latest }) (h.state.conflict_count + 1) h.rows.rows
-    → (made : SubscriberTables) → made ≡ made_anew lost (subscriber_closed (subscriber_at_moment moment (tables_of now))) → (count : ℕ) → count ≡ length lost → reinitialise (by_rows (tables_of now)) moment (tables_of now) ≡ Ok (made, count)
-anew-done h now view moment below sorted latest late lost is made done count all =
-    anew-made (tables_of now) moment below (subst (λ (x : Held). IsStrictlySortedBy key_cmp (keys_of x.rows.rows)) view sorted)
-    latest (subst (λ (x : Held). latest ≡ later moment x.state.latest) view late)
-    lost (subst (λ (x : Held). lost ≡ lost_from (record { site = x.site; received = x.state.received; latest = latest }) (x.state.conflict_count + 1) x.rows.rows) view is) made done count all
+anew-numbered h now view sound d items lost is =
+    subst (λ (x : Held). AreNumbered (x.state.conflict_count + length lost) (x.conflicts.rows ++ lost)) view (discarded-numbered d items h.state.conflict_count h.conflicts.rows lost is sound.numbered)
 
 pub emptied-draft : (h now : Held) → h ≡ now → (moment : Moment) (lost : List ConflictRow) (d : Changes) (plan : GenerationPlan) (last : ℕ) (rows : List (Edit RowKey SubscriberRow)) (kept : ConflictPlan)
     → d ≡ record { state = record { changes = h.state.changes; conflict_count = h.state.conflict_count + length lost; latest = later moment h.state.latest; seq = h.state.seq; outstanding = None; received = last; watermark = 0; is_joined = false }; gens = plan; done = Some last; rows = rows; held = []; conflicts = kept }

@@ -38,7 +38,7 @@ Rows = List (RowKey × SubscriberRow)
 
 -- A row is found between just where it keeps a generation between.
 
-same-bool : (a b : Bool) → (a ≡ true → b ≡ true) → (b ≡ true → a ≡ true) → a ≡ b
+pub same-bool : (a b : Bool) → (a ≡ true → b ≡ true) → (b ≡ true → a ≡ true) → a ≡ b
 same-bool true b there back = sym (there refl)
 same-bool false true there back = back refl
 same-bool false false there back = refl
@@ -92,7 +92,7 @@ last-step : (test : ℕ → Bool) (x : ℕ) (xs : List ℕ) (passes : Bool) → 
 last-step test x xs true more = some-stays x (filter test xs)
 last-step test x xs false more = more
 
-last-kept : (test : ℕ → Bool) (xs : List ℕ) → is_some (last_or None (filter test xs)) ≡ list_any test xs
+pub last-kept : (test : ℕ → Bool) (xs : List ℕ) → is_some (last_or None (filter test xs)) ≡ list_any test xs
 last-kept test [] = refl
 last-kept test (x ∷ xs) = last-step test x xs (test x) (last-kept test xs)
 
@@ -100,10 +100,10 @@ mapped-some : {A B : Type 0} (f : A → B) (o : Option A) → is_some (option_ma
 mapped-some f None = refl
 mapped-some f (Some a) = refl
 
-abbrev is_inside : ℕ → ℕ → ℕ → Bool
+abbrev pub is_inside : ℕ → ℕ → ℕ → Bool
 is_inside from to generation = nat_lt from generation && nat_le generation to
 
-inside-in : (from to generation : ℕ) → is_inside from to generation ≡ is_in (from + 1) (to + 1) generation
+pub inside-in : (from to generation : ℕ) → is_inside from to generation ≡ is_in (from + 1) (to + 1) generation
 inside-in from to generation = grind (arith, nat_tests)
 
 -- an item is sent of just the rows that keep a generation between
@@ -170,7 +170,7 @@ all-given : {X Y : Type 0} (f : X → Option Y) (xs : List X) → AllByRecursion
 all-given f [] all = refl
 all-given f (x ∷ xs) all = given-step (f x) (filter_map f xs) (length xs) all.0 (all-given f xs all.1)
 
-has-row : (first end : ℕ) (row : Option SubscriberRow) → keeps_in first end row ≡ true → is_some row ≡ true
+pub has-row : (first end : ℕ) (row : Option SubscriberRow) → keeps_in first end row ≡ true → is_some row ≡ true
 has-row first end None has = absurd cc
 has-row first end (Some row) has = refl
 
@@ -184,6 +184,24 @@ sent-of-all rows from to keys changed =
 -- the rows that were changed between, and what is sent of them
 pub sent-items : (s : SubscriberTables) (from to : ℕ) (keys : List RowKey) → AreChanged s.rows from to keys → filter_map (upload_item s) (changed_between_by_rows s from to) ≡ filter_map (item_at s.rows from to) keys
 sent-items s from to keys changed = items-sent s from to s.rows (rows-found s.rows changed.ordered) ∙ sent-of-all s.rows from to keys changed
+
+pub all-sent : (rows : Rows) (from to : ℕ) (keys : List RowKey) → AreChanged rows from to keys → (items : List UploadItem) → items ≡ filter_map (item_at rows from to) keys → items ≡ filter_map (item_at rows from to) (keys_of rows)
+all-sent rows from to keys changed items is = is ∙ sym (sent-of-all rows from to keys changed)
+
+fewer-step : {Y : Type 0} (y : Option Y) (rest : List Y) (n : ℕ) → length rest ≤ n → length (cons_option y rest) ≤ suc n
+fewer-step None rest n less = omega (arith, less)
+fewer-step (Some y) rest n less = omega (arith, less)
+
+no-more : (f : RowKey → Option UploadItem) (rows : Rows) → length (filter_map f (keys_of rows)) ≤ length rows
+no-more f [] = omega arith
+no-more f (row ∷ rows) = fewer-step (f row.0) (filter_map f (keys_of rows)) (length rows) (no-more f rows)
+
+-- no more is sent than there are rows
+pub sent-below : (rows : Rows) (from to most : ℕ) (items : List UploadItem) → items ≡ filter_map (item_at rows from to) (keys_of rows) → length rows < most → length items < most
+sent-below rows from to most items is few =
+    let same : length items ≡ length (filter_map (item_at rows from to) (keys_of rows)) = ap (λ (l : List UploadItem). length l) is in
+    let less = no-more (item_at rows from to) rows in
+    omega (arith, same, less, few)
 
 pub sent-count : (rows : Rows) (from to : ℕ) (keys : List RowKey) → AreChanged rows from to keys → length (filter_map (changed_row_between from to) rows) ≡ length keys
 sent-count rows from to keys changed =

@@ -3,6 +3,8 @@ pub mod Batches
 pub mod Begun
 pub mod ChangedRows
 pub mod Closed
+pub mod Counted
+pub mod Discarded
 pub mod Granted
 pub mod Indexed
 pub mod LetGo

@@ -16,7 +16,6 @@ use Rattle.merge_model.specs.Judge.ByNumbers.{by_rows, changed_between_by_rows}
 use Rattle.merge_model.specs.Publisher.{later}
 use Rattle.merge_model.specs.Publisher.PublisherDownload.{batch_end}
 use Rattle.merge_model.specs.Tables.Refusals.{unless}
-use Rattle.merge_model.specs.World.Reports.{unsent_count}
 use Rattle.merge_model.specs.Subscriber.Sending.{make_upload, sending_refusal, unsent_rows, upload_item, upload_made, upload_sent}
 use Rattle.merge_model.specs.Subscriber.{subscriber_at_moment, subscriber_closed, subscriber_last_closed}
 use Rattle.merge_model.specs.Tables.{SubscriberTables}
@@ -83,8 +82,3 @@ some_sent h now view moment passes keys changed some made is =
 pub none-left : (keys : List RowKey) → length keys ≡ 0 → keys ≡ []
 none-left [] none = refl
 none-left (key ∷ keys) none = absurd (omega (arith, none))
-
--- how many rows are unsent
-pub unsent_counted : (h now : Held) → h ≡ now → (keys : List RowKey) → AreChanged h.rows.rows h.state.received (h.gens.book.filling.last_closed + 1) keys → (count : ℕ) → count ≡ length keys → count ≡ unsent_count (tables_of now)
-unsent_counted h now view keys changed count is =
-    is ∙ sym (sent-count h.rows.rows h.state.received (h.gens.book.filling.last_closed + 1) keys changed) ∙ ap (λ (x : Held). unsent_count (tables_of x)) view

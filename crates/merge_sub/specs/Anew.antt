@@ -1,37 +1,34 @@
 -- A subscriber is made anew: what it discards, and what it drops.
-use Rattle.std.specs.Prelude.{◌+◌, ℕ, Bool, List, [], ◌∷◌, if◌then◌else◌, map, nat_lt}
-use Rattle.std.specs.List.{flat_map, list_any}
+use Rattle.std.specs.Prelude.{◌+◌, ℕ, List, [], ◌∷◌, map}
+use Rattle.std.specs.List.{flat_map}
 use Rattle.merge_types.specs.declared.row_key.RowKey.{RowKey}
 use Rattle.merge_table.specs.declared.edit.Edit.{Edit}
 use Rattle.merge_table.specs.declared.edit.Edit.TheVariants.{Take}
 use Rattle.merge_units.specs.declared.site_row.SubscriberRow.{SubscriberRow}
 use Rattle.merge_gens.specs.declared.index.IndexEntry.{IndexEntry}
+use Rattle.merge_batch.specs.declared.request.UploadItem.{UploadItem}
 use Rattle.merge_conflict.specs.declared.kind.ConflictKind.TheVariants as kind
 use Rattle.merge_conflict.specs.declared.row.ConflictRow.{ConflictRow}
 use Rattle.merge_conflict.specs.declared.row.Verdict.TheVariants as verdict
 use Rattle.merge_sub.specs.Local.{take_entry}
 use Rattle.merge_sub.specs.declared.anew.Discarding.{Discarding}
 
--- whether a row has a change that the publisher has not taken
-abbrev pub is_unsent : ℕ → SubscriberRow → Bool
-is_unsent received row = list_any (λ (generation : ℕ). nat_lt received generation) row.generations
-
-abbrev pub lost_row : Discarding → ℕ → RowKey × SubscriberRow → ConflictRow
-lost_row d number row = record {
+abbrev pub lost_row : Discarding → ℕ → UploadItem → ConflictRow
+lost_row d number item = record {
   number = number;
-  article = row.0.article;
-  row = row.0.row;
+  article = item.article;
+  row = item.row;
   kind = kind.Discarded;
-  losing = row.1.version;
+  losing = item.version;
   from = d.site;
   verdict = verdict.Discarded;
   moment = d.latest;
 }
 
--- the versions that are discarded, numbered from one on
-abbrev pub lost_from : Discarding → ℕ → List (RowKey × SubscriberRow) → List ConflictRow
+-- what would be sent is discarded, numbered from one on
+abbrev pub lost_from : Discarding → ℕ → List UploadItem → List ConflictRow
 lost_from d number [] = []
-lost_from d number (row ∷ rows) = if is_unsent d.received row.1 then lost_row d number row ∷ lost_from d (number + 1) rows else lost_from d number rows
+lost_from d number (item ∷ items) = lost_row d number item ∷ lost_from d (number + 1) items
 
 -- every row is dropped, with all the generations that it keeps
 abbrev pub take_row : RowKey × SubscriberRow → Edit RowKey SubscriberRow

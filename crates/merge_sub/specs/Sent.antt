@@ -4,10 +4,11 @@ use Rattle.std.specs.List.{list_any}
 use Rattle.std.specs.List.Sorted.{IsStrictlySortedBy}
 use Rattle.std.specs.Map.{keys_of}
 use Rattle.std.specs.Option.{option_and_then}
-use Rattle.std.specs.Prelude.{◌≡◌, ◌+◌, ◌&&◌, ℕ, Bool, List, Option, filter_map, length, nat_le, nat_lt, option_map}
+use Rattle.std.specs.Prelude.{◌≡◌, ◌==◌, ◌+◌, ◌&&◌, ℕ, Bool, false, List, Option, filter_map, length, nat_le, nat_lt, option_map, unwrap_or}
 use Rattle.merge_types.specs.RowKeys.{key_cmp}
 use Rattle.merge_types.specs.declared.row_key.RowKey.{RowKey}
 use Rattle.merge_units.specs.declared.site_row.SubscriberRow.{SubscriberRow}
+use Rattle.merge_gens.specs.declared.index.IndexEntry.{IndexEntry}
 use Rattle.merge_batch.specs.declared.request.UploadItem.{UploadItem}
 use Rattle.merge_model.specs.Judge.ByNumbers.{changed_row_between, last_between}
 use Rattle.merge_model.specs.Tables.Keys.{row_at}
@@ -43,3 +44,7 @@ item_of from to key row = option_map (row_item key row) (last_between from to ro
 
 abbrev pub item_at : List (RowKey × SubscriberRow) → ℕ → ℕ → RowKey → Option UploadItem
 item_at rows from to key = option_and_then (item_of from to key) (row_at rows key)
+
+-- whether an entry of the index, which stands at the number behind its generation, is that of the last one between that its row keeps
+abbrev pub is_last : List (RowKey × SubscriberRow) → ℕ → ℕ → IndexEntry → Bool
+is_last rows from to entry = unwrap_or (option_map (λ (last : ℕ). entry.generation == last + 1) (last_between from to (kept_by (row_at rows entry.key)))) false

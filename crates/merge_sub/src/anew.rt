@@ -1,36 +1,33 @@
 //! A subscriber is made anew.
-ghost use Rattle.std.specs.List.Sorted.{IsStrictlySortedBy};
-ghost use Rattle.std.specs.Map.{keys_of};
 ghost use Rattle.std.specs.Prelude.{◌≡◌, ◌+◌, ◌++◌, ◌<◌, ◌⊎◌, ◌^◌, Err, IfOk, Ok, length};
 ghost use Rattle.merge_types.specs.Limits.{counter_limit};
-ghost use Rattle.merge_types.specs.RowKeys.{key_cmp};
 ghost use Rattle.merge_batch.specs.declared.refusal.Refusal.{Refusal as OneRefusal};
 ghost use Rattle.merge_batch.specs.declared.refusal.Refusal.TheVariants.{NoMemory as no_memory};
 ghost use Rattle.merge_conflict.specs.Rising.{AreRising};
 ghost use Rattle.merge_model.specs.Judge.ByNumbers.{by_rows};
 ghost use Rattle.merge_model.specs.Subscriber.Reinit.{made_anew, reinitialise};
 ghost use Rattle.merge_model.specs.Subscriber.{subscriber_at_moment, subscriber_closed};
-ghost use Rattle.merge_sub.specs.Anew.{dropped_entries, dropped_rows, is_unsent, lost_from, lost_row};
+ghost use Rattle.merge_sub.specs.Anew.{dropped_entries, dropped_rows, lost_from, lost_row};
 ghost use Rattle.merge_sub.specs.Drafts.{IsDrafted, after, drafted};
 ghost use Rattle.merge_sub.specs.Held.{AreNumbered, tables_of};
 
 use crate::changes::RowEdit;
 use crate::generations::add_takes;
 use crate::still::later;
+use crate::upload::unsent_items;
 use crate::{Changes, Draft, State, Subscriber};
-use merge_batch::Refusal;
+use merge_batch::{Refusal, UploadItem, UploadItems};
 use merge_conflict::{ConflictKind, ConflictRow, ConflictRows, Verdict};
 use merge_gens::IndexChanges;
 use merge_table::{Edit, Table};
 use merge_types::{Listing, Moment, NoMemory, RowKey, SiteId};
 use merge_units::SubscriberRow;
-use std::alloc::{AllocError, Global};
+use std::alloc::Global;
 
-/// How rows are discarded: by which site, what it is done with, and when.
+/// How rows are discarded: by which site, and when.
 #[derive(Clone, Copy, Debug)]
 pub struct Discarding {
     pub site: SiteId,
-    pub received: u64,
     pub latest: Moment,
 }
 
@@ -46,18 +43,20 @@ impl Subscriber {
         ensures publication { self.new.publication ≡ self.old.publication }
     {
         self.check_counters()?;
+        let open = self.gens.last_closed() + 1;
+        let items = unsent_items(
+            self.alloc,
+            &self.unsent,
+            &self.rows,
+            self.state.received,
+            open,
+        )?;
         let latest = later(now, self.state.latest);
         let discarding = Discarding {
             site: self.site,
-            received: self.state.received,
             latest,
         };
-        let lost = lost_rows(
-            self.alloc,
-            &self.rows,
-            discarding,
-            self.state.conflict_count,
-        )?;
+        let lost = lost_rows(self.alloc, items, discarding, self.state.conflict_count)?;
         let count = lost.len() as u64;
         let _ = self.conflicts.rows();
         Ok((self.draft_emptied(lost, now)?, count))
@@ -67,53 +66,43 @@ impl Subscriber {
 // The own versions that are discarded, numbered behind a number.
 fn lost_rows(
     alloc: Global,
-    rows: &Table<RowKey, SubscriberRow>,
+    items: UploadItems,
     discarding: Discarding,
     number: u64,
 ) -> Result<ConflictRows, NoMemory>
-    requires { number < counter_limit }
-    ensures lost { IfOk result (λ lost. lost ≡ lost_from discarding (number + 1) rows.now.rows) }
+    requires low { number < counter_limit }
+    requires few { length items < 2 ^ 63 }
+    ensures lost { IfOk result (λ lost. lost ≡ lost_from discarding (number + 1) items) }
     ensures few { IfOk result (λ lost. length lost < 2 ^ 63) }
-    ensures ordered { IsStrictlySortedBy key_cmp (keys_of rows.now.rows) }
 {
     let mut lost = Listing::empty(alloc);
     let mut number = number;
-    for (key, row) in rows.iter() {
-        if is_unsent(row, discarding.received) {
-            number += 1;
-            lost.push(lost_row(discarding, number, *key, row)?)?;
-        }
+    for item in items.into_vec() {
+        number += 1;
+        lost.push(lost_row(discarding, number, item))?;
     }
     Ok(lost)
 }
 
-// Whether the row has a change that the publisher has not taken.
-fn is_unsent(row: &SubscriberRow, received: u64) -> bool
-    ensures { result ≡ is_unsent received row.now }
+fn lost_row(discarding: Discarding, number: u64, item: UploadItem) -> ConflictRow
+    ensures { result ≡ lost_row discarding number item }
 {
-    row.generations
-        .iter()
-        .any(|generation| *generation > received)
-}
-
-fn lost_row(
-    discarding: Discarding,
-    number: u64,
-    key: RowKey,
-    row: &SubscriberRow,
-) -> Result<ConflictRow, AllocError>
-    ensures { IfOk result (λ lost. lost ≡ lost_row discarding number (key, row.now)) }
-{
-    Ok(ConflictRow {
+    let UploadItem {
+        article,
+        row,
+        version,
+        ..
+    } = item;
+    ConflictRow {
         number,
-        article: key.article,
-        row: key.row,
+        article,
+        row,
         kind: ConflictKind::Discarded,
-        losing: row.version.clone()?,
+        losing: version,
         from: discarding.site,
         verdict: Verdict::Discarded,
         moment: discarding.latest,
-    })
+    }
 }
 
 // Every row is dropped.

@@ -6,6 +6,7 @@ mod anew;
 mod begin;
 mod changes;
 mod closing;
+mod counting;
 mod generations;
 mod local;
 mod prepared;

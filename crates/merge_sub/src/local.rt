@@ -63,6 +63,7 @@ impl Subscriber {
         }
         self.check_counters()?;
         let held = self.version_for(change);
+        // A table has fewer rows than 2^63.
         let _ = self.rows.iter();
         let _ = self.gens.filled();
         check_change(&self.publication, change, held, self.rows.len())

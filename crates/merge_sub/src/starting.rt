@@ -77,8 +77,8 @@ impl Subscriber {
         ensures valid { (resolvers : ℕ) × IsValid resolvers self.now.publication }
         ensures stands { CanStand self.now.publication (tables_of self.now) }
     {
-        let _ = self.rows.iter();
-        let _ = self.held.iter();
+        self.rows.is_ordered();
+        self.held.is_ordered();
         let _ = self.gens.closings();
         let _ = self.conflicts.rows();
     }

@@ -1,16 +1,16 @@
 //! What a subscriber tells of itself.
-ghost use Rattle.std.specs.Prelude.{◌≡◌, IfOk};
+ghost use Rattle.std.specs.Prelude.{◌≡◌};
 ghost use Rattle.merge_model.specs.World.Reports.{marks_of, outstanding_of, unsent_count};
 ghost use Rattle.merge_sub.specs.Held.{tables_of};
 
 use crate::Subscriber;
-use crate::upload::changed_between;
+use crate::counting::count_changed;
 use merge_conflict::ConflictRow;
 use merge_gens::Marks;
 use merge_ident::Ranges;
 use merge_schema::Publication;
 use merge_table::Table;
-use merge_types::{NoMemory, RowKey, SiteId};
+use merge_types::{RowKey, SiteId};
 use merge_units::SubscriberRow;
 
 impl Subscriber {
@@ -75,19 +75,14 @@ impl Subscriber {
         &self.held
     }
 
-    /// How many rows have a change that was not sent. The time grows with these.
-    #[tactic(auto, using(crate::proofs::Uploading::unsent_counted))]
-    pub fn unsent(&self) -> Result<u64, NoMemory>
-        ensures { IfOk result (λ count. count ≡ unsent_count (tables_of self.now)) }
+    /// How many rows have a change that was not sent. No memory is taken. The time grows with the
+    /// generations that these rows keep.
+    #[tactic(auto, using(crate::proofs::Counted::unsent_counted))]
+    pub fn unsent(&self) -> u64
+        ensures { result ≡ unsent_count (tables_of self.now) }
     {
-        let unsent = changed_between(
-            self.alloc,
-            &self.unsent,
-            &self.rows,
-            self.state.received,
-            self.gens.last_closed() + 1,
-        )?;
-        Ok(unsent.len() as u64)
+        let open = self.gens.last_closed() + 1;
+        count_changed(&self.unsent, &self.rows, self.state.received, open)
     }
 
     // The number of the outstanding message, 0 where none is.

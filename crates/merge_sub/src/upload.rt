@@ -1,7 +1,10 @@
 //! What a site sends: the rows that it changed in generations that the publisher has not taken.
+ghost use Rattle.std.specs.List.Sorted.{IsStrictlySortedBy};
 ghost use Rattle.std.specs.List.{cons_option};
-ghost use Rattle.std.specs.Prelude.{◌≡◌, ◌+◌, ◌++◌, ◌<◌, ◌≤◌, ◌⊎◌, [], Err, IfOk, Ok, OnOk, filter_map, unwrap_or};
+ghost use Rattle.std.specs.Map.{keys_of};
+ghost use Rattle.std.specs.Prelude.{◌≡◌, ◌+◌, ◌++◌, ◌<◌, ◌≤◌, ◌⊎◌, ◌^◌, [], Err, IfOk, Ok, OnOk, filter_map, length, unwrap_or};
 ghost use Rattle.merge_types.specs.Limits.{counter_limit};
+ghost use Rattle.merge_types.specs.RowKeys.{key_cmp};
 ghost use Rattle.merge_batch.specs.declared.refusal.Refusal.{Refusal as OneRefusal};
 ghost use Rattle.merge_batch.specs.declared.refusal.Refusal.TheVariants.{NoMemory as no_memory};
 ghost use Rattle.merge_gens.specs.Book.{closed_now, moment_of};
@@ -100,12 +103,12 @@ fn keeping(
     let mut keys = Vec::new(alloc);
     index.between(first, end, &mut keys)?;
     sort_rows(&mut keys);
-    let _ = rows.iter();
+    rows.is_ordered();
     Ok(keys)
 }
 
 // The rows that keep a generation behind one, up to another.
-pub(crate) fn changed_between(
+fn changed_between(
     alloc: Global,
     index: &GenerationIndex,
     rows: &Table<RowKey, SubscriberRow>,
@@ -193,6 +196,27 @@ fn upload_items(
     Ok(items)
 }
 
+// What would be sent of all that is unsent, by article and row. The time grows with these rows: no
+// other is looked at.
+pub(crate) fn unsent_items(
+    alloc: Global,
+    index: &GenerationIndex,
+    rows: &Table<RowKey, SubscriberRow>,
+    from: u64,
+    to: u64,
+) -> Result<UploadItems, NoMemory>
+    requires { AreIndexed rows.now.rows index.now.entries }
+    ensures items { IfOk result (λ items. items ≡ filter_map (item_at rows.now.rows from to) (keys_of rows.now.rows)) }
+    ensures few { IfOk result (λ items. length items < 2 ^ 63) }
+    ensures ordered { OnOk result (IsStrictlySortedBy key_cmp (keys_of rows.now.rows)) }
+{
+    let keys = changed_between(alloc, index, rows, from, to)?;
+    let items = upload_items(alloc, rows, &keys, from, to)?;
+    // A table has fewer rows than 2^63.
+    let _ = rows.iter();
+    Ok(items)
+}
+
 // Adds an item, where there is one.
 fn add_item(items: &mut UploadItems, item: Option<UploadItem>) -> Result<(), NoMemory>
     ensures { OnOk result (items.new ≡ items.old ++ cons_option item []) }
@@ -227,7 +251,7 @@ fn upload_item(
 }
 
 // The last of these generations that is behind one, up to another.
-fn last_between(from: u64, to: u64, generations: &[u64]) -> Option<u64>
+pub(crate) fn last_between(from: u64, to: u64, generations: &[u64]) -> Option<u64>
     ensures { result ≡ last_between from to generations.now }
 {
     let mut last = None;
