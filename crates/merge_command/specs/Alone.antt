@@ -1,5 +1,5 @@
 -- One site, while all others are elsewhere.
-use Rattle.std.specs.Prelude.{[], ℕ, ◌∷◌}
+use Rattle.std.specs.Prelude.{None, [], ℕ, ◌∷◌}
 use Rattle.merge_types.specs.declared.identifiers.Moment.{Moment}
 use Rattle.merge_schema.specs.declared.publication.Publication.{Publication}
 use Rattle.merge_model.specs.Publisher.{empty_publisher}
@@ -8,8 +8,8 @@ use Rattle.merge_world.specs.Views.{PublisherView, SitesView, sites_view}
 
 -- a publisher that has done nothing
 abbrev pub idle : Publication → PublisherView
-idle publication = record { publication = publication; tables = empty_publisher publication; faults = 0 }
+idle publication = record { publication = publication; tables = empty_publisher publication; faults = 0; told = None }
 
 -- a subscriber with these tables, beside such a publisher, where so many of its commits failed
 abbrev pub alone : Publication → SubscriberTables → ℕ → Moment → SitesView
-alone publication tables faults moment = sites_view (idle publication) (record { publication = publication; tables = tables; faults = faults } ∷ []) [] moment
+alone publication tables faults moment = sites_view (idle publication) (record { publication = publication; tables = tables; faults = faults; told = None } ∷ []) [] moment

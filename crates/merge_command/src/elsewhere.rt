@@ -57,6 +57,8 @@ impl PublisherSite for Elsewhere {
 
     ghost view = { idle };
 
+    ghost Damage = { λ publication table key. ⊥ };
+
     fn local(&mut self, _now: Moment, _change: &Change) -> Result<RowId, Refusal> {
         Err(Refusal::NoMemory)
     }

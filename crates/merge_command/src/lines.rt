@@ -10,6 +10,7 @@ ghost use Rattle.merge_command.specs.Taken.{halt_by, halt_of, is_halt, is_taken}
 ghost use Rattle.merge_command.specs.declared.stop.Stop.{Stop as Stopped};
 ghost use Rattle.merge_command.specs.declared.stop.Stop.TheVariants as stop;
 ghost use Rattle.merge_command.specs.declared.stop.Unwritten.TheVariants as unwritten;
+ghost use Rattle.merge_types.specs.Limits.{input_limit};
 
 use crate::events::happen;
 use crate::stop::Stop;
@@ -86,7 +87,7 @@ pub fn change_lines<P: PublisherSite, S: SubscriberSite, C: Clock, O: Sink>(
     output: &mut O,
 ) -> Result<(), Stop>
     requires ordered { IsOrdered (⟦<Sites<P, S> as Seen>⟧.seen sites.old) }
-    requires short { length script.now ≤ 67108864 }
+    requires short { length script.now ≤ input_limit }
     ensures whole { OnOk result (halt_of here (lines_of script.now) ≡ None) }
     ensures done { OnOk result (Changed here (lines_of script.now) (⟦<Sites<P, S> as Seen>⟧.seen sites.old) (⟦<Sites<P, S> as Seen>⟧.seen sites.new) (C.told clock.old) (C.told clock.new) (O.written output.old) (O.written output.new)) }
     ensures halted { (why : Stopped) → result ≡ Err why → is_halt why ≡ true → halt_of here (lines_of script.now) ≡ Some why }

@@ -1,6 +1,7 @@
 pub mod Bare
 pub mod Called
 pub mod Committed
+pub mod Damaged
 pub mod Drafts
 pub mod Edited
 pub mod Granted

@@ -16,38 +16,38 @@ use Rattle.merge_pub.specs.Held.{Held, publication_of, tables_of}
 use Rattle.merge_pub.specs.PurgeDrafts.{after_purge}
 use Rattle.merge_steps.specs.declared.changes.Draft.{Draft}
 use Rattle.merge_pub.specs.declared.purging.PurgeDraft.{PurgeDraft}
-use Rattle.merge_world.specs.Views.{PublisherCall, PublisherView}
+use Rattle.merge_world.specs.Views.{PublisherView}
 use Rattle.merge_site.specs.Calls.{IsRefused, WorkedOut}
 use Rattle.merge_site.specs.Publishers.{IsKeptPublisher, drafted}
 use Rattle.merge_site.proofs.Called.{none-filled}
 
-abbrev pub view_of : Held → ℕ → PublisherView
-view_of h faults = record { publication = publication_of h; tables = tables_of h; faults = faults }
+abbrev pub view_of : Held → ℕ → Option Map → PublisherView
+view_of h faults told = record { publication = publication_of h; tables = tables_of h; faults = faults; told = told }
 
 -- what was kept still is, once a draft was made
 pub still-kept : (h now : Held) (told : Option Map) → tables_of now ≡ tables_of h → IsKeptPublisher (tables_of h) told → IsKeptPublisher (tables_of now) told
 still-kept h now told same kept = rw same kept
 
-module _ {A : Type 0} (old : PublisherView) (h now new : Held) (before after' : ℕ) (seen : view_of h before ≡ old) (same : tables_of now ≡ tables_of h) where
+module _ {A : Type 0} {kept : Option Map} (old : PublisherView) (h now new : Held) (before after' : ℕ) (seen : view_of h before kept ≡ old) (same : tables_of now ≡ tables_of h) where
   -- by what is seen of it
   pub seen-called : (by : PublisherView → Result (PublisherTables × A) Refusal) (of : PublisherView → A → Bool) (commits : Bool) (worked : Result (Draft × A) Refusal) (result : Result A Refusal)
-      → IfOk worked (λ made. by (view_of h before) ≡ Ok (drafted (tables_of h) made))
-      → ((why : Refusal) → worked ≡ Err why → IsRefused (by (view_of h before)) why)
+      → IfOk worked (λ made. by (view_of h before kept) ≡ Ok (drafted (tables_of h) made))
+      → ((why : Refusal) → worked ≡ Err why → IsRefused (by (view_of h before kept)) why)
       → ((b : Result (PublisherTables × A) Refusal) (o : A → Bool) → WorkedOut (drafted (tables_of now)) b worked → IfOk worked (λ made. commits ≡ true → o made.1 ≡ true) → Called b o (tables_of now) (tables_of new) before after' result)
-      → IfOk worked (λ made. commits ≡ true → of (view_of h before) made.1 ≡ true)
-      → PublisherCall (by old) (of old) old (view_of new after') result
+      → IfOk worked (λ made. commits ≡ true → of (view_of h before kept) made.1 ≡ true)
+      → Called (by old) (of old) old.tables (tables_of new) old.faults after' result
   seen-called by of commits worked result made refused called makes =
-      let b = by (view_of h before) in
+      let b = by (view_of h before kept) in
       let out : WorkedOut (drafted (tables_of now)) b worked = record { done = subst (λ (t : PublisherTables). IfOk worked (λ d. b ≡ Ok (drafted t d))) (sym same) made; refused = refused } in
-      subst (λ (v : PublisherView). PublisherCall (by v) (of v) v (view_of new after') result) seen
-      (subst (λ (t : PublisherTables). Called b (of (view_of h before)) t (tables_of new) before after' result) same (called b (of (view_of h before)) out makes))
+      subst (λ (v : PublisherView). Called (by v) (of v) v.tables (tables_of new) v.faults after' result) seen
+      (subst (λ (t : PublisherTables). Called b (of (view_of h before kept)) t (tables_of new) before after' result) same (called b (of (view_of h before kept)) out makes))
 
   pub pub-called : (by : Publication → PublisherTables → Result (PublisherTables × A) Refusal) (of : PublisherTables → A → Bool) (commits : Bool) (worked : Result (Draft × A) Refusal) (result : Result A Refusal)
       → IfOk worked (λ made. by (publication_of h) (tables_of h) ≡ Ok (drafted (tables_of h) made))
       → ((why : Refusal) → worked ≡ Err why → IsRefused (by (publication_of h) (tables_of h)) why)
       → ((b : Result (PublisherTables × A) Refusal) (o : A → Bool) → WorkedOut (drafted (tables_of now)) b worked → IfOk worked (λ made. commits ≡ true → o made.1 ≡ true) → Called b o (tables_of now) (tables_of new) before after' result)
       → IfOk worked (λ made. commits ≡ true → of (tables_of h) made.1 ≡ true)
-      → PublisherCall (by old.publication old.tables) (of old.tables) old (view_of new after') result
+      → Called (by old.publication old.tables) (of old.tables) old.tables (tables_of new) old.faults after' result
   pub-called by of = seen-called (λ (v : PublisherView). by v.publication v.tables) (λ (v : PublisherView). of v.tables)
 
 -- a closing that commits nothing changes nothing
@@ -58,15 +58,15 @@ closing-still h now moment (Ok worked) commits same is made = λ quiet.
     subst (λ (t : PublisherTables). after worked.0.changes t ≡ t) (sym same) (closings-quiet moment (tables_of h) (drafted (tables_of h) worked) made (sym is ∙ quiet))
 
 -- a purge that was worked out and made
-pub purge-made : (old : PublisherView) (h now new : Held) (before after' : ℕ) (moment : Moment) → view_of h before ≡ old → tables_of now ≡ tables_of h → after' ≡ before → (d : PurgeDraft) (forgotten : Forgotten) → purge (publication_of h) moment (tables_of h) ≡ (after_purge d (tables_of h), forgotten) → tables_of new ≡ after_purge d (tables_of now)
-    → PublisherCall (Ok (purge old.publication moment old.tables)) always_commits old (view_of new after') (Ok forgotten)
+pub purge-made : {kept : Option Map} (old : PublisherView) (h now new : Held) (before after' : ℕ) (moment : Moment) → view_of h before kept ≡ old → tables_of now ≡ tables_of h → after' ≡ before → (d : PurgeDraft) (forgotten : Forgotten) → purge (publication_of h) moment (tables_of h) ≡ (after_purge d (tables_of h), forgotten) → tables_of new ≡ after_purge d (tables_of now)
+    → Called (Ok (purge old.publication moment old.tables)) always_commits old.tables (tables_of new) old.faults after' (Ok forgotten)
 purge-made old h now new before after' moment seen same still d forgotten made settled =
     let is : tables_of new ≡ after_purge d (tables_of h) = settled ∙ ap (λ (t : PublisherTables). after_purge d t) same in
-    subst (λ (v : PublisherView). PublisherCall (Ok (purge v.publication moment v.tables)) always_commits v (view_of new after') (Ok forgotten)) seen
+    subst (λ (v : PublisherView). Called (Ok (purge v.publication moment v.tables)) always_commits v.tables (tables_of new) v.faults after' (Ok forgotten)) seen
     (ap (λ (done : PublisherTables × Forgotten). (let r : Result (PublisherTables × Forgotten) Refusal = Ok done in r)) (made ∙ ap (λ (t : PublisherTables). (let done : PublisherTables × Forgotten = (t, forgotten) in done)) (sym is)), still)
 
 -- and takes no memory, so it is refused as the definition refuses it
-pub closing-nothing : (old : PublisherView) (h : Held) (before : ℕ) → view_of h before ≡ old → (moment : Moment) (commits : Bool) (worked : Result (Draft × ℕ) Refusal) (result : Result ℕ Refusal)
+pub closing-nothing : {kept : Option Map} (old : PublisherView) (h : Held) (before : ℕ) → view_of h before kept ≡ old → (moment : Moment) (commits : Bool) (worked : Result (Draft × ℕ) Refusal) (result : Result ℕ Refusal)
     → commits ≡ (is_later moment (tables_of h).latest || nat_lt 0 (tables_of h).gens.filling.filled)
     → ((tables_of h).gens.filling.filled ≡ 0 → RefusesOnlyAs (close_generation moment (tables_of h)) worked) → (commits ≡ false → RefusesOnlyAs worked result)
     → (is_later moment old.tables.latest || nat_lt 0 old.tables.gens.filling.filled) ≡ false → RefusesOnlyAs (close_generation moment old.tables) result

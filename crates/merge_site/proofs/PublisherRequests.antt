@@ -1,7 +1,7 @@
 -- A request of a site at the publisher, by the step that was worked out for it and by what became of that.
 use Rattle.std.proofs.Common.{◌≡◌, ◌∙◌, ◌||◌, ℕ, List, Bool, true, false, sym, ap, subst}
 use Rattle.std.specs.List.{list_any}
-use Rattle.std.specs.Prelude.{Err, IfOk, IsOk, Ok, OnOk, Result, take}
+use Rattle.std.specs.Prelude.{Err, IfOk, IsOk, Ok, OnOk, Option, Result, take}
 use Rattle.merge_types.specs.declared.identifiers.Moment.{Moment}
 use Rattle.merge_ident.specs.declared.grants.GrantPlan.{GrantPlan}
 use Rattle.merge_resolve.specs.Asked.{tallies_after}
@@ -18,10 +18,11 @@ use Rattle.merge_model.specs.Publisher.PublisherRanges.{plans}
 use Rattle.merge_model.specs.Tables.{PublisherTables}
 use Rattle.merge_model.specs.World.{Saying}
 use Rattle.merge_model.proofs.Failing.Quiet.{requests-quiet}
+use Rattle.merge_ports.specs.Entries.{Map}
 use Rattle.merge_pub.specs.After.{after}
 use Rattle.merge_pub.specs.Held.{Held, publication_of, tables_of}
 use Rattle.merge_steps.specs.declared.changes.Draft.{Draft}
-use Rattle.merge_world.specs.Views.{PublisherCall, PublisherView}
+use Rattle.merge_world.specs.Views.{PublisherView}
 use Rattle.merge_site.specs.Calls.{IsRefused, WorkedOut}
 use Rattle.merge_site.specs.Publishers.{drafted}
 use Rattle.merge_site.proofs.PublisherCalls.{seen-called, view_of}
@@ -51,13 +52,13 @@ commits-so : {D A : Type 0} (worked : Result (D × A) Refusal) (commits : Bool) 
 commits-so (Err why) commits of is = tt
 commits-so (Ok made) commits of is = λ yes. sym is ∙ yes
 
-module _ {A : Type 0} (old : PublisherView) (h now new : Held) (before after' : ℕ) (seen : view_of h before ≡ old) (same : tables_of now ≡ tables_of h) where
+module _ {A : Type 0} {kept : Option Map} (old : PublisherView) (h now new : Held) (before after' : ℕ) (seen : view_of h before kept ≡ old) (same : tables_of now ≡ tables_of h) where
   pub request-called : (moment : Moment) (m : Request) (by : Publication → PublisherTables → Result (PublisherTables × A) Refusal) (commits : Bool) (worked : Result (Draft × A) Refusal) (result : Result A Refusal)
       → IfOk worked (λ made. by (publication_of h) (tables_of h) ≡ Ok (drafted (tables_of h) made))
       → ((why : Refusal) → worked ≡ Err why → IsRefused (by (publication_of h) (tables_of h)) why)
       → ((b : Result (PublisherTables × A) Refusal) (o : A → Bool) → WorkedOut (drafted (tables_of now)) b worked → IfOk worked (λ made. commits ≡ true → o made.1 ≡ true) → Called b o (tables_of now) (tables_of new) before after' result)
       → IfOk worked (λ made. commits ≡ request_commits (publication_of h) moment m (tables_of h) made.1)
-      → PublisherCall (by old.publication old.tables) (request_commits old.publication moment m old.tables) old (view_of new after') result
+      → Called (by old.publication old.tables) (request_commits old.publication moment m old.tables) old.tables (tables_of new) old.faults after' result
   request-called moment m by commits worked result made refused called is =
       seen-called old h now new before after' seen same (λ (v : PublisherView). by v.publication v.tables) (λ (v : PublisherView). request_commits v.publication moment m v.tables) commits worked result made refused called
       (commits-so worked commits (λ (answer : A). request_commits (publication_of h) moment m (tables_of h) answer) is)

@@ -21,40 +21,40 @@ use Rattle.merge_ports.specs.Entries.{Map}
 use Rattle.merge_sub.specs.Drafts.{after, after_if_any, drafted, drafted_if_any}
 use Rattle.merge_sub.specs.Held.{Held, tables_of}
 use Rattle.merge_sub.specs.declared.changes.Draft.{Draft}
-use Rattle.merge_world.specs.Views.{SubscriberCall, SubscriberView}
+use Rattle.merge_world.specs.Views.{SubscriberView}
 use Rattle.merge_site.specs.Calls.{IsRefused, WorkedOut}
 use Rattle.merge_site.specs.Subscribers.{IsKeptSubscriber}
 use Rattle.merge_site.proofs.Called.{none-filled, ok-all}
 
-abbrev pub view_of : Held → ℕ → SubscriberView
-view_of h faults = record { publication = h.publication; tables = tables_of h; faults = faults }
+abbrev pub view_of : Held → ℕ → Option Map → SubscriberView
+view_of h faults told = record { publication = h.publication; tables = tables_of h; faults = faults; told = told }
 
 -- what was kept still is, once a draft was made
 pub still-kept : (h now : Held) (told : Option Map) → tables_of now ≡ tables_of h → IsKeptSubscriber (tables_of h) told → IsKeptSubscriber (tables_of now) told
 still-kept h now told same kept = rw same kept
 
-module _ {A : Type 0} (old : SubscriberView) (h now new : Held) (before after' : ℕ) (seen : view_of h before ≡ old) (same : tables_of now ≡ tables_of h) where
+module _ {A : Type 0} {kept : Option Map} (old : SubscriberView) (h now new : Held) (before after' : ℕ) (seen : view_of h before kept ≡ old) (same : tables_of now ≡ tables_of h) where
   pub sub-called : (by : Publication → SubscriberTables → Result (SubscriberTables × A) Refusal) (of : SubscriberTables → A → Bool) (commits : Bool) (worked : Result (Draft × A) Refusal) (result : Result A Refusal)
       → IfOk worked (λ made. by h.publication (tables_of h) ≡ Ok (drafted (tables_of h) made))
       → ((why : Refusal) → worked ≡ Err why → IsRefused (by h.publication (tables_of h)) why)
       → ((b : Result (SubscriberTables × A) Refusal) (o : A → Bool) → WorkedOut (drafted (tables_of now)) b worked → IfOk worked (λ made. commits ≡ true → o made.1 ≡ true) → Called b o (tables_of now) (tables_of new) before after' result)
       → IfOk worked (λ made. commits ≡ true → of (tables_of h) made.1 ≡ true)
-      → SubscriberCall (by old.publication old.tables) (of old.tables) old (view_of new after') result
+      → Called (by old.publication old.tables) (of old.tables) old.tables (tables_of new) old.faults after' result
   sub-called by of commits worked result made refused called makes =
       let b = by h.publication (tables_of h) in
       let out : WorkedOut (drafted (tables_of now)) b worked = record { done = subst (λ (t : SubscriberTables). IfOk worked (λ d. b ≡ Ok (drafted t d))) (sym same) made; refused = refused } in
-      subst (λ (v : SubscriberView). SubscriberCall (by v.publication v.tables) (of v.tables) v (view_of new after') result) seen
+      subst (λ (v : SubscriberView). Called (by v.publication v.tables) (of v.tables) v.tables (tables_of new) v.faults after' result) seen
       (subst (λ (t : SubscriberTables). Called b (of (tables_of h)) t (tables_of new) before after' result) same (called b (of (tables_of h)) out makes))
 
   pub message-called : (by : Publication → SubscriberTables → Result (Option (SubscriberTables × A)) Refusal) (worked : Result (Option (Draft × A)) Refusal) (result : Result (Option A) Refusal)
       → IfOk worked (λ made. by h.publication (tables_of h) ≡ Ok (drafted_if_any (tables_of h) made))
       → ((why : Refusal) → worked ≡ Err why → IsRefused (by h.publication (tables_of h)) why)
       → ((b : Result (Option (SubscriberTables × A)) Refusal) → WorkedOut (drafted_if_any (tables_of now)) b worked → Called (message_or_none (tables_of now) b) message_commits (tables_of now) (tables_of new) before after' result)
-      → SubscriberCall (message_or_none old.tables (by old.publication old.tables)) message_commits old (view_of new after') result
+      → Called (message_or_none old.tables (by old.publication old.tables)) message_commits old.tables (tables_of new) old.faults after' result
   message-called by worked result made refused called =
       let b = by h.publication (tables_of h) in
       let out : WorkedOut (drafted_if_any (tables_of now)) b worked = record { done = subst (λ (t : SubscriberTables). IfOk worked (λ d. b ≡ Ok (drafted_if_any t d))) (sym same) made; refused = refused } in
-      subst (λ (v : SubscriberView). SubscriberCall (message_or_none v.tables (by v.publication v.tables)) message_commits v (view_of new after') result) seen
+      subst (λ (v : SubscriberView). Called (message_or_none v.tables (by v.publication v.tables)) message_commits v.tables (tables_of new) v.faults after' result) seen
       (subst (λ (t : SubscriberTables). Called (message_or_none t b) message_commits t (tables_of new) before after' result) same (called b out))
 
 -- a call that always commits
@@ -81,7 +81,7 @@ reply-made by s draft made answer is by_is = subst (λ (d : Option Draft). by �
 -- Calls that take no memory are refused as the definition refuses them.
 
 -- a closing that commits nothing
-pub closing-nothing : (old : SubscriberView) (h : Held) (before : ℕ) → view_of h before ≡ old → (moment : Moment) (commits : Bool) (worked : Result (Draft × ℕ) Refusal) (result : Result ℕ Refusal)
+pub closing-nothing : {kept : Option Map} (old : SubscriberView) (h : Held) (before : ℕ) → view_of h before kept ≡ old → (moment : Moment) (commits : Bool) (worked : Result (Draft × ℕ) Refusal) (result : Result ℕ Refusal)
     → commits ≡ (is_later moment (tables_of h).latest || nat_lt 0 (tables_of h).gens.filling.filled)
     → ((tables_of h).gens.filling.filled ≡ 0 → RefusesOnlyAs (close_subscriber_generation moment (tables_of h)) worked) → (commits ≡ false → RefusesOnlyAs worked result)
     → (is_later moment old.tables.latest || nat_lt 0 old.tables.gens.filling.filled) ≡ false → RefusesOnlyAs (close_subscriber_generation moment old.tables) result
@@ -106,7 +106,7 @@ joined-refused : (s : SubscriberTables) (worked : Result (Option (Draft × Join)
 joined-refused s worked done refused joined why (inl was) = refused why was
 joined-refused s worked done refused joined why (inr (made, was)) = absurd (no-join s joined (drafted s made) (IfOk-at_ok (λ d. make_join s ≡ Ok (drafted_if_any s d)) was done))
 
-pub join-nothing : (old : SubscriberView) (h : Held) (before : ℕ) → view_of h before ≡ old → (worked : Result (Option (Draft × Join)) Refusal) (result : Result (Option Join) Refusal)
+pub join-nothing : {kept : Option Map} (old : SubscriberView) (h : Held) (before : ℕ) → view_of h before kept ≡ old → (worked : Result (Option (Draft × Join)) Refusal) (result : Result (Option Join) Refusal)
     → IfOk worked (λ made. make_join (tables_of h) ≡ Ok (drafted_if_any (tables_of h) made)) → RefusesOnlyAs (make_join (tables_of h)) worked
     → ((why : Refusal) → result ≡ Err why → (worked ≡ Err why) ⊎ ((made : Draft × Join) × (worked ≡ Ok (Some made)))) → old.tables.is_joined ≡ true → RefusesOnlyAs (make_join old.tables) result
 join-nothing old h before seen worked result done refused fails joined =

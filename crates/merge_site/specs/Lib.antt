@@ -6,5 +6,6 @@ pub mod Grants
 pub mod Kept
 pub mod Lists
 pub mod Loading
+pub mod Damages
 pub mod Publishers
 pub mod Subscribers

@@ -1,6 +1,6 @@
 //! Sites that have committed nothing, at stores that have no entry.
-ghost use Rattle.std.specs.Prelude.{◌≡◌, ◌≢◌, ◌≤◌, [], IfErr, IfOk, MatchOption, OnOk};
-ghost use Rattle.merge_site.specs.Beginning.{IsEmptyStore, StartsNot};
+ghost use Rattle.std.specs.Prelude.{◌≡◌, ◌≤◌, [], IfErr, IfOk, MatchOption, OnOk};
+ghost use Rattle.merge_site.specs.Beginning.{BeginsAt, IsEmptyStore, StartsNot};
 
 use crate::loading::load;
 use merge_batch::Refusal;
@@ -16,7 +16,7 @@ pub struct NotStarted<K: Keeper> {
 
 // The key of the first entry, where there is one.
 fn first_key(entries: &Entries) -> Result<Option<EntryKey>, NoMemory>
-    ensures { IfOk result (λ key. MatchOption key (entries.now ≡ []) (λ _. entries.now ≢ [])) }
+    ensures { IfOk result (λ key. MatchOption key (entries.now ≡ []) (λ first. BeginsAt first entries.now)) }
 {
     let mut rest = entries.iter();
     match rest.next() {

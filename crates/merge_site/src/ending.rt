@@ -8,9 +8,10 @@ use crate::subscriber::KeptSubscriber;
 use merge_ports::Keeper;
 
 impl<K: Keeper> KeptPublisher<K> {
-    /// Stops the site, and gives its keeper back with the records of its tables.
+    /// Stops the site, and gives its keeper back, which has the records of its tables and tells what it told.
     pub fn into_keeper(self) -> K
         ensures kept { IsKeptPublisher self.tables (K.told result) }
+        ensures told { K.told result ≡ self.told }
         ensures faults { K.count result ≡ self.faults }
     {
         self.keeper
@@ -18,9 +19,10 @@ impl<K: Keeper> KeptPublisher<K> {
 }
 
 impl<K: Keeper> KeptSubscriber<K> {
-    /// Stops the site, and gives its keeper back with the records of its tables.
+    /// Stops the site, and gives its keeper back, which has the records of its tables and tells what it told.
     pub fn into_keeper(self) -> K
         ensures kept { IsKeptSubscriber self.tables (K.told result) }
+        ensures told { K.told result ≡ self.told }
         ensures faults { K.count result ≡ self.faults }
     {
         self.keeper

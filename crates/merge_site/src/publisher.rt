@@ -1,9 +1,9 @@
 //! A publisher with a keeper of its records.
-ghost use Rattle.std.specs.Prelude.{◌≡◌, ◌≤◌, ◌+◌, ◌||◌, ℕ, IfErr, IfOk, Ok, OnOk, false, length, nat_lt, true};
+ghost use Rattle.std.specs.Prelude.{◌≡◌, ◌≤◌, ◌+◌, ◌||◌, ℕ, Err, IfErr, IfOk, List, Ok, OnOk, false, length, nat_lt, true};
 ghost use Rattle.merge_units.specs.Changes.{ColumnsAscend};
 ghost use Rattle.merge_batch.specs.Articles.{has_article};
 ghost use Rattle.merge_batch.specs.LocalChanges.{article_of, settings_of};
-ghost use Rattle.merge_batch.specs.declared.refusal.Refusal.TheVariants.{NoMemory as no_memory};
+ghost use Rattle.merge_batch.specs.declared.refusal.Refusal.TheVariants.{Damaged, NoMemory as no_memory};
 ghost use Rattle.merge_model.specs.Judge.ByNumbers.{by_numbers};
 ghost use Rattle.merge_model.specs.World.Calls.{RefusesOnlyAs, always_commits, closing_commits, is_later};
 ghost use Rattle.merge_model.specs.Publisher.{close_generation, empty_publisher};
@@ -14,6 +14,7 @@ ghost use Rattle.merge_pub.specs.Held.{tables_of};
 ghost use Rattle.merge_world.specs.Restarts.{Restarted};
 ghost use Rattle.merge_world.specs.Views.{PublisherCall};
 ghost use Rattle.merge_site.specs.Beginning.{IsEmptyStore, StartsNot};
+ghost use Rattle.merge_site.specs.Damages.{IsPublisherDamage};
 
 use crate::beginning::{NotStarted, check_empty};
 use crate::publisher_commit::{commit_and_purge, finish};
@@ -48,7 +49,7 @@ impl<K: Keeper> Model for KeptPublisher<K> {
 
     ghost coded = { Prim.hlevel (codes, syntax_code) };
 
-    ghost view = { λ p. record { publication = publication_of p.publisher; tables = tables_of p.publisher; faults = K.count p.keeper } };
+    ghost view = { λ p. record { publication = publication_of p.publisher; tables = tables_of p.publisher; faults = K.count p.keeper; told = K.told p.keeper } };
 
     ghost invariant = { λ p. IsKeptPublisher (tables_of p.publisher) (K.told p.keeper) };
 }
@@ -196,6 +197,7 @@ impl<K: Keeper> KeptPublisher<K> {
     /// record to be damaged, the caller has lost it.
     pub fn restart(&mut self) -> Result<(), Refusal>
         ensures restarted { Restarted self.old.tables self.new.tables self.old.faults self.new.faults result }
+        ensures damaged { (table : ℕ) (key : List ℕ) → result ≡ Err (Damaged table key) → IsPublisherDamage self.new table key }
         ensures publication { self.new.publication ≡ self.old.publication }
     {
         let _ = load_publisher(self.alloc, &mut self.keeper, self.publisher.publication())?;

@@ -15,7 +15,11 @@ use merge_units::{PublisherRow, SubscriberRow};
 use merge_world::{PublisherSite, SubscriberSite};
 
 impl<K: Keeper> PublisherSite for KeptPublisher<K> {
+    ghost use Rattle.merge_site.specs.Damages.{IsPublisherDamage};
+
     ghost view = { λ p. p };
+
+    ghost Damage = { IsPublisherDamage };
 
     fn local(&mut self, now: Moment, change: &Change) -> Result<RowId, Refusal> {
         self.local(now, change)
@@ -76,7 +80,11 @@ impl<K: Keeper> PublisherSite for KeptPublisher<K> {
 }
 
 impl<K: Keeper> SubscriberSite for KeptSubscriber<K> {
+    ghost use Rattle.merge_site.specs.Damages.{IsSubscriberDamage};
+
     ghost view = { λ s. s };
+
+    ghost Damage = { IsSubscriberDamage };
 
     fn local(&mut self, now: Moment, change: &Change) -> Result<RowId, Refusal> {
         self.local(now, change)
@@ -138,7 +146,7 @@ impl<K: Keeper> SubscriberSite for KeptSubscriber<K> {
         self.marks()
     }
 
-    fn unsent(&self) -> Result<u64, NoMemory> {
+    fn unsent(&self) -> u64 {
         self.unsent()
     }
 }

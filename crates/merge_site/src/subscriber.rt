@@ -1,10 +1,10 @@
 //! A subscriber with a keeper of its records.
-ghost use Rattle.std.specs.Prelude.{◌≡◌, ◌≤◌, ◌||◌, ℕ, IfErr, IfOk, IsOk, Ok, OnOk, false, nat_lt, true};
+ghost use Rattle.std.specs.Prelude.{◌≡◌, ◌≤◌, ◌||◌, ℕ, Err, IfErr, IfOk, IsOk, List, Ok, OnOk, false, nat_lt, true};
 ghost use Rattle.merge_units.specs.Changes.{ColumnsAscend};
 ghost use Rattle.merge_batch.specs.Articles.{has_article};
 ghost use Rattle.merge_batch.specs.LocalChanges.{article_of, settings_of};
 ghost use Rattle.merge_model.specs.Judge.ByNumbers.{by_rows};
-ghost use Rattle.merge_batch.specs.declared.refusal.Refusal.TheVariants.{NoMemory as no_memory};
+ghost use Rattle.merge_batch.specs.declared.refusal.Refusal.TheVariants.{Damaged, NoMemory as no_memory};
 ghost use Rattle.merge_model.specs.World.Calls.{RefusesOnlyAs, always_commits, closing_commits, is_later, message_commits, message_or_none, reply_commits};
 ghost use Rattle.merge_model.specs.Subscriber.Reinit.{reinitialise};
 ghost use Rattle.merge_model.specs.World.Reports.{marks_of, unsent_count};
@@ -19,6 +19,7 @@ ghost use Rattle.merge_world.specs.Printable.{AreLostPrintable, ArePrintable};
 ghost use Rattle.merge_world.specs.Restarts.{Restarted};
 ghost use Rattle.merge_world.specs.Views.{SubscriberCall};
 ghost use Rattle.merge_site.specs.Beginning.{IsEmptyStore, StartsNot};
+ghost use Rattle.merge_site.specs.Damages.{IsSubscriberDamage};
 
 use crate::beginning::{NotStarted, check_empty};
 use crate::restarting::load_subscriber;
@@ -57,7 +58,7 @@ impl<K: Keeper> Model for KeptSubscriber<K> {
 
     ghost coded = { Prim.hlevel (codes, syntax_code) };
 
-    ghost view = { λ s. record { publication = s.subscriber.publication; tables = tables_of s.subscriber; faults = K.count s.keeper } };
+    ghost view = { λ s. record { publication = s.subscriber.publication; tables = tables_of s.subscriber; faults = K.count s.keeper; told = K.told s.keeper } };
 
     ghost invariant = { λ s. IsKeptSubscriber (tables_of s.subscriber) (K.told s.keeper) };
 }
@@ -260,6 +261,7 @@ impl<K: Keeper> KeptSubscriber<K> {
     /// record to be damaged, the caller has lost it.
     pub fn restart(&mut self) -> Result<(), Refusal>
         ensures restarted { Restarted self.old.tables self.new.tables self.old.faults self.new.faults result }
+        ensures damaged { (table : ℕ) (key : List ℕ) → result ≡ Err (Damaged table key) → IsSubscriberDamage self.new table key }
         ensures publication { self.new.publication ≡ self.old.publication }
         ensures site { self.new.tables.site ≡ self.old.tables.site }
     {
@@ -322,8 +324,8 @@ impl<K: Keeper> KeptSubscriber<K> {
     }
 
     /// How many rows have a change that was not sent.
-    pub fn unsent(&self) -> Result<u64, NoMemory>
-        ensures { IfOk result (λ count. count ≡ unsent_count self.now.tables) }
+    pub fn unsent(&self) -> u64
+        ensures { result ≡ unsent_count self.now.tables }
     {
         self.subscriber.unsent()
     }

@@ -1,13 +1,15 @@
 -- Restarts, as events.
 use Rattle.std.proofs.Common.{◌≡◌, ◌≤◌, ◌+◌, ℕ, true, false, List, [], Some, Result, Ok, Err, get_or, length, map, set, sum_by, ◌<◌, refl, ap, sym, subst, ◌∙◌, arith, inl, inr}
 use Rattle.std.specs.List.{position}
-use Rattle.std.specs.Prelude.{IfErr, IfOk}
-use Rattle.std.proofs.lemmas.List.{map-set}
+use Rattle.std.specs.Prelude.{Contains, IfErr, IfOk}
+use Rattle.std.proofs.lemmas.List.{get_or-set_same, length-set, map-set}
+use Rattle.std.proofs.lemmas.List.Elements.{Contains-get_or}
+use Rattle.std.proofs.lemmas.Result.{IfErr-at_err}
 use Rattle.std.proofs.Math.Seq.{map-set_same}
 use Rattle.merge_types.specs.declared.identifiers.Moment.{Moment}
 use Rattle.merge_types.specs.declared.identifiers.SiteId.{SiteId}
 use Rattle.merge_batch.specs.declared.refusal.Refusal.{Refusal}
-use Rattle.merge_batch.specs.declared.refusal.Refusal.TheVariants.{NoMemory, UnknownSite}
+use Rattle.merge_batch.specs.declared.refusal.Refusal.TheVariants.{Damaged, NoMemory, UnknownSite}
 use Rattle.merge_model.specs.World.Events.{happens, is_site, looking}
 use Rattle.merge_model.specs.Failing.{Faulty, Slips, faulty}
 use Rattle.merge_model.specs.Failing.Reach.{stepping}
@@ -15,6 +17,7 @@ use Rattle.merge_model.specs.Tables.{PublisherTables, SubscriberTables}
 use Rattle.merge_model.specs.World.{Saying, World}
 use Rattle.merge_model.specs.declared.answer.Answer.{Answer}
 use Rattle.merge_model.specs.declared.answer.Answer.TheVariants.{Fine, Refused}
+use Rattle.merge_model.specs.declared.event.Event.{Event}
 use Rattle.merge_model.specs.declared.event.Event.TheVariants as event
 use Rattle.merge_model.specs.declared.letter.Letter.{Letter}
 use Rattle.merge_model.proofs.Failing.Calling.{stayed}
@@ -23,7 +26,7 @@ use Rattle.merge_world.proofs.Finding.{at-place, is_of, placed, within}
 use Rattle.merge_world.proofs.Happenings.{looks-on, so-refused, unknown-site, wants-on, where-if}
 use Rattle.merge_world.proofs.Locals.{stays-same}
 use Rattle.merge_world.specs.Happenings.{Happened, Proceeds}
-use Rattle.merge_world.specs.Restarts.{IsLost, Restarted}
+use Rattle.merge_world.specs.Restarts.{IsDamagedAt, IsLost, Restarted}
 use Rattle.merge_world.specs.Resuming.{EndsRun, Resumes}
 use Rattle.merge_world.specs.Views.{HandedView, PublisherView, SitesView, SubscriberView, entry_of, faults_of, sites_view, world_of}
 
@@ -72,6 +75,29 @@ module _ {S : Type 0} (f : S → SubscriberView) (p : PublisherView) (pool : Lis
       let place = placed f items i s site found at in
       subst (λ (l : List SubscriberView). Resumes (sites_view p (map f items) pool moment) (sites_view p l pool moment) r) (sym (map-set f items i s'))
       (among p pool moment (map f items) i (f s) (f s') (within f items i place.0) (at-place f items i s place.0 at) same_site same_publication r restarted)
+
+-- a record that is damaged at the subscriber of a site is so among all
+pub damaged-among : {P S : Type 0} (f : S → SubscriberView) (publisher : P → ℕ → List ℕ → Type 0) (subscriber : S → ℕ → List ℕ → Type 0) (p : P) (items : List S) (i : ℕ) (s s' : S) (site : SiteId)
+    → Some i ≡ position (is_of f site.0) items → s ≡ get_or items i s → (f s').tables.site ≡ (f s).tables.site → (table : ℕ) (key : List ℕ) → subscriber s' table key
+    → IsDamagedAt publisher subscriber (λ (x : S). (f x).tables.site.0) p (set items i s') site table key
+damaged-among {P} {S} f publisher subscriber p items i s s' site found here same table key damage =
+    let place = placed f items i s site.0 found here in
+    let lt : i < length (set items i s') = omega (arith, place.0, length-set items i s') in record {
+      damage = inr (s', subst (λ (x : S). Contains (set items i s') x) (get_or-set_same items i s' s' place.0) (Contains-get_or (set items i s') i s' lt), ap (λ (x : SiteId). x.0) same ∙ sym place.1, damage);
+    }
+
+-- a run that ends by a damaged record met it
+pub damaged-so : (why : Refusal) (table : ℕ) (key : List ℕ) (r : Result Answer Refusal) → IfErr r (λ other. (other ≡ why) × (why ≡ NoMemory → ⊥)) → r ≡ Err (Damaged table key)
+    → (let met : Result Unit Refusal = Err why in met) ≡ Err (Damaged table key)
+damaged-so why table key r ended is = ap (λ (x : Refusal). (let met : Result Unit Refusal = Err x in met)) (sym (IfErr-at_err (λ (other : Refusal). (other ≡ why) × (why ≡ NoMemory → ⊥)) is ended).0)
+
+-- an event restarts one site
+abbrev restarted_in : Event → SiteId → SiteId
+restarted_in (event.Restart site) other = site
+restarted_in e other = other
+
+pub restarts-same : (e : Event) (a b : SiteId) → e ≡ event.Restart a → e ≡ event.Restart b → b ≡ a
+restarts-same e a b one other = ap (λ (x : Event). restarted_in x a) (sym other ∙ one)
 
 -- As events.
 module _ (site : SiteId) (u v : SitesView) where

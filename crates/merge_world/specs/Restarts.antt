@@ -1,5 +1,6 @@
 -- What a restart of a site does.
-use Rattle.std.specs.Prelude.{Err, List, Ok, Result, ℕ, ◌+◌, ◌≡◌, ◌≤◌, ◌⊎◌}
+use Rattle.std.specs.Prelude.{Contains, Err, List, Ok, Result, ℕ, ◌+◌, ◌≡◌, ◌≤◌, ◌⊎◌}
+use Rattle.merge_types.specs.declared.identifiers.SiteId.{SiteId}
 use Rattle.merge_batch.specs.declared.refusal.Refusal.{Refusal}
 use Rattle.merge_batch.specs.declared.refusal.Refusal.TheVariants.{Damaged, NoMemory, StoreFault}
 
@@ -11,3 +12,7 @@ IsLost why before after = ((why ≡ StoreFault) × (before + 1 ≤ after)) ⊎ (
 abbrev pub Restarted : {T : Type 0} → T → T → ℕ → ℕ → Result Unit Refusal → Type 0
 Restarted old new before after (Ok done) = (new ≡ old) × (after ≡ before)
 Restarted old new before after (Err why) = (new ≡ old) × ((why ≡ NoMemory) × (after ≡ before) ⊎ IsLost why before after)
+
+-- the record with this key is damaged in the store of a site: of the publisher, which is 0, or of the subscriber with its number
+pub record IsDamagedAt {P S : Type 0} (publisher : P → ℕ → List ℕ → Type 0) (subscriber : S → ℕ → List ℕ → Type 0) (number : S → ℕ) (p : P) (subscribers : List S) (site : SiteId) (table : ℕ) (key : List ℕ) : Type 0 where
+  pub damage : ((site.0 ≡ 0) × publisher p table key) ⊎ ((s : S) × Contains subscribers s × (number s ≡ site.0) × subscriber s table key)

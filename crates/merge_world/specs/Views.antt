@@ -2,6 +2,7 @@
 use Rattle.std.specs.Prelude.{Bool, List, Option, Result, get_or, length, map, sum_by, ℕ, ◌+◌, ◌<◌, ◌≡◌}
 use Rattle.merge_types.specs.declared.identifiers.Moment.{Moment}
 use Rattle.merge_types.specs.declared.identifiers.SiteId.{SiteId}
+use Rattle.merge_ports.specs.Entries.{Map}
 use Rattle.merge_resolve.specs.Asked.{says_at}
 use Rattle.merge_schema.specs.declared.publication.Publication.{Publication}
 use Rattle.merge_batch.specs.declared.refusal.Refusal.{Refusal}
@@ -16,16 +17,18 @@ use Rattle.merge_model.specs.declared.outcome.Outcome.{Outcome}
 use Rattle.merge_units.specs.declared.result.Decision.{Decision}
 use Rattle.merge_resolve.specs.declared.case.ConflictCase.{ConflictCase}
 
--- a publisher: its publication, its tables, and how many of its commits failed
+-- a publisher: its publication, its tables, how many of its commits failed, and what its store tells that it holds
 pub record PublisherView : Type 0 where
   pub publication : Publication
   pub tables : PublisherTables
   pub faults : ℕ
+  pub told : Option Map
 
 pub record SubscriberView : Type 0 where
   pub publication : Publication
   pub tables : SubscriberTables
   pub faults : ℕ
+  pub told : Option Map
 
 -- a call of a site: `by` is what it makes by the definitions, and `commits` says with which answers that is a commit
 abbrev pub PublisherCall : {A : Type 0} → Result (PublisherTables × A) Refusal → (A → Bool) → PublisherView → PublisherView → Result A Refusal → Type 0

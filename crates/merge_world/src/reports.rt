@@ -91,7 +91,7 @@ fn subscriber_report<S: SubscriberSite>(
         Report::Ranges => Ok(Answer::Held(holdings(alloc, subscriber.held())?)),
         Report::Generations => Ok(Answer::OfSubscriber {
             marks: subscriber.marks(),
-            unsent: subscriber.unsent()?,
+            unsent: subscriber.unsent(),
         }),
         Report::Counts => Ok(Answer::Counts(counts(alloc, publication, subscriber.rows())?)),
     }

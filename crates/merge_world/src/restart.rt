@@ -1,6 +1,6 @@
 //! Sites that stop and start again.
-ghost use Rattle.std.specs.Prelude.{◌≡◌, IfErr, IfOk, true};
-ghost use Rattle.merge_batch.specs.declared.refusal.Refusal.TheVariants.{NoMemory as no_memory};
+ghost use Rattle.std.specs.Prelude.{◌≡◌, ℕ, Err, IfErr, IfOk, List, true};
+ghost use Rattle.merge_batch.specs.declared.refusal.Refusal.TheVariants.{Damaged, NoMemory as no_memory};
 ghost use Rattle.merge_model.specs.World.Events.{is_site};
 ghost use Rattle.merge_model.specs.declared.answer.Answer.TheVariants as answers;
 ghost use Rattle.merge_model.specs.declared.event.Event.TheVariants as event;
@@ -30,7 +30,8 @@ impl<P: PublisherSite, S: SubscriberSite> Sites<P, S> {
     /// run ends.
     pub fn restart_event(&mut self, site: SiteId) -> Result<Answer, Refusal>
         requires { IsOrdered (⟦<Sites<P, S> as Seen>⟧.seen self.old) }
-        ensures { (h : _) → Proceeds (event.Restart site) (⟦<Sites<P, S> as Seen>⟧.seen self.old) (⟦<Sites<P, S> as Seen>⟧.seen self.new) h h result }
+        ensures happened { (h : _) → Proceeds (event.Restart site) (⟦<Sites<P, S> as Seen>⟧.seen self.old) (⟦<Sites<P, S> as Seen>⟧.seen self.new) h h result }
+        ensures damaged { (table : ℕ) (key : List ℕ) → result ≡ Err (Damaged table key) → ⟦<Sites<P, S> as Seen>⟧.IsDamaged self.new site table key }
     {
         match self.check_site(site) {
             Ok(()) => self.restart_known(site),
@@ -42,7 +43,8 @@ impl<P: PublisherSite, S: SubscriberSite> Sites<P, S> {
     fn restart_known(&mut self, site: SiteId) -> Result<Answer, Refusal>
         requires ordered { IsOrdered (⟦<Sites<P, S> as Seen>⟧.seen self.old) }
         requires known { is_site (⟦<Sites<P, S> as Seen>⟧.seen self.old).publication site ≡ true }
-        ensures { (h : _) → Proceeds (event.Restart site) (⟦<Sites<P, S> as Seen>⟧.seen self.old) (⟦<Sites<P, S> as Seen>⟧.seen self.new) h h result }
+        ensures happened { (h : _) → Proceeds (event.Restart site) (⟦<Sites<P, S> as Seen>⟧.seen self.old) (⟦<Sites<P, S> as Seen>⟧.seen self.new) h h result }
+        ensures damaged { (table : ℕ) (key : List ℕ) → result ≡ Err (Damaged table key) → ⟦<Sites<P, S> as Seen>⟧.IsDamaged self.new site table key }
     {
         match self.restart(site) {
             Ok(()) => Ok(Answer::Fine),
@@ -52,7 +54,8 @@ impl<P: PublisherSite, S: SubscriberSite> Sites<P, S> {
 
     fn restart(&mut self, site: SiteId) -> Result<(), Refusal>
         requires { IsOrdered (⟦<Sites<P, S> as Seen>⟧.seen self.old) }
-        ensures { Resumes (⟦<Sites<P, S> as Seen>⟧.seen self.old) (⟦<Sites<P, S> as Seen>⟧.seen self.new) result }
+        ensures resumes { Resumes (⟦<Sites<P, S> as Seen>⟧.seen self.old) (⟦<Sites<P, S> as Seen>⟧.seen self.new) result }
+        ensures damaged { (table : ℕ) (key : List ℕ) → result ≡ Err (Damaged table key) → ⟦<Sites<P, S> as Seen>⟧.IsDamaged self.new site table key }
     {
         if site.0 == 0 {
             self.restart_publisher()
@@ -62,7 +65,8 @@ impl<P: PublisherSite, S: SubscriberSite> Sites<P, S> {
     }
 
     fn restart_publisher(&mut self) -> Result<(), Refusal>
-        ensures { Resumes (⟦<Sites<P, S> as Seen>⟧.seen self.old) (⟦<Sites<P, S> as Seen>⟧.seen self.new) result }
+        ensures resumes { Resumes (⟦<Sites<P, S> as Seen>⟧.seen self.old) (⟦<Sites<P, S> as Seen>⟧.seen self.new) result }
+        ensures damaged { (table : ℕ) (key : List ℕ) → result ≡ Err (Damaged table key) → ⟦<Sites<P, S> as Seen>⟧.IsDamaged self.new (record { 0 = 0 }) table key }
     {
         self.publisher.restart()
     }
@@ -70,7 +74,8 @@ impl<P: PublisherSite, S: SubscriberSite> Sites<P, S> {
     // Where there is no such subscriber, there is nothing to start.
     fn restart_subscriber(&mut self, site: SiteId) -> Result<(), Refusal>
         requires { IsOrdered (⟦<Sites<P, S> as Seen>⟧.seen self.old) }
-        ensures { Resumes (⟦<Sites<P, S> as Seen>⟧.seen self.old) (⟦<Sites<P, S> as Seen>⟧.seen self.new) result }
+        ensures resumes { Resumes (⟦<Sites<P, S> as Seen>⟧.seen self.old) (⟦<Sites<P, S> as Seen>⟧.seen self.new) result }
+        ensures damaged { (table : ℕ) (key : List ℕ) → result ≡ Err (Damaged table key) → ⟦<Sites<P, S> as Seen>⟧.IsDamaged self.new site table key }
     {
         match self.place_of(site) {
             None => Ok(()),

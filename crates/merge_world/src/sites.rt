@@ -12,9 +12,10 @@ use merge_units::{PublisherRow, SubscriberRow};
 
 /// The publisher's site.
 pub trait PublisherSite: Drop {
-    ghost use Rattle.std.specs.Prelude.{◌≡◌, ℕ, IfOk, Ok, length, map, true};
+    ghost use Rattle.std.specs.Prelude.{◌≡◌, ℕ, Err, IfOk, List, Ok, length, map, true};
     ghost use Rattle.merge_batch.specs.Articles.{has_article};
     ghost use Rattle.merge_batch.specs.LocalChanges.{article_of, settings_of};
+    ghost use Rattle.merge_batch.specs.declared.refusal.Refusal.TheVariants.{Damaged};
     ghost use Rattle.merge_resolve.specs.Asked.{says_at};
     ghost use Rattle.merge_units.specs.Changes.{ColumnsAscend};
     ghost use Rattle.merge_model.specs.Judge.ByNumbers.{by_numbers};
@@ -29,6 +30,9 @@ pub trait PublisherSite: Drop {
     ghost use Rattle.merge_world.specs.Views.{PublisherCall, PublisherView};
 
     ghost view: { Self → PublisherView };
+
+    /// That the record with this key is damaged in the site's store.
+    ghost Damage: { Self → ℕ → List ℕ → Type 0 };
 
     /// A local change. It gives the row that was changed.
     fn local(&mut self, now: Moment, change: &Change) -> Result<RowId, Refusal>
@@ -64,6 +68,7 @@ pub trait PublisherSite: Drop {
     /// Stops, and starts from what is kept. A store that cannot be read, or damaged records, end it.
     fn restart(&mut self) -> Result<(), Refusal>
         ensures restarted { Restarted (view self.old).tables (view self.new).tables (view self.old).faults (view self.new).faults result }
+        ensures damaged { (table : ℕ) (key : List ℕ) → result ≡ Err (Damaged table key) → Damage self.new table key }
         ensures publication { (view self.new).publication ≡ (view self.old).publication };
 
     fn publication(&self) -> &Publication
@@ -99,9 +104,10 @@ pub trait PublisherSite: Drop {
 
 /// A subscriber's site.
 pub trait SubscriberSite: Drop {
-    ghost use Rattle.std.specs.Prelude.{◌≡◌, IfOk, true};
+    ghost use Rattle.std.specs.Prelude.{◌≡◌, ℕ, Err, List, true};
     ghost use Rattle.merge_batch.specs.Articles.{has_article};
     ghost use Rattle.merge_batch.specs.LocalChanges.{article_of, settings_of};
+    ghost use Rattle.merge_batch.specs.declared.refusal.Refusal.TheVariants.{Damaged};
     ghost use Rattle.merge_model.specs.Judge.ByNumbers.{by_rows};
     ghost use Rattle.merge_model.specs.World.Calls.{always_commits, closing_commits, message_commits, message_or_none, reply_commits};
     ghost use Rattle.merge_model.specs.Subscriber.Reinit.{reinitialise};
@@ -115,6 +121,9 @@ pub trait SubscriberSite: Drop {
     ghost use Rattle.merge_world.specs.Views.{SubscriberCall, SubscriberView};
 
     ghost view: { Self → SubscriberView };
+
+    /// That the record with this key is damaged in the site's store.
+    ghost Damage: { Self → ℕ → List ℕ → Type 0 };
 
     /// A local change. It gives the row that was changed.
     fn local(&mut self, now: Moment, change: &Change) -> Result<RowId, Refusal>
@@ -169,6 +178,7 @@ pub trait SubscriberSite: Drop {
     /// Stops, and starts from what is kept. A store that cannot be read, or damaged records, end it.
     fn restart(&mut self) -> Result<(), Refusal>
         ensures restarted { Restarted (view self.old).tables (view self.new).tables (view self.old).faults (view self.new).faults result }
+        ensures damaged { (table : ℕ) (key : List ℕ) → result ≡ Err (Damaged table key) → Damage self.new table key }
         ensures publication { (view self.new).publication ≡ (view self.old).publication }
         ensures site { (view self.new).tables.site ≡ (view self.old).tables.site };
 
@@ -196,6 +206,6 @@ pub trait SubscriberSite: Drop {
         ensures { result ≡ marks_of (view self.now).tables };
 
     /// How many rows have a change that was not sent.
-    fn unsent(&self) -> Result<u64, NoMemory>
-        ensures { IfOk result (λ count. count ≡ unsent_count (view self.now).tables) };
+    fn unsent(&self) -> u64
+        ensures { result ≡ unsent_count (view self.now).tables };
 }

@@ -1,6 +1,9 @@
 //! One event of a script.
-ghost use Rattle.std.specs.Prelude.{◌≡◌, ◌≤◌, ◌+◌, ◌^◌, IfOk};
+ghost use Rattle.std.specs.Prelude.{◌≡◌, ◌≤◌, ◌+◌, ◌^◌, ℕ, Err, IfOk, List};
+ghost use Rattle.merge_types.specs.declared.identifiers.SiteId.{SiteId};
+ghost use Rattle.merge_batch.specs.declared.refusal.Refusal.TheVariants.{Damaged};
 ghost use Rattle.merge_model.specs.Script.Proper.{IsProperAnswer};
+ghost use Rattle.merge_model.specs.declared.event.Event.TheVariants.{Restart};
 ghost use Rattle.merge_world.specs.Happenings.{Proceeds, seconds_of};
 ghost use Rattle.merge_world.specs.Views.{IsOrdered, handed_view};
 
@@ -26,6 +29,7 @@ impl<P: PublisherSite, S: SubscriberSite> Sites<P, S> {
         requires clock { self.old.moment.0 + 2 ^ 32 ≤ 2 ^ 64 }
         ensures happened { Proceeds event.now (⟦<Sites<P, S> as Seen>⟧.seen self.old) (⟦<Sites<P, S> as Seen>⟧.seen self.new)
             (handed_view (λ r. says r) (λ r. tally_of r) resolvers.old.items) (handed_view (λ r. says r) (λ r. tally_of r) resolvers.new.items) result }
+        ensures damaged { (site : SiteId) (table : ℕ) (key : List ℕ) → event.now ≡ Restart site → result ≡ Err (Damaged table key) → ⟦<Sites<P, S> as Seen>⟧.IsDamaged self.new site table key }
         ensures printable { IfOk result IsProperAnswer }
     {
         match event {

@@ -46,6 +46,6 @@ returns-clause-counted g c =
     let says = says_at (λ r. (goal.Resolver-dyn g (r.vtable, r.value)).says r.value) c.args.resolvers.now.items in
     let tallies = map (λ r. (goal.Resolver-dyn g (r.vtable, r.value)).tally_of r.value) c.args.resolvers.now.items in
     let told = map (λ r. (goal.Resolver-dyn g (r.vtable, r.value)).tally_of r.value) c.draft_upload-drafted.new.resolvers.items in
-    request-counted _ (view_of c.self.inside.publisher (g.K.Keeper.count c.self.inside.keeper)) c.self.view_is (λ (v : PublisherView). upload_by v.publication says tallies c.args.now c.args.m.now v.tables) (λ (v : PublisherView). asked_on v.publication c.args.now c.args.m.now v.tables) tallies _ c.told_alone-worked.result c.finish.result
+    request-counted _ (view_of c.self.inside.publisher (g.K.Keeper.count c.self.inside.keeper) (g.K.Keeper.told c.self.inside.keeper)) c.self.view_is (λ (v : PublisherView). upload_by v.publication says tallies c.args.now c.args.m.now v.tables) (λ (v : PublisherView). asked_on v.publication c.args.now c.args.m.now v.tables) tallies _ c.told_alone-worked.result c.finish.result
     (told-asked c.draft_upload-drafted.result c.told_alone-worked.result c.told_alone-worked.ensures (told ≡ tallies_after tallies (asked_on (publication_of c.self.inside.publisher) c.args.now c.args.m.now (tables_of c.self.inside.publisher))) c.draft_upload-drafted.ensures.asked)
     c.draft_upload-drafted.ensures.some c.draft_upload-drafted.ensures.none c.finish.ensures.worked

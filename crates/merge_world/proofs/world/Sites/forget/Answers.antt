@@ -3,7 +3,7 @@ use Rattle.merge_world.proofs.Locals.{forgets}
 use Rattle.merge_world.proofs.world.Sites.forget.Goals as goal
 
 pub returns-in-Ok : goal.returns-in-Ok
-returns-in-Ok g c = forgets _ _ _ _ _ c.in-Ok.ensures.publication (Ok c.in-Ok.forgotten) c.in-Ok.ensures.called
+returns-in-Ok g c = forgets _ _ _ (g.P.PublisherSite.view c.args.self.now.publisher) (g.P.PublisherSite.view c.purge.new.self) c.in-Ok.ensures.publication (Ok c.in-Ok.forgotten) c.in-Ok.ensures.called
 
 pub returns-in-Err : goal.returns-in-Err
-returns-in-Err g c = forgets _ _ _ _ _ c.in-Err.ensures.publication (Err c.in-Err.refusal) c.in-Err.ensures.called
+returns-in-Err g c = forgets _ _ _ (g.P.PublisherSite.view c.args.self.now.publisher) (g.P.PublisherSite.view c.purge.new.self) c.in-Err.ensures.publication (Err c.in-Err.refusal) c.in-Err.ensures.called

@@ -1,5 +1,6 @@
 use Rattle.std.proofs.Common.{refl}
 use Rattle.merge_world.proofs.Happenings.{event-so, proceeds-so}
+use Rattle.merge_world.proofs.Resumings.{restarts-same}
 use Rattle.merge_world.proofs.Shows.{nobody, proceeds-printable, shows-nothing}
 use Rattle.merge_world.proofs.world.Sites.step.Goals as goal
 
@@ -82,10 +83,13 @@ pub returns-in-Purge-clause-printable : goal.returns-in-Purge-clause-printable
 returns-in-Purge-clause-printable g c = shows-nothing _ refl _ _ _ _ _ (c.purge_event.ensures nobody)
 
 pub returns-in-Restart-clause-happened : goal.returns-in-Restart-clause-happened
-returns-in-Restart-clause-happened g c = proceeds-so _ _ _ _ _ _ _ c.in-Restart.is (c.restart_event.ensures _)
+returns-in-Restart-clause-happened g c = proceeds-so _ _ _ _ _ _ _ c.in-Restart.is (c.restart_event.ensures.happened _)
 
 pub returns-in-Restart-clause-printable : goal.returns-in-Restart-clause-printable
-returns-in-Restart-clause-printable g c = proceeds-printable _ refl _ _ _ _ _ (c.restart_event.ensures nobody)
+returns-in-Restart-clause-printable g c = proceeds-printable _ refl _ _ _ _ _ (c.restart_event.ensures.happened nobody)
+
+pub returns-in-Restart-clause-damaged : goal.returns-in-Restart-clause-damaged
+returns-in-Restart-clause-damaged g c = λ site table key here is. rw (restarts-same _ _ _ c.in-Restart.is here) (c.restart_event.ensures.damaged table key is)
 
 pub returns-in-Show-clause-happened : goal.returns-in-Show-clause-happened
 returns-in-Show-clause-happened g c = event-so _ _ _ _ _ _ _ c.in-Show.is (c.show_event.ensures.happened _)
