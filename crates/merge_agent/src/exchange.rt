@@ -26,6 +26,7 @@ pub(crate) fn exchange<S: SubscriberSite, N: Link, C: Clock>(
     sending: Sending,
 ) -> Result<Option<Reply>, SessionFault>
     requires { IsVisible address.now }
+    ensures peer { N.peer link.new ≡ N.peer link.old }
     ensures advances { Advances (S.view site.old).tables (S.view site.new).tables result }
     ensures exchanges { Exchanges address.now (sending_of sending)
         (meeting (S.view site.old) (N.coming link.old) (N.exchanges link.old) (N.count link.old) (C.told clock.old))

@@ -23,7 +23,8 @@ fn join_first<S: SubscriberSite, N: Link, C: Clock>(
     clock: &mut C,
 ) -> Result<(), SessionFault>
     requires { IsVisible address.now }
-    ensures { Goes address.now (begun (S.view site.old).tables) (λ _. at Uploads (S.view site.new).tables 0 0)
+    ensures peer { N.peer link.new ≡ N.peer link.old }
+    ensures goes { Goes address.now (begun (S.view site.old).tables) (λ _. at Uploads (S.view site.new).tables 0 0)
         (meeting (S.view site.old) (N.coming link.old) (N.exchanges link.old) (N.count link.old) (C.told clock.old))
         (meeting (S.view site.new) (N.coming link.new) (N.exchanges link.new) (N.count link.new) (C.told clock.new)) result }
 {
@@ -42,7 +43,8 @@ fn upload_all<S: SubscriberSite, N: Link, C: Clock>(
     clock: &mut C,
 ) -> Result<u64, SessionFault>
     requires { IsVisible address.now }
-    ensures { Goes address.now (at Uploads (S.view site.old).tables 0 0) (λ count. at Asks (S.view site.new).tables count 0)
+    ensures peer { N.peer link.new ≡ N.peer link.old }
+    ensures goes { Goes address.now (at Uploads (S.view site.old).tables 0 0) (λ count. at Asks (S.view site.new).tables count 0)
         (meeting (S.view site.old) (N.coming link.old) (N.exchanges link.old) (N.count link.old) (C.told clock.old))
         (meeting (S.view site.new) (N.coming link.new) (N.exchanges link.new) (N.count link.new) (C.told clock.new)) result }
 {
@@ -77,7 +79,8 @@ fn ask_for_ranges<S: SubscriberSite, N: Link, C: Clock>(
     clock: &mut C,
 ) -> Result<(), SessionFault>
     requires { IsVisible address.now }
-    ensures { (x : ℕ) → Goes address.now (at Asks (S.view site.old).tables x 0) (λ _. at (Downloads nothing) (S.view site.new).tables x 0)
+    ensures peer { N.peer link.new ≡ N.peer link.old }
+    ensures goes { (x : ℕ) → Goes address.now (at Asks (S.view site.old).tables x 0) (λ _. at (Downloads nothing) (S.view site.new).tables x 0)
         (meeting (S.view site.old) (N.coming link.old) (N.exchanges link.old) (N.count link.old) (C.told clock.old))
         (meeting (S.view site.new) (N.coming link.new) (N.exchanges link.new) (N.count link.new) (C.told clock.new)) result }
 {
@@ -124,7 +127,8 @@ fn download_all<S: SubscriberSite, N: Link, C: Clock>(
     clock: &mut C,
 ) -> Result<u64, SessionFault>
     requires { IsVisible address.now }
-    ensures { (x : ℕ) → Goes address.now (at (Downloads nothing) (S.view site.old).tables x 0) (λ count. at Over (S.view site.new).tables x count)
+    ensures peer { N.peer link.new ≡ N.peer link.old }
+    ensures goes { (x : ℕ) → Goes address.now (at (Downloads nothing) (S.view site.old).tables x 0) (λ count. at Over (S.view site.new).tables x count)
         (meeting (S.view site.old) (N.coming link.old) (N.exchanges link.old) (N.count link.old) (C.told clock.old))
         (meeting (S.view site.new) (N.coming link.new) (N.exchanges link.new) (N.count link.new) (C.told clock.new)) result }
 {
@@ -158,7 +162,8 @@ pub fn session<S: SubscriberSite, N: Link, C: Clock>(
     clock: &mut C,
 ) -> Result<Done, SessionFault>
     requires { IsVisible address.now }
-    ensures { Syncs address.now
+    ensures peer { N.peer link.new ≡ N.peer link.old }
+    ensures syncs { Syncs address.now
         (meeting (S.view site.old) (N.coming link.old) (N.exchanges link.old) (N.count link.old) (C.told clock.old))
         (meeting (S.view site.new) (N.coming link.new) (N.exchanges link.new) (N.count link.new) (C.told clock.new)) result }
 {

@@ -1,13 +1,14 @@
 //! What carries requests to a publisher.
-ghost use Rattle.std.specs.Prelude.{◌≡◌, ◌+◌, ◌∷◌, ◌++◌, [], ℕ, List, Some, true, false, drop, IfOk, IsErrOf, OnOk, OnErr};
+ghost use Rattle.std.specs.Prelude.{◌≡◌, ◌+◌, ◌∷◌, ◌++◌, [], ℕ, List, None, Some, true, false, drop, option_map, IfOk, IsErrOf, OnOk, OnErr};
 ghost use Rattle.std.specs.declared.option.Option.{Option};
 ghost use Rattle.merge_ports.specs.Faults.{one_more};
 ghost use Rattle.merge_link.specs.Carried.{HasLinkCause, before_response, must_fail, with_exchange};
 ghost use Rattle.merge_link.specs.declared.link.Exchange.{Exchange as Carried};
 ghost use Rattle.merge_link.specs.declared.link.LinkFault.TheVariants.{Failed as failed, NoMemory as no_memory};
 
-use merge_types::{Exact, Listing, NoMemory, Octets};
+use merge_types::{Exact, Listing, NoMemory, Octets, Words};
 use std::alloc::{AllocError, Global};
+use std::snapshot::Snapshot;
 use thiserror::Error;
 
 /// Why a link gave no response.
@@ -60,6 +61,9 @@ pub trait Link {
     /// How often a call has failed. It never falls, and stays once it is the greatest u64.
     ghost count: { Self → ℕ };
 
+    /// The address at which it asks, if it has one.
+    ghost peer: { Self → Option (List ℕ) };
+
     /// Sends the bytes of one request, and gives all bytes of its response. They need be no message.
     /// A request that was refused may have come to the peer.
     fn ask(&mut self, request: &[u8]) -> Result<Octets, LinkFault>
@@ -67,6 +71,7 @@ pub trait Link {
         ensures exchange { IfOk result (λ response. exchanges self.new ≡ with_exchange request.now response (exchanges self.old)) }
         ensures waiting { OnErr result (coming self.new ≡ coming self.old) }
         ensures same { OnErr result (exchanges self.new ≡ exchanges self.old) }
+        ensures peer { peer self.new ≡ peer self.old }
         ensures cause { HasLinkCause (count self.old) (count self.new) result };
 
     /// How often a call has failed.
@@ -76,7 +81,7 @@ pub trait Link {
 
 /// A link that gives the responses of a list. The calls whose numbers are listed, counted from 0,
 /// fail, and so does each call behind the end of the responses.
-#[derive(Debug, Drop)]
+#[derive(Drop)]
 pub struct MemoryLink {
     pub responses: Listing<Octets>,
     /// How many of the responses were given.
@@ -87,12 +92,14 @@ pub struct MemoryLink {
     pub calls: u64,
     pub faults: u64,
     pub alloc: Global,
+    /// The address at which it asks, if it was given one. It does not look at it.
+    pub peer: Option<Snapshot<Words>>,
 }
 
 impl MemoryLink {
-    /// A link that was asked nothing yet.
+    /// A link without an address, which was asked nothing yet.
     pub fn new(alloc: Global, responses: Listing<Octets>, failing: Listing<u64>) -> Self
-        ensures { result ≡ record { responses = responses; given = 0; exchanges = []; failing = failing; calls = 0; faults = 0; alloc = alloc } }
+        ensures { result ≡ record { responses = responses; given = 0; exchanges = []; failing = failing; calls = 0; faults = 0; alloc = alloc; peer = None } }
     {
         MemoryLink {
             responses,
@@ -102,6 +109,7 @@ impl MemoryLink {
             calls: 0,
             faults: 0,
             alloc,
+            peer: None,
         }
     }
 
@@ -127,11 +135,14 @@ impl Link for MemoryLink {
 
     ghost count = { λ l. l.faults };
 
+    ghost peer = { λ l. option_map (λ s. s.value) l.peer };
+
     fn ask(&mut self, request: &[u8]) -> Result<Octets, LinkFault>
         ensures response { IfOk result (λ response. Some (drop self.old.given self.old.responses) ≡ before_response response (Some (drop self.new.given self.new.responses))) }
         ensures exchange { IfOk result (λ response. Some self.new.exchanges ≡ with_exchange request.now response (Some self.old.exchanges)) }
         ensures waiting { OnErr result (Some (drop self.new.given self.new.responses) ≡ Some (drop self.old.given self.old.responses)) }
         ensures same { OnErr result (Some self.new.exchanges ≡ Some self.old.exchanges) }
+        ensures peer { option_map (λ s. s.value) self.new.peer ≡ option_map (λ s. s.value) self.old.peer }
         ensures cause { HasLinkCause self.old.faults self.new.faults result }
         ensures tried { OnOk result (must_fail self.old.failing self.old.calls self.old.responses self.old.given ≡ false) }
         ensures failed { IsErrOf result failed → must_fail self.old.failing self.old.calls self.old.responses self.old.given ≡ true }

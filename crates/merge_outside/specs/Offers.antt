@@ -19,9 +19,11 @@ pub record Offers : Type 0 where
   pub exchanges : Option (List Exchange)
   -- the moments that are to come from the clock that is opened next
   pub moments : Option Moments
+  -- the address of the link that was given back last, if one was
+  pub peer : Option (List ℕ)
 
 abbrev pub nothing_told : Offers
-nothing_told = record { texts = (λ path. None); responses = None; exchanges = None; moments = None }
+nothing_told = record { texts = (λ path. None); responses = None; exchanges = None; moments = None; peer = None }
 
 -- the counts with the faults of a text; the greatest number of 64 bits stays
 abbrev pub with_text_faults : ℕ → Counts → Counts

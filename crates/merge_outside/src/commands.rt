@@ -1,5 +1,5 @@
 //! What opens the texts, links and clocks of commands.
-ghost use Rattle.std.specs.Prelude.{◌≡◌, ℕ, List, IfOk, IfSome, OnErr, []};
+ghost use Rattle.std.specs.Prelude.{◌≡◌, ℕ, List, IfOk, IfSome, OnErr, Some, []};
 ghost use Rattle.merge_types.specs.declared.identifiers.SiteId.{SiteId as Site};
 ghost use Rattle.merge_outside.specs.Offers.{Offers as Offered, HasTextCause, with_text_faults, with_link_faults};
 
@@ -38,20 +38,23 @@ pub trait CommandOutside: Outside {
         ensures still { (s : Site) (p : List ℕ) → Self.HasRoom self.old s p → Self.HasRoom self.new s p }
         ensures counts { Self.counts self.new ≡ with_text_faults (Self.In.count text) (Self.counts self.old) };
 
-    /// Makes a link to a publisher, which was asked nothing yet. What is no address shows as it is asked.
+    /// Makes a link to the publisher at an address, which was asked nothing yet. What is no address shows
+    /// as it is asked.
     fn link(&mut self, address: &Words) -> Result<Self::Line, NoMemory>
         ensures coming { IfOk result (λ link. Self.Line.coming link ≡ (offers self.old).responses) }
         ensures unasked { IfOk result (λ link. IfSome (Self.Line.exchanges link) (λ exchanges. exchanges ≡ [])) }
         ensures fresh { IfOk result (λ link. Self.Line.count link ≡ 0) }
+        ensures peer { IfOk result (λ link. Self.Line.peer link ≡ Some address.now) }
         ensures others { offers self.new ≡ record (offers self.old) { responses = (offers self.new).responses } }
         ensures err { OnErr result (offers self.new ≡ offers self.old) }
         ensures stores { Self.told self.new ≡ Self.told self.old }
         ensures still { (s : Site) (p : List ℕ) → Self.HasRoom self.old s p → Self.HasRoom self.new s p }
         ensures counts { Self.counts self.new ≡ Self.counts self.old };
 
-    /// Takes a link back: its exchanges are told, and its faults are counted. It takes no memory.
+    /// Takes a link back: its exchanges and its address are told, and its faults are counted. It takes no
+    /// memory.
     fn link_back(&mut self, link: Self::Line)
-        ensures exchanges { offers self.new ≡ record (offers self.old) { exchanges = Self.Line.exchanges link } }
+        ensures exchanges { offers self.new ≡ record (offers self.old) { exchanges = Self.Line.exchanges link; peer = Self.Line.peer link } }
         ensures stores { Self.told self.new ≡ Self.told self.old }
         ensures still { (s : Site) (p : List ℕ) → Self.HasRoom self.old s p → Self.HasRoom self.new s p }
         ensures counts { Self.counts self.new ≡ with_link_faults (Self.Line.count link) (Self.counts self.old) };

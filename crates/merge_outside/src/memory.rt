@@ -1,5 +1,5 @@
 //! An outside in memory, for tests of commands.
-ghost use Rattle.std.specs.Prelude.{◌≡◌, [], Some, true, false, IfOk, IfSome, IsErrOf, IsOk, OnErr, OnOk, is_none, option_copied, option_map};
+ghost use Rattle.std.specs.Prelude.{◌≡◌, [], None, Some, true, false, IfOk, IfSome, IsErrOf, IsOk, OnErr, OnOk, is_none, option_copied, option_map};
 ghost use Rattle.merge_ports.specs.Faults.{one_more};
 ghost use Rattle.merge_ports.specs.declared.outside.OpenFault.TheVariants.{Failed as failed, NoMemory as no_memory};
 ghost use Rattle.merge_outside.specs.Offers.{with_link_faults, with_text_faults};
@@ -11,6 +11,7 @@ use merge_ports::{Counts, Keeper, MemoryOutside, MemorySource, OpenFault, Outsid
 use merge_types::{Listing, Moment, NoMemory, Octets, SiteId, Words};
 use std::alloc::Global;
 use std::mem;
+use std::snapshot::Snapshot;
 
 /// A text at a path. The reads whose numbers are listed, counted from 0, fail.
 #[derive(Debug, Drop)]
@@ -37,12 +38,14 @@ pub struct MemoryCommands<K: Drop> {
     pub exchanges: Listing<Exchange>,
     pub moments: Listing<Moment>,
     pub alloc: Global,
+    /// The address of the link that was given back last.
+    pub peer: Option<Snapshot<Words>>,
 }
 
 impl<K: Keeper> MemoryCommands<K> {
     /// An outside with these stores, and nothing else.
     pub fn new(alloc: Global, stores: MemoryOutside<K>) -> Self
-        ensures { result ≡ record { stores = stores; texts = []; failing_texts = []; opened_texts = 0; responses = []; failing_asks = []; exchanges = []; moments = []; alloc = alloc } }
+        ensures { result ≡ record { stores = stores; texts = []; failing_texts = []; opened_texts = 0; responses = []; failing_asks = []; exchanges = []; moments = []; alloc = alloc; peer = None } }
     {
         MemoryCommands {
             stores,
@@ -54,6 +57,7 @@ impl<K: Keeper> MemoryCommands<K> {
             exchanges: Listing::empty(alloc),
             moments: Listing::empty(alloc),
             alloc,
+            peer: None,
         }
     }
 }
@@ -148,7 +152,7 @@ impl<K: Keeper> CommandOutside for MemoryCommands<K> {
 
     type Timer = MemoryClock;
 
-    ghost offers = { λ o. record { texts = bytes_at o.texts; responses = Some o.responses; exchanges = Some o.exchanges; moments = Some (record { coming = o.moments; last = record { 0 = 0 } }) } };
+    ghost offers = { λ o. record { texts = bytes_at o.texts; responses = Some o.responses; exchanges = Some o.exchanges; moments = Some (record { coming = o.moments; last = record { 0 = 0 } }); peer = option_map (λ s. s.value) o.peer } };
 
     fn text(&mut self, path: &Words) -> Result<MemorySource, OpenFault>
         ensures tried { OnOk result (text_fails self.old.failing_texts self.old.opened_texts self.old.texts path.now ≡ false) }
@@ -176,21 +180,25 @@ impl<K: Keeper> CommandOutside for MemoryCommands<K> {
         self.stores.counts.texts = self.stores.counts.texts.saturating_add(text.faults());
     }
 
-    fn link(&mut self, _address: &Words) -> Result<MemoryLink, NoMemory>
+    fn link(&mut self, address: &Words) -> Result<MemoryLink, NoMemory>
         ensures ok { IsOk result }
-        ensures made { IfOk result (λ link. link ≡ record { responses = self.old.responses; given = 0; exchanges = []; failing = self.old.failing_asks; calls = 0; faults = 0; alloc = self.old.alloc }) }
+        ensures peer { IfOk result (λ link. option_map (λ s. s.value) link.peer ≡ Some address.now) }
+        ensures made { IfOk result (λ link. link ≡ record { responses = self.old.responses; given = 0; exchanges = []; failing = self.old.failing_asks; calls = 0; faults = 0; alloc = self.old.alloc; peer = link.peer }) }
         ensures kept { self.new ≡ record self.old { responses = []; failing_asks = [] } }
     {
         let responses = mem::replace(&mut self.responses, Listing::empty(self.alloc));
         let failing = mem::replace(&mut self.failing_asks, Listing::empty(self.alloc));
-        Ok(MemoryLink::new(self.alloc, responses, failing))
+        let mut link = MemoryLink::new(self.alloc, responses, failing);
+        link.peer = Some(Snapshot::of(address));
+        Ok(link)
     }
 
     fn link_back(&mut self, link: MemoryLink)
-        ensures kept { self.new ≡ record self.old { exchanges = link.exchanges; stores = record self.old.stores { counts = with_link_faults link.faults self.old.stores.counts } } }
+        ensures kept { self.new ≡ record self.old { exchanges = link.exchanges; peer = link.peer; stores = record self.old.stores { counts = with_link_faults link.faults self.old.stores.counts } } }
     {
         self.stores.counts.links = self.stores.counts.links.saturating_add(link.faults());
         self.exchanges = link.exchanges;
+        self.peer = link.peer;
     }
 
     fn clock(&mut self) -> MemoryClock

@@ -1,5 +1,5 @@
 //! The program's outside.
-ghost use Rattle.std.specs.Prelude.{◌≡◌, ◌*◌, [], Some, None, IfOk, IsErrOf, IsOk, OnErr, OnOk};
+ghost use Rattle.std.specs.Prelude.{◌≡◌, ◌*◌, [], Some, None, IfOk, IsErrOf, IsOk, OnErr, OnOk, option_map};
 ghost use Rattle.std.specs.Duration.{as_nanos};
 ghost use Rattle.merge_ports.specs.Opened.{HasStoreCause, SameElsewhere, with_faults};
 ghost use Rattle.merge_ports.specs.declared.outside.OpenFault.TheVariants.{Failed as failed};
@@ -16,6 +16,7 @@ use merge_link::Link;
 use merge_ports::{Counts, KeepFault, Keeper, OpenFault, Outside, Source};
 use merge_types::{NoMemory, SiteId, Words};
 use std::alloc::Global;
+use std::snapshot::Snapshot;
 
 /// The files, the clock and the network of the system.
 ///
@@ -27,6 +28,8 @@ pub struct RealOutside {
     alloc: Global,
     slots: Vec<Slot<RealStore>>,
     counts: Counts,
+    // The address of the link that was given back last.
+    peer: Option<Snapshot<Words>>,
 }
 
 impl RealOutside {
@@ -45,6 +48,7 @@ impl RealOutside {
                 stores: 0,
                 links: 0,
             },
+            peer: None,
         }
     }
 }
@@ -153,7 +157,7 @@ impl CommandOutside for RealOutside {
 
     type Timer = SystemClock;
 
-    ghost offers = { λ o. nothing_told };
+    ghost offers = { λ o. record nothing_told { peer = option_map (λ s. s.value) o.peer } };
 
     fn text(&mut self, path: &Words) -> Result<FileText, OpenFault>
         ensures fresh { IfOk result (λ text. text.reading.faults ≡ 0) }
@@ -189,6 +193,7 @@ impl CommandOutside for RealOutside {
 
     fn link_back(&mut self, link: TcpLink) {
         self.counts.links = self.counts.links.saturating_add(link.faults());
+        self.peer = Some(Snapshot::of(&link.address));
     }
 
     fn clock(&mut self) -> SystemClock

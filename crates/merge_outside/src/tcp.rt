@@ -37,15 +37,15 @@ impl Waits {
     }
 }
 
-/// A link over TCP with one connection for each request, which the peer ends. It tells nothing of
-/// the responses to come nor of the exchanges.
+/// A link over TCP with one connection for each request, which the peer ends. It tells its address, and
+/// nothing of the responses to come nor of the exchanges.
 ///
 /// A call fails where the address is none or has no answer, where the time ends, and where the
 /// connection breaks. Looking up the name of a host ends in the system's time.
 #[derive(Drop)]
 pub struct TcpLink {
     rt: HostRuntime,
-    address: Words,
+    pub(crate) address: Words,
     waits: Waits,
     faults: u64,
 }
@@ -81,13 +81,15 @@ impl TcpLink {
 }
 
 impl Link for TcpLink {
-    ghost use Rattle.std.specs.Prelude.{None};
+    ghost use Rattle.std.specs.Prelude.{None, Some};
 
     ghost coming = { λ l. None };
 
     ghost exchanges = { λ l. None };
 
     ghost count = { λ l. l.faults };
+
+    ghost peer = { λ l. Some l.address };
 
     fn ask(&mut self, request: &[u8]) -> Result<Octets, LinkFault>
         ensures cause { HasLinkCause self.old.faults self.new.faults result }

@@ -24,7 +24,7 @@ use Rattle.merge_model.specs.Tables.Publications.{rules_of}
 use Rattle.merge_model.specs.Tables.{PublisherTables, SubscriberTables}
 use Rattle.merge_model.specs.World.Calls.{handled, questions_on}
 use Rattle.merge_model.specs.World.Events.{machine}
-use Rattle.merge_model.specs.World.Session.{Session as ModelSession, Stepping, after_download, all_downloads, all_ranges, all_uploads, as_it_is, asking_ranges, brings_generations, downloaded_in, downloading, exchange, has_grant, last_message, range_asks, unless_stopped, unsent_generations, uploading, with_answer, with_download, with_upload}
+use Rattle.merge_model.specs.World.Session.{Session as ModelSession, Stepping, after_download, as_it_is, asking_ranges, brings_generations, downloaded_in, downloading, exchange, has_grant, last_message, range_asks, unsent_generations, uploading, with_answer, with_download, with_upload}
 use Rattle.merge_model.specs.World.Steps.{SendDownload, SendJoin, SendRanges, SendUpload, Sending}
 use Rattle.merge_model.specs.World.Faults.{heard_by}
 use Rattle.merge_model.specs.World.{Saying, World, subscriber_at}
@@ -38,32 +38,13 @@ use Rattle.merge_owed.proofs.HeldThresholds.{AreThresholds}
 use Rattle.merge_owed.proofs.RangeAnswers.{brought, planned}
 use Rattle.merge_agent.specs.Sessions.{Asks, Downloads, IsUnderWay, Joins, Over, Session, Stage, Uploads, answered, at, passed, sending_in, stage_to}
 use Rattle.merge_synced.specs.Answering.{Serving, serving_in}
+use Rattle.merge_synced.specs.Courses.{Asking, Course, Done, Downloading, Fetching, Joining, Uploading, left_of, past_join, past_ranges, past_uploads, stage_of, under}
 use Rattle.merge_synced.proofs.Granting.{AllGo, all-begin, all-go, none-left}
 use Rattle.merge_synced.proofs.Made.{closes-one, none-unsent, ranges-refused, sent-site, taken-site, upload-made}
 use Rattle.merge_synced.proofs.Stands.{IsBehind, behind-step}
 use Rattle.merge_synced.proofs.Steps.{asks-always, exchange-is, last-posted, none-sent, refused-is, replied_world, sent_world, taken-has, taken-keeps, taken_world, told-last, unmade-is, untaken-is}
 use Rattle.merge_synced.proofs.Took.{DownloadTook, RangesTook, UploadTook, closing_in, download-took, join-took, ranges-took, upload-took}
 use Rattle.merge_synced.proofs.Turns.{Turned}
-
--- what the model's session is at, with its bounds
-pub data Course : Type 0 where
-  Joining : Course
-  Uploading : (count : ℕ) → Course
-  Asking : (count : ℕ) → Course
-  Fetching : Course
-  Downloading : (count target : ℕ) → Course
-  Done : Course
-
-abbrev pub stage_of : Course → Stage
-stage_of Joining = Joins
-stage_of (Uploading count) = Uploads
-stage_of (Asking count) = Asks
-stage_of Fetching = Downloads None
-stage_of (Downloading count target) = Downloads (Some target)
-stage_of Done = Over
-
-abbrev pub under : World → ℕ → ℕ → ModelSession World
-under v uploads downloads = record { world = v; uploads = uploads; downloads = downloads; stop = None }
 
 pub record StandsAt (publication : Publication) (site : SiteId) (now : Moment) (v : World) (s : SubscriberTables) : Type 0 where
   pub here : subscriber_at v site ≡ Some s
@@ -110,22 +91,17 @@ module _ (publication : Publication) (says : Saying) (site : SiteId) (now : Mome
   M = machine publication says
 
   abbrev after_ranges : ModelSession World → ModelSession World
-  after_ranges x = unless_stopped M site (all_downloads M site) x
+  after_ranges x = past_ranges publication says site x
 
   abbrev after_uploads : ModelSession World → ModelSession World
-  after_uploads x = after_ranges (unless_stopped M site (all_ranges M site) x)
+  after_uploads x = past_uploads publication says site x
 
   abbrev pub after_join : ModelSession World → ModelSession World
-  after_join x = after_uploads (unless_stopped M site (all_uploads M site) x)
+  after_join x = past_join publication says site x
 
   -- what is left of the session
   abbrev pub rest : Course → ModelSession World → ModelSession World
-  rest Joining x = after_join (exchange M site SendJoin (as_it_is M site) (as_it_is M site) x)
-  rest (Uploading count) x = after_uploads (uploading M site count x)
-  rest (Asking count) x = after_ranges (asking_ranges M site count x)
-  rest Fetching x = all_downloads M site x
-  rest (Downloading count target) x = downloading M site count target x
-  rest Done x = x
+  rest c x = left_of publication says site c x
 
   -- some steps led from there to another session, and to this publisher
   pub record Onward (c : Course) (v : World) (i j : ℕ) (t : Session) (q : Serving) : Type 0 where

@@ -12,7 +12,8 @@ use Rattle.merge_wire.specs.Written.{IsVisible}
 use Rattle.merge_agent.specs.Sessions.{Does, Follows, IsUnderWay, Session, Skip, Stage, Step, Take, answered, at as standing, exchanges_of, moments_of, passed, sending_in}
 use Rattle.merge_agent.specs.Turns.{Turn}
 use Rattle.merge_synced.specs.Answering.{Answers, AreRead, AreTold, Serving, behind, reply_by, serving_in}
-use Rattle.merge_synced.proofs.Courses.{Course, Enough, Onward, StandsAt, skip-on, stage_of, turn-on}
+use Rattle.merge_synced.specs.Courses.{Course, stage_of}
+use Rattle.merge_synced.proofs.Courses.{Enough, Onward, StandsAt, skip-on, turn-on}
 use Rattle.merge_synced.proofs.ShortRequests.{made-short}
 use Rattle.merge_synced.proofs.Stands.{behind-short}
 use Rattle.merge_synced.proofs.Turns.{Turned, turned}

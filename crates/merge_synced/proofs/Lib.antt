@@ -1,6 +1,7 @@
 pub mod Written
 pub mod Telling
 pub mod Steps
+pub mod Delivered
 pub mod Made
 pub mod FewRanges
 pub mod Stands

@@ -145,14 +145,14 @@ module _ (publication : Publication) (says : Saying) where
   no-upload-by site m w (Ok done) why e = absurd cc
   no-upload-by site m w (Err other) why e = let same : other ≡ why = cc in ap (λ (x : Refusal). (let done : World × Outcome = (w, Refuses x) in done)) same
 
-  answer-is : (site : SiteId) (q : Request) (w : World) (p : PublisherTables) (r : Reply) → handled publication says w.tallies w.moment q w.publisher ≡ Ok (p, r)
+  pub answer-is : (site : SiteId) (q : Request) (w : World) (p : PublisherTables) (r : Reply) → handled publication says w.tallies w.moment q w.publisher ≡ Ok (p, r)
       → deliver_request publication says (by_numbers w.publisher) site q w ≡ (replied_world publication site q p r w, Posted (length w.pool + 1))
   answer-is site (request.Join m) w p r e = reply-by site reply.Joined w (join publication w.moment m w.publisher) p r e
   answer-is site (request.Upload m) w p r e = upload-by site m w (upload publication (by_numbers w.publisher) w.moment m (kept_decisions says w.tallies (upload_questions publication (by_numbers w.publisher) w.moment m w.publisher)) w.publisher) p r e
   answer-is site (request.Ranges m) w p r e = reply-by site reply.Ranged w (ranges publication (by_numbers w.publisher) w.moment m w.publisher) p r e
   answer-is site (request.Download m) w p r e = reply-by site reply.Downloaded w (download publication (by_numbers w.publisher) w.moment m w.publisher) p r e
 
-  refusal-is : (site : SiteId) (q : Request) (w : World) (why : Refusal) → handled publication says w.tallies w.moment q w.publisher ≡ Err why → deliver_request publication says (by_numbers w.publisher) site q w ≡ (w, Refuses why)
+  pub refusal-is : (site : SiteId) (q : Request) (w : World) (why : Refusal) → handled publication says w.tallies w.moment q w.publisher ≡ Err why → deliver_request publication says (by_numbers w.publisher) site q w ≡ (w, Refuses why)
   refusal-is site (request.Join m) w why e = refused-by site reply.Joined w (join publication w.moment m w.publisher) why e
   refusal-is site (request.Upload m) w why e = no-upload-by site m w (upload publication (by_numbers w.publisher) w.moment m (kept_decisions says w.tallies (upload_questions publication (by_numbers w.publisher) w.moment m w.publisher)) w.publisher) why e
   refusal-is site (request.Ranges m) w why e = refused-by site reply.Ranged w (ranges publication (by_numbers w.publisher) w.moment m w.publisher) why e
@@ -176,7 +176,7 @@ module _ (publication : Publication) (says : Saying) where
       let next : length pool + 1 ≡ suc (length pool) = omega arith in
       ap (λ (k : ℕ). letter_at w k) next ∙ ap (λ (letters : List Letter). slice_get letters (length pool)) is ∙ last-there pool letter
 
-  comes : (number : ℕ) (w : World) (letter : Letter) (done : World × Outcome) → letter_at w number ≡ Some letter → deliver_letter publication says (by_tables w) number w letter ≡ done → act w (Deliver number) ≡ done
+  pub comes : (number : ℕ) (w : World) (letter : Letter) (done : World × Outcome) → letter_at w number ≡ Some letter → deliver_letter publication says (by_tables w) number w letter ≡ done → act w (Deliver number) ≡ done
   comes number w letter done at is =
       subst (λ (found : Option Letter). (let made : World × Outcome = elim found [ None ↦ (w, NoLetter) | Some x ↦ deliver_letter publication says (by_tables w) number w x ] in made) ≡ done) (sym at) is
 
@@ -188,11 +188,11 @@ module _ (publication : Publication) (says : Saying) where
 
   -- An exchange that went through, or that one of both refused.
   module _ (site : SiteId) (sending : Sending) (w : World) (s sent : SubscriberTables) (q : Request) (here : subscriber_at w site ≡ Some s) (own : s.site ≡ site) (made : requested sending w.moment s ≡ Ok (Some (sent, q))) where
-    send-is : act w (Send site sending) ≡ (sent_world site sent q w, Posted (length w.pool + 1))
+    pub send-is : act w (Send site sending) ≡ (sent_world site sent q w, Posted (length w.pool + 1))
     send-is = sent-at site sending w s (sent_world site sent q w, Posted (length w.pool + 1)) here
         (sending-is sending w s sent q made ∙ ap (λ (x : SiteId). (let done : World × Outcome = (sent_world x sent q w, Posted (length w.pool + 1)) in done)) own)
 
-    request-there : letter_at (sent_world site sent q w) (length w.pool + 1) ≡ Some (record { site = site; message = Asks q })
+    pub request-there : letter_at (sent_world site sent q w) (length w.pool + 1) ≡ Some (record { site = site; message = Asks q })
     request-there = letter-last w.pool (record { site = site; message = Asks q }) (sent_world site sent q w) refl
 
     ask-refused : (why : Refusal) → handled publication says w.tallies w.moment q w.publisher ≡ Err why → ask (machine publication says) site sending w ≡ (sent_world site sent q w, Refuses why)

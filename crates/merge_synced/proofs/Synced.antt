@@ -1,5 +1,5 @@
 -- A session over a link that met the model's publisher is the model's session.
-use Rattle.std.specs.Prelude.{Bool, Err, List, None, Ok, Option, Result, Some, false, if◌then◌else◌, option_map, refl, true, unwrap_or, ℕ, ◌≡◌}
+use Rattle.std.specs.Prelude.{Bool, Err, List, None, Ok, Option, Result, Some, false, if◌then◌else◌, length, option_map, refl, true, unwrap_or, ℕ, ◌+◌, ◌≡◌}
 use Rattle.std.proofs.Common.{ap, inl, inr, subst, sym, ◌∙◌, ◌⊎◌}
 use Rattle.merge_types.specs.declared.identifiers.Moment.{Moment}
 use Rattle.merge_resolve.specs.Asked.{tallies_after}
@@ -16,7 +16,7 @@ use Rattle.merge_model.specs.Tables.{PublisherTables, SubscriberTables}
 use Rattle.merge_model.specs.World.Calls.{handled, questions_on}
 use Rattle.merge_model.specs.World.Events.{machine}
 use Rattle.merge_model.specs.World.Session.{Session as ModelSession, as_it_is, exchange, is_joined_in, session, unsent_generations}
-use Rattle.merge_model.specs.World.Steps.{SendJoin}
+use Rattle.merge_model.specs.World.Steps.{Deliver, SendJoin}
 use Rattle.merge_model.specs.World.{Saying, World, subscriber_at}
 use Rattle.merge_world.specs.Messages.{requested}
 use Rattle.merge_laws.proofs.Lineages.LineagesAlways.{actions-same}
@@ -32,12 +32,15 @@ use Rattle.merge_agent.specs.declared.fault.SessionFault.TheVariants as fault
 use Rattle.merge_desk.specs.Replay.{answered, told as told_as}
 use Rattle.merge_synced.specs.Answering.{AreTold, Serving, behind, counted_by, made_of, serving_in}
 use Rattle.merge_synced.specs.Synced.{DoneIsTheModels, IsRefused, IsUntaken, Met, OfEveryValidWorld, RefusedIsTheModels, SiteStops, StandsAs, UnmadeIsTheModels, UntakenIsTheModels, WouldAct}
-use Rattle.merge_synced.proofs.Courses.{Asking, Course, Done, Downloading, Enough, Fetching, Joining, Onward, Uploading, after_join, refuse-on, rest, sends-begin, stage_of, under, unmade-on, untaken-on}
+use Rattle.merge_synced.specs.Courses.{Asking, Course, Done, Downloading, Fetching, Joining, Uploading, stage_of, under}
+use Rattle.merge_synced.specs.Cut.{CutIsAPart, IsCut, PassesBy, Stands, StepsAreAPart}
+use Rattle.merge_synced.proofs.Courses.{Enough, Onward, after_join, refuse-on, rest, sends-begin, unmade-on, untaken-on}
+use Rattle.merge_synced.proofs.Delivered.{taken-there}
 use Rattle.merge_synced.proofs.Led.{led}
 use Rattle.merge_synced.proofs.Made.{Outstands, answers-kind, answers-number, outstands, sent-site}
 use Rattle.merge_synced.proofs.ShortRequests.{made-short}
 use Rattle.merge_synced.proofs.Stands.{IsBehind, behind-by-actions, behind-short}
-use Rattle.merge_synced.proofs.Steps.{replied_world, sent-has, sent_world}
+use Rattle.merge_synced.proofs.Steps.{replied_world, request-there, send-is, sent-has, sent_world}
 use Rattle.merge_synced.proofs.Telling.{Refusing, one-told, refused-fits, refused-stops, refusing, replied-acts, reply-refused}
 use Rattle.merge_synced.proofs.Turns.{asks-reply, kind-fits, same-read}
 
@@ -96,6 +99,44 @@ module _ (publication : Publication) (says : Saying) (w : World) (s : Subscriber
       stands t i j None p o.world (session (machine publication says) s.site w)
       (begins.same ∙ o.same ∙ ap (λ (c : Course). rest publication says s.site w.moment c (under o.world i j)) (ended o.course o.stage))
       o.here.here o.serving
+
+  -- The model's session passes where the steps lead.
+
+  passes-by : (last : Session) (p : Serving) (o : Onward publication says s.site w.moment begins.course w 0 0 last p) → PassesBy publication says s.site w last p o.world
+  passes-by last p o = record {
+    course = o.course;
+    stage = o.stage;
+    stands = record { tables = o.here.here; serving = o.serving };
+    moment = o.here.moment;
+    same = begins.same ∙ o.same;
+  }
+
+  steps-pass : (address : List ℕ) (steps : List Step) (last : Session) (p : Serving) → Met publication says w address s steps last p → (v : World) × PassesBy publication says s.site w last p v
+  steps-pass address steps last p met =
+      let o : Onward publication says s.site w.moment begins.course w 0 0 last p = goes address steps last p met in
+      (o.world, passes-by last p o)
+
+  -- there it sends the message that had no response
+  cut-stands : (address : List ℕ) (steps : List Step) (last : Session) (p : Serving) (t : SubscriberTables) (q : Request) → Met publication says w address s steps last p → requested (sending_in last.stage) w.moment last.tables ≡ Ok (Some (t, q))
+      → IsCut publication says s.site w last p t q
+  cut-stands address steps last p t q met made =
+      let o : Onward publication says s.site w.moment begins.course w 0 0 last p = goes address steps last p met in
+      let made_there : requested (sending_in last.stage) o.world.moment last.tables ≡ Ok (Some (t, q)) =
+      subst (λ (x : Moment). requested (sending_in last.stage) x last.tables ≡ Ok (Some (t, q))) (sym o.here.moment) made in
+      let keyed : t.site ≡ s.site = sent-site (sending_in last.stage) w.moment last.tables t q made ∙ o.here.own in
+      let told : World = ((machine publication says).act (sent_world s.site t q o.world) (Deliver (length o.world.pool + 1))).0 in
+      record {
+        before = o.world;
+        passes = passes-by last p o;
+        sent = sent_world s.site t q o.world;
+        number = length o.world.pool + 1;
+        sends = send-is publication says s.site (sending_in last.stage) o.world last.tables t q o.here.here o.here.own made_there;
+        letter = request-there publication says s.site (sending_in last.stage) o.world last.tables t q o.here.here o.here.own made_there;
+        untaken = record { tables = sent-has s.site t q o.world keyed; serving = o.serving };
+        taken = subst (λ (x : Serving). Stands s.site t (behind publication says w.moment q x) told) o.serving
+            (subst (λ (x : Moment). Stands s.site t (behind publication says x q (serving_in o.world)) told) o.here.moment
+            (taken-there publication says s.site (sending_in last.stage) o.world last.tables t q o.here.here o.here.own made_there keyed));
+      }
 
   -- the request of the turn that was refused
   refused-stands : (address : List ℕ) (t : SubscriberTables) (steps : List Step) (last : Session) (p : Serving) (turn : Turn) (refusal : Refusal) (why : SessionFault) → Met publication says w address s steps last p → IsRefused publication says w address last p t turn refusal why
@@ -247,3 +288,16 @@ pub untaken-is : OfEveryValidWorld UntakenIsTheModels
 untaken-is resolvers publication valid says tallies slips actions address s t steps last p turn r why met u =
     let w : World = world_behind_actions publication says tallies slips actions in
     untaken-here publication says w s met.here (behind-by-actions publication says tallies slips actions (resolvers, valid)) (has-thresholds resolvers publication valid says tallies slips actions s met.here) address t steps last p turn r why met u
+
+pub steps-are : OfEveryValidWorld StepsAreAPart
+steps-are resolvers publication valid says tallies slips actions address s steps last p met =
+    let w : World = world_behind_actions publication says tallies slips actions in
+    steps-pass publication says w s met.here (behind-by-actions publication says tallies slips actions (resolvers, valid)) (has-thresholds resolvers publication valid says tallies slips actions s met.here) address steps last p met
+
+pub cut-is : OfEveryValidWorld CutIsAPart
+cut-is resolvers publication valid says tallies slips actions address s t steps last p why met going breaks =
+    let w : World = world_behind_actions publication says tallies slips actions in (
+      breaks.0.0,
+      breaks.0.1,
+      cut-stands publication says w s met.here (behind-by-actions publication says tallies slips actions (resolvers, valid)) (has-thresholds resolvers publication valid says tallies slips actions s met.here) address steps last p t breaks.0.0 met breaks.0.1,
+    )

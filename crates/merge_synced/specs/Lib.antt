@@ -1,2 +1,4 @@
 pub mod Answering
+pub mod Courses
+pub mod Cut
 pub mod Synced

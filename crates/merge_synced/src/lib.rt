@@ -2,6 +2,7 @@
 //! nothing: their contracts are the laws.
 #![tactic(auto)]
 
+ghost use Rattle.merge_synced.specs.Cut.{CutIsAPart, StepsAreAPart};
 ghost use Rattle.merge_synced.specs.Synced.{DoneIsTheModels, OfEveryValidWorld, RefusedIsTheModels, RepliesAreTold, RequestsAreRead, UnmadeIsTheModels, UntakenIsTheModels};
 
 /// The bytes that the agent sends are read as its request, and those that a publisher serves with a reply
@@ -30,4 +31,13 @@ pub fn refused_sessions_are_the_models()
 pub fn sessions_that_sites_break_off_are_the_models()
     ensures unmade { OfEveryValidWorld UnmadeIsTheModels }
     ensures untaken { OfEveryValidWorld UntakenIsTheModels }
+{}
+
+/// Whatever ends a session, its steps are a part of the model's session: that one passes a world in which
+/// the site and the publisher stand as they do, with the same counts. Where no response comes to a message,
+/// as where the link cuts the session, the model's session sends this message there; and the publisher
+/// stands as before it, or as behind it.
+pub fn cut_sessions_are_parts_of_the_models()
+    ensures steps { OfEveryValidWorld StepsAreAPart }
+    ensures cut { OfEveryValidWorld CutIsAPart }
 {}
