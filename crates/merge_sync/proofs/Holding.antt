@@ -1,5 +1,5 @@
 -- A session that was held at a store, and one that was not.
-use Rattle.std.proofs.Common.{Err, List, Ok, Option, Result, [], ap, arith, inl, inr, min, refl, subst, sym, ℕ, ◌+◌, ◌-◌, ◌^◌, ◌∙◌, ◌≡◌, ◌≤◌}
+use Rattle.std.proofs.Common.{Err, List, Ok, Option, Result, Some, [], ap, arith, inl, inr, min, refl, subst, sym, ℕ, ◌+◌, ◌-◌, ◌^◌, ◌∙◌, ◌≡◌, ◌≤◌}
 use Rattle.std.specs.Prelude.{IfSome}
 use Rattle.merge_types.specs.declared.identifiers.SiteId.{SiteId}
 use Rattle.merge_schema.specs.declared.publication.Publication.{Publication}
@@ -73,37 +73,39 @@ module _ (address : List ℕ) (publication : Publication) (site : SiteId) (aroun
     }
 
     -- no session was held, and the link was given back
-    undone-by : (s : Stop) → IsUnstarted publication site s around.stored around.stores around.stores_after → around.kept ≡ around.stored → IfSome around.carried (λ (e : List Exchange). e ≡ []) → Undone address publication site around s
-    undone-by stop.StoreFault p same unasked = (p, inl (record { same = same; unasked = unasked }))
-    undone-by (stop.Damaged table key) p same unasked = (p, record { same = same; unasked = unasked })
-    undone-by stop.NoMemory p same unasked = inl (record { same = same; unasked = inr unasked })
-    undone-by other p same unasked = absurd p
+    undone-by : (s : Stop) → IsUnstarted publication site s around.stored around.stores around.stores_after → around.kept ≡ around.stored → IfSome around.carried (λ (e : List Exchange). e ≡ []) → around.peer ≡ Some address → Undone address publication site around s
+    undone-by stop.StoreFault p same unasked reached = (p, inl (record { same = same; unasked = unasked; reached = reached }))
+    undone-by (stop.Damaged table key) p same unasked reached = (p, record { same = same; unasked = unasked; reached = reached })
+    undone-by stop.NoMemory p same unasked reached = inl (inr (record { same = same; unasked = unasked; reached = reached }))
+    undone-by other p same unasked reached = absurd p
 
     pub undone-so : (s : Stop) (stored : Option Map) → stored ≡ around.stored → (before after : ℕ) → before ≡ around.stores → after ≡ around.stores_after → IsUnstarted own site s stored before after
-        → around.kept ≡ stored → (exchanges : Option (List Exchange)) → around.carried ≡ exchanges → IfSome exchanges (λ (e : List Exchange). e ≡ [])
+        → around.kept ≡ stored → (exchanges : Option (List Exchange)) → around.carried ≡ exchanges → IfSome exchanges (λ (e : List Exchange). e ≡ []) → around.peer ≡ Some address
         → Undone address publication site around s
-    undone-so s stored told before after first last p same exchanges carried unasked = undone-by s
+    undone-so s stored told before after first last p same exchanges carried unasked reached = undone-by s
         (subst (λ (q : Publication). IsUnstarted q site s around.stored around.stores around.stores_after) copied
         (subst (λ (n : ℕ). IsUnstarted own site s around.stored around.stores n) last
         (subst (λ (n : ℕ). IsUnstarted own site s around.stored n after) first
         (subst (λ (o : Option Map). IsUnstarted own site s o before after) told p))))
         (same ∙ told)
         (subst (λ (o : Option (List Exchange)). IfSome o (λ (e : List Exchange). e ≡ [])) (sym carried) unasked)
+        reached
 
     -- a session was held, by what was told of each part
     pub held : (began ended : SubscriberView) (co cn : Option (List (List ℕ))) (xo xn : Option (List Exchange)) (lo ln : ℕ) (mo mn : Option Moments) (told : Option Map) → told ≡ around.stored
         → IsRead (subscriber_loaded own site (new_holders own)) told (Ok (subscriber_stored began.tables)) → began.tables.site ≡ site → began.publication ≡ own → began.faults ≡ 0
         → co ≡ around.responses → IfSome xo (λ (e : List Exchange). e ≡ []) → lo ≡ 0 → mo ≡ around.moments
         → (r : Result Done SessionFault) → Syncs address (meeting began co xo lo mo) (meeting ended cn xn ln mn) r
-        → (kept : Option Map) → around.kept ≡ kept → IsKept (records_of ended.tables) kept → around.carried ≡ xn
+        → (kept : Option Map) → around.kept ≡ kept → IsKept (records_of ended.tables) kept → around.carried ≡ xn → around.peer ≡ Some address
         → around.stores_after ≡ min (around.stores + ended.faults) (2 ^ 64 - 1) → around.links_after ≡ min (around.links + ln) (2 ^ 64 - 1)
         → HeldSo r
-    held began ended co cn xo xn lo ln mo mn told is read here published unfailed responses unasked fresh clock r syncs kept given has carried stores links = record {
+    held began ended co cn xo xn lo ln mo mn told is read here published unfailed responses unasked fresh clock r syncs kept given has carried reached stores links = record {
       began = meeting began co xo lo mo;
       ended = meeting ended cn xn ln mn;
       begins = begins began co xo lo mo (subst (λ (o : Option Map). IsRead (subscriber_loaded own site (new_holders own)) o (Ok (subscriber_stored began.tables))) is read) here published unfailed responses unasked fresh clock;
       syncs = syncs;
       leaves = record { kept = subst (IsKept (records_of ended.tables)) (sym given) has; carried = carried; stores = stores; links = links };
+      reached = reached;
     }
 
 -- The counts of an outside from which a keeper and a link came, and to which both were given back.

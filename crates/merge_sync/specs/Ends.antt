@@ -15,14 +15,14 @@ use Rattle.merge_sync.specs.declared.stop.Stop.TheVariants.{BadReply, Damaged, E
 
 -- why a session was not done
 abbrev pub Undone : (address : List ℕ) → Publication → SiteId → Around → Stop → Type 0
-Undone address publication site around StoreFault = Rose around.stores around.stores_after × (Unheld around ⊎ Held address publication site around (Err session.StoreFault))
-Undone address publication site around (Damaged table key) = IsDamagedAs publication site around.stored (refusal.Damaged table key) × Unheld around
+Undone address publication site around StoreFault = Rose around.stores around.stores_after × (Unheld address around ⊎ Held address publication site around (Err session.StoreFault))
+Undone address publication site around (Damaged table key) = IsDamagedAs publication site around.stored (refusal.Damaged table key) × Unheld address around
 Undone address publication site around LinkFault = Rose around.links around.links_after × Held address publication site around (Err session.LinkFault)
 Undone address publication site around (Expired last_sync now) = Held address publication site around (Err (session.Expired last_sync now))
 Undone address publication site around (BadReply place) = Held address publication site around (Err (session.BadReply place))
 Undone address publication site around (Refused number) = Held address publication site around (Err (session.Refused number))
 Undone address publication site around WriteFault = ⊥
-Undone address publication site around NoMemory = Unsent around ⊎ Held address publication site around (Err session.NoMemory)
+Undone address publication site around NoMemory = Unsent address around ⊎ Held address publication site around (Err session.NoMemory)
 
 -- a session was done, or it was not
 abbrev pub Meets : (address : List ℕ) → Publication → SiteId → Around → Result Done Stop → Type 0

@@ -1,5 +1,5 @@
 -- A session of a subscriber that starts at its store, with a link and a clock that were just opened.
-use Rattle.std.specs.Prelude.{IfSome, List, Ok, Option, Result, [], min, ℕ, ◌+◌, ◌-◌, ◌^◌, ◌≡◌, ◌⊎◌}
+use Rattle.std.specs.Prelude.{IfSome, List, Ok, Option, Result, Some, [], min, ℕ, ◌+◌, ◌-◌, ◌^◌, ◌≡◌, ◌⊎◌}
 use Rattle.merge_types.specs.declared.identifiers.SiteId.{SiteId}
 use Rattle.merge_schema.specs.declared.publication.Publication.{Publication}
 use Rattle.merge_batch.specs.declared.refusal.Refusal.{Refusal}
@@ -21,17 +21,19 @@ use Rattle.merge_sync.specs.declared.stop.Stop.{Stop}
 use Rattle.merge_sync.specs.declared.stop.Stop.TheVariants.{Damaged, NoMemory, StoreFault}
 
 -- What is told around a session, each part where it is told: before it the store, the responses and the moments that are to come, and
--- what the link carried that was given back last; and behind it the store, and what such a link carried. And how often stores and links
--- had failed by then.
+-- what the link carried that was given back last, and its address; and behind it the store, and what such a link carried, and its
+-- address. And how often stores and links had failed by then.
 pub record Around : Type 0 where
   pub stored : Option Map
   pub responses : Option (List (List ℕ))
   pub moments : Option Moments
   pub was_carried : Option (List Exchange)
+  pub was_peer : Option (List ℕ)
   pub stores : ℕ
   pub links : ℕ
   pub kept : Option Map
   pub carried : Option (List Exchange)
+  pub peer : Option (List ℕ)
   pub stores_after : ℕ
   pub links_after : ℕ
 
@@ -54,13 +56,14 @@ pub record Leaves (around : Around) (m : Meeting) : Type 0 where
   pub stores : around.stores_after ≡ min (around.stores + m.faults) (2 ^ 64 - 1)
   pub links : around.links_after ≡ min (around.links + m.links) (2 ^ 64 - 1)
 
--- a session was held so, and this came of it
+-- a session was held so, over a link to the address, and this came of it
 pub record Held (address : List ℕ) (publication : Publication) (site : SiteId) (around : Around) (result : Result Done SessionFault) : Type 0 where
   pub began : Meeting
   pub ended : Meeting
   pub begins : Begins publication site around began
   pub syncs : Syncs address began ended result
   pub leaves : Leaves around ended
+  pub reached : around.peer ≡ Some address
 
 -- the first record of the store that has no reading or breaks a rule
 abbrev pub IsDamagedAs : Publication → SiteId → Option Map → Refusal → Type 0
@@ -73,12 +76,17 @@ IsUnstarted publication site (Damaged table key) stored before after = IsDamaged
 IsUnstarted publication site NoMemory stored before after = Unit {0}
 IsUnstarted publication site other stored before after = ⊥
 
--- no session was held: the store is told as before, and the link carried nothing
-pub record Unheld (around : Around) : Type 0 where
+-- no session was held: the store is told as before, and the link was one to the address, and carried nothing
+pub record Unheld (address : List ℕ) (around : Around) : Type 0 where
   pub same : around.kept ≡ around.stored
   pub unasked : IfSome around.carried (λ exchanges. exchanges ≡ [])
+  pub reached : around.peer ≡ Some address
 
--- no session was held, and there may have been no link: the store is told as before, and no link was given back, or one that carried nothing
-pub record Unsent (around : Around) : Type 0 where
-  pub same : around.kept ≡ around.stored
-  pub unasked : (around.carried ≡ around.was_carried) ⊎ IfSome around.carried (λ exchanges. exchanges ≡ [])
+-- no link was given back
+pub record Unlinked (around : Around) : Type 0 where
+  pub uncarried : around.carried ≡ around.was_carried
+  pub unreached : around.peer ≡ around.was_peer
+
+-- no session was held, and there may have been no link: the store is told as before, and no link was given back
+abbrev pub Unsent : (address : List ℕ) → Around → Type 0
+Unsent address around = ((around.kept ≡ around.stored) × Unlinked around) ⊎ Unheld address around

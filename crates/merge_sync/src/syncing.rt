@@ -32,10 +32,12 @@ pub fn sync<O: Sink, E: CommandOutside>(
       responses = (E.offers outside.old).responses;
       moments = (E.offers outside.old).moments;
       was_carried = (E.offers outside.old).exchanges;
+      was_peer = (E.offers outside.old).peer;
       stores = (E.counts outside.old).stores;
       links = (E.counts outside.old).links;
       kept = E.told outside.new site store.now;
       carried = (E.offers outside.new).exchanges;
+      peer = (E.offers outside.new).peer;
       stores_after = (E.counts outside.new).stores;
       links_after = (E.counts outside.new).links;
     }) (O.written output.old) (O.written output.new) (O.count output.old) (O.count output.new) result }
