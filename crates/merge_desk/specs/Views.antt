@@ -1,4 +1,5 @@
 -- What contracts see of a desk and of its seats.
+use Rattle.std.specs.List.{AllByRecursion}
 use Rattle.std.specs.Prelude.{List, [], length, map, suc, zero, ℕ, ◌+◌, ◌∷◌, ◌≡◌, ◌≤◌}
 use Rattle.merge_schema.specs.declared.publication.Publication.{Publication}
 use Rattle.merge_model.specs.Tables.{PublisherTables}
@@ -56,6 +57,10 @@ seat_fault_parts s = s.fault_parts
 
 abbrev pub seat_number : SeatView → ℕ
 seat_number s = s.number
+
+-- no seat was told more marks than it made calls
+abbrev pub AreToldInCalls : List SeatView → Type 0
+AreToldInCalls seats = AllByRecursion (λ (s : SeatView). length s.told ≤ s.calls) seats
 
 -- so many numbers from one on
 abbrev pub numbers_from : ℕ → ℕ → List ℕ

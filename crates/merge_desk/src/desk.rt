@@ -158,7 +158,7 @@ impl<P: DraftingPublisher, L: Ledger, M: Ledger, N: Ledger, O: Opening> Desk<P, 
 
     /// Ends the desk, with all its seats: what each was told is held against the journal. It takes no
     /// memory.
-    pub fn close(self, seats: Vec<Seat<L, M>>) -> Result<Closed<P, N>, Differs<P>>
+    pub fn close(self, seats: Vec<Seat<L, M>>) -> Result<Closed<P, N>, Differs<P, N>>
         requires calls { sum_by seat_call_parts seats.items ≡ L.parts }
         requires faults { sum_by seat_fault_parts seats.items ≡ M.parts }
         ensures journal { IfOk result (λ closed. IsJournal O.publication O.says O.tables closed.journal.items (P.view closed.publisher).tables) }
@@ -166,7 +166,8 @@ impl<P: DraftingPublisher, L: Ledger, M: Ledger, N: Ledger, O: Opening> Desk<P, 
         ensures calls { IfOk result (λ closed. length closed.journal.items ≡ sum_by seat_calls seats.items) }
         ensures paid { IfOk result (λ closed. length closed.journal.items ≤ closed.permits.amount) }
         ensures faults { IfOk result (λ closed. O.count + sum_by seat_faults seats.items ≤ (P.view closed.publisher).faults) }
-        ensures differs { IfErr result (λ d. IsDiffering O.publication O.says O.tables d.journal.items (P.view d.publisher).tables seats.items d.seat d.told d.kept) }
+        ensures differs { IfErr result (λ d. IsDiffering O.publication O.says O.tables d.journal.items (P.view d.publisher).tables seats.items d.difference) }
+        ensures spent { IfErr result (λ d. length d.journal.items ≤ d.permits.amount) }
         ensures broken { IfErr result (λ d. O.count + sum_by seat_faults seats.items ≤ (P.view d.publisher).faults) }
     {
         let Desk { state } = self;

@@ -3,11 +3,10 @@ ghost use Rattle.std.specs.List.{sum_by};
 ghost use Rattle.std.specs.Prelude.{◌≡◌, ◌+◌, ◌≤◌, IfErr, IfOk, List, length};
 ghost use Rattle.merge_desk.specs.Comparing.{AllToldAsKept};
 ghost use Rattle.merge_desk.specs.Ending.{IsDiffering};
-ghost use Rattle.merge_desk.specs.Views.{IsJournal, seat_call_parts, seat_calls, seat_fault_parts, seat_faults};
+ghost use Rattle.merge_desk.specs.Views.{AreToldInCalls, IsJournal, seat_call_parts, seat_calls, seat_fault_parts, seat_faults};
 
-use crate::comparing::{SeatDifference, compare_all};
+use crate::comparing::{Difference, compare_all};
 use crate::entry::Entry;
-use crate::mark::Mark;
 use crate::opening::Opening;
 use crate::seat::Seat;
 use crate::state::DeskState;
@@ -23,30 +22,25 @@ pub struct Closed<P: DraftingPublisher, N: Ledger> {
     pub permits: Share<N>,
 }
 
-/// What a desk leaves whose journal has something else than a seat was told: the first such seat, the
-/// first two marks that differ, and the journal. In place of a mark that there is not stands one with
-/// place 0.
+/// What a desk leaves whose journal has something else than a seat was told: where they differ, and
+/// the journal.
 #[derive(Drop)]
-pub struct Differs<P: DraftingPublisher> {
-    pub seat: u16,
-    pub told: Mark,
-    pub kept: Mark,
+pub struct Differs<P: DraftingPublisher, N: Ledger> {
+    pub difference: Difference,
     pub journal: Vec<Entry>,
     pub publisher: P,
+    /// What calls have spent.
+    pub permits: Share<N>,
 }
 
 // Gathers the shares of all seats.
 fn gather<L: Ledger, M: Ledger>(all: &mut Share<L>, broken: &mut Share<M>, seats: Vec<Seat<L, M>>)
     ensures calls { (all.new.parts ≡ all.old.parts + sum_by seat_call_parts seats.items) × (all.new.amount ≡ all.old.amount + sum_by seat_calls seats.items) }
     ensures faults { (broken.new.parts ≡ broken.old.parts + sum_by seat_fault_parts seats.items) × (broken.new.amount ≡ broken.old.amount + sum_by seat_faults seats.items) }
+    ensures told { AreToldInCalls seats.items }
 {
     for seat in seats {
-        let Seat {
-            number: _,
-            told: _,
-            calls,
-            faults,
-        } = seat;
+        let (calls, faults) = seat.into_shares();
         all.merge(calls);
         broken.merge(faults);
     }
@@ -54,7 +48,7 @@ fn gather<L: Ledger, M: Ledger>(all: &mut Share<L>, broken: &mut Share<M>, seats
 
 impl<P: DraftingPublisher, L: Ledger, M: Ledger, N: Ledger, O: Opening> DeskState<P, L, M, N, O> {
     // The journal and the publisher, where all seats are back.
-    pub(crate) fn end(self, seats: Vec<Seat<L, M>>) -> Result<Closed<P, N>, Differs<P>>
+    pub(crate) fn end(self, seats: Vec<Seat<L, M>>) -> Result<Closed<P, N>, Differs<P, N>>
         requires calls { sum_by seat_call_parts seats.items ≡ L.parts }
         requires faults { sum_by seat_fault_parts seats.items ≡ M.parts }
         ensures journal { IfOk result (λ closed. IsJournal O.publication O.says O.tables closed.journal.items (P.view closed.publisher).tables) }
@@ -62,7 +56,8 @@ impl<P: DraftingPublisher, L: Ledger, M: Ledger, N: Ledger, O: Opening> DeskStat
         ensures calls { IfOk result (λ closed. length closed.journal.items ≡ sum_by seat_calls seats.items) }
         ensures paid { IfOk result (λ closed. length closed.journal.items ≤ closed.permits.amount) }
         ensures faults { IfOk result (λ closed. O.count + sum_by seat_faults seats.items ≤ (P.view closed.publisher).faults) }
-        ensures differs { IfErr result (λ d. IsDiffering O.publication O.says O.tables d.journal.items (P.view d.publisher).tables seats.items d.seat d.told d.kept) }
+        ensures differs { IfErr result (λ d. IsDiffering O.publication O.says O.tables d.journal.items (P.view d.publisher).tables seats.items d.difference) }
+        ensures spent { IfErr result (λ d. length d.journal.items ≤ d.permits.amount) }
         ensures own { IfOk result (λ closed. closed.journal.items ≡ self.journal) }
         ensures torn { IfErr result (λ d. d.journal.items ≡ self.journal) }
         ensures broken { IfErr result (λ d. O.count + sum_by seat_faults seats.items ≤ (P.view d.publisher).faults) }
@@ -88,12 +83,11 @@ impl<P: DraftingPublisher, L: Ledger, M: Ledger, N: Ledger, O: Opening> DeskStat
                 publisher,
                 permits,
             }),
-            Err(SeatDifference { seat, told, kept }) => Err(Differs {
-                seat,
-                told,
-                kept,
+            Err(difference) => Err(Differs {
+                difference,
                 journal,
                 publisher,
+                permits,
             }),
         }
     }

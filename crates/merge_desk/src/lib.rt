@@ -13,6 +13,7 @@ mod state;
 mod telling;
 mod working;
 
+pub use comparing::Difference;
 pub use desk::{Desk, DeskStart};
 pub use ending::{Closed, Differs};
 pub use entry::{Entry, Receipt};

@@ -1,5 +1,5 @@
 //! A caller's place at a desk.
-ghost use Rattle.std.specs.Prelude.{◌≡◌};
+ghost use Rattle.std.specs.Prelude.{◌≡◌, ◌≤◌, length};
 
 use crate::mark::Mark;
 use std::marker::Model;
@@ -38,5 +38,20 @@ impl<L: Ledger, M: Ledger> Seat<L, M> {
         ensures { result.now ≡ self.now.told }
     {
         &self.told
+    }
+
+    // Its shares of calls and of faults. No more marks were told than calls were made.
+    pub(crate) fn into_shares(self) -> (Share<L>, Share<M>)
+        ensures calls { (result.0.amount ≡ self.calls) × (result.0.parts ≡ self.call_parts) }
+        ensures faults { (result.1.amount ≡ self.faults) × (result.1.parts ≡ self.fault_parts) }
+        ensures few { length self.told ≤ self.calls }
+    {
+        let Seat {
+            number: _,
+            told: _,
+            calls,
+            faults,
+        } = self;
+        (calls, faults)
     }
 }

@@ -22,5 +22,5 @@ pub use doors::Doors;
 pub use entrance::Quota;
 pub use gate::{Gate, OpenGate};
 pub use last::LastClosed;
-pub use memory::{Caller, MemoryDoor};
+pub use memory::{Caller, MemoryDoor, MemoryDoors};
 pub use serving::{Served, serve};

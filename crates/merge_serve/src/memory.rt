@@ -1,17 +1,19 @@
-//! A door in memory, for tests.
-ghost use Rattle.std.specs.Prelude.{◌≡◌, ◌+◌, ◌||◌, [], drop, is_err, length, nat_le, option_map, slice_get, Some, IfOk, IfSome, OnErr, OnOk};
+//! Doors in memory, for tests.
+ghost use Rattle.std.specs.Prelude.{◌≡◌, ◌+◌, ◌||◌, [], drop, is_err, length, nat_le, option_map, slice_get, None, Some, IfOk, IfSome, OnErr, OnOk};
 ghost use Rattle.merge_ports.specs.Faults.{HasCause, is_listed, one_more};
 ghost use Rattle.merge_serve.specs.Attending.{traffic};
 ghost use Rattle.merge_serve.specs.Closing.{IsFresh, IsServed};
 
 use crate::connection::Connection;
 use crate::door::Door;
+use crate::doors::Doors;
 use crate::last::LastClosed;
 use merge_desk::Seat;
-use merge_ports::{Failed, MemorySink, MemorySource, Sink, Source};
-use merge_types::{Listing, Octets};
+use merge_ports::{Failed, MemorySink, MemorySource, OpenFault, Sink, Source};
+use merge_types::{Listing, Octets, Words};
 use std::alloc::Global;
 use std::mem;
+use std::snapshot::Snapshot;
 use std::sync::ledger::Ledger;
 
 /// A connection that is to come: the bytes that it brings, and the numbers of the reads and of the
@@ -126,5 +128,52 @@ impl Door for MemoryDoor {
 
     fn faults(&self) -> u64 {
         self.faults
+    }
+}
+
+/// Opens doors in memory at any address. The first gets the callers, and later ones get none.
+#[derive(Drop)]
+pub struct MemoryDoors {
+    pub callers: Vec<Caller>,
+    /// How many connections the door handed out that was given back last.
+    pub handed: usize,
+    pub faults: u64,
+    pub alloc: Global,
+    asked: Option<Snapshot<Words>>,
+}
+
+impl MemoryDoors {
+    /// These have opened no door yet.
+    pub fn new(alloc: Global, callers: Vec<Caller>) -> Self
+        ensures { result ≡ record { callers = callers; handed = 0; faults = 0; alloc = alloc; asked = None } }
+    {
+        MemoryDoors {
+            callers,
+            handed: 0,
+            faults: 0,
+            alloc,
+            asked: None,
+        }
+    }
+}
+
+impl Doors for MemoryDoors {
+    type Opened = MemoryDoor;
+
+    ghost handed = { λ d. Some d.handed };
+
+    ghost count = { λ d. d.faults };
+
+    ghost asked = { λ d. option_map (λ s. s.value) d.asked };
+
+    fn door(&mut self, address: &Words) -> Result<MemoryDoor, OpenFault> {
+        self.asked = Some(Snapshot::of(address));
+        let callers = mem::replace(&mut self.callers, Vec::new(self.alloc));
+        Ok(MemoryDoor::new(self.alloc, callers, Listing::empty(self.alloc)))
+    }
+
+    fn door_back(&mut self, door: MemoryDoor) {
+        self.handed = door.given;
+        self.faults = self.faults.saturating_add(door.faults);
     }
 }

@@ -1,7 +1,7 @@
 //! A desk is open for so many connections.
 ghost use Rattle.std.specs.List.{sum_by};
-ghost use Rattle.std.specs.Prelude.{◌≡◌, ◌<◌, ◌≤◌, ℕ, IfSome, length, slice_index_or};
-ghost use Rattle.merge_desk.specs.Views.{SeatView, seat_call_parts, seat_fault_parts};
+ghost use Rattle.std.specs.Prelude.{◌≡◌, ◌<◌, ◌≤◌, ℕ, IfSome, length, map, slice_index_or};
+ghost use Rattle.merge_desk.specs.Views.{SeatView, seat_call_parts, seat_fault_parts, seat_number};
 ghost use Rattle.merge_serve.specs.Attending.{traffic};
 ghost use Rattle.merge_serve.specs.Closing.{IsFresh, IsLater};
 
@@ -310,6 +310,7 @@ where
     ensures paid { result.given.total ≡ result.accepted }
     ensures length { length result.seats.items ≡ length seats.items }
     ensures seats { (i : ℕ) (d : SeatView) → i < length seats.items → IsLater (slice_index_or seats.items i d) (slice_index_or result.seats.items i d) }
+    ensures numbers { map seat_number result.seats.items ≡ map seat_number seats.items }
     ensures calls { sum_by seat_call_parts result.seats.items ≡ sum_by seat_call_parts seats.items }
     ensures faults { sum_by seat_fault_parts result.seats.items ≡ sum_by seat_fault_parts seats.items }
 {

@@ -1,2 +1,4 @@
 pub mod Days
+pub mod Moments
 pub mod Serving
+pub mod Told

@@ -1,5 +1,5 @@
 -- The journal of a publisher that serves, one action after the other.
-use Rattle.std.proofs.Common.{◌≡◌, ◌++◌, ◌∷◌, ◌∙◌, [], All, Bool, true, false, List, Option, Some, None, Result, Ok, Err, ℕ, ap, map, refl, sym, if◌then◌else◌}
+use Rattle.std.proofs.Common.{◌≡◌, ◌++◌, ◌∷◌, ◌∙◌, [], All, Bool, true, false, List, Option, Some, None, Result, Ok, Err, ℕ, ap, refl, subst, sym, if◌then◌else◌}
 use Rattle.std.proofs.lemmas.List.Elements.{All-head, All-tail}
 use Rattle.merge_types.specs.declared.identifiers.SiteId.{SiteId}
 use Rattle.merge_schema.specs.declared.publication.Publication.{Publication}
@@ -16,6 +16,7 @@ use Rattle.merge_model.specs.Failing.Reach.{stepping}
 use Rattle.merge_model.specs.Failing.Runs.{after_actions}
 use Rattle.merge_model.specs.Judge.ByNumbers.{by_numbers}
 use Rattle.merge_model.specs.Laws.SlipLaws.{is_slip, refused_for}
+use Rattle.merge_model.specs.Publisher.{later}
 use Rattle.merge_model.specs.Publisher.PublisherDownload.{download}
 use Rattle.merge_model.specs.Publisher.PublisherJoin.{join}
 use Rattle.merge_model.specs.Publisher.PublisherRanges.{ranges}
@@ -34,13 +35,10 @@ use Rattle.merge_desk.proofs.Entries.{answered-again}
 use Rattle.merge_desk.specs.Replay.{answer_to, answered, entry_decisions, replay}
 use Rattle.merge_desk.specs.declared.entry.Entry.{Entry}
 use Rattle.merge_draft.specs.Drafting.{decided}
-use Rattle.merge_served.specs.Served.{Attended, IsServing, asked_by, attended, attended_by, attended_in, unless_failed}
+use Rattle.merge_served.proofs.Moments.{taken-alike}
+use Rattle.merge_served.specs.Served.{Attended, IsServing, asked_by, attended, attended_at, attended_by, attended_in, if_taken, unless_failed}
 
 -- Journals by their parts.
-
-none : (journal : List Entry) → map attended_in journal ≡ [] → journal ≡ []
-none [] e = refl
-none (x ∷ journal) e = absurd (cc e)
 
 first : {x y : Attended} {xs ys : List Attended} → x ∷ xs ≡ y ∷ ys → x ≡ y
 first e = cc e
@@ -48,13 +46,59 @@ first e = cc e
 rest : {x y : Attended} {xs ys : List Attended} → x ∷ xs ≡ y ∷ ys → xs ≡ ys
 rest e = cc e
 
-split : (xs ys : List Attended) (journal : List Entry) → map attended_in journal ≡ xs ++ ys
-    → (early : List Entry) × (late : List Entry) × (journal ≡ early ++ late) × (map attended_in early ≡ xs) × (map attended_in late ≡ ys)
-split [] ys journal e = ([], journal, refl, refl, e)
-split (x ∷ xs) ys [] e = absurd (cc e)
-split (x ∷ xs) ys (j ∷ journal) e =
-    let more = split xs ys journal (rest e) in
-    (j ∷ more.0, more.1, ap (λ (l : List Entry). j ∷ l) more.2, ap (λ (a : Attended). a ∷ map attended_in more.0) (first e) ∙ ap (λ (l : List Attended). x ∷ l) more.3, more.4)
+-- entries of which none is taken leave the tables
+none-behind : (publication : Publication) (p : PublisherTables) (j : Entry) (es : List Entry) (r : Result (PublisherTables × Reply) Refusal)
+    → ((q : PublisherTables) → attended_in publication q es ≡ [] → replay publication q es ≡ q)
+    → if_taken r (attended_at p j) ++ attended_in publication (answered p r).0 es ≡ [] → replay publication (answered p r).0 es ≡ p
+none-behind publication p j es (Ok done) more e = let here : attended_at p j ∷ attended_in publication done.0 es ≡ [] = e in absurd (cc here)
+none-behind publication p j es (Err why) more e = more p e
+
+none-taken : (publication : Publication) (p : PublisherTables) (journal : List Entry) → attended_in publication p journal ≡ [] → replay publication p journal ≡ p
+none-taken publication p [] e = refl
+none-taken publication p (j ∷ journal) e = none-behind publication p j journal (decided publication j.moment j.request j.decisions p) (λ q. none-taken publication q journal) e
+
+-- a journal in two parts, by what was taken
+record Parts (publication : Publication) (p : PublisherTables) (xs ys : List Attended) (journal : List Entry) : Type 0 where
+  early : List Entry
+  late : List Entry
+  whole : journal ≡ early ++ late
+  taken : attended_in publication p early ≡ xs
+  behind : attended_in publication (replay publication p early) late ≡ ys
+
+split-behind : (publication : Publication) (p : PublisherTables) (j : Entry) (es : List Entry) (xs ys : List Attended) (r : Result (PublisherTables × Reply) Refusal)
+    → decided publication j.moment j.request j.decisions p ≡ r
+    → ((q : PublisherTables) (xs ys : List Attended) → attended_in publication q es ≡ xs ++ ys → Parts publication q xs ys es)
+    → if_taken r (attended_at p j) ++ attended_in publication (answered p r).0 es ≡ xs ++ ys → Parts publication p xs ys (j ∷ es)
+split-behind publication p j es xs ys (Err why) is more e =
+    let parts = more p xs ys e in record {
+      early = j ∷ parts.early;
+      late = parts.late;
+      whole = ap (λ (l : List Entry). j ∷ l) parts.whole;
+      taken = ap (λ (r : Result (PublisherTables × Reply) Refusal). if_taken r (attended_at p j) ++ attended_in publication (answered p r).0 parts.early) is ∙ parts.taken;
+      behind = ap (λ (r : Result (PublisherTables × Reply) Refusal). attended_in publication (replay publication (answered p r).0 parts.early) parts.late) is ∙ parts.behind;
+    }
+split-behind publication p j es [] ys (Ok done) is more e = record {
+  early = [];
+  late = j ∷ es;
+  whole = refl;
+  taken = refl;
+  behind = ap (λ (r : Result (PublisherTables × Reply) Refusal). if_taken r (attended_at p j) ++ attended_in publication (answered p r).0 es) is ∙ e;
+}
+split-behind publication p j es (x ∷ xs) ys (Ok done) is more e =
+    let here : attended_at p j ∷ attended_in publication done.0 es ≡ x ∷ (xs ++ ys) = e in
+    let parts = more done.0 xs ys (rest here) in record {
+      early = j ∷ parts.early;
+      late = parts.late;
+      whole = ap (λ (l : List Entry). j ∷ l) parts.whole;
+      taken = ap (λ (r : Result (PublisherTables × Reply) Refusal). if_taken r (attended_at p j) ++ attended_in publication (answered p r).0 parts.early) is
+          ∙ ap (λ (a : Attended). a ∷ attended_in publication done.0 parts.early) (first here) ∙ ap (λ (l : List Attended). x ∷ l) parts.taken;
+      behind = ap (λ (r : Result (PublisherTables × Reply) Refusal). attended_in publication (replay publication (answered p r).0 parts.early) parts.late) is ∙ parts.behind;
+    }
+
+split : (publication : Publication) (p : PublisherTables) (xs ys : List Attended) (journal : List Entry) → attended_in publication p journal ≡ xs ++ ys → Parts publication p xs ys journal
+split publication p [] ys [] e = record { early = []; late = []; whole = refl; taken = refl; behind = e }
+split publication p (x ∷ xs) ys [] e = let here : [] ≡ x ∷ (xs ++ ys) = e in absurd (cc here)
+split publication p xs ys (j ∷ journal) e = split-behind publication p j journal xs ys (decided publication j.moment j.request j.decisions p) refl (λ q xs ys. split publication q xs ys journal) e
 
 replay-on : (publication : Publication) (p : PublisherTables) (early late : List Entry) → replay publication p (early ++ late) ≡ replay publication (replay publication p early) late
 replay-on publication p [] late = refl
@@ -133,34 +177,56 @@ module _ (publication : Publication) (says : Saying) where
   refused site (request.Ranges m) w = refused_answer site reply.Ranged w (ranges publication (by_numbers w.publisher) w.moment m w.publisher)
   refused site (request.Download m) w = refused_answer site reply.Downloaded w (download publication (by_numbers w.publisher) w.moment m w.publisher)
 
-  -- what a part of a journal makes of tables
-  abbrev answer_in : PublisherTables → Attended → PublisherTables × Reply
-  answer_in p a = answered p (decided publication a.moment a.request a.decisions p)
+  -- what a message is taken for
+  abbrev asked_of : World → Request → Attended
+  asked_of w m = record { moment = later w.moment w.publisher.latest; request = m; decisions = entry_decisions publication says w.tallies w.moment m w.publisher }
 
-  one-entry : (w : World) (m : Request) (part : List Entry)
-      → map attended_in part ≡ record { moment = w.moment; request = m; decisions = entry_decisions publication says w.tallies w.moment m w.publisher } ∷ []
-      → replay publication w.publisher part ≡ (answered w.publisher (handled publication says w.tallies w.moment m w.publisher)).0
-  one-entry w m [] e = absurd (cc e)
-  one-entry w m (x ∷ y ∷ part) e = absurd (cc e)
-  one-entry w m (x ∷ []) e =
-      ap (λ (a : Attended). (answer_in w.publisher a).0) (first e)
-      ∙ ap (λ (done : PublisherTables × Reply). done.0) (answered-again publication says w.tallies w.moment m w.publisher)
+  -- an entry that is taken for a message makes the same of the tables
+  same-made : (w : World) (m : Request) (j : Entry) (made done : PublisherTables × Reply) → attended_at w.publisher j ≡ asked_of w m
+      → decided publication j.moment j.request j.decisions w.publisher ≡ Ok made → handled publication says w.tallies w.moment m w.publisher ≡ Ok done → made ≡ done
+  same-made w m j made done same is so =
+      let p : PublisherTables = w.publisher in
+      let moment : later j.moment p.latest ≡ later w.moment p.latest = ap (λ (a : Attended). a.moment) same in
+      let here : decided publication w.moment j.request j.decisions p ≡ Ok made = sym (taken-alike publication j.moment w.moment j.request j.decisions p moment) ∙ is in
+      let asked : decided publication w.moment j.request j.decisions p ≡ decided publication w.moment m (entry_decisions publication says w.tallies w.moment m p) p =
+      ap (λ (a : Attended). decided publication w.moment a.request a.decisions p) same in
+      ap (answered p) (sym here) ∙ ap (answered p) asked ∙ answered-again publication says w.tallies w.moment m p ∙ ap (answered p) so
+
+  taken-behind : (w : World) (m : Request) (done : PublisherTables × Reply) → handled publication says w.tallies w.moment m w.publisher ≡ Ok done
+      → (j : Entry) (es : List Entry) (r : Result (PublisherTables × Reply) Refusal) → decided publication j.moment j.request j.decisions w.publisher ≡ r
+      → (attended_in publication w.publisher es ≡ asked_of w m ∷ [] → replay publication w.publisher es ≡ done.0)
+      → if_taken r (attended_at w.publisher j) ++ attended_in publication (answered w.publisher r).0 es ≡ asked_of w m ∷ [] → replay publication (answered w.publisher r).0 es ≡ done.0
+  taken-behind w m done so j es (Err why) is more e = more e
+  taken-behind w m done so j es (Ok made) is more e =
+      let here : attended_at w.publisher j ∷ attended_in publication made.0 es ≡ asked_of w m ∷ [] = e in
+      none-taken publication made.0 es (rest here) ∙ ap (λ (d : PublisherTables × Reply). d.0) (same-made w m j made done (first here) is so)
+
+  one-taken : (w : World) (m : Request) (done : PublisherTables × Reply) → handled publication says w.tallies w.moment m w.publisher ≡ Ok done
+      → (part : List Entry) → attended_in publication w.publisher part ≡ asked_of w m ∷ [] → replay publication w.publisher part ≡ done.0
+  one-taken w m done so [] e = let here : [] ≡ asked_of w m ∷ [] = e in absurd (cc here)
+  one-taken w m done so (j ∷ part) e =
+      taken-behind w m done so j part (decided publication j.moment j.request j.decisions w.publisher) refl (one-taken w m done so part) e
+
+  one-entry : (w : World) (m : Request) (h : Result (PublisherTables × Reply) Refusal) → handled publication says w.tallies w.moment m w.publisher ≡ h
+      → (part : List Entry) → attended_in publication w.publisher part ≡ if_taken h (asked_of w m) → replay publication w.publisher part ≡ (answered w.publisher h).0
+  one-entry w m (Ok done) is part e = one-taken w m done is part e
+  one-entry w m (Err why) is part e = none-taken publication w.publisher part e
 
   -- how a message that comes and its part of a journal fit together
   record Fits (w : World) (asked : List Attended) (done : World × Outcome) : Type 0 where
-    entries : (part : List Entry) → map attended_in part ≡ asked → replay publication w.publisher part ≡ done.0.publisher
+    entries : (part : List Entry) → attended_in publication w.publisher part ≡ asked → replay publication w.publisher part ≡ done.0.publisher
     still : refused_for is_slip done.1 ≡ true → done.0.publisher ≡ w.publisher
 
   quiet-fits : (w : World) (done : World × Outcome) → done.0.publisher ≡ w.publisher → Fits w [] done
   quiet-fits w done h = record {
-    entries = λ part e. ap (replay publication w.publisher) (none part e) ∙ sym h;
+    entries = λ part e. none-taken publication w.publisher part e ∙ sym h;
     still = λ is. h;
   }
 
   fits-message : (site : SiteId) (number : ℕ) (message : Message) (w : World)
       → Fits w (asked_by publication says w (Some (record { site = site; message = message }))) (deliver_letter publication says (by_tables w) number w (record { site = site; message = message }))
   fits-message site number (Asks m) w = record {
-    entries = λ part e. one-entry w m part e ∙ sym (delivered site m w);
+    entries = λ part e. one-entry w m (handled publication says w.tallies w.moment m w.publisher) refl part e ∙ sym (delivered site m w);
     still = refused site m w;
   }
   fits-message site number (Replies m) w = quiet-fits w _ (quiet-at w site _ (λ t. quiet-unless w _ _ (λ made. refl)))
@@ -170,8 +236,8 @@ module _ (publication : Publication) (says : Saying) where
   fits number w (Some letter) is = rw (is, deliver) (fits-message letter.site number letter.message w)
 
   made-fits : (b : Bool) (w : World) (asked : List Attended) (done : World × Outcome) → Fits w asked done → refused_for is_slip done.1 ≡ b
-      → (part : List Entry) → map attended_in part ≡ unless_failed b asked → replay publication w.publisher part ≡ done.0.publisher
-  made-fits true w asked done f is part e = ap (replay publication w.publisher) (none part e) ∙ sym (f.still is)
+      → (part : List Entry) → attended_in publication w.publisher part ≡ unless_failed b asked → replay publication w.publisher part ≡ done.0.publisher
+  made-fits true w asked done f is part e = none-taken publication w.publisher part e ∙ sym (f.still is)
   made-fits false w asked done f is part e = f.entries part e
 
   by-kind : (b : Bool) → is_slip (if b then StoreFault else NoMemory) ≡ true
@@ -182,14 +248,14 @@ module _ (publication : Publication) (says : Saying) where
   told-slip slip = by-kind slip.is_fault
 
   slip-fits : (b : Bool) (slips : Slips) (slip : Slip) (action : Action) (w : World) (asked : List Attended) (done : World × Outcome) → Fits w asked done
-      → (part : List Entry) → map attended_in part ≡ unless_failed (refused_for is_slip (slip_if publication (machine publication says) b slips slip action w done).1) asked
+      → (part : List Entry) → attended_in publication w.publisher part ≡ unless_failed (refused_for is_slip (slip_if publication (machine publication says) b slips slip action w done).1) asked
       → replay publication w.publisher part ≡ (slip_if publication (machine publication says) b slips slip action w done).0.world.publisher
   slip-fits true slips slip action w asked done f part e =
-      ap (replay publication w.publisher) (none part (e ∙ ap (λ (b : Bool). unless_failed b asked) (told-slip slip)))
+      none-taken publication w.publisher part (e ∙ ap (λ (b : Bool). unless_failed b asked) (told-slip slip))
   slip-fits false slips slip action w asked done f part e = made-fits _ w asked done f refl part e
 
   acting-fits : (slips : Slips) (action : Action) (w : World) (asked : List Attended) (done : World × Outcome) → Fits w asked done
-      → (part : List Entry) → map attended_in part ≡ unless_failed (refused_for is_slip (acting_with publication (machine publication says) slips action w done).1) asked
+      → (part : List Entry) → attended_in publication w.publisher part ≡ unless_failed (refused_for is_slip (acting_with publication (machine publication says) slips action w done).1) asked
       → replay publication w.publisher part ≡ (acting_with publication (machine publication says) slips action w done).0.world.publisher
   acting-fits [] action w asked done f part e = made-fits _ w asked done f refl part e
   acting-fits (None ∷ slips) action w asked done f part e = made-fits _ w asked done f refl part e
@@ -197,10 +263,10 @@ module _ (publication : Publication) (says : Saying) where
 
   -- One action, and all of them.
 
-  nothing-added : (w : World) (after : PublisherTables) → after ≡ w.publisher → (part : List Entry) → map attended_in part ≡ [] → replay publication w.publisher part ≡ after
-  nothing-added w after same part e = ap (replay publication w.publisher) (none part e) ∙ sym same
+  nothing-added : (w : World) (after : PublisherTables) → after ≡ w.publisher → (part : List Entry) → attended_in publication w.publisher part ≡ [] → replay publication w.publisher part ≡ after
+  nothing-added w after same part e = none-taken publication w.publisher part e ∙ sym same
 
-  one : (f : Faulty World) (action : Action) → IsServing action → (part : List Entry) → map attended_in part ≡ attended_by publication says f.world action ((stepping publication says).act f action).1
+  one : (f : Faulty World) (action : Action) → IsServing action → (part : List Entry) → attended_in publication f.world.publisher part ≡ attended_by publication says f.world action ((stepping publication says).act f action).1
       → replay publication f.world.publisher part ≡ ((stepping publication says).act f action).0.world.publisher
   one f (Pass seconds) serving part e = nothing-added f.world _ refl part e
   one f (Make site change) serving part e = nothing-added f.world _ (acting-quiet f.slips (Make site change) f.world _ (rw serving (quiet-at f.world site _ (λ t. quiet-unless f.world _ _ (λ made. refl))))) part e
@@ -211,13 +277,15 @@ module _ (publication : Publication) (says : Saying) where
   one f Forget serving part e = absurd serving
   one f Look serving part e = nothing-added f.world _ (acting-quiet f.slips Look f.world _ refl) part e
 
-  pub all-serving : (f : Faulty World) (actions : List Action) → All IsServing actions → (journal : List Entry) → map attended_in journal ≡ attended publication says f actions
+  pub all-serving : (f : Faulty World) (actions : List Action) → All IsServing actions → (journal : List Entry) → attended_in publication f.world.publisher journal ≡ attended publication says f actions
       → replay publication f.world.publisher journal ≡ (after_actions (stepping publication says) f actions).world.publisher
-  all-serving f [] serving journal e = ap (replay publication f.world.publisher) (none journal e)
+  all-serving f [] serving journal e = none-taken publication f.world.publisher journal e
   all-serving f (action ∷ actions) serving journal e =
       let done = (stepping publication says).act f action in
-      let parts = split (attended_by publication says f.world action done.1) (attended publication says done.0 actions) journal e in
-      ap (replay publication f.world.publisher) parts.2
-      ∙ replay-on publication f.world.publisher parts.0 parts.1
-      ∙ ap (λ (p : PublisherTables). replay publication p parts.1) (one f action (All-head IsServing action actions serving) parts.0 parts.3)
-      ∙ all-serving done.0 actions (All-tail IsServing action actions serving) parts.1 parts.4
+      let parts = split publication f.world.publisher (attended_by publication says f.world action done.1) (attended publication says done.0 actions) journal e in
+      let step : replay publication f.world.publisher parts.early ≡ done.0.world.publisher = one f action (All-head IsServing action actions serving) parts.early parts.taken in
+      ap (replay publication f.world.publisher) parts.whole
+      ∙ replay-on publication f.world.publisher parts.early parts.late
+      ∙ ap (λ (p : PublisherTables). replay publication p parts.late) step
+      ∙ all-serving done.0 actions (All-tail IsServing action actions serving) parts.late
+      (subst (λ (p : PublisherTables). attended_in publication p parts.late ≡ attended publication says done.0 actions) step parts.behind)

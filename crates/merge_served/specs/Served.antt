@@ -1,5 +1,5 @@
 -- What stands in the journal of a publisher that serves, as the actions of a world go by, and what its tables are then.
-use Rattle.std.specs.Prelude.{All, Bool, List, None, Option, Some, [], false, map, true, ℕ, ◌++◌, ◌==◌, ◌∷◌, ◌≡◌}
+use Rattle.std.specs.Prelude.{All, Bool, Err, List, None, Ok, Option, Result, Some, [], false, true, ℕ, ◌++◌, ◌==◌, ◌∷◌, ◌≡◌}
 use Rattle.merge_types.specs.declared.identifiers.Moment.{Moment}
 use Rattle.merge_units.specs.declared.result.Decision.{Decision}
 use Rattle.merge_schema.specs.Valid.{IsValid}
@@ -9,6 +9,8 @@ use Rattle.merge_model.specs.Failing.{Faulty, Slips, faulty}
 use Rattle.merge_model.specs.Failing.Reach.{stepping}
 use Rattle.merge_model.specs.Failing.Runs.{after_actions, machine_does, model_behind_actions, model_does, world_behind_actions}
 use Rattle.merge_model.specs.Laws.SlipLaws.{is_slip, refused_for}
+use Rattle.merge_model.specs.Publisher.{later}
+use Rattle.merge_model.specs.World.Calls.{handled}
 use Rattle.merge_model.specs.World.Steps.{Action, CloseAt, Deliver, Forget, Make}
 use Rattle.merge_model.specs.Tables.{PublisherTables}
 use Rattle.merge_model.specs.World.{Saying, World, empty_world, letter_at}
@@ -16,17 +18,30 @@ use Rattle.merge_model.specs.declared.letter.Letter.{Letter}
 use Rattle.merge_model.specs.declared.letter.Message.TheVariants.{Asks, Replies}
 use Rattle.merge_model.specs.declared.outcome.Outcome.{Outcome}
 use Rattle.merge_laws.specs.Laws.Promised.{Promised}
-use Rattle.merge_desk.specs.Replay.{entry_decisions, replay}
+use Rattle.merge_draft.specs.Drafting.{decided}
+use Rattle.merge_desk.specs.Replay.{answer_to, entry_decisions, replay}
 use Rattle.merge_desk.specs.declared.entry.Entry.{Entry}
 
--- a request that was answered: when, and what the decisions on its conflicts counted as
+-- a request that was taken: at which moment, and what the decisions on its conflicts counted as
 pub record Attended : Type 0 where
   pub moment : Moment
   pub request : Request
   pub decisions : List Decision
 
-abbrev pub attended_in : Entry → Attended
-attended_in e = record { moment = e.moment; request = e.request; decisions = e.decisions }
+-- a request that is refused changes nothing, and so it need not have come
+abbrev pub if_taken : {A E : Type 0} → Result A E → Attended → List Attended
+if_taken (Ok made) a = a ∷ []
+if_taken (Err why) a = []
+
+-- an entry that comes to these tables: the publisher takes the later of its moment and the last one that it took
+abbrev pub attended_at : PublisherTables → Entry → Attended
+attended_at p e = record { moment = later e.moment p.latest; request = e.request; decisions = e.decisions }
+
+-- the requests of a journal that were taken, one entry after the other from these tables on
+abbrev pub attended_in : Publication → PublisherTables → List Entry → List Attended
+attended_in publication p [] = []
+attended_in publication p (e ∷ es) =
+    if_taken (decided publication e.moment e.request e.decisions p) (attended_at p e) ++ attended_in publication (answer_to publication p e).0 es
 
 -- The publisher only serves: it makes no change, closes nothing by itself and purges nothing. Its sites may do all that they can.
 abbrev pub IsServing : Action → Type 0
@@ -35,34 +50,39 @@ IsServing (CloseAt site) = (site.0 == 0) ≡ false
 IsServing Forget = ⊥
 IsServing action = Unit {0}
 
--- a request that failed, by a fault of the store or for want of memory, stands in no journal
+-- a request that failed, by a fault of the store or for want of memory, changes nothing either
 abbrev pub unless_failed : Bool → List Attended → List Attended
 unless_failed true attended = []
 unless_failed false attended = attended
 
 module _ (publication : Publication) (says : Saying) where
-  -- what the publisher is asked by a message that comes
+  -- what the publisher takes of a message that comes
   abbrev pub asked_by : World → Option Letter → List Attended
   asked_by w None = []
   asked_by w (Some letter) = elim letter.message [
-    | Asks m ↦ record { moment = w.moment; request = m; decisions = entry_decisions publication says w.tallies w.moment m w.publisher } ∷ []
+    | Asks m ↦ if_taken (handled publication says w.tallies w.moment m w.publisher) (record {
+      moment = later w.moment w.publisher.latest;
+      request = m;
+      decisions = entry_decisions publication says w.tallies w.moment m w.publisher;
+    })
     | Replies m ↦ []
   ]
 
-  -- what an action adds to the journal
+  -- what the publisher takes by an action
   abbrev pub attended_by : World → Action → Outcome → List Attended
   attended_by w (Deliver number) outcome = unless_failed (refused_for is_slip outcome) (asked_by w (letter_at w number))
   attended_by w action outcome = []
 
-  -- what all of them add, one after the other
+  -- what it takes by all of them, one after the other
   abbrev pub attended : Faulty World → List Action → List Attended
   attended f [] = []
   attended f (action ∷ actions) = let done = (stepping publication says).act f action in attended_by f.world action done.1 ++ attended done.0 actions
 
--- The journal of a publisher that served while actions went by leads from its tables before them to those behind them.
+-- The journal of a publisher that served while actions went by leads from its tables before them to those behind them. Of entries that
+-- are refused nothing is asked, and of moments only what the publisher takes them for: they may fall.
 abbrev pub JournalsAreRuns : Type 0
 JournalsAreRuns = (publication : Publication) (says : Saying) (f : Faulty World) (actions : List Action) → All IsServing actions
-    → (journal : List Entry) → map attended_in journal ≡ attended publication says f actions
+    → (journal : List Entry) → attended_in publication f.world.publisher journal ≡ attended publication says f actions
     → replay publication f.world.publisher journal ≡ (after_actions (stepping publication says) f actions).world.publisher
 
 -- the world behind some actions, with the slips that are still to come
@@ -80,5 +100,5 @@ pub record StandsBehind (publication : Publication) (says : Saying) (tallies : L
 abbrev pub ServedWorldsHavePromises : Type 0
 ServedWorldsHavePromises = (resolvers : ℕ) (publication : Publication) → IsValid resolvers publication → (says : Saying) (tallies : List ℕ) (slips : Slips)
     (before during : List Action) → All IsServing during → (journal : List Entry)
-    → map attended_in journal ≡ attended publication says (world_at publication says tallies slips before) during
+    → attended_in publication (world_at publication says tallies slips before).world.publisher journal ≡ attended publication says (world_at publication says tallies slips before) during
     → StandsBehind publication says tallies slips (before ++ during) (replay publication (world_at publication says tallies slips before).world.publisher journal)

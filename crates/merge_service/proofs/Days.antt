@@ -8,9 +8,12 @@ use Rattle.merge_ports.specs.declared.outside.OpenFault.TheVariants as opening
 use Rattle.merge_schema.specs.declared.publication.Publication.{Publication}
 use Rattle.merge_model.specs.Tables.{PublisherTables}
 use Rattle.merge_model.specs.World.{Saying}
+use Rattle.merge_desk.proofs.Differing.{differing-called}
+use Rattle.merge_desk.specs.Ending.{IsDiffering}
 use Rattle.merge_desk.specs.Views.{IsJournal, SeatView, numbers_from, seat_number}
+use Rattle.merge_desk.specs.declared.comparing.Difference.{Difference}
 use Rattle.merge_desk.specs.declared.entry.Entry.{Entry}
-use Rattle.merge_service.specs.Days.{IsDay, IsOutcome, ended}
+use Rattle.merge_service.specs.Days.{IsDay, IsOutcome, IsTornDay, ended}
 use Rattle.merge_service.specs.Stops.{undoored}
 use Rattle.merge_service.specs.declared.day.Outcome.{Outcome}
 use Rattle.merge_service.specs.declared.day.Outcome.TheVariants as outcome
@@ -26,6 +29,27 @@ some-seats (s ∷ seats) n numbered some = omega arith
 -- a desk that has answered nothing
 pub no-journal : (publication : Publication) (says : Saying) (old : PublisherTables) → IsJournal publication says old [] old
 no-journal publication says old = record { tables = refl; marks = refl; decided = tt }
+
+-- a desk was closed of which a seat was told something else
+pub torn-so : (p publication : Publication) (s says : Saying) (o old new : PublisherTables) (requests : ℕ) (handed : Option ℕ) (d : Difference) (journal : List Entry) (seats : List SeatView) (workers accepted : ℕ)
+    → p ≡ publication → s ≡ says → o ≡ old → IsDiffering p s o journal new seats d → map seat_number seats ≡ numbers_from 1 workers → workers ≤ 16
+    → length journal ≤ accepted → accepted ≤ requests → IfSome handed (λ (n : ℕ). n ≡ accepted) → IsTornDay publication says old new requests handed d
+torn-so p publication s says o old new requests handed d journal seats workers accepted same said began differs numbered bounded paid few each = record {
+  journal = journal;
+  seats = seats;
+  workers = workers;
+  accepted = accepted;
+  differing =
+      subst (λ (t : PublisherTables). IsDiffering publication says t journal new seats d) began
+      (subst (λ (x : Saying). IsDiffering publication x o journal new seats d) said
+      (subst (λ (x : Publication). IsDiffering x s o journal new seats d) same differs));
+  numbered = numbered;
+  bounded = bounded;
+  some = differing-called p s o journal new seats d differs;
+  paid = paid;
+  few = few;
+  each = each;
+}
 
 -- the journal of a desk is one since these tables
 module _ (publication : Publication) (says : Saying) (old new : PublisherTables) (requests : ℕ) (handed : Option ℕ) (before : ℕ) where

@@ -1,4 +1,4 @@
-mod Crosses
+pub mod Crosses
 mod Days
 mod Endings
 mod Starts

@@ -1,21 +1,33 @@
 -- A day at a desk: what its journal has, and what became of the door.
-use Rattle.std.specs.Prelude.{Err, IfSome, List, Ok, Option, Result, if◌then◌else◌, length, nat_lt, ℕ, ◌<◌, ◌≡◌, ◌≤◌}
+use Rattle.std.specs.Prelude.{Err, IfSome, List, Ok, Option, Result, if◌then◌else◌, length, map, nat_lt, ℕ, ◌<◌, ◌≡◌, ◌≤◌}
 use Rattle.merge_ports.specs.Faults.{Rose}
 use Rattle.merge_schema.specs.declared.publication.Publication.{Publication}
 use Rattle.merge_model.specs.Tables.{PublisherTables}
 use Rattle.merge_model.specs.World.{Saying}
 use Rattle.merge_desk.specs.Ending.{IsDiffering}
-use Rattle.merge_desk.specs.Views.{IsJournal, SeatView}
+use Rattle.merge_desk.specs.Views.{IsJournal, SeatView, numbers_from, seat_number}
+use Rattle.merge_desk.specs.declared.comparing.Difference.{Difference}
 use Rattle.merge_desk.specs.declared.entry.Entry.{Entry}
 use Rattle.merge_service.specs.declared.day.Outcome.{Outcome}
 use Rattle.merge_service.specs.declared.day.Outcome.TheVariants as outcome
-use Rattle.merge_service.specs.declared.stop.Difference.{Difference}
 use Rattle.merge_service.specs.declared.stop.Stop.{Stop}
 use Rattle.merge_service.specs.declared.stop.Stop.TheVariants.{Differs, DoorFault, NoMemory}
 
--- a seat was told something else than a journal has of it that led from these tables to those
-abbrev pub IsTornDay : Publication → Saying → (old new : PublisherTables) → Difference → Type 0
-IsTornDay publication says old new d = (journal : List Entry) × (seats : List SeatView) × IsDiffering publication says old journal new seats d.seat d.told d.kept
+-- A desk was closed with all its seats, which are numbered from one and no more than 16, and one of them was told something else than
+-- the journal has of it that led from these tables to those. A request was answered, and no more than connections were accepted: as many as
+-- the door handed out, where it tells it.
+pub record IsTornDay (publication : Publication) (says : Saying) (old new : PublisherTables) (requests : ℕ) (handed : Option ℕ) (d : Difference) : Type 0 where
+  pub journal : List Entry
+  pub seats : List SeatView
+  pub workers : ℕ
+  pub accepted : ℕ
+  pub differing : IsDiffering publication says old journal new seats d
+  pub numbered : map seat_number seats ≡ numbers_from 1 workers
+  pub bounded : workers ≤ 16
+  pub some : 1 ≤ length journal
+  pub paid : length journal ≤ accepted
+  pub few : accepted ≤ requests
+  pub each : IfSome handed (λ (n : ℕ). n ≡ accepted)
 
 -- some journal led from these tables to those
 abbrev pub IsSomeDay : Publication → Saying → (old new : PublisherTables) → Type 0
@@ -25,7 +37,7 @@ IsSomeDay publication says old new = (journal : List Entry) × IsJournal publica
 -- and no more requests were answered
 abbrev pub IsOutcome : Publication → Saying → (old new : PublisherTables) → (requests : ℕ) → (handed : Option ℕ) → (faults : ℕ) → Outcome → Type 0
 IsOutcome publication says old new requests handed faults outcome.Unstarted = new ≡ old
-IsOutcome publication says old new requests handed faults (outcome.Differs d) = IsTornDay publication says old new d
+IsOutcome publication says old new requests handed faults (outcome.Differs d) = IsTornDay publication says old new requests handed d
 IsOutcome publication says old new requests handed faults (outcome.Closed journal accepted) =
     IsJournal publication says old journal new × IfSome handed (λ (n : ℕ). n ≡ accepted) × (accepted ≤ requests) × (accepted < requests → 0 < faults)
     × (length journal ≤ accepted)
@@ -41,6 +53,6 @@ abbrev pub IsDay : Publication → Saying → (old new : PublisherTables) → (r
 IsDay publication says old new requests handed before after (Ok journal) =
     IsJournal publication says old journal new × IfSome handed (λ (n : ℕ). n ≡ requests) × (length journal ≤ requests)
 IsDay publication says old new requests handed before after (Err DoorFault) = Rose before after × IsSomeDay publication says old new
-IsDay publication says old new requests handed before after (Err (Differs d)) = IsTornDay publication says old new d
+IsDay publication says old new requests handed before after (Err (Differs d)) = IsTornDay publication says old new requests handed d
 IsDay publication says old new requests handed before after (Err NoMemory) = new ≡ old
 IsDay publication says old new requests handed before after (Err other) = ⊥

@@ -36,7 +36,7 @@ Ends publication says requests around was written writes refused (Err WriteFault
 Ends publication says requests around was written writes refused (Err DoorFault) =
     (written ≡ was) × Rose around.doors around.doors_after × HeldSome publication says around
 Ends publication says requests around was written writes refused (Err (Differs d)) =
-    (written ≡ was) × Held publication around (λ (old new : PublisherTables). IsTornDay publication says old new d)
+    (written ≡ was) × Held publication around (λ (old new : PublisherTables). IsTornDay publication says old new requests around.handed d)
 Ends publication says requests around was written writes refused (Err StoreFault) =
     (written ≡ was) × Rose around.stores around.stores_after × (around.kept ≡ around.stored) × (around.doors_after ≡ around.doors)
 Ends publication says requests around was written writes refused (Err (Damaged table key)) =

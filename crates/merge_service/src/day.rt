@@ -2,8 +2,7 @@
 ghost use Rattle.std.specs.Prelude.{◌≡◌, ◌≤◌, IfSome};
 ghost use Rattle.merge_service.specs.Days.{IsOutcome};
 
-use crate::stop::Difference;
-use merge_desk::{Closed, Desk, DeskStart, Differs, Entry, Opening};
+use merge_desk::{Closed, Desk, DeskStart, Difference, Differs, Entry, Opening};
 use merge_draft::DraftingPublisher;
 use merge_link::Clock;
 use merge_serve::{Door, OpenGate, Served, serve};
@@ -76,8 +75,9 @@ where
 {
     let (given, mut parts) = permits.open::<N>();
     let spent = parts.empty();
-    let started = Desk::<P, L, M, N, O>::start(alloc, publisher, workers, calls, faults, spent);
-    let (desk, seats) = match started {
+    let (desk, seats) = match Desk::<P, L, M, N, O>::start(
+        alloc, publisher, workers, calls, faults, spent,
+    ) {
         Ok(opened) => opened,
         Err(DeskStart { publisher }) => {
             return Day {
@@ -87,14 +87,15 @@ where
             };
         }
     };
+    let served = serve(
+        rt, alloc, &desk, seats, requests, door, clock, &OpenGate, given, parts,
+    );
     let Served {
         seats,
         accepted,
         door,
         mut given,
-    } = serve(
-        rt, alloc, &desk, seats, requests, door, clock, &OpenGate, given, parts,
-    );
+    } = served;
     match desk.close(seats) {
         Ok(
             Closed {
@@ -114,18 +115,20 @@ where
                 },
             }
         }
-        Err(
-            Differs {
-                seat,
-                told,
-                kept,
+        Err(differs) => {
+            let Differs {
+                difference,
                 journal: _,
                 publisher,
-            },
-        ) => Day {
-            publisher,
-            door,
-            outcome: Outcome::Differs(Difference { seat, told, kept }),
-        },
+                permits,
+            } = differs;
+            let mut spent = permits;
+            given.audit(&mut spent);
+            Day {
+                publisher,
+                door,
+                outcome: Outcome::Differs(difference),
+            }
+        }
     }
 }

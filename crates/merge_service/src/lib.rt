@@ -10,4 +10,4 @@ mod stop;
 mod writing;
 
 pub use service::{Hours, serve_store};
-pub use stop::{Difference, Stop};
+pub use stop::Stop;

@@ -3,18 +3,9 @@ ghost use Rattle.std.specs.Prelude.{◌≡◌};
 ghost use Rattle.merge_service.specs.Stops.{undoored, unopened, unstarted};
 
 use merge_batch::Refusal;
-use merge_desk::Mark;
+use merge_desk::Difference;
 use merge_ports::{Failed, OpenFault};
 use merge_types::{NoMemory, Octets};
-
-/// The first seat that was told something else than the journal has of it, and the first two marks
-/// that differ.
-#[derive(Clone, Copy, Debug, PartialEq, Eq)]
-pub struct Difference {
-    pub seat: u16,
-    pub told: Mark,
-    pub kept: Mark,
-}
 
 /// Why a day at a publisher's store was not summed up.
 #[derive(Debug, Drop)]
