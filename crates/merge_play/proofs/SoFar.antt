@@ -4,13 +4,15 @@ use Rattle.std.proofs.lemmas.List.{append-nil}
 use Rattle.std.proofs.lemmas.Grind.{flat_map-append}
 use Rattle.std.proofs.Math.Seq.{take-length, take-append-add}
 use Rattle.std.specs.declared.option.Option.{Option}
-use Rattle.std.specs.Prelude.{Some, None, true, ℕ}
+use Rattle.std.specs.Prelude.{Some, None, Err, Result, true, ℕ}
 use Rattle.std.specs.Io.KnownBytes.{Appends}
 use Rattle.merge_ports.specs.Parts.{AppendsFront}
 use Rattle.merge_ports.proofs.Known.{Appends-append}
+use Rattle.merge_types.specs.declared.identifiers.SiteId.{SiteId}
 use Rattle.merge_script.specs.Lines.{lines_of}
 use Rattle.merge_schema.specs.declared.publication.Publication.{Publication}
 use Rattle.merge_batch.specs.declared.refusal.Refusal.{Refusal}
+use Rattle.merge_batch.specs.declared.refusal.Refusal.TheVariants.{Damaged}
 use Rattle.merge_model.specs.Script.Play.{names_of}
 use Rattle.merge_model.specs.Script.Reading.{events_of, fault_by, fault_from, fault_of, line_of}
 use Rattle.merge_model.specs.Script.Text.{Names, text_of, texts_of}
@@ -18,14 +20,17 @@ use Rattle.merge_model.specs.World.Events.{is_site}
 use Rattle.merge_model.specs.World.{Saying, World}
 use Rattle.merge_model.specs.declared.answer.Answer.{Answer}
 use Rattle.merge_model.specs.declared.event.Event.{Event}
+use Rattle.merge_model.specs.declared.event.Event.TheVariants.{Restart}
 use Rattle.merge_model.specs.declared.event.Line.{Line}
 use Rattle.merge_model.specs.declared.event.Line.TheVariants.{Quiet, Event as Does, NoEvent}
 use Rattle.merge_world.specs.Happenings.{Comes, Happened}
 use Rattle.merge_world.specs.Playing.{AllHappened}
 use Rattle.merge_world.specs.Restarts.{IsLost}
 use Rattle.merge_world.specs.Resuming.{EndsRun}
-use Rattle.merge_world.specs.Views.{HandedView, IsOrdered, SitesView}
+use Rattle.merge_world.specs.Views.{HandedView, IsOrdered, SitesView, world_of}
 use Rattle.merge_world.proofs.Playings.{and-then, nothing-yet, ordered-behind}
+use Rattle.merge_play.specs.declared.stop.Stop.{Stop}
+use Rattle.merge_play.specs.declared.stop.Stop.TheVariants as stop
 use Rattle.merge_play.specs.Played.{LineAnswered, LineEnds, LineInPart, Played, PlayedInPart, PlayedToRestart}
 
 -- the lines up to the rest are answered, and the sites are as they left them
@@ -216,29 +221,56 @@ module _ (line : List ℕ) (u v : SitesView) (b c : Option (List ℕ)) where
   line-lost why done = lost (line_of line) why done
 
   module _ (lines rest : List (List ℕ)) (number : ℕ) (first : SitesView) (k g : HandedView) (a : Option (List ℕ)) where
-    -- the lines before it are answered, and it says a restart
-    ended : (said : Line) (faults : ℕ) (why : Refusal) → line_of line ≡ said → u.faults ≤ faults → SoFar lines (line ∷ rest) number first u k g a b → LineEnds said u v why b c → IsLost why u.faults faults → PlayedToRestart lines first k why faults a c
-    ended Quiet faults why e le s done gone = absurd done
-    ended (NoEvent word) faults why e le s done gone = absurd done
-    ended (Does event) faults why e le s done gone =
-        let split : events_of lines ≡ s.events ++ event ∷ events_of rest = rw e at s.split in
-        record {
-          events = s.events;
-          site = done.0.site;
-          more = events_of rest;
-          split = split ∙ ap (λ (x : Event). s.events ++ x ∷ events_of rest) done.0.restarts;
-          known = subst (λ (x : Publication). is_site x done.0.site ≡ true) s.happened.publication done.0.known;
-          answers = s.answers;
-          last = u;
-          behind = g;
-          happened = s.happened;
-          few = le;
-          lost = gone;
-          bytes = subst (λ (x : Option (List ℕ)). Appends a x (texts_of (names_of first.publication) s.answers)) (sym done.1) s.bytes;
-        }
+    module _ (IsDamaged : SiteId → ℕ → List ℕ → Type 0) (q : Result Unit Stop) (faults : ℕ) (why : Refusal)
+        (damaged : (site : SiteId) (table : ℕ) (key : List ℕ) → line_of line ≡ Does (Restart site) → q ≡ Err (stop.Ended (Damaged table key)) → IsDamaged site table key) (met : q ≡ Err (stop.Ended why)) (le : u.faults ≤ faults) where
+      -- a record of its site is damaged, where that is told
+      damaged-there : (site : SiteId) → line_of line ≡ Does (Restart site) → (table : ℕ) (key : List ℕ) → why ≡ Damaged table key → IsDamaged site table key
+      damaged-there site e table key same = damaged site table key e (met ∙ ap (λ (r : Refusal). (let x : Result Unit Stop = Err (stop.Ended r) in x)) same)
 
-    pub so-far-ends : (faults : ℕ) (why : Refusal) → u.faults ≤ faults → SoFar lines (line ∷ rest) number first u k g a b → LineEnds (line_of line) u v why b c → IsLost why u.faults faults → PlayedToRestart lines first k why faults a c
-    so-far-ends faults why le s done gone = ended (line_of line) faults why refl le s done gone
+      -- the lines before it are answered, and it says a restart
+      ended : (said : Line) → line_of line ≡ said → SoFar lines (line ∷ rest) number first u k g a b → LineEnds said u v why b c → IsLost why u.faults faults
+          → (cut : PlayedToRestart lines first k why faults a c) × ((table : ℕ) (key : List ℕ) → why ≡ Damaged table key → IsDamaged cut.site table key) × ((tallies : List ℕ) → world_of v tallies ≡ world_of cut.last tallies)
+      ended Quiet e s done gone = absurd done
+      ended (NoEvent word) e s done gone = absurd done
+      ended (Does event) e s done gone =
+          let split : events_of lines ≡ s.events ++ event ∷ events_of rest = rw e at s.split in (
+            record {
+              events = s.events;
+              site = done.0.site;
+              more = events_of rest;
+              split = split ∙ ap (λ (x : Event). s.events ++ x ∷ events_of rest) done.0.restarts;
+              known = subst (λ (x : Publication). is_site x done.0.site ≡ true) s.happened.publication done.0.known;
+              answers = s.answers;
+              last = u;
+              behind = g;
+              happened = s.happened;
+              few = le;
+              lost = gone;
+              bytes = subst (λ (x : Option (List ℕ)). Appends a x (texts_of (names_of first.publication) s.answers)) (sym done.1) s.bytes;
+            },
+            damaged-there done.0.site (e ∙ ap (λ (x : Event). Does x) done.0.restarts),
+            done.0.same,
+          )
+
+      pub so-far-ends : SoFar lines (line ∷ rest) number first u k g a b → LineEnds (line_of line) u v why b c → IsLost why u.faults faults
+          → (cut : PlayedToRestart lines first k why faults a c) × ((table : ℕ) (key : List ℕ) → why ≡ Damaged table key → IsDamaged cut.site table key) × ((tallies : List ℕ) → world_of v tallies ≡ world_of cut.last tallies)
+      so-far-ends s done gone = ended (line_of line) refl s done gone
+
+-- a stop for a refusal is for that one
+abbrev refusal_in : Result Unit Stop → Refusal → Refusal
+refusal_in (Err (stop.Ended why)) other = why
+refusal_in r other = other
+
+pub ended-as : (why met : Refusal) → (let r : Result Unit Stop = Err (stop.Ended why) in r) ≡ Err (stop.Ended met) → (let q : Result Answer Refusal = Err why in q) ≡ Err met
+ended-as why met is = ap (λ (x : Refusal). (let q : Result Answer Refusal = Err x in q)) (ap (λ (r : Result Unit Stop). refusal_in r why) is)
+
+-- a line says one event
+abbrev event_in : Line → Event → Event
+event_in (Does event) other = event
+event_in said other = other
+
+pub says-same : (said : Line) (e f : Event) → said ≡ Does e → said ≡ Does f → e ≡ f
+says-same said e f one other = ap (λ (x : Line). event_in x e) (sym one ∙ other)
 
 -- a loss is counted from before
 pub lost-before : (why : Refusal) (a b c : ℕ) → a ≤ b → IsLost why b c → IsLost why a c

@@ -1,19 +1,23 @@
 //! The lines of a script, one after the other.
 ghost use Rattle.std.specs.Io.KnownBytes.{Appends};
-ghost use Rattle.std.specs.Prelude.{◌≡◌, ◌≤◌, ◌<◌, ◌+◌, ◌^◌, ◌⊎◌, Err, None, OnErr, OnOk, Some, ℕ, length};
+ghost use Rattle.std.specs.Prelude.{◌≡◌, ◌≤◌, ◌<◌, ◌+◌, ◌^◌, ◌⊎◌, Err, None, OnErr, OnOk, Some, ℕ, List, length};
+ghost use Rattle.merge_types.specs.declared.identifiers.SiteId.{SiteId};
 ghost use Rattle.merge_batch.specs.declared.refusal.Refusal.{Refusal as Refused};
+ghost use Rattle.merge_batch.specs.declared.refusal.Refusal.TheVariants.{Damaged};
 ghost use Rattle.merge_ports.specs.Faults.{Rose};
 ghost use Rattle.merge_ports.specs.Parts.{AppendsFront};
 ghost use Rattle.merge_script.specs.Lines.{lines_of};
 ghost use Rattle.merge_model.specs.Script.Play.{names_of};
 ghost use Rattle.merge_model.specs.Script.Reading.{fault_of, line_of};
 ghost use Rattle.merge_model.specs.Script.Text.{text_of};
+ghost use Rattle.merge_model.specs.declared.event.Event.TheVariants.{Restart};
 ghost use Rattle.merge_model.specs.declared.event.Line.TheVariants.{Event as Does, NoEvent};
 ghost use Rattle.merge_play.specs.Played.{LineAnswered, LineEnds, LineInPart, Played, PlayedInPart, PlayedToRestart};
 ghost use Rattle.merge_play.specs.declared.stop.Stop.TheVariants as stop;
 ghost use Rattle.merge_model.specs.Script.Proper.{IsProperAnswer};
 ghost use Rattle.merge_world.specs.Restarts.{IsLost};
-ghost use Rattle.merge_world.specs.Views.{IsOrdered, handed_view};
+ghost use Rattle.merge_world.specs.Views.{IsOrdered, handed_view, world_of};
+ghost use Rattle.merge_types.specs.Limits.{input_limit, number_limit};
 
 use crate::stop::Stop;
 use merge_model::{Answer, Event, Line};
@@ -64,8 +68,11 @@ fn play_event<P: PublisherSite, S: SubscriberSite, O: Sink>(
     ensures no_event { (line word : ℕ) → result ≡ Err (stop.NoEvent line word) → ⊥ }
     ensures write { result ≡ Err stop.WriteFault → Rose (O.count output.old) (O.count output.new) }
     ensures ended { (why : Refused) → result ≡ Err (stop.Ended why) → LineEnds (Does event.now) (⟦<Sites<P, S> as Seen>⟧.seen sites.old) (⟦<Sites<P, S> as Seen>⟧.seen sites.new) why (O.written output.old) (O.written output.new) }
+    ensures damaged { (site : SiteId) (table : ℕ) (key : List ℕ) → event.now ≡ Restart site → result ≡ Err (stop.Ended (Damaged table key)) → ⟦<Sites<P, S> as Seen>⟧.IsDamaged sites.new site table key }
     ensures later { (⟦<Sites<P, S> as Seen>⟧.seen sites.old).faults ≤ (⟦<Sites<P, S> as Seen>⟧.seen sites.new).faults }
     ensures stays { (⟦<Sites<P, S> as Seen>⟧.seen sites.new).sites ≡ (⟦<Sites<P, S> as Seen>⟧.seen sites.old).sites }
+    ensures alike { (⟦<Sites<P, S> as Seen>⟧.seen sites.new).publications ≡ (⟦<Sites<P, S> as Seen>⟧.seen sites.old).publications }
+    ensures publication { (⟦<Sites<P, S> as Seen>⟧.seen sites.new).publication ≡ (⟦<Sites<P, S> as Seen>⟧.seen sites.old).publication }
     ensures writes { O.count output.old ≤ O.count output.new }
 {
     let _ = seconds_of(event);
@@ -94,8 +101,11 @@ fn play_line<P: PublisherSite, S: SubscriberSite, O: Sink>(
     ensures no_event { (at word : ℕ) → result ≡ Err (stop.NoEvent at word) → (at ≡ number) × (line_of line.now ≡ NoEvent word) }
     ensures write { result ≡ Err stop.WriteFault → Rose (O.count output.old) (O.count output.new) }
     ensures ended { (why : Refused) → result ≡ Err (stop.Ended why) → LineEnds (line_of line.now) (⟦<Sites<P, S> as Seen>⟧.seen sites.old) (⟦<Sites<P, S> as Seen>⟧.seen sites.new) why (O.written output.old) (O.written output.new) }
+    ensures damaged { (site : SiteId) (table : ℕ) (key : List ℕ) → line_of line.now ≡ Does (Restart site) → result ≡ Err (stop.Ended (Damaged table key)) → ⟦<Sites<P, S> as Seen>⟧.IsDamaged sites.new site table key }
     ensures later { (⟦<Sites<P, S> as Seen>⟧.seen sites.old).faults ≤ (⟦<Sites<P, S> as Seen>⟧.seen sites.new).faults }
     ensures stays { (⟦<Sites<P, S> as Seen>⟧.seen sites.new).sites ≡ (⟦<Sites<P, S> as Seen>⟧.seen sites.old).sites }
+    ensures alike { (⟦<Sites<P, S> as Seen>⟧.seen sites.new).publications ≡ (⟦<Sites<P, S> as Seen>⟧.seen sites.old).publications }
+    ensures publication { (⟦<Sites<P, S> as Seen>⟧.seen sites.new).publication ≡ (⟦<Sites<P, S> as Seen>⟧.seen sites.old).publication }
     ensures writes { O.count output.old ≤ O.count output.new }
 {
     match read_line(alloc, line)? {
@@ -117,8 +127,8 @@ pub fn play_lines<P: PublisherSite, S: SubscriberSite, O: Sink>(
     output: &mut O,
 ) -> Result<(), Stop>
     requires ordered { IsOrdered (⟦<Sites<P, S> as Seen>⟧.seen sites.old) }
-    requires early { sites.old.moment.0 ≤ 2 ^ 62 }
-    requires short { length script.now ≤ 67108864 }
+    requires early { sites.old.moment.0 ≤ number_limit }
+    requires short { length script.now ≤ input_limit }
     ensures whole { OnOk result (fault_of (lines_of script.now) ≡ None) }
     ensures done { OnOk result (Played (lines_of script.now) (⟦<Sites<P, S> as Seen>⟧.seen sites.old) (⟦<Sites<P, S> as Seen>⟧.seen sites.new)
         (handed_view (λ r. says r) (λ r. tally_of r) resolvers.old.items) (handed_view (λ r. says r) (λ r. tally_of r) resolvers.new.items) (O.written output.old) (O.written output.new)) }
@@ -129,10 +139,14 @@ pub fn play_lines<P: PublisherSite, S: SubscriberSite, O: Sink>(
         (handed_view (λ r. says r) (λ r. tally_of r) resolvers.old.items) (handed_view (λ r. says r) (λ r. tally_of r) resolvers.new.items) (O.written output.old) (O.written output.new) }
     ensures write { result ≡ Err stop.WriteFault → Rose (O.count output.old) (O.count output.new) }
     ensures ended { (why : Refused) → result ≡ Err (stop.Ended why) → IsLost why (⟦<Sites<P, S> as Seen>⟧.seen sites.old).faults (⟦<Sites<P, S> as Seen>⟧.seen sites.new).faults }
-    ensures restart { (why : Refused) → result ≡ Err (stop.Ended why) → PlayedToRestart (lines_of script.now) (⟦<Sites<P, S> as Seen>⟧.seen sites.old) (handed_view (λ r. says r) (λ r. tally_of r) resolvers.old.items) why
-        (⟦<Sites<P, S> as Seen>⟧.seen sites.new).faults (O.written output.old) (O.written output.new) }
+    ensures restart { (why : Refused) → result ≡ Err (stop.Ended why) → (cut : PlayedToRestart (lines_of script.now) (⟦<Sites<P, S> as Seen>⟧.seen sites.old) (handed_view (λ r. says r) (λ r. tally_of r) resolvers.old.items) why
+        (⟦<Sites<P, S> as Seen>⟧.seen sites.new).faults (O.written output.old) (O.written output.new))
+        × ((table : ℕ) (key : List ℕ) → why ≡ Damaged table key → ⟦<Sites<P, S> as Seen>⟧.IsDamaged sites.new cut.site table key)
+        × ((tallies : List ℕ) → world_of (⟦<Sites<P, S> as Seen>⟧.seen sites.new) tallies ≡ world_of cut.last tallies) }
     ensures later { (⟦<Sites<P, S> as Seen>⟧.seen sites.old).faults ≤ (⟦<Sites<P, S> as Seen>⟧.seen sites.new).faults }
     ensures stays { (⟦<Sites<P, S> as Seen>⟧.seen sites.new).sites ≡ (⟦<Sites<P, S> as Seen>⟧.seen sites.old).sites }
+    ensures alike { (⟦<Sites<P, S> as Seen>⟧.seen sites.new).publications ≡ (⟦<Sites<P, S> as Seen>⟧.seen sites.old).publications }
+    ensures publication { (⟦<Sites<P, S> as Seen>⟧.seen sites.new).publication ≡ (⟦<Sites<P, S> as Seen>⟧.seen sites.old).publication }
     ensures writes { O.count output.old ≤ O.count output.new }
 {
     let mut rest = script;

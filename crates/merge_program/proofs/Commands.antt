@@ -15,6 +15,7 @@ use Rattle.merge_program.specs.Headline.{PlayRunEnds}
 use Rattle.merge_program.specs.Making.{MakeEnds}
 use Rattle.merge_program.specs.Showing.{ShowEnds}
 use Rattle.merge_program.specs.Statuses.{CommandEnds}
+use Rattle.merge_program.specs.Stores.{at_no_path}
 use Rattle.merge_program.specs.Syncing.{SyncEnds}
 use Rattle.merge_program.specs.Visits.{IsIdle, Visit, sides_of}
 use Rattle.merge_program.proofs.Ends.{any-of}
@@ -23,10 +24,10 @@ module _ (ending : Ending) (handed : HandedView) (v : Visit) where
   abbrev Ends : Option Command → Type 0
   Ends command = CommandEnds command ending handed v
 
-  pub by-play : (command : Command) → command ≡ Play → PlayRunEnds ending v.input handed (sides_of v) v.writes v.refused v.reads v.failed → Ends (Some command)
+  pub by-play : (command : Command) → command ≡ Play → PlayRunEnds ending v.input handed (sides_of v) (at_no_path v.stored) (at_no_path v.kept) v.writes v.refused v.reads v.failed → Ends (Some command)
   by-play command is ends = subst (λ (c : Command). Ends (Some c)) (sym is) ends
 
-  pub by-make : (command : Command) (customers : ℕ) → command ≡ Make customers → MakeEnds ending customers handed (sides_of v) v.writes v.refused → Ends (Some command)
+  pub by-make : (command : Command) (customers : ℕ) → command ≡ Make customers → MakeEnds ending customers handed (sides_of v) (at_no_path v.stored) v.writes v.refused → Ends (Some command)
   by-make command customers is ends = subst (λ (c : Command). Ends (Some c)) (sym is) ends
 
   pub by-change : (command : Command) (place : Place) → command ≡ Change place → (resolvers : ℕ) → resolvers ≡ length handed.tallies → ChangeEnds ending place resolvers v → Ends (Some command)
@@ -45,7 +46,7 @@ module _ (ending : Ending) (handed : HandedView) (v : Visit) where
   pub by-none : (command : Option Command) → command ≡ None → ending ≡ Usage → v.written ≡ v.was → v.kept ≡ v.stored → v.behind ≡ v.offers → v.new.links ≡ v.old.links → Ends command
   by-none command none usage silent same unasked unlinked = subst Ends (sym none) (usage, record { silent = silent; same = same; unasked = unasked; unlinked = unlinked })
 
-  pub as-made : (command : Option Command) (customers : ℕ) → command ≡ Some (Make customers) → Ends command → MakeEnds ending customers handed (sides_of v) v.writes v.refused
+  pub as-made : (command : Option Command) (customers : ℕ) → command ≡ Some (Make customers) → Ends command → MakeEnds ending customers handed (sides_of v) (at_no_path v.stored) v.writes v.refused
   as-made command customers is ends = subst Ends is ends
 
   pub by-words : (command said : Option Command) → said ≡ command → Ends said → Ends command

@@ -2,6 +2,8 @@
 use Rattle.std.proofs.Common.{Err, List, None, Ok, Option, Some, ap, arith, inl, inr, length, refl, subst, sym, ℕ, ◌+◌, ◌++◌, ◌<◌, ◌∙◌, ◌≡◌, ◌≤◌, ◌⊎◌}
 use Rattle.std.proofs.lemmas.List.{length-append}
 use Rattle.std.specs.Prelude.{IfSome}
+use Rattle.merge_types.specs.declared.identifiers.SiteId.{SiteId}
+use Rattle.merge_ports.specs.Entries.{Map}
 use Rattle.merge_ports.specs.Faults.{Rose}
 use Rattle.merge_ports.specs.declared.whole.ReadFault.{ReadFault as Unread}
 use Rattle.merge_ports.specs.declared.whole.ReadFault.TheVariants as reading
@@ -18,15 +20,15 @@ use Rattle.merge_program.specs.declared.ending.Ending.TheVariants.{BadReply, Dam
 use Rattle.merge_program.specs.Endings.{refused_for, unread}
 use Rattle.merge_program.specs.Headline.{AnsweredInPart, InputEnds, IsStopped, IsTaken, IsTakenInput, PlayEnds, PlayRunEnds, Sides, WrittenInPart, lines_of_input}
 
-module _ (handed : HandedView) (input : List ℕ) (sides : Sides) (writes refused : ℕ) where
+module _ (handed : HandedView) (input : List ℕ) (sides : Sides) (stored kept : SiteId → Option Map) (writes refused : ℕ) where
   abbrev Input : Ending → Type 0
-  Input ending = InputEnds ending handed input sides writes refused
+  Input ending = InputEnds ending handed input sides stored kept writes refused
 
   module _ (publication : Publication) (taken : IsTaken (length handed.tallies) input publication) where
     -- a script that was played was that of the input
-    pub input-ends : (ending : Ending) → PlayEnds ending publication handed (lines_of_input input) sides writes refused → Input ending
-    input-ends Done p = record { publication = publication; taken = taken; events = p.0; answered = p.1 }
-    input-ends (NoEvent line word) p = record { publication = publication; taken = taken; no_event = p.0; answered = p.1 }
+    pub input-ends : (ending : Ending) → PlayEnds ending publication handed (lines_of_input input) sides stored kept writes refused → Input ending
+    input-ends Done p = record { publication = publication; taken = taken; events = p.0; empty = p.1; answered = p.2 }
+    input-ends (NoEvent line word) p = record { publication = publication; taken = taken; no_event = p.0; empty = p.1; answered = p.2 }
     input-ends WriteFault p = ((publication, taken), p)
     input-ends StoreFault p = ((publication, taken, p.0), p.1)
     input-ends (Damaged table key) p = (publication, taken, p)
@@ -70,9 +72,9 @@ module _ (handed : HandedView) (input : List ℕ) (sides : Sides) (fits : length
     read = subst (λ (t : List ℕ). IsAnswer (length handed.tallies) t (Ok publication)) before (subst (λ (n : ℕ). IsAnswer n text (Ok publication)) counted answer);
   }
 
-  pub played-ends : (writes refused : ℕ) (ending : Ending) → PlayEnds ending publication handed (lines_of script) sides writes refused → InputEnds ending handed input sides writes refused
-  played-ends writes refused ending ends =
-      input-ends handed input sides writes refused publication taken-so ending (subst (λ (l : List ℕ). PlayEnds ending publication handed (lines_of l) sides writes refused) behind ends)
+  pub played-ends : (stored kept : SiteId → Option Map) (writes refused : ℕ) (ending : Ending) → PlayEnds ending publication handed (lines_of script) sides stored kept writes refused → InputEnds ending handed input sides stored kept writes refused
+  played-ends stored kept writes refused ending ends =
+      input-ends handed input sides stored kept writes refused publication taken-so ending (subst (λ (l : List ℕ). PlayEnds ending publication handed (lines_of l) sides stored kept writes refused) behind ends)
 
   pub played-part : (sides.written ≡ sides.was) ⊎ AnsweredInPart publication handed (lines_of script) sides → WrittenInPart handed input sides
   played-part (inl same) = inl same
@@ -100,17 +102,17 @@ any-of (Some l) = tt
 pub in-part-of : (left : Option (List ℕ)) (input slice : List ℕ) (handed : HandedView) (sides : Sides) → slice ≡ input → WrittenInPart handed slice sides → IfSome left (λ (l : List ℕ). input ≡ l) → IfSome left (λ (l : List ℕ). WrittenInPart handed l sides)
 in-part-of left input slice handed sides is part same = some-of (λ (l : List ℕ). WrittenInPart handed l sides) left input same (subst (λ (l : List ℕ). WrittenInPart handed l sides) is part)
 
-module _ (left : Option (List ℕ)) (handed : HandedView) (sides : Sides) (writes refused reads failed : ℕ) where
+module _ (left : Option (List ℕ)) (handed : HandedView) (sides : Sides) (stored kept : SiteId → Option Map) (writes refused reads failed : ℕ) where
   abbrev Ends : Ending → Type 0
-  Ends ending = PlayRunEnds ending left handed sides writes refused reads failed
+  Ends ending = PlayRunEnds ending left handed sides stored kept writes refused reads failed
 
-  read-ends : (input : List ℕ) → IfSome left (λ (l : List ℕ). input ≡ l) → (ending : Ending) → InputEnds ending handed input sides writes refused → Ends ending
-  read-ends input same Done p = some-of (λ (l : List ℕ). InputEnds Done handed l sides writes refused) left input same p
-  read-ends input same (Refused fault) p = some-of (λ (l : List ℕ). InputEnds (Refused fault) handed l sides writes refused) left input same p
-  read-ends input same (NoEvent line word) p = some-of (λ (l : List ℕ). InputEnds (NoEvent line word) handed l sides writes refused) left input same p
+  read-ends : (input : List ℕ) → IfSome left (λ (l : List ℕ). input ≡ l) → (ending : Ending) → InputEnds ending handed input sides stored kept writes refused → Ends ending
+  read-ends input same Done p = some-of (λ (l : List ℕ). InputEnds Done handed l sides stored kept writes refused) left input same p
+  read-ends input same (Refused fault) p = some-of (λ (l : List ℕ). InputEnds (Refused fault) handed l sides stored kept writes refused) left input same p
+  read-ends input same (NoEvent line word) p = some-of (λ (l : List ℕ). InputEnds (NoEvent line word) handed l sides stored kept writes refused) left input same p
   read-ends input same WriteFault p = (p.1, some-of (IsTakenInput (length handed.tallies)) left input same p.0)
   read-ends input same StoreFault p = (p.1, some-of (λ (l : List ℕ). IsStopped handed l sides 1) left input same p.0)
-  read-ends input same (Damaged table key) p = some-of (λ (l : List ℕ). InputEnds (Damaged table key) handed l sides writes refused) left input same p
+  read-ends input same (Damaged table key) p = some-of (λ (l : List ℕ). InputEnds (Damaged table key) handed l sides stored kept writes refused) left input same p
   read-ends input same NoMemory p = any-of left
   read-ends input same Usage p = absurd p
   read-ends input same ReadFault p = absurd p
@@ -123,8 +125,8 @@ module _ (left : Option (List ℕ)) (handed : HandedView) (sides : Sides) (write
   read-ends input same (BadReply place) p = absurd p
   read-ends input same (Declined number) p = absurd p
 
-  pub ends-by-slice : (input slice : List ℕ) → slice ≡ input → IfSome left (λ (l : List ℕ). input ≡ l) → (ending : Ending) → InputEnds ending handed slice sides writes refused → Ends ending
-  ends-by-slice input slice is same ending p = read-ends input same ending (subst (λ (l : List ℕ). InputEnds ending handed l sides writes refused) is p)
+  pub ends-by-slice : (input slice : List ℕ) → slice ≡ input → IfSome left (λ (l : List ℕ). input ≡ l) → (ending : Ending) → InputEnds ending handed slice sides stored kept writes refused → Ends ending
+  ends-by-slice input slice is same ending p = read-ends input same ending (subst (λ (l : List ℕ). InputEnds ending handed l sides stored kept writes refused) is p)
 
   unread-ends : (fault : Unread) → (fault ≡ reading.TooLong → IfSome left (λ (l : List ℕ). 67108864 < length l)) → (fault ≡ reading.Failed → Rose reads failed) → Ends (unread fault)
   unread-ends reading.Failed long rose = rose refl

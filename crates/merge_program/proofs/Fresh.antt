@@ -29,6 +29,9 @@ module _ (publication : Publication) where
   sites [] keyed = refl
   sites (e ∷ es) keyed = rw (sites es keyed.1) (ap (λ (n : ℕ). n ∷ keys_of es) keyed.0)
 
+  pub fresh-sites : map site_of (fresh_subscribers publication) ≡ keys_of (by_site publication)
+  fresh-sites = sites (by_site publication) (sites-keyed publication)
+
   publications : (es : List (ℕ × Subscription)) (i : ℕ) → get_or (map publication_of (map (fresh_at publication) es)) i publication ≡ publication
   publications [] i = refl
   publications (e ∷ es) zero = refl
@@ -45,6 +48,6 @@ module _ (publication : Publication) where
 
   pub fresh-ordered : IsOrdered (fresh_view publication)
   fresh-ordered = record {
-    ascending = ascending (map site_of (fresh_subscribers publication)) (sites (by_site publication) (sites-keyed publication));
+    ascending = ascending (map site_of (fresh_subscribers publication)) fresh-sites;
     same = λ i lt. publications (by_site publication) i;
   }

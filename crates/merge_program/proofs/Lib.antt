@@ -3,6 +3,8 @@ pub mod Changes
 pub mod Commands
 pub mod Ends
 pub mod Fresh
+pub mod GivenBack
+pub mod Loads
 pub mod Makes
 pub mod Openings
 pub mod Plays
@@ -12,6 +14,8 @@ pub mod Rooms
 pub mod Serves
 pub mod Shows
 pub mod Sites
+pub mod Starts
 pub mod Statuses
 pub mod Syncs
 pub mod Tellings
+pub mod Untold

@@ -7,6 +7,7 @@ use Rattle.merge_ports.specs.Opened.{SameElsewhere}
 use Rattle.merge_schema.specs.Answers.{IsAnswer}
 use Rattle.merge_schema.specs.declared.publication.Publication.{Publication}
 use Rattle.merge_model.specs.World.{Saying}
+use Rattle.merge_service.specs.Days.{IsTornDay}
 use Rattle.merge_service.specs.Ends.{Ends}
 use Rattle.merge_service.specs.declared.stop.Stop.{Stop}
 use Rattle.merge_service.specs.declared.stop.Stop.TheVariants as break
@@ -97,6 +98,32 @@ module _ (order : Order) (resolvers : ℕ) (says : Saying) (v : Visit) (d : Door
   done-by finish (inl u) is = absurd (not-unordered u.ending u.cause (sym (ap finish_status u.is) ∙ is))
   done-by finish (inr o) is = served-by o.publication o.read o.served o.ends (sym (ap finish_status o.is) ∙ is)
 
+  -- with status 13 a connection came
+
+  not-torn : (ending : Ending) → status_of ending ≡ 13 → ⊥
+  not-torn Done is = omega (arith, is)
+  not-torn other is = omega (arith, is)
+
+  came-with : (handed : Option ℕ) (accepted : ℕ) → 1 ≤ accepted → IfSome handed (λ (n : ℕ). n ≡ accepted) → IfSome handed (λ (n : ℕ). 1 ≤ n)
+  came-with None accepted some each = tt
+  came-with (Some n) accepted some each = omega (arith, some, each)
+
+  torn-by : (publication : Publication) (r : Result Unit Stop)
+      → Ends publication says order.requests (around_order order v d) v.was v.written v.writes v.refused r → finish_status (finish_of r) ≡ 13 → IfSome d.handed (λ (n : ℕ). 1 ≤ n)
+  torn-by publication (Ok done) ends is = absurd (omega (arith, is))
+  torn-by publication (Err break.StoreFault) ends is = absurd (omega (arith, is))
+  torn-by publication (Err (break.Damaged table key)) ends is = absurd (omega (arith, is))
+  torn-by publication (Err break.DoorFault) ends is = absurd (omega (arith, is))
+  torn-by publication (Err (break.Differs difference)) ends is =
+      let torn : IsTornDay publication says ends.1.old ends.1.new order.requests d.handed difference = ends.1.led in
+      came-with d.handed torn.accepted (omega (arith, torn.some, torn.paid)) torn.each
+  torn-by publication (Err break.WriteFault) ends is = absurd (omega (arith, is))
+  torn-by publication (Err break.NoMemory) ends is = absurd (omega (arith, is))
+
+  torn-in : (finish : Finish) → Serve finish → finish_status finish ≡ 13 → IfSome d.handed (λ (n : ℕ). 1 ≤ n)
+  torn-in finish (inl u) is = absurd (not-torn u.ending (sym (ap finish_status u.is) ∙ is))
+  torn-in finish (inr o) is = torn-by o.publication o.served o.ends (sym (ap finish_status o.is) ∙ is)
+
   tells-served : (status : ℕ) (finish : Finish) → status ≡ finish_status finish → Serve finish → (old new : Option (List ℕ)) (before after : ℕ) → Finished finish old new before after
       → TellsServed status order resolvers says v d old new before after
   tells-served status finish is ends old new before after told = record {
@@ -105,6 +132,7 @@ module _ (order : Order) (resolvers : ℕ) (says : Saying) (v : Visit) (d : Door
     ends = ends;
     told = told;
     done = λ zero. done-by finish ends (sym is ∙ zero);
+    came = λ torn. torn-in finish ends (sym is ∙ torn);
   }
 
   -- the same, of the order that the words said

@@ -34,8 +34,8 @@ same-publisher publication p same none = ap (λ (q : PublisherView). sites_view 
     is-published : p ≡ record p { publication = publication }
     is-published = ap (λ (q : Publication). record p { publication = q }) same
 
-    is-unfailed : record p { publication = publication } ≡ record { publication = publication; tables = p.tables; faults = 0 }
-    is-unfailed = ap (λ (n : ℕ). record { publication = publication; tables = p.tables; faults = n }) none
+    is-unfailed : record p { publication = publication } ≡ record { publication = publication; tables = p.tables; faults = 0; told = p.told }
+    is-unfailed = ap (λ (n : ℕ). record { publication = publication; tables = p.tables; faults = n; told = p.told }) none
 
 pub publisher-read : (publication : Publication) (told : Option Map) (p : PublisherView) (ss : List SubscriberView) (pool : List Letter) → ss ≡ [] → pool ≡ []
     → IsRead (publisher_loaded publication (new_holders publication)) told (Ok (publisher_stored p.tables)) → p.publication ≡ publication → p.faults ≡ 0 → PublisherRead publication told (sites_view p (these ss) pool begin)
@@ -50,8 +50,8 @@ same-subscriber publication s same none = ap (λ (t : SubscriberView). sites_vie
     is-published : s ≡ record s { publication = publication }
     is-published = ap (λ (q : Publication). record s { publication = q }) same
 
-    is-unfailed : record s { publication = publication } ≡ record { publication = publication; tables = s.tables; faults = 0 }
-    is-unfailed = ap (λ (n : ℕ). record { publication = publication; tables = s.tables; faults = n }) none
+    is-unfailed : record s { publication = publication } ≡ record { publication = publication; tables = s.tables; faults = 0; told = s.told }
+    is-unfailed = ap (λ (n : ℕ). record { publication = publication; tables = s.tables; faults = n; told = s.told }) none
 
 subscriber-read : (publication elsewhere : Publication) (site : SiteId) (told : Option Map) (s : SubscriberView) (ss : List SubscriberView) (pool : List Letter) → elsewhere ≡ publication → ss ≡ s ∷ [] → pool ≡ []
     → IsRead (subscriber_loaded publication site (new_holders publication)) told (Ok (subscriber_stored s.tables)) → s.tables.site ≡ site → s.publication ≡ publication → s.faults ≡ 0

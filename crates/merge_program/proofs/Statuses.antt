@@ -2,6 +2,8 @@
 use Rattle.std.proofs.Common.{List, None, Option, Some, ap, arith, inl, inr, length, refl, subst, sym, true, ℕ, ◌≡◌, ◌≢◌, ◌⊎◌}
 use Rattle.std.specs.Prelude.{IsTrue}
 use Rattle.merge_types.specs.declared.identifiers.Moment.{Moment}
+use Rattle.merge_types.specs.declared.identifiers.SiteId.{SiteId}
+use Rattle.merge_ports.specs.Entries.{Map}
 use Rattle.merge_ports.specs.Faults.{Rose}
 use Rattle.merge_schema.specs.declared.fault.SchemaFault.{SchemaFault}
 use Rattle.merge_world.specs.Views.{HandedView}
@@ -40,9 +42,9 @@ is-known TooLong = refl
 
 -- Statuses of `make`.
 
-module _ (customers : ℕ) (handed : HandedView) (sides : Sides) (writes refused : ℕ) where
+module _ (customers : ℕ) (handed : HandedView) (sides : Sides) (stored : SiteId → Option Map) (writes refused : ℕ) where
   abbrev Made : Ending → Type 0
-  Made ending = MakeEnds ending customers handed sides writes refused
+  Made ending = MakeEnds ending customers handed sides stored writes refused
 
   pub made-status : (ending : Ending) → Made ending → IsTrue (is_make_status (status_of ending))
   made-status Done p = refl
@@ -61,11 +63,11 @@ module _ (customers : ℕ) (handed : HandedView) (sides : Sides) (writes refused
   never-silent other p is = p.0
 
   made-done : (ending : Ending) → Made ending → status_of ending ≡ 0 → SummaryWritten customers handed sides
-  made-done Done p is = p
+  made-done Done p is = p.0
   made-done other p is = absurd (omega (arith, is))
 
   made-write : (ending : Ending) → Made ending → status_of ending ≡ 5 → FrontWritten customers handed sides × Rose writes refused
-  made-write WriteFault p is = p
+  made-write WriteFault p is = (p.0, p.1)
   made-write other p is = absurd (omega (arith, is))
 
   made-silent : (ending : Ending) → Made ending → status_of ending ≢ 0 → status_of ending ≢ 5 → sides.written ≡ sides.was

@@ -120,23 +120,24 @@ module _ (place : Place) (address : List ℕ) (resolvers : ℕ) (v : Visit) wher
   subscribed-so publication there (Err break.NoMemory) p = inr (publication, there, record { synced = Err break.NoMemory; ending_is = refl; ends = p })
 
   -- what is told around the session is told as before the file was read
-  around-same : (around : Around) (told : Option Map) (responses : Option (List (List ℕ))) (moments : Option Moments) (carried : Option (List Exchange)) (stores links : ℕ)
-      → told ≡ v.stored place.site place.store → responses ≡ v.offers.responses → moments ≡ v.offers.moments → carried ≡ v.offers.exchanges → stores ≡ v.old.stores → links ≡ v.old.links
-      → around ≡ record (around_of place v) { stored = told; responses = responses; moments = moments; was_carried = carried; stores = stores; links = links } → around ≡ around_of place v
-  around-same around told responses moments carried stores links first second third fourth fifth sixth is = is
-      ∙ (ap (λ (o : Option Map). record (around_of place v) { stored = o; responses = responses; moments = moments; was_carried = carried; stores = stores; links = links }) first
-      ∙ (ap (λ (o : Option (List (List ℕ))). record (around_of place v) { responses = o; moments = moments; was_carried = carried; stores = stores; links = links }) second
-      ∙ (ap (λ (o : Option Moments). record (around_of place v) { moments = o; was_carried = carried; stores = stores; links = links }) third
-      ∙ (ap (λ (o : Option (List Exchange)). record (around_of place v) { was_carried = o; stores = stores; links = links }) fourth
-      ∙ (ap (λ (n : ℕ). record (around_of place v) { stores = n; links = links }) fifth
-      ∙ ap (λ (n : ℕ). record (around_of place v) { links = n }) sixth)))))
+  around-same : (around : Around) (told : Option Map) (responses : Option (List (List ℕ))) (moments : Option Moments) (carried : Option (List Exchange)) (peer : Option (List ℕ)) (stores links : ℕ)
+      → told ≡ v.stored place.site place.store → responses ≡ v.offers.responses → moments ≡ v.offers.moments → carried ≡ v.offers.exchanges → peer ≡ v.offers.peer → stores ≡ v.old.stores → links ≡ v.old.links
+      → around ≡ record (around_of place v) { stored = told; responses = responses; moments = moments; was_carried = carried; was_peer = peer; stores = stores; links = links } → around ≡ around_of place v
+  around-same around told responses moments carried peer stores links first second third fourth fifth sixth seventh is = is
+      ∙ (ap (λ (o : Option Map). record (around_of place v) { stored = o; responses = responses; moments = moments; was_carried = carried; was_peer = peer; stores = stores; links = links }) first
+      ∙ (ap (λ (o : Option (List (List ℕ))). record (around_of place v) { responses = o; moments = moments; was_carried = carried; was_peer = peer; stores = stores; links = links }) second
+      ∙ (ap (λ (o : Option Moments). record (around_of place v) { moments = o; was_carried = carried; was_peer = peer; stores = stores; links = links }) third
+      ∙ (ap (λ (o : Option (List Exchange)). record (around_of place v) { was_carried = o; was_peer = peer; stores = stores; links = links }) fourth
+      ∙ (ap (λ (o : Option (List ℕ)). record (around_of place v) { was_peer = o; stores = stores; links = links }) fifth
+      ∙ (ap (λ (n : ℕ). record (around_of place v) { stores = n; links = links }) sixth
+      ∙ ap (λ (n : ℕ). record (around_of place v) { links = n }) seventh))))))
 
   pub subscribed-ends : (ending : Ending) (r : Result Unit Stop) → ending ≡ synced_by r → (publication : Publication) → HasSubscription (v.offers.texts place.publication) resolvers place.site publication
       → (told : SiteId → List ℕ → Option Map) → told ≡ v.stored → (offers : Offers) → offers ≡ v.offers → (counts : Counts) → counts.stores ≡ v.old.stores → counts.links ≡ v.old.links
-      → Ends address publication place.site (record (around_of place v) { stored = told place.site place.store; responses = offers.responses; moments = offers.moments; was_carried = offers.exchanges; stores = counts.stores; links = counts.links }) v.was v.written v.writes v.refused r
+      → Ends address publication place.site (record (around_of place v) { stored = told place.site place.store; responses = offers.responses; moments = offers.moments; was_carried = offers.exchanges; was_peer = offers.peer; stores = counts.stores; links = counts.links }) v.was v.written v.writes v.refused r
       → Sync ending
   subscribed-ends ending r is publication there told stored offers same counts stores links p = subst Sync (sym is) (subscribed-so publication there r (subst (λ (a : Around). Ends address publication place.site a v.was v.written v.writes v.refused r)
-      (around-same _ (told place.site place.store) offers.responses offers.moments offers.exchanges counts.stores counts.links (ap (λ (f : SiteId → List ℕ → Option Map). f place.site place.store) stored) (ap (λ (o : Offers). o.responses) same) (ap (λ (o : Offers). o.moments) same) (ap (λ (o : Offers). o.exchanges) same) stores links refl) p))
+      (around-same _ (told place.site place.store) offers.responses offers.moments offers.exchanges offers.peer counts.stores counts.links (ap (λ (f : SiteId → List ℕ → Option Map). f place.site place.store) stored) (ap (λ (o : Offers). o.responses) same) (ap (λ (o : Offers). o.moments) same) (ap (λ (o : Offers). o.exchanges) same) (ap (λ (o : Offers). o.peer) same) stores links refl) p))
 
   unsubscribed-so : (ending : Ending) → IsUnsubscribed ending (v.offers.texts place.publication) resolvers place.site v.old.texts v.new.texts → IsIdle v → Sync ending
   unsubscribed-so (Refused fault) p idle = (p, idle)

@@ -11,14 +11,15 @@ use Rattle.merge_model.specs.World.Events.{is_site}
 use Rattle.merge_model.specs.World.Naming.{article_by}
 use Rattle.merge_program.specs.declared.ending.Ending.{Ending}
 use Rattle.merge_program.specs.declared.ending.Ending.TheVariants.{NoMemory, ReadFault, Refused, TooLong, UnknownArticle, UnknownSite}
+use Rattle.merge_types.specs.Limits.{input_limit}
 
 -- a text has more bytes than the limit
 abbrev pub IsLong : Option (List ℕ) → Type 0
-IsLong told = IfSome told (λ (text : List ℕ). 67108864 < length text)
+IsLong told = IfSome told (λ (text : List ℕ). input_limit < length text)
 
 -- a text has no more
 abbrev pub IsShort : Option (List ℕ) → Type 0
-IsShort told = IfSome told (λ (text : List ℕ). length text ≤ 67108864)
+IsShort told = IfSome told (λ (text : List ℕ). length text ≤ input_limit)
 
 -- why a text was not read
 abbrev pub IsUnread : Ending → Option (List ℕ) → (reads failed : ℕ) → Type 0
@@ -29,12 +30,12 @@ IsUnread other told reads failed = ⊥
 
 -- the text is that of this publication, where so many resolvers are handed in
 pub record IsAccepted (resolvers : ℕ) (publication : Publication) (text : List ℕ) : Type 0 where
-  pub fits : length text ≤ 67108864
+  pub fits : length text ≤ input_limit
   pub read : IsAnswer resolvers text (Ok publication)
 
 -- the text is no publication, for this
 pub record IsUnaccepted (resolvers : ℕ) (fault : SchemaFault) (text : List ℕ) : Type 0 where
-  pub fits : length text ≤ 67108864
+  pub fits : length text ≤ input_limit
   pub read : IsAnswer resolvers text (Err fault)
 
 -- why a text is no publication
@@ -69,7 +70,7 @@ pub record HasNoArticle (told : Option (List ℕ)) (resolvers : ℕ) (site : Sit
 pub record IsGiven (told input : Option (List ℕ)) (resolvers : ℕ) (site : SiteId) (publication : Publication) (script : List ℕ) : Type 0 where
   pub there : HasSite told resolvers site publication
   pub whole : IfSome input (λ (bytes : List ℕ). script ≡ bytes)
-  pub fits : length script ≤ 67108864
+  pub fits : length script ≤ input_limit
 
 -- Why there is no such publication or script: the file comes first, and where it cannot be read the input is not; then the input, then what
 -- the file says. Texts failed from `before` to `after`, and reads of the input from `reads` to `failed`.

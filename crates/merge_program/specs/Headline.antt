@@ -2,6 +2,7 @@
 use Rattle.std.specs.Prelude.{Err, List, None, Ok, Option, Some, count_by, length, take, IfSome, true, ℕ, ◌+◌, ◌++◌, ◌<◌, ◌∷◌, ◌≡◌, ◌≢◌, ◌≤◌, ◌⊎◌}
 use Rattle.std.specs.Io.KnownBytes.{Appends}
 use Rattle.merge_types.specs.declared.identifiers.SiteId.{SiteId}
+use Rattle.merge_ports.specs.Entries.{Map}
 use Rattle.merge_ports.specs.Faults.{Rose}
 use Rattle.merge_schema.specs.Answers.{IsAnswer}
 use Rattle.merge_schema.specs.declared.fault.SchemaFault.{SchemaFault}
@@ -17,10 +18,13 @@ use Rattle.merge_model.specs.World.Events.{is_site}
 use Rattle.merge_model.specs.declared.answer.Answer.{Answer}
 use Rattle.merge_model.specs.declared.event.Event.{Event}
 use Rattle.merge_model.specs.declared.event.Event.TheVariants.{Restart}
+use Rattle.merge_typed.specs.Outside.{SayingIsTyped}
 use Rattle.merge_world.specs.Views.{HandedView}
 use Rattle.merge_program.specs.declared.ending.Ending.{Ending}
 use Rattle.merge_program.specs.declared.ending.Ending.TheVariants.{BadReply, Damaged, Declined, Done, Expired, LinkFault, NoEvent, NoMemory, NotTaken, ReadFault, Refused, StoreFault, TooLong, UnknownArticle, UnknownSite, Usage, WriteFault}
-use Rattle.merge_program.specs.Stores.{RoseBy}
+use Rattle.merge_program.specs.Sited.{IsDamageAt}
+use Rattle.merge_program.specs.Stores.{AreEmptyStores, HasFirstKey, RoseBy}
+use Rattle.merge_types.specs.Limits.{input_limit}
 pub use Rattle.merge_program.specs.Runs.{IsRun, Sides}
 
 -- the lines of an input's script
@@ -65,14 +69,22 @@ pub record AnsweredToRestart (publication : Publication) (handed : HandedView) (
 abbrev pub IsCutOff : Publication → HandedView → List (List ℕ) → Sides → (lost : ℕ) → Type 0
 IsCutOff publication handed lines sides lost = (sides.written ≡ sides.was) ⊎ AnsweredToRestart publication handed lines sides lost
 
+-- Why a stored record is damaged: nothing was written, and the store of a site begins with this entry, which no site that has done nothing
+-- has; or all that comes before a restart was written, and what is told of the store of its site does not load for this record. That is so of
+-- no store that is told, where resolvers decide typed values. `stored` and `kept` are what is told of the stores before and behind the run.
+abbrev pub IsDamagedFor : Publication → HandedView → List (List ℕ) → Sides → (stored kept : SiteId → Option Map) → (table : ℕ) → (key : List ℕ) → Type 0
+IsDamagedFor publication handed lines sides stored kept table key =
+    ((sides.written ≡ sides.was) × HasFirstKey (is_site publication) stored table key)
+    ⊎ ((cut : AnsweredToRestart publication handed lines sides 0) × IsDamageAt publication cut.site (kept cut.site) table key × (SayingIsTyped handed.says → kept cut.site ≡ None))
+
 -- the input is not too long, and has this publication before its script, where so many resolvers are handed in
 pub record IsTaken (resolvers : ℕ) (input : List ℕ) (publication : Publication) : Type 0 where
-  pub fits : length input ≤ 67108864
+  pub fits : length input ≤ input_limit
   pub read : IsAnswer resolvers (publication_of input) (Ok publication)
 
 -- the input is not too long, and the text before its script is no publication for this
 pub record IsRefusedFor (resolvers : ℕ) (input : List ℕ) (fault : SchemaFault) : Type 0 where
-  pub fits : length input ≤ 67108864
+  pub fits : length input ≤ input_limit
   pub read : IsAnswer resolvers (publication_of input) (Err fault)
   pub known : fault ≢ Lacking
 
@@ -82,62 +94,72 @@ IsTakenInput resolvers input = (publication : Publication) × IsTaken resolvers 
 abbrev pub IsRefused : ℕ → List ℕ → Type 0
 IsRefused resolvers input = (fault : SchemaFault) × IsRefusedFor resolvers input fault
 
--- each line of the input's script is an event or quiet, and all events were answered
-pub record AnsweredWhole (handed : HandedView) (input : List ℕ) (sides : Sides) : Type 0 where
+-- Each line of the input's script is an event or quiet, and all events were answered. The stores were empty, where they are told.
+pub record AnsweredWhole (handed : HandedView) (input : List ℕ) (sides : Sides) (stored : SiteId → Option Map) : Type 0 where
   pub publication : Publication
   pub taken : IsTaken (length handed.tallies) input publication
   pub events : fault_of (lines_of_input input) ≡ None
+  pub empty : AreEmptyStores (is_site publication) stored
   pub answered : Answered publication handed (lines_of_input input) sides
 
--- the first line of the input's script that is no event has this number and this first wrong word, and the events before it were answered
-pub record AnsweredUpTo (handed : HandedView) (input : List ℕ) (line word : ℕ) (sides : Sides) : Type 0 where
+-- The first line of the input's script that is no event has this number and this first wrong word, and the events before it were answered.
+-- The stores were empty, where they are told.
+pub record AnsweredUpTo (handed : HandedView) (input : List ℕ) (line word : ℕ) (sides : Sides) (stored : SiteId → Option Map) : Type 0 where
   pub publication : Publication
   pub taken : IsTaken (length handed.tallies) input publication
   pub no_event : fault_of (lines_of_input input) ≡ Some (line, word)
+  pub empty : AreEmptyStores (is_site publication) stored
   pub answered : Answered publication handed (lines_of_input input) sides
 
 -- The input was taken. The run ended as the sites did not start, and nothing was written; or at a restart of its script.
 abbrev pub IsStopped : HandedView → List ℕ → Sides → (lost : ℕ) → Type 0
 IsStopped handed input sides lost = (publication : Publication) × IsTaken (length handed.tallies) input publication × IsCutOff publication handed (lines_of_input input) sides lost
 
+-- The input was taken. The run ended for a damaged record, as its sites started or at a restart of its script.
+abbrev pub IsDamagedIn : HandedView → List ℕ → Sides → (stored kept : SiteId → Option Map) → (table : ℕ) → (key : List ℕ) → Type 0
+IsDamagedIn handed input sides stored kept table key =
+    (publication : Publication) × IsTaken (length handed.tallies) input publication × IsDamagedFor publication handed (lines_of_input input) sides stored kept table key
+
 -- nothing was written, or a front of the answers to some of the first events of the input's script
 abbrev pub WrittenInPart : HandedView → List ℕ → Sides → Type 0
 WrittenInPart handed input sides = (sides.written ≡ sides.was)
     ⊎ ((publication : Publication) × IsTaken (length handed.tallies) input publication × AnsweredInPart publication handed (lines_of_input input) sides)
 
--- why a script's run ended; writes were refused from `writes` to `refused`
-abbrev pub PlayEnds : Ending → Publication → HandedView → List (List ℕ) → Sides → (writes refused : ℕ) → Type 0
-PlayEnds Done publication handed lines sides writes refused = (fault_of lines ≡ None) × Answered publication handed lines sides
-PlayEnds (NoEvent line word) publication handed lines sides writes refused = (fault_of lines ≡ Some (line, word)) × Answered publication handed lines sides
-PlayEnds WriteFault publication handed lines sides writes refused = Rose writes refused
-PlayEnds StoreFault publication handed lines sides writes refused = IsCutOff publication handed lines sides 1 × Rose sides.before sides.after
-PlayEnds (Damaged table key) publication handed lines sides writes refused = IsCutOff publication handed lines sides 0
-PlayEnds NoMemory publication handed lines sides writes refused = Unit {0}
-PlayEnds other publication handed lines sides writes refused = ⊥
+-- Why a script's run ended, over sites that have done nothing. `stored` and `kept` are what is told of their stores before and behind it;
+-- writes were refused from `writes` to `refused`.
+abbrev pub PlayEnds : Ending → Publication → HandedView → List (List ℕ) → Sides → (stored kept : SiteId → Option Map) → (writes refused : ℕ) → Type 0
+PlayEnds Done publication handed lines sides stored kept writes refused = (fault_of lines ≡ None) × AreEmptyStores (is_site publication) stored × Answered publication handed lines sides
+PlayEnds (NoEvent line word) publication handed lines sides stored kept writes refused =
+    (fault_of lines ≡ Some (line, word)) × AreEmptyStores (is_site publication) stored × Answered publication handed lines sides
+PlayEnds WriteFault publication handed lines sides stored kept writes refused = Rose writes refused
+PlayEnds StoreFault publication handed lines sides stored kept writes refused = IsCutOff publication handed lines sides 1 × Rose sides.before sides.after
+PlayEnds (Damaged table key) publication handed lines sides stored kept writes refused = IsDamagedFor publication handed lines sides stored kept table key
+PlayEnds NoMemory publication handed lines sides stored kept writes refused = Unit {0}
+PlayEnds other publication handed lines sides stored kept writes refused = ⊥
 
 -- why a run ended whose input was read whole
-abbrev pub InputEnds : Ending → HandedView → List ℕ → Sides → (writes refused : ℕ) → Type 0
-InputEnds (Refused fault) handed input sides writes refused = IsRefusedFor (length handed.tallies) input fault
-InputEnds Done handed input sides writes refused = AnsweredWhole handed input sides
-InputEnds (NoEvent line word) handed input sides writes refused = AnsweredUpTo handed input line word sides
-InputEnds WriteFault handed input sides writes refused = IsTakenInput (length handed.tallies) input × Rose writes refused
-InputEnds StoreFault handed input sides writes refused = IsStopped handed input sides 1 × Rose sides.before sides.after
-InputEnds (Damaged table key) handed input sides writes refused = IsStopped handed input sides 0
-InputEnds NoMemory handed input sides writes refused = Unit {0}
-InputEnds other handed input sides writes refused = ⊥
+abbrev pub InputEnds : Ending → HandedView → List ℕ → Sides → (stored kept : SiteId → Option Map) → (writes refused : ℕ) → Type 0
+InputEnds (Refused fault) handed input sides stored kept writes refused = IsRefusedFor (length handed.tallies) input fault
+InputEnds Done handed input sides stored kept writes refused = AnsweredWhole handed input sides stored
+InputEnds (NoEvent line word) handed input sides stored kept writes refused = AnsweredUpTo handed input line word sides stored
+InputEnds WriteFault handed input sides stored kept writes refused = IsTakenInput (length handed.tallies) input × Rose writes refused
+InputEnds StoreFault handed input sides stored kept writes refused = IsStopped handed input sides 1 × Rose sides.before sides.after
+InputEnds (Damaged table key) handed input sides stored kept writes refused = IsDamagedIn handed input sides stored kept table key
+InputEnds NoMemory handed input sides stored kept writes refused = Unit {0}
+InputEnds other handed input sides stored kept writes refused = ⊥
 
 -- why a run of `play` ended; reads failed from `reads` to `failed`
-abbrev pub PlayRunEnds : Ending → Option (List ℕ) → HandedView → Sides → (writes refused reads failed : ℕ) → Type 0
-PlayRunEnds Usage left handed sides writes refused reads failed = ⊥
-PlayRunEnds (NotTaken line) left handed sides writes refused reads failed = ⊥
-PlayRunEnds UnknownSite left handed sides writes refused reads failed = ⊥
-PlayRunEnds UnknownArticle left handed sides writes refused reads failed = ⊥
-PlayRunEnds LinkFault left handed sides writes refused reads failed = ⊥
-PlayRunEnds (Expired last_sync now) left handed sides writes refused reads failed = ⊥
-PlayRunEnds (BadReply place) left handed sides writes refused reads failed = ⊥
-PlayRunEnds (Declined number) left handed sides writes refused reads failed = ⊥
-PlayRunEnds ReadFault left handed sides writes refused reads failed = Rose reads failed
-PlayRunEnds TooLong left handed sides writes refused reads failed = IfSome left (λ (input : List ℕ). 67108864 < length input)
-PlayRunEnds WriteFault left handed sides writes refused reads failed = Rose writes refused × IfSome left (IsTakenInput (length handed.tallies))
-PlayRunEnds StoreFault left handed sides writes refused reads failed = Rose sides.before sides.after × IfSome left (λ (input : List ℕ). IsStopped handed input sides 1)
-PlayRunEnds other left handed sides writes refused reads failed = IfSome left (λ (input : List ℕ). InputEnds other handed input sides writes refused)
+abbrev pub PlayRunEnds : Ending → Option (List ℕ) → HandedView → Sides → (stored kept : SiteId → Option Map) → (writes refused reads failed : ℕ) → Type 0
+PlayRunEnds Usage left handed sides stored kept writes refused reads failed = ⊥
+PlayRunEnds (NotTaken line) left handed sides stored kept writes refused reads failed = ⊥
+PlayRunEnds UnknownSite left handed sides stored kept writes refused reads failed = ⊥
+PlayRunEnds UnknownArticle left handed sides stored kept writes refused reads failed = ⊥
+PlayRunEnds LinkFault left handed sides stored kept writes refused reads failed = ⊥
+PlayRunEnds (Expired last_sync now) left handed sides stored kept writes refused reads failed = ⊥
+PlayRunEnds (BadReply place) left handed sides stored kept writes refused reads failed = ⊥
+PlayRunEnds (Declined number) left handed sides stored kept writes refused reads failed = ⊥
+PlayRunEnds ReadFault left handed sides stored kept writes refused reads failed = Rose reads failed
+PlayRunEnds TooLong left handed sides stored kept writes refused reads failed = IfSome left (λ (input : List ℕ). input_limit < length input)
+PlayRunEnds WriteFault left handed sides stored kept writes refused reads failed = Rose writes refused × IfSome left (IsTakenInput (length handed.tallies))
+PlayRunEnds StoreFault left handed sides stored kept writes refused reads failed = Rose sides.before sides.after × IfSome left (λ (input : List ℕ). IsStopped handed input sides 1)
+PlayRunEnds other left handed sides stored kept writes refused reads failed = IfSome left (λ (input : List ℕ). InputEnds other handed input sides stored kept writes refused)

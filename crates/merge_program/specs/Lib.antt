@@ -4,6 +4,7 @@ pub mod Elsewhere
 pub mod Endings
 pub mod Files
 pub mod Fresh
+pub mod GivenBack
 pub mod Headline
 pub mod Making
 pub mod Notes

@@ -1,14 +1,18 @@
 -- What a run over a generated script may write, and why it ends.
 use Rattle.std.specs.Prelude.{Bool, IsTrue, List, Option, take, ℕ, ◌==◌, ◌||◌, ◌≡◌, ◌≢◌}
 use Rattle.std.specs.Io.KnownBytes.{Appends}
+use Rattle.merge_types.specs.declared.identifiers.SiteId.{SiteId}
+use Rattle.merge_ports.specs.Entries.{Map}
 use Rattle.merge_ports.specs.Faults.{Rose}
 use Rattle.merge_ports.specs.Parts.{AppendsFront}
+use Rattle.merge_model.specs.World.Events.{is_site}
 use Rattle.merge_model.specs.declared.answer.Answer.{Answer}
 use Rattle.merge_world.specs.Views.{HandedView}
 use Rattle.merge_make.specs.Publication.{made}
 use Rattle.merge_make.specs.Script.{script}
 use Rattle.merge_make.specs.Summary.{summary_of}
 use Rattle.merge_program.specs.Runs.{IsRun, Sides}
+use Rattle.merge_program.specs.Stores.{AreEmptyStores, IsUnstarted}
 use Rattle.merge_program.specs.declared.ending.Ending.{Ending}
 use Rattle.merge_program.specs.declared.ending.Ending.TheVariants.{Damaged, Done, NoMemory, StoreFault, WriteFault}
 
@@ -31,12 +35,12 @@ pub record FrontWritten (customers : ℕ) (handed : HandedView) (sides : Sides) 
   pub count : ℕ
   pub bytes : Appends sides.was sides.written (take count text)
 
--- why there is no summary
-abbrev pub IsUnmade : Ending → (before after : ℕ) → Type 0
-IsUnmade StoreFault before after = Rose before after
-IsUnmade (Damaged table key) before after = Unit {0}
-IsUnmade NoMemory before after = Unit {0}
-IsUnmade other before after = ⊥
+-- why there is no summary: a site did not start, or memory was wanting behind that
+abbrev pub IsUnmade : Ending → (stored : SiteId → Option Map) → (before after : ℕ) → Type 0
+IsUnmade StoreFault stored before after = Rose before after
+IsUnmade (Damaged table key) stored before after = IsUnstarted (is_site made) stored (Damaged table key) before after
+IsUnmade NoMemory stored before after = Unit {0}
+IsUnmade other stored before after = ⊥
 
 -- a text was written whole, or a front of it, since a write failed
 abbrev pub WriteEnds : Ending → List ℕ → (old new : Option (List ℕ)) → (writes refused : ℕ) → Type 0
@@ -44,11 +48,12 @@ WriteEnds Done text old new writes refused = Appends old new text
 WriteEnds WriteFault text old new writes refused = AppendsFront old new text × Rose writes refused
 WriteEnds other text old new writes refused = ⊥
 
--- why the run ended, and what was written by then; writes were refused from `writes` to `refused`
-abbrev pub MakeEnds : Ending → ℕ → HandedView → Sides → (writes refused : ℕ) → Type 0
-MakeEnds Done customers handed sides writes refused = SummaryWritten customers handed sides
-MakeEnds WriteFault customers handed sides writes refused = FrontWritten customers handed sides × Rose writes refused
-MakeEnds other customers handed sides writes refused = IsUnmade other sides.before sides.after × (sides.written ≡ sides.was)
+-- Why the run ended, and what was written by then. `stored` is what is told of the stores before it; writes were refused from `writes` to
+-- `refused`.
+abbrev pub MakeEnds : Ending → ℕ → HandedView → Sides → (stored : SiteId → Option Map) → (writes refused : ℕ) → Type 0
+MakeEnds Done customers handed sides stored writes refused = SummaryWritten customers handed sides × AreEmptyStores (is_site made) stored
+MakeEnds WriteFault customers handed sides stored writes refused = FrontWritten customers handed sides × Rose writes refused × AreEmptyStores (is_site made) stored
+MakeEnds other customers handed sides stored writes refused = IsUnmade other stored sides.before sides.after × (sides.written ≡ sides.was)
 
 -- the statuses of `make`
 abbrev pub is_make_status : ℕ → Bool

@@ -1,5 +1,5 @@
 -- What a run writes and leaves whose publisher serves subscribers, and why it finishes.
-use Rattle.std.specs.Prelude.{Err, IfSome, List, Ok, Option, Result, [], codes, ℕ, ◌++◌, ◌∷◌, ◌≡◌, ◌⊎◌}
+use Rattle.std.specs.Prelude.{Err, IfSome, List, Ok, Option, Result, [], codes, ℕ, ◌++◌, ◌∷◌, ◌≡◌, ◌≤◌, ◌⊎◌}
 use Rattle.std.specs.Fmt.{decimal}
 use Rattle.std.specs.Io.KnownBytes.{Appends}
 use Rattle.hex.specs.Hex.{encode_lower}
@@ -7,11 +7,11 @@ use Rattle.merge_types.specs.declared.identifiers.SiteId.{SiteId}
 use Rattle.merge_schema.specs.declared.publication.Publication.{Publication}
 use Rattle.merge_model.specs.World.{Saying}
 use Rattle.merge_desk.specs.Summary.{summary_text}
+use Rattle.merge_desk.specs.declared.comparing.Difference.{Difference}
 use Rattle.merge_desk.specs.declared.entry.Entry.{Entry}
 use Rattle.merge_desk.specs.declared.mark.Mark.{Mark}
 use Rattle.merge_service.specs.Ends.{Ends, Served}
 use Rattle.merge_service.specs.Stores.{Around}
-use Rattle.merge_service.specs.declared.stop.Difference.{Difference}
 use Rattle.merge_service.specs.declared.stop.Stop.{Stop}
 use Rattle.merge_service.specs.declared.stop.Stop.TheVariants as break
 use Rattle.merge_program.specs.declared.ending.Ending.{Ending}
@@ -111,10 +111,11 @@ pub record IsServed (order : Order) (resolvers : ℕ) (says : Saying) (v : Visit
   pub served : Served publication says order.requests (around_order order v d) journal
   pub written : Appends v.was v.written (summary_text journal)
 
--- What the status of a run of `serve` tells, and what the notes were told.
+-- What the status of a run of `serve` tells, and what the notes were told. A seat differs from the journal only where a connection came.
 pub record TellsServed (status : ℕ) (order : Order) (resolvers : ℕ) (says : Saying) (v : Visit) (d : Doorway) (old new : Option (List ℕ)) (before after : ℕ) : Type 0 where
   pub finish : Finish
   pub status_is : status ≡ finish_status finish
   pub ends : ServeEnds finish order resolvers says v d
   pub told : Finished finish old new before after
   pub done : status ≡ 0 → IsServed order resolvers says v d
+  pub came : status ≡ 13 → IfSome d.handed (λ (n : ℕ). 1 ≤ n)

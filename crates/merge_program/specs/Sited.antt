@@ -1,5 +1,5 @@
 -- One site of a publication, at its store and alone.
-use Rattle.std.specs.Prelude.{Bool, List, Ok, Option, Some, [], false, true, ℕ, ◌==◌, ◌≡◌}
+use Rattle.std.specs.Prelude.{Bool, List, None, Ok, Option, Some, [], false, true, ℕ, ◌==◌, ◌≡◌}
 use Rattle.merge_types.specs.declared.identifiers.Moment.{Moment}
 use Rattle.merge_types.specs.declared.identifiers.SiteId.{SiteId}
 use Rattle.merge_schema.specs.declared.publication.Publication.{Publication}
@@ -8,6 +8,7 @@ use Rattle.merge_ports.specs.Entries.{Map}
 use Rattle.merge_model.specs.Publisher.{new_holders}
 use Rattle.merge_model.specs.Tables.{PublisherTables, SubscriberTables}
 use Rattle.merge_keeper.specs.PublisherStart.{publisher_loaded}
+use Rattle.merge_keeper.specs.Stored as written
 use Rattle.merge_keeper.specs.SubscriberStart.{subscriber_loaded}
 use Rattle.merge_world.specs.Views.{SitesView, sites_view, tables_at}
 use Rattle.merge_site.specs.Kept.{IsKept}
@@ -22,7 +23,7 @@ begin = record { 0 = 0 }
 
 -- the publisher with these tables and nothing else, none of whose commits failed
 abbrev pub publisher_alone : Publication → PublisherTables → SitesView
-publisher_alone publication tables = sites_view (record { publication = publication; tables = tables; faults = 0 }) [] [] begin
+publisher_alone publication tables = sites_view (record { publication = publication; tables = tables; faults = 0; told = None }) [] [] begin
 
 -- the publisher's store loads to the tables that are seen
 pub record PublisherRead (publication : Publication) (told : Option Map) (v : SitesView) : Type 0 where
@@ -52,6 +53,14 @@ IsDamageAs false publication site told table key = IsDamage (subscriber_loaded p
 -- the first record of a site's store that has no reading or breaks a rule
 abbrev pub IsDamageAt : Publication → SiteId → Option Map → (table : ℕ) → (key : List ℕ) → Type 0
 IsDamageAt publication site told table key = IsDamageAs (site.0 == 0) publication site told table key
+
+abbrev pub LoadsAs : (is_publisher : Bool) → Publication → SiteId → SitesView → Type 0
+LoadsAs true publication site v = publisher_loaded publication (new_holders publication) (written.publisher_records (publisher_stored v.publisher)) ≡ Ok (publisher_stored v.publisher)
+LoadsAs false publication site v = (s : SubscriberTables) → tables_at v site ≡ Some s → subscriber_loaded publication s.site (new_holders publication) (written.subscriber_records (subscriber_stored s)) ≡ Ok (subscriber_stored s)
+
+-- the records of a site's tables load
+abbrev pub LoadsAt : Publication → SiteId → SitesView → Type 0
+LoadsAt publication site v = LoadsAs (site.0 == 0) publication site v
 
 -- a store has the records of the subscriber's tables
 pub record SubscriberKept (site : SiteId) (v : SitesView) (told : Option Map) : Type 0 where

@@ -14,14 +14,15 @@ use Rattle.merge_program.specs.Headline.{PlayRunEnds}
 use Rattle.merge_program.specs.Making.{MakeEnds}
 use Rattle.merge_program.specs.Notes.{Told}
 use Rattle.merge_program.specs.Showing.{ShowEnds}
+use Rattle.merge_program.specs.Stores.{at_no_path}
 use Rattle.merge_program.specs.Syncing.{SyncEnds}
 use Rattle.merge_program.specs.Visits.{IsIdle, Visit, sides_of}
 
 -- why a run of a command ended
 abbrev pub CommandEnds : Option Command → Ending → HandedView → Visit → Type 0
 CommandEnds None ending handed v = (ending ≡ Usage) × IsIdle v
-CommandEnds (Some Play) ending handed v = PlayRunEnds ending v.input handed (sides_of v) v.writes v.refused v.reads v.failed
-CommandEnds (Some (Make customers)) ending handed v = MakeEnds ending customers handed (sides_of v) v.writes v.refused
+CommandEnds (Some Play) ending handed v = PlayRunEnds ending v.input handed (sides_of v) (at_no_path v.stored) (at_no_path v.kept) v.writes v.refused v.reads v.failed
+CommandEnds (Some (Make customers)) ending handed v = MakeEnds ending customers handed (sides_of v) (at_no_path v.stored) v.writes v.refused
 CommandEnds (Some (Change place)) ending handed v = ChangeEnds ending place (length handed.tallies) v
 CommandEnds (Some (Show place article)) ending handed v = ShowEnds ending place article (length handed.tallies) v
 CommandEnds (Some (Sync place address)) ending handed v = SyncEnds ending place address (length handed.tallies) v

@@ -18,10 +18,12 @@ around_of place v = record {
   responses = v.offers.responses;
   moments = v.offers.moments;
   was_carried = v.offers.exchanges;
+  was_peer = v.offers.peer;
   stores = v.old.stores;
   links = v.old.links;
   kept = v.kept place.site place.store;
   carried = v.behind.exchanges;
+  peer = v.behind.peer;
   stores_after = v.new.stores;
   links_after = v.new.links;
 }

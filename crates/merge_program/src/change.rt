@@ -8,6 +8,7 @@ ghost use Rattle.merge_command.specs.Changed.{ChangedInPart};
 ghost use Rattle.merge_program.specs.Changing.{ChangeEnds, LinesEnd, SiteEnds};
 ghost use Rattle.merge_program.specs.Files.{IsGiven, IsUngiven};
 ghost use Rattle.merge_program.specs.Stopping.{changed_by};
+ghost use Rattle.merge_types.specs.Limits.{input_limit};
 
 use crate::alone::{close_publisher, close_subscriber, open_publisher, open_subscriber};
 use crate::command::Place;
@@ -45,7 +46,7 @@ fn change_sites<P: PublisherSite, S: SubscriberSite, C: Clock, O: Sink>(
     output: &mut O,
 ) -> Ending
     requires ordered { IsOrdered (⟦<Sites<P, S> as Seen>⟧.seen sites.old) }
-    requires short { length script.now ≤ 67108864 }
+    requires short { length script.now ≤ input_limit }
     ensures ends { LinesEnd result site (lines_of script.now) (⟦<Sites<P, S> as Seen>⟧.seen sites.old) (⟦<Sites<P, S> as Seen>⟧.seen sites.new) (C.told clock.old) (C.told clock.new)
         (O.written output.old) (O.written output.new) (O.count output.old) (O.count output.new) }
     ensures part { ChangedInPart site (lines_of script.now) (⟦<Sites<P, S> as Seen>⟧.seen sites.old) (⟦<Sites<P, S> as Seen>⟧.seen sites.new) (C.told clock.old) (C.told clock.new) (O.written output.old) (O.written output.new) }
@@ -66,7 +67,7 @@ fn change_publisher<C: Clock, O: Sink, E: Outside>(
 ) -> Ending
     requires valid { (resolvers : ℕ) × IsValid resolvers publication.now }
     requires publishes { place.now.site.0 ≡ 0 }
-    requires short { length script.now ≤ 67108864 }
+    requires short { length script.now ≤ input_limit }
     ensures ends { SiteEnds result publication.now place.now.site (E.told outside.old place.now.site place.now.store) (lines_of script.now) (C.told clock.old)
         (record { was = O.written output.old; written = O.written output.new; before = (E.counts outside.old).stores; after = (E.counts outside.new).stores }) (E.told outside.new place.now.site place.now.store)
         (O.count output.old) (O.count output.new) }
@@ -94,7 +95,7 @@ fn change_subscriber<C: Clock, O: Sink, E: Outside>(
 ) -> Ending
     requires valid { (resolvers : ℕ) × IsValid resolvers publication.now }
     requires subscribes { place.now.site.0 ≢ 0 }
-    requires short { length script.now ≤ 67108864 }
+    requires short { length script.now ≤ input_limit }
     ensures ends { SiteEnds result publication.now place.now.site (E.told outside.old place.now.site place.now.store) (lines_of script.now) (C.told clock.old)
         (record { was = O.written output.old; written = O.written output.new; before = (E.counts outside.old).stores; after = (E.counts outside.new).stores }) (E.told outside.new place.now.site place.now.store)
         (O.count output.old) (O.count output.new) }
@@ -121,7 +122,7 @@ fn change_site<C: Clock, O: Sink, E: Outside>(
     outside: &mut E,
 ) -> Ending
     requires valid { (resolvers : ℕ) × IsValid resolvers publication.now }
-    requires short { length script.now ≤ 67108864 }
+    requires short { length script.now ≤ input_limit }
     ensures ends { SiteEnds result publication.now place.now.site (E.told outside.old place.now.site place.now.store) (lines_of script.now) (C.told clock.old)
         (record { was = O.written output.old; written = O.written output.new; before = (E.counts outside.old).stores; after = (E.counts outside.new).stores }) (E.told outside.new place.now.site place.now.store)
         (O.count output.old) (O.count output.new) }
@@ -143,7 +144,7 @@ fn read_given<I: Source, E: CommandOutside>(
     outside: &mut E,
 ) -> Result<(Publication, Octets), Ending>
     ensures given { IfOk result (λ given. IsGiven ((E.offers outside.old).texts place.now.publication) (I.left input.old) resolvers place.now.site given.0 given.1) }
-    ensures fits { IfOk result (λ given. length given.1 ≤ 67108864) }
+    ensures fits { IfOk result (λ given. length given.1 ≤ input_limit) }
     ensures valid { IfOk result (λ given. IsValid resolvers given.0) }
     ensures ends { IfErr result (λ ending. IsUngiven ending ((E.offers outside.old).texts place.now.publication) (I.left input.old) resolvers place.now.site
         (E.counts outside.old).texts (E.counts outside.new).texts (I.count input.old) (I.count input.new)) }

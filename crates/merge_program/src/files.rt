@@ -6,18 +6,20 @@ ghost use Rattle.merge_model.specs.World.Events.{is_site};
 ghost use Rattle.merge_model.specs.World.Naming.{article_by};
 ghost use Rattle.merge_program.specs.Files.{IsUnpublished, IsUnread};
 ghost use Rattle.merge_program.specs.declared.ending.Ending.TheVariants as ending;
+ghost use Rattle.merge_types.specs.Limits.{input_limit};
 
 use crate::ending::{Ending, refused, unopened_text, unread};
 use merge_outside::CommandOutside;
-use merge_ports::{INPUT_LIMIT, Source, read_whole};
+use merge_ports::{Source, read_whole};
 use merge_schema::{Publication, read};
+use merge_types::limits::INPUT_LIMIT;
 use merge_types::{Octets, SiteId, Words};
 use std::alloc::Global;
 
 /// Reads an input whole.
 pub fn read_input<I: Source>(alloc: Global, input: &mut I) -> Result<Octets, Ending>
     ensures whole { IfOk result (λ text. IfSome (I.left input.old) (λ left. text ≡ left)) }
-    ensures fits { IfOk result (λ text. length text ≤ 67108864) }
+    ensures fits { IfOk result (λ text. length text ≤ input_limit) }
     ensures unread { IfErr result (λ ending. IsUnread ending (I.left input.old) (I.count input.old) (I.count input.new)) }
     ensures later { I.count input.old ≤ I.count input.new }
     ensures kept { OnOk result (I.count input.new ≡ I.count input.old) }
@@ -36,7 +38,7 @@ pub fn read_file<E: CommandOutside>(
     path: &Words,
 ) -> Result<Octets, Ending>
     ensures whole { IfOk result (λ text. IfSome ((E.offers outside.old).texts path.now) (λ left. text ≡ left)) }
-    ensures fits { IfOk result (λ text. length text ≤ 67108864) }
+    ensures fits { IfOk result (λ text. length text ≤ input_limit) }
     ensures unread { IfErr result (λ ending. IsUnread ending ((E.offers outside.old).texts path.now) (E.counts outside.old).texts (E.counts outside.new).texts) }
     ensures offers { E.offers outside.new ≡ E.offers outside.old }
     ensures told { E.told outside.new ≡ E.told outside.old }

@@ -5,9 +5,9 @@ ghost use Rattle.merge_program.specs.Serving.{Finished, difference_text, finish_
 
 use crate::ending::{Ending, Status};
 use crate::notes::{tell, write_made, write_note};
-use merge_desk::Mark;
+use merge_desk::{Difference, Mark};
 use merge_ports::Sink;
-use merge_service::{Difference, Stop};
+use merge_service::Stop;
 use merge_types::NoMemory;
 use std::alloc::Global;
 
@@ -50,9 +50,9 @@ fn mark_words(alloc: Global, mark: &Mark) -> Result<String, NoMemory>
 fn differs_note(alloc: Global, difference: &Difference) -> Result<String, NoMemory>
     ensures { IfOk result (λ note. string_bytes note ≡ difference_text difference.now) }
 {
-    let seat = difference.seat;
-    let told = mark_words(alloc, &difference.told)?;
-    let kept = mark_words(alloc, &difference.kept)?;
+    let seat = difference.seat();
+    let told = mark_words(alloc, difference.told())?;
+    let kept = mark_words(alloc, difference.kept())?;
     Ok(format!(in alloc; "differs {seat} {told} {kept}\n")?)
 }
 

@@ -1,15 +1,17 @@
 //! The script that is made for a number of customers is played, and summed up.
-ghost use Rattle.std.specs.Prelude.{◌≡◌, [], IfErr, IfOk, map, ℕ};
+ghost use Rattle.std.specs.Prelude.{◌≡◌, [], IfErr, IfOk, OnOk, map, ℕ};
+ghost use Rattle.merge_model.specs.World.Events.{is_site};
 ghost use Rattle.merge_make.specs.Publication.{made};
 ghost use Rattle.merge_world.specs.Views.{handed_view, site_of};
 ghost use Rattle.merge_program.specs.Elsewhere.{SameAtOthers};
 ghost use Rattle.merge_program.specs.Fresh.{fresh_view};
 ghost use Rattle.merge_program.specs.Making.{IsSummary, IsUnmade, MakeEnds, WriteEnds};
-ghost use Rattle.merge_program.specs.Stores.{AreRooms, RoseBy, fresh_publisher, fresh_subscribers};
+ghost use Rattle.merge_program.specs.Stores.{AreEmptyStores, AreRooms, RoseBy, at_no_path, fresh_publisher, fresh_subscribers, untold, untold_publisher};
 
 use crate::ending::Ending;
 use crate::stores::{give_back, no_path, start};
 use merge_make::{made, play_script};
+use merge_model::steps_that_fail_show;
 use merge_ports::{Outside, Sink, write_whole};
 use merge_promises::all_promises_hold;
 use merge_resolve::Handed;
@@ -32,6 +34,7 @@ fn make_on<P: PublisherSite, S: SubscriberSite>(
     ensures stays { (⟦<Sites<P, S> as Seen>⟧.seen sites.new).sites ≡ (⟦<Sites<P, S> as Seen>⟧.seen sites.old).sites }
 {
     all_promises_hold();
+    steps_that_fail_show();
     play_script(alloc, sites, resolvers, customers)
 }
 
@@ -44,8 +47,8 @@ fn make_started<E: Outside>(
     outside: &mut E,
     path: &Words,
 ) -> Result<Octets, NoMemory>
-    requires publisher { started.0 ≡ fresh_publisher made }
-    requires subscribers { started.1.items ≡ fresh_subscribers made }
+    requires publisher { untold_publisher started.0 ≡ fresh_publisher made }
+    requires subscribers { map untold started.1.items ≡ fresh_subscribers made }
     requires room { E.HasRoom outside.old (record { 0 = 0 }) path.now }
     requires rooms { AreRooms (E.HasRoom outside.old) path.now (map site_of started.1.items) }
     ensures summary { IfOk result (IsSummary customers (handed_view (λ r. says r) (λ r. tally_of r) resolvers.old.items) (E.counts outside.old).stores (E.counts outside.new).stores) }
@@ -76,7 +79,8 @@ fn summary<E: Outside>(
     outside: &mut E,
 ) -> Result<Octets, Ending>
     ensures summary { IfOk result (IsSummary customers (handed_view (λ r. says r) (λ r. tally_of r) resolvers.old.items) (E.counts outside.old).stores (E.counts outside.new).stores) }
-    ensures unmade { IfErr result (λ ending. IsUnmade ending (E.counts outside.old).stores (E.counts outside.new).stores) }
+    ensures unmade { IfErr result (λ ending. IsUnmade ending (at_no_path (E.told outside.old)) (E.counts outside.old).stores (E.counts outside.new).stores) }
+    ensures empty { OnOk result (AreEmptyStores (is_site made) (at_no_path (E.told outside.old))) }
     ensures others { SameAtOthers [] (E.told outside.old) (E.told outside.new) }
 {
     let publication = made(alloc)?;
@@ -106,7 +110,8 @@ pub fn make<O: Sink, E: Outside>(
     outside: &mut E,
 ) -> Ending
     ensures ends { MakeEnds result customers (handed_view (λ r. says r) (λ r. tally_of r) resolvers.old.items)
-        (record { was = O.written output.old; written = O.written output.new; before = (E.counts outside.old).stores; after = (E.counts outside.new).stores }) (O.count output.old) (O.count output.new) }
+        (record { was = O.written output.old; written = O.written output.new; before = (E.counts outside.old).stores; after = (E.counts outside.new).stores })
+        (at_no_path (E.told outside.old)) (O.count output.old) (O.count output.new) }
     ensures others { SameAtOthers [] (E.told outside.old) (E.told outside.new) }
 {
     match summary(alloc, customers, resolvers, outside) {

@@ -2,11 +2,15 @@
 ghost use Rattle.std.specs.Prelude.{◌≡◌, ◌+◌, ◌++◌, ◌∷◌, ◌<◌, [], IfErr, IfOk, List, OnOk, map, sum_by, vec_capacity, vec_len, ℕ};
 ghost use Rattle.merge_types.specs.declared.identifiers.SiteId.{SiteId as Site};
 ghost use Rattle.merge_ports.specs.Opened.{SameElsewhere};
+ghost use Rattle.merge_schema.specs.Places.{is_subscription};
 ghost use Rattle.merge_schema.specs.Valid.{IsValid};
 ghost use Rattle.merge_model.specs.Tables.Publications.{by_site};
+ghost use Rattle.merge_model.specs.World.Events.{is_site};
+ghost use Rattle.merge_site.specs.Beginning.{IsEmptyStore};
 ghost use Rattle.merge_world.specs.Views.{faults_of, site_of};
 ghost use Rattle.merge_program.specs.Elsewhere.{SameAtOthers};
-ghost use Rattle.merge_program.specs.Stores.{AreRooms, IsUnstarted, RoseBy, fresh_publisher, fresh_subscriber, fresh_subscribers};
+ghost use Rattle.merge_program.specs.GivenBack.{AreToldBack, AscendAbove};
+ghost use Rattle.merge_program.specs.Stores.{AreEmptyStores, AreRooms, IsUnstarted, IsUnstartedAt, RoseBy, fresh_publisher, fresh_subscriber, fresh_subscribers, untold, untold_publisher};
 
 use crate::ending::{Ending, stopped, unopened};
 use merge_ports::Outside;
@@ -45,11 +49,12 @@ fn start_publisher<E: Outside>(
     publication: &Publication,
 ) -> Result<KeptPublisher<E::Keep>, Ending>
     requires { (resolvers : ℕ) × IsValid resolvers publication.now }
-    ensures fresh { IfOk result (λ publisher. publisher ≡ fresh_publisher publication.now) }
+    ensures fresh { IfOk result (λ publisher. untold_publisher publisher ≡ fresh_publisher publication.now) }
     ensures room { OnOk result (E.HasRoom outside.new (record { 0 = 0 }) path.now) }
     ensures still { (s : Site) (p : List ℕ) → E.HasRoom outside.old s p → E.HasRoom outside.new s p }
     ensures kept { OnOk result ((E.counts outside.new).stores ≡ (E.counts outside.old).stores) }
-    ensures ends { IfErr result (λ ending. IsUnstarted ending (E.counts outside.old).stores (E.counts outside.new).stores) }
+    ensures ends { IfErr result (λ ending. IsUnstartedAt ending (E.told outside.old (record { 0 = 0 }) path.now) (E.counts outside.old).stores (E.counts outside.new).stores) }
+    ensures empty { OnOk result (IsEmptyStore (E.told outside.old (record { 0 = 0 }) path.now)) }
     ensures others { SameElsewhere (record { 0 = 0 }) path.now (E.told outside.old) (E.told outside.new) }
 {
     let keeper = match outside.keeper(PUBLISHER, path) {
@@ -74,11 +79,12 @@ fn start_subscriber<E: Outside>(
     site: SiteId,
 ) -> Result<KeptSubscriber<E::Keep>, Ending>
     requires { (resolvers : ℕ) × IsValid resolvers publication.now }
-    ensures fresh { IfOk result (λ subscriber. subscriber ≡ fresh_subscriber publication.now site) }
+    ensures fresh { IfOk result (λ subscriber. untold subscriber ≡ fresh_subscriber publication.now site) }
     ensures room { OnOk result (E.HasRoom outside.new site path.now) }
     ensures still { (s : Site) (p : List ℕ) → E.HasRoom outside.old s p → E.HasRoom outside.new s p }
     ensures kept { OnOk result ((E.counts outside.new).stores ≡ (E.counts outside.old).stores) }
-    ensures ends { IfErr result (λ ending. IsUnstarted ending (E.counts outside.old).stores (E.counts outside.new).stores) }
+    ensures ends { IfErr result (λ ending. IsUnstartedAt ending (E.told outside.old site path.now) (E.counts outside.old).stores (E.counts outside.new).stores) }
+    ensures empty { OnOk result (IsEmptyStore (E.told outside.old site path.now)) }
     ensures others { SameElsewhere site path.now (E.told outside.old) (E.told outside.new) }
 {
     let publication = publication.copy()?;
@@ -122,11 +128,12 @@ fn start_subscribers<E: Outside>(
 ) -> Result<(), Ending>
     requires valid { (resolvers : ℕ) × IsValid resolvers publication.now }
     requires none { subscribers.old.items ≡ [] }
-    ensures fresh { OnOk result (subscribers.new.items ≡ fresh_subscribers publication.now) }
+    ensures fresh { OnOk result (map untold subscribers.new.items ≡ fresh_subscribers publication.now) }
     ensures rooms { AreRooms (E.HasRoom outside.new) path.now (map site_of subscribers.new.items) }
     ensures still { (s : Site) (p : List ℕ) → E.HasRoom outside.old s p → E.HasRoom outside.new s p }
     ensures kept { OnOk result ((E.counts outside.new).stores ≡ (E.counts outside.old).stores) }
-    ensures ends { IfErr result (λ ending. IsUnstarted ending (E.counts outside.old).stores (E.counts outside.new).stores) }
+    ensures ends { IfErr result (λ ending. IsUnstarted (λ s. is_subscription publication.now s.0) (λ s. E.told outside.old s path.now) ending (E.counts outside.old).stores (E.counts outside.new).stores) }
+    ensures empty { OnOk result (AreEmptyStores (λ s. is_subscription publication.now s.0) (λ s. E.told outside.old s path.now)) }
     ensures others { SameAtOthers path.now (E.told outside.old) (E.told outside.new) }
 {
     let subscriptions = by_site(alloc, publication)?;
@@ -139,7 +146,7 @@ fn start_subscribers<E: Outside>(
     Ok(())
 }
 
-/// Gives the keepers of sites back.
+/// Gives the keepers of sites back. Their stores are told as they tell them.
 pub fn give_back<E: Outside>(
     outside: &mut E,
     path: &Words,
@@ -149,6 +156,7 @@ pub fn give_back<E: Outside>(
     requires room { E.HasRoom outside.old (record { 0 = 0 }) path.now }
     requires rooms { AreRooms (E.HasRoom outside.old) path.now (map site_of subscribers.items) }
     ensures rose { RoseBy (publisher.faults + sum_by faults_of subscribers.items) (E.counts outside.old).stores (E.counts outside.new).stores }
+    ensures told { AscendAbove 0 (map site_of subscribers.items) → AreToldBack (E.told outside.new) path.now publisher subscribers.items }
     ensures others { SameAtOthers path.now (E.told outside.old) (E.told outside.new) }
 {
     outside.keeper_back(PUBLISHER, path, publisher.into_keeper());
@@ -167,12 +175,13 @@ pub fn start<E: Outside>(
     publication: &Publication,
 ) -> Result<(KeptPublisher<E::Keep>, Vec<KeptSubscriber<E::Keep>>), Ending>
     requires { (resolvers : ℕ) × IsValid resolvers publication.now }
-    ensures publisher { IfOk result (λ sites. sites.0 ≡ fresh_publisher publication.now) }
-    ensures subscribers { IfOk result (λ sites. sites.1.items ≡ fresh_subscribers publication.now) }
+    ensures publisher { IfOk result (λ sites. untold_publisher sites.0 ≡ fresh_publisher publication.now) }
+    ensures subscribers { IfOk result (λ sites. map untold sites.1.items ≡ fresh_subscribers publication.now) }
     ensures room { OnOk result (E.HasRoom outside.new (record { 0 = 0 }) path.now) }
     ensures rooms { IfOk result (λ sites. AreRooms (E.HasRoom outside.new) path.now (map site_of sites.1.items)) }
     ensures kept { OnOk result ((E.counts outside.new).stores ≡ (E.counts outside.old).stores) }
-    ensures ends { IfErr result (λ ending. IsUnstarted ending (E.counts outside.old).stores (E.counts outside.new).stores) }
+    ensures ends { IfErr result (λ ending. IsUnstarted (is_site publication.now) (λ s. E.told outside.old s path.now) ending (E.counts outside.old).stores (E.counts outside.new).stores) }
+    ensures empty { OnOk result (AreEmptyStores (is_site publication.now) (λ s. E.told outside.old s path.now)) }
     ensures others { SameAtOthers path.now (E.told outside.old) (E.told outside.new) }
 {
     let publisher = start_publisher(alloc, outside, path, publication)?;

@@ -7,6 +7,7 @@ ghost use Rattle.merge_program.specs.Endings.{status_of};
 ghost use Rattle.merge_program.specs.Headline.{PlayRunEnds, WrittenInPart};
 ghost use Rattle.merge_program.specs.Making.{IsMade};
 ghost use Rattle.merge_program.specs.Statuses.{CommandEnds, IsNoted, Tells, is_silent};
+ghost use Rattle.merge_program.specs.Stores.{at_no_path};
 
 use crate::change::change;
 use crate::command::{Command, command_of};
@@ -17,8 +18,9 @@ use crate::play::play_input;
 use crate::show::show;
 use crate::sync::sync;
 use merge_outside::CommandOutside;
-use merge_ports::{INPUT_LIMIT, Outside, Sink, Source, read_whole};
+use merge_ports::{Outside, Sink, Source, read_whole};
 use merge_resolve::Handed;
+use merge_types::limits::INPUT_LIMIT;
 use merge_types::{NoMemory, Words};
 use std::alloc::Global;
 
@@ -43,7 +45,7 @@ fn read_and_play<I: Source, O: Sink, E: Outside>(
 ) -> Ending
     ensures ends { PlayRunEnds result (I.left input.old) (handed_view (λ r. says r) (λ r. tally_of r) resolvers.old.items)
         (record { was = O.written output.old; written = O.written output.new; before = (E.counts outside.old).stores; after = (E.counts outside.new).stores })
-        (O.count output.old) (O.count output.new) (I.count input.old) (I.count input.new) }
+        (at_no_path (E.told outside.old)) (at_no_path (E.told outside.new)) (O.count output.old) (O.count output.new) (I.count input.old) (I.count input.new) }
     ensures part { IfSome (I.left input.old) (λ input. WrittenInPart (handed_view (λ r. says r) (λ r. tally_of r) resolvers.old.items) input
         (record { was = O.written output.old; written = O.written output.new; before = (E.counts outside.old).stores; after = (E.counts outside.new).stores })) }
     ensures silent { is_silent (status_of result) ≡ true → O.written output.new ≡ O.written output.old }

@@ -1,5 +1,6 @@
 use Rattle.std.proofs.Common.{◌≡◌, ◌∙◌, arith, refl}
 use Rattle.std.proofs.lemmas.Grind.{common_steps}
+use Rattle.merge_world.specs.Restarts.{IsDamagedAt}
 use Rattle.merge_play.proofs.SoFar.{line-lost, lost-before, so-far-at-start, so-far-cut, so-far-done, so-far-ends, so-far-more, so-far-ordered, so-far-stops, so-far-wrong}
 use Rattle.merge_play.proofs.lines.play_lines.Goals as goal
 
@@ -37,7 +38,8 @@ returns-in_err-play_line-clause-ended g c = λ why is.
 pub returns-in_err-play_line-clause-restart : goal.returns-in_err-play_line-clause-restart
 returns-in_err-play_line-clause-restart g c = λ why is.
     let done = c.in_err-play_line.ensures.ended why (grind (arith, common_steps, is, c.from_residual.ensures)) in
-    so-far-ends _ _ _ _ _ _ _ _ _ _ _ _ _ why c.in_err-play_line.ensures.later (rw c.cut_line.ensures.line at c.loop-rest.invariant.so_far) done (line-lost _ _ _ _ _ why done)
+    let damaged = IsDamagedAt g.P.PublisherSite.Damage g.S.SubscriberSite.Damage (λ s. (g.S.SubscriberSite.view s).tables.site.0) c.play_line.new.sites.publisher c.play_line.new.sites.subscribers.items in
+    so-far-ends _ _ _ _ _ _ _ _ _ _ _ _ damaged _ _ why c.in_err-play_line.ensures.damaged (grind (arith, common_steps, is, c.from_residual.ensures)) c.in_err-play_line.ensures.later (rw c.cut_line.ensures.line at c.loop-rest.invariant.so_far) done (line-lost _ _ _ _ _ why done)
 
 pub returns-clause-done : goal.returns-clause-done
 returns-clause-done g c = so-far-done _ c.loop-rest.rest.now (grind (arith, common_steps, c.is_empty.ensures, c.loop-rest-test.false)) _ _ _ _ _ _ _ c.loop-rest.invariant.so_far
@@ -47,3 +49,15 @@ returns-in_err-play_line-clause-stays g c = c.in_err-play_line.ensures.stays ∙
 
 pub returns-clause-stays : goal.returns-clause-stays
 returns-clause-stays g c = c.loop-rest.invariant.so_far.happened.sites
+
+pub returns-in_err-play_line-clause-alike : goal.returns-in_err-play_line-clause-alike
+returns-in_err-play_line-clause-alike g c = c.in_err-play_line.ensures.alike ∙ c.loop-rest.invariant.so_far.happened.publications
+
+pub returns-clause-alike : goal.returns-clause-alike
+returns-clause-alike g c = c.loop-rest.invariant.so_far.happened.publications
+
+pub returns-in_err-play_line-clause-publication : goal.returns-in_err-play_line-clause-publication
+returns-in_err-play_line-clause-publication g c = c.in_err-play_line.ensures.publication ∙ c.loop-rest.invariant.so_far.happened.publication
+
+pub returns-clause-publication : goal.returns-clause-publication
+returns-clause-publication g c = c.loop-rest.invariant.so_far.happened.publication

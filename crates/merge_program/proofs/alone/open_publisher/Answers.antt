@@ -7,4 +7,4 @@ pub returns-clause-read : goal.returns-clause-read
 returns-clause-read g c =
     let none : c.new-subscribers.result.items ≡ [] = search rules in
     let empty : c.new-pool.result.items ≡ [] = search rules in
-    let e = c.in_ok-publisher.ensures in publisher-read _ _ _ _ _ none empty e.tables e.publication e.faults
+    let e = c.in_ok-publisher.ensures in publisher-read _ _ c.in_ok-publisher.publisher _ _ none empty e.tables e.publication e.faults

@@ -10,4 +10,4 @@ returns-clause-read g c =
     let empty : c.new-pool.result.items ≡ [] = search rules in
     let e = c.in_ok-subscriber.ensures in
     let one = c.put.ensures ∙ ap (λ (l : List SubscriberView). l ++ c.in_ok-subscriber.subscriber ∷ []) (c.in_ok-make_room.ensures.items ∙ none) in
-    subscriber-read-of _ _ _ _ _ _ _ _ (search rules) c.in_ok-own.ensures one empty e.tables e.site e.publication e.faults
+    subscriber-read-of _ _ _ _ _ c.in_ok-subscriber.subscriber _ _ (search rules) c.in_ok-own.ensures one empty e.tables e.site e.publication e.faults

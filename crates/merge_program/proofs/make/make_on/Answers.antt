@@ -17,4 +17,4 @@ play_script-requires-clause-made g c = ap (λ (v : SitesView). v.publication) c.
 
 pub returns-clause-summary : goal.returns-clause-summary
 returns-clause-summary g c =
-    IfOk-weaker c.play_script.result _ _ (λ text summed. summary-of c.all_promises_hold.ensures.runs _ _ _ _ _ text c.requires.fresh summed) c.play_script.ensures.summed
+    IfOk-weaker c.play_script.result _ _ (λ text summed. summary-of c.all_promises_hold.ensures.runs c.steps_that_fail_show.ensures.machine _ _ _ _ _ text c.requires.fresh summed) c.play_script.ensures.summed

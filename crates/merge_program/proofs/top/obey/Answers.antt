@@ -26,7 +26,7 @@ pub returns-in-Make-clause-played : goal.returns-in-Make-clause-played
 returns-in-Make-clause-played g c = λ play. let is = c.in-Make.is in absurd (cc (is, play))
 
 pub returns-in-Make-clause-silent : goal.returns-in-Make-clause-silent
-returns-in-Make-clause-silent g c = λ silent. absurd (never-silent _ _ _ _ _ _ c.make.ensures.ends silent)
+returns-in-Make-clause-silent g c = λ silent. absurd (never-silent _ _ _ _ _ _ _ c.make.ensures.ends silent)
 
 pub returns-in-Make-clause-counted : goal.returns-in-Make-clause-counted
 returns-in-Make-clause-counted g c = λ other. refl

@@ -5,13 +5,13 @@ use Rattle.merge_program.proofs.Readings.{counted-by}
 use Rattle.merge_program.proofs.top.read_and_play.Goals as goal
 
 pub returns-in-Ok-clause-ends : goal.returns-in-Ok-clause-ends
-returns-in-Ok-clause-ends g c = ends-by-slice _ _ _ _ _ _ _ _ _ c.as_slice.ensures c.in-Ok.ensures.whole _ c.play_input.ensures.ends
+returns-in-Ok-clause-ends g c = ends-by-slice _ _ _ _ _ _ _ _ _ _ _ c.as_slice.ensures c.in-Ok.ensures.whole _ c.play_input.ensures.ends
 
 pub returns-in-Ok-clause-part : goal.returns-in-Ok-clause-part
 returns-in-Ok-clause-part g c = let whole = in-part-of _ _ _ _ _ c.as_slice.ensures c.play_input.ensures.part c.in-Ok.ensures.whole in whole
 
 pub returns-in-Err-clause-ends : goal.returns-in-Err-clause-ends
-returns-in-Err-clause-ends g c = ends-unread _ _ _ _ _ _ _ _ _ c.unread.ensures (λ is. c.in-Err.ensures.long (ap (λ f. Err f) is)) (λ is. c.in-Err.ensures.failed (ap (λ f. Err f) is))
+returns-in-Err-clause-ends g c = ends-unread _ _ _ _ _ _ _ _ _ _ _ c.unread.ensures (λ is. c.in-Err.ensures.long (ap (λ f. Err f) is)) (λ is. c.in-Err.ensures.failed (ap (λ f. Err f) is))
 
 pub returns-in-Err-clause-part : goal.returns-in-Err-clause-part
 returns-in-Err-clause-part g c = nothing-written _ _ _ refl

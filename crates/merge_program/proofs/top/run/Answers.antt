@@ -10,7 +10,7 @@ pub returns-clause-part : goal.returns-clause-part
 returns-clause-part g c = c.work-ending.ensures.played
 
 pub returns-clause-made : goal.returns-clause-made
-returns-clause-made g c = λ customers make. is-made customers _ _ _ _ _ (as-made _ _ _ _ customers make c.work-ending.ensures.ends) _ c.status.ensures
+returns-clause-made g c = λ customers make. is-made customers _ _ _ _ _ _ (as-made _ _ _ _ customers make c.work-ending.ensures.ends) _ c.status.ensures
 
 pub returns-clause-noted : goal.returns-clause-noted
 returns-clause-noted g c = record { ending = c.work-ending.result; status_is = c.status.ensures; ends = c.work-ending.ensures.ends; told = c.tell.ensures }
