@@ -304,6 +304,18 @@ fn rows_are_found_by_generation(rt: HostRuntime) -> Result<(), Fail> {
     Ok(())
 }
 
+// A row is given at each of its generations from one on.
+#[test]
+fn entries_are_given_from_a_generation(rt: HostRuntime) -> Result<(), Fail> {
+    let index = index(rt.alloc(), ENTRIES)?;
+    let mut found = Listing::empty(rt.alloc());
+    for (entry, _) in index.entries_from(6) {
+        found.push(entry.key)?;
+    }
+    assert!(rt; are_rows(found.as_slice(), &[(0, 9), (1, 8)]));
+    Ok(())
+}
+
 // Gives a row another generation.
 fn pass(
     alloc: Global,

@@ -86,5 +86,8 @@ fn changes_are_prepared_and_settled(rt: HostRuntime) -> Result<(), Fail> {
     same(&rt, &index.len(), &1);
     index.settle(changes);
     same(&rt, &index.len(), &2);
+    index.sweep_if_due();
+    same(&rt, &index.len(), &2);
+    same(&rt, &index.is_empty(), &false);
     Ok(())
 }

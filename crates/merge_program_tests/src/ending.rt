@@ -18,8 +18,16 @@ pub(crate) type MemoryHost = Host<
 >;
 
 // One article with one column.
-const P1: &str =
-    "name = \"p\"\n[[article]]\nname = \"item\"\n[[article.column]]\nname = \"qty\"\ntype = \"int\"\n[[subscription]]\nsite = 1\nhost = \"h\"\n";
+const P1: &str = r#"name = "p"
+[[article]]
+name = "item"
+[[article.column]]
+name = "qty"
+type = "int"
+[[subscription]]
+site = 1
+host = "h"
+"#;
 
 fn empty_keeper(alloc: Global) -> MemoryKeeper {
     let none = Listing::empty(alloc);
@@ -75,7 +83,8 @@ pub(crate) fn outside_over(
 /// The calls that fail at the input, the output and the notes, by their numbers.
 pub(crate) type Failing<'a> = [&'a [u64]; 3];
 
-fn host(
+/// Ports over these bytes, whose calls with these numbers fail, and an outside.
+pub(crate) fn host(
     alloc: Global,
     input: &[u8],
     failing: &Failing,
@@ -93,8 +102,8 @@ fn host(
     })
 }
 
-// The words of a line, with a space between two of them. An empty line has none.
-fn words(alloc: Global, line: &str) -> Result<Vec<Words>, Fail> {
+/// The words of a line, with a space between two of them. An empty line has none.
+pub(crate) fn words(alloc: Global, line: &str) -> Result<Vec<Words>, Fail> {
     let mut words = Vec::new(alloc);
     if line.is_empty() {
         return Ok(words);
@@ -105,8 +114,8 @@ fn words(alloc: Global, line: &str) -> Result<Vec<Words>, Fail> {
     Ok(words)
 }
 
-// The resolvers of the program, and behind them two of these tests.
-fn resolvers(alloc: Global) -> Result<Vec<Handed>, Fail> {
+/// The resolvers of the program, and behind them two of these tests.
+pub(crate) fn resolvers(alloc: Global) -> Result<Vec<Handed>, Fail> {
     let mut resolvers: Vec<Handed> = Vec::new(alloc);
     resolvers.push(Box::new(alloc, Priority::new())?)?;
     resolvers.push(Box::new(alloc, Maximum::new())?)?;

@@ -16,6 +16,8 @@ mod rows;
 #[cfg(test)]
 mod scripts;
 #[cfg(test)]
+mod serving;
+#[cfg(test)]
 mod stores;
 #[cfg(test)]
 mod sync;

@@ -1,5 +1,5 @@
 //! Worked scripts with their answers.
-use crate::ending::{NONE, is_ended, outside, play};
+use crate::ending::{NONE, end, is_ended, outside, play};
 use crate::rows::MORE;
 use std::test::Fail;
 
@@ -462,6 +462,32 @@ fn worked_scripts(rt: HostRuntime) -> Result<(), Fail> {
     for (name, publication, script, answers) in WORKED.iter().chain(MORE) {
         let outside = outside(rt.alloc(), &[])?;
         let (ended, host) = play(rt.alloc(), publication, script.as_bytes(), &NONE, outside)?;
+        assert!(rt; is_ended(ended, &host, 0, answers, ""), "{name}");
+    }
+    Ok(())
+}
+
+// Adds a text, each line with CR LF at its end.
+fn push_with_returns(input: &mut Vec<u8>, text: &str) -> Result<(), Fail> {
+    for byte in text.as_bytes() {
+        if *byte == b'\n' {
+            input.push(b'\r')?;
+        }
+        input.push(*byte)?;
+    }
+    Ok(())
+}
+
+// The same scripts with CR LF throughout: in the publication, at the bar and in the script.
+#[test]
+fn lines_may_end_with_cr_lf(rt: HostRuntime) -> Result<(), Fail> {
+    for (name, publication, script, answers) in WORKED {
+        let mut input: Vec<u8> = Vec::new(rt.alloc());
+        push_with_returns(&mut input, publication)?;
+        push_with_returns(&mut input, "---\n")?;
+        push_with_returns(&mut input, script)?;
+        let outside = outside(rt.alloc(), &[])?;
+        let (ended, host) = end(rt.alloc(), "play", &input, &NONE, outside)?;
         assert!(rt; is_ended(ended, &host, 0, answers, ""), "{name}");
     }
     Ok(())

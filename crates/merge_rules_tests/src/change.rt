@@ -21,8 +21,10 @@ const TICKET: u8 = 0;
 
 const ITEM: u8 = 1;
 
-const PUBLICATION: &str =
-    "name = \"p\"\narticle = [{ name = \"ticket\", column = [{ name = \"no\", type = \"int\", identity = { range = 10, pub_range = 10 } }, { name = \"note\", type = \"text\" }] }, { name = \"item\", tracking = \"column\", column = [{ name = \"qty\", type = \"int\" }, { name = \"note\", type = \"text\" }] }]\nsubscription = [{ site = 1, host = \"h\" }]\n";
+const PUBLICATION: &str = r#"name = "p"
+article = [{ name = "ticket", column = [{ name = "no", type = "int", identity = { range = 10, pub_range = 10 } }, { name = "note", type = "text" }] }, { name = "item", tracking = "column", column = [{ name = "qty", type = "int" }, { name = "note", type = "text" }] }]
+subscription = [{ site = 1, host = "h" }]
+"#;
 
 // The place of the change's article.
 fn article_of(change: &Change) -> u8

@@ -20,8 +20,10 @@ const NOTE: u8 = 4;
 
 // Orders follow customers, and lines follow orders and products. An order of more than 100 is
 // everyone's, and so is each note.
-const SHOP: &str =
-    "name = \"shop\"\narticle = [{ name = \"customer\", filter = \"region = HOST_NAME()\", column = [{ name = \"id\", type = \"int\" }, { name = \"region\", type = \"text\" }] }, { name = \"orders\", filter = \"id > 100\", column = [{ name = \"id\", type = \"int\" }, { name = \"cust\", type = \"int\" }], join = [{ column = \"cust\", parent = \"customer\", parent_column = \"id\" }] }, { name = \"line\", column = [{ name = \"ord\", type = \"int\" }, { name = \"item\", type = \"int\" }], join = [{ column = \"ord\", parent = \"orders\", parent_column = \"id\" }, { column = \"item\", parent = \"product\", parent_column = \"id\" }] }, { name = \"product\", filter = \"NOT maker = HOST_NAME()\", column = [{ name = \"id\", type = \"int\" }, { name = \"maker\", type = \"text\" }] }, { name = \"note\", column = [{ name = \"id\", type = \"int\" }, { name = \"text\", type = \"text\" }] }]\nsubscription = [{ site = 1, host = \"north\" }, { site = 2, host = \"south\" }, { site = 4, host = \"east\" }]\n";
+const SHOP: &str = r#"name = "shop"
+article = [{ name = "customer", filter = "region = HOST_NAME()", column = [{ name = "id", type = "int" }, { name = "region", type = "text" }] }, { name = "orders", filter = "id > 100", column = [{ name = "id", type = "int" }, { name = "cust", type = "int" }], join = [{ column = "cust", parent = "customer", parent_column = "id" }] }, { name = "line", column = [{ name = "ord", type = "int" }, { name = "item", type = "int" }], join = [{ column = "ord", parent = "orders", parent_column = "id" }, { column = "item", parent = "product", parent_column = "id" }] }, { name = "product", filter = "NOT maker = HOST_NAME()", column = [{ name = "id", type = "int" }, { name = "maker", type = "text" }] }, { name = "note", column = [{ name = "id", type = "int" }, { name = "text", type = "text" }] }]
+subscription = [{ site = 1, host = "north" }, { site = 2, host = "south" }, { site = 4, host = "east" }]
+"#;
 
 // Two customers of one number are both parents of an order, and one after the other they go.
 const SEVERAL_PARENTS: &[&[Line]] = &[

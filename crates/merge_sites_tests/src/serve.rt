@@ -1,14 +1,19 @@
-//! Connections to a desk whose publisher refuses everything.
+//! Connections to a desk: of a publisher that refuses everything, and of one at a store in memory.
 ghost use Rattle.std.specs.Prelude.{◌≡◌, ◌≤◌, None};
 ghost use Rattle.merge_model.specs.Publisher.{empty_publisher};
 ghost use Rattle.merge_desk.specs.Replay.{no_publication};
 
 use crate::nobody::Nobody;
 use crate::same::same;
+use crate::service::publication;
 use merge_desk::{Closed, Desk, Entry, Opening, summary};
+use merge_draft::DraftingPublisher;
+use merge_keeper::MemoryKeeper;
 use merge_link::MemoryClock;
-use merge_ports::{MemorySink, MemorySource};
+use merge_ports::{Entries, Keeper, MemorySink, MemorySource};
+use merge_resolve::Handed;
 use merge_serve::{Attended, Caller, Gate, MemoryDoor, OpenGate, Served, attend, serve};
+use merge_site::{DraftingSite, KeptPublisher};
 use merge_types::{Listing, Moment, Octets};
 use std::alloc::Global;
 use std::marker::Brand;
@@ -174,6 +179,14 @@ struct Holding {
     opened: AtomicU64,
 }
 
+fn new_gate() -> Holding {
+    Holding {
+        turns: 10_000_000,
+        answered: AtomicU64::new(0),
+        opened: AtomicU64::new(0),
+    }
+}
+
 impl Gate for Holding {
     fn before(&self, connection: u64) {
         if connection != 1 {
@@ -197,23 +210,37 @@ impl Gate for Holding {
 const SECOND_JOIN: &[u8] =
     b"POST /merge/join HTTP/1.1\r\nContent-Length: 44\r\n\r\n{\"generation\":0,\"number\":0,\"seq\":1,\"site\":2}";
 
-fn caller(alloc: Global, bytes: &[u8]) -> Result<Caller, Fail> {
-    Ok(Caller {
-        bytes: octets(alloc, bytes)?,
-        failing_reads: Listing::empty(alloc),
-        failing_writes: Listing::empty(alloc),
-    })
+fn callers(alloc: Global, messages: &[&[u8]]) -> Result<Vec<Caller>, Fail> {
+    let mut callers = Vec::new(alloc);
+    for message in messages {
+        callers.push(Caller {
+            bytes: octets(alloc, message)?,
+            failing_reads: Listing::empty(alloc),
+            failing_writes: Listing::empty(alloc),
+        })?;
+    }
+    Ok(callers)
 }
 
 // What a day of a desk leaves.
 #[derive(Drop)]
-struct Left {
+struct Left<P: DraftingPublisher> {
     accepted: u64,
     faults: u64,
+    publisher: P,
     journal: Vec<Entry>,
 }
 
-fn day<
+// By how many workers these messages are answered, and for how many requests a desk is open.
+#[derive(Clone, Copy)]
+struct Day<'a> {
+    messages: &'a [&'a [u8]],
+    workers: u16,
+    requests: u64,
+}
+
+fn hold<
+    P: DraftingPublisher + Send,
     L: Ledger + Send + Sync,
     M: Ledger + Send + Sync,
     N: Ledger + Send + Sync,
@@ -223,31 +250,32 @@ fn day<
 >(
     rt: &R,
     alloc: Global,
-    requests: u64,
+    publisher: P,
+    day: Day,
     gate: &G,
     calls: Blank,
     faults: Blank,
     permits: Blank,
-) -> Result<Left, Fail>
-    requires publication { O.publication ≡ no_publication }
-    requires tables { O.tables ≡ empty_publisher no_publication }
-    requires says { O.says ≡ (λ place tally asked. None) }
-    requires count { O.count ≡ 0 }
-    requires calls { (calls.name ≡ L.name) × (calls.parts ≡ L.parts) × (2 ≤ calls.parts) }
-    requires faults { (faults.name ≡ M.name) × (faults.parts ≡ M.parts) × (2 ≤ faults.parts) }
-    requires permits { (permits.name ≡ N.name) × (permits.parts ≡ N.parts) × (requests ≤ permits.parts) }
+) -> Result<Left<P>, Fail>
+where
+    P::Work: Send,
+    requires workers { (1 ≤ day.workers) × (day.workers ≤ 16) }
+    requires publication { O.publication ≡ (P.view publisher).publication }
+    requires tables { O.tables ≡ (P.view publisher).tables }
+    requires says { O.says ≡ (P.view publisher).says }
+    requires count { O.count ≡ (P.view publisher).faults }
+    requires calls { (calls.name ≡ L.name) × (calls.parts ≡ L.parts) × (day.workers ≤ calls.parts) }
+    requires faults { (faults.name ≡ M.name) × (faults.parts ≡ M.parts) × (day.workers ≤ faults.parts) }
+    requires permits { (permits.name ≡ N.name) × (permits.parts ≡ N.parts) × (day.requests ≤ permits.parts) }
 {
     let (given, mut parts) = permits.open::<N>();
     let spent = parts.empty();
-    let mut callers = Vec::new(alloc);
-    callers.push(caller(alloc, JOIN)?)?;
-    callers.push(caller(alloc, SECOND_JOIN)?)?;
-    let door = MemoryDoor::new(alloc, callers, Listing::empty(alloc));
+    let door = MemoryDoor::new(alloc, callers(alloc, day.messages)?, Listing::empty(alloc));
     let clock = MemoryClock::new(Listing::empty(alloc));
-    let Ok((desk, seats)) = Desk::<Nobody, L, M, N, O>::start(
+    let Ok((desk, seats)) = Desk::<P, L, M, N, O>::start(
         alloc,
-        Nobody { asked: 0 },
-        2,
+        publisher,
+        day.workers,
         calls,
         faults,
         spent,
@@ -263,61 +291,134 @@ fn day<
         door,
         given: _,
     } = serve(
-        rt, alloc, &desk, seats, requests, door, clock, gate, given, parts,
+        rt,
+        alloc,
+        &desk,
+        seats,
+        day.requests,
+        door,
+        clock,
+        gate,
+        given,
+        parts,
     );
     let Ok(closed) = desk.close(seats) else {
         return Err(Fail::new("the journal differs"));
     };
     let Closed {
         journal,
-        publisher: _,
+        publisher,
         permits: _,
     } = closed;
     Ok(Left {
         accepted,
         faults: door.faults,
+        publisher,
         journal,
     })
 }
 
+// The same with ledgers for this day alone.
+fn serve_day<P: DraftingPublisher + Send, R: Threads + Wait + Sync, G: Gate + Sync>(
+    rt: &R,
+    alloc: Global,
+    publisher: P,
+    day: Day,
+    gate: &G,
+) -> Result<Left<P>, Fail>
+where
+    P::Work: Send,
+    requires { (1 ≤ day.workers) × (day.workers ≤ 16) }
+{
+    let workers = u64::from(day.workers);
+    hold::<P, Brand, Brand, Brand, Brand, _, _>(
+        rt,
+        alloc,
+        publisher,
+        day,
+        gate,
+        Blank::new(workers),
+        Blank::new(workers),
+        Blank::new(day.requests),
+    )
+}
+
+// The same of a publisher at a store.
+fn serve_stored<R: Threads + Wait + Sync, K: Keeper + Send, G: Gate + Sync>(
+    rt: &R,
+    alloc: Global,
+    kept: KeptPublisher<K>,
+    resolvers: Vec<Handed>,
+    day: Day,
+    gate: &G,
+) -> Result<Left<DraftingSite<K>>, Fail>
+    requires { (1 ≤ day.workers) × (day.workers ≤ 16) }
+{
+    serve_day(rt, alloc, DraftingSite::new(kept, resolvers), day, gate)
+}
+
+// A publisher at an empty store in memory, whose keeper's call of this number fails.
+fn kept(alloc: Global, failing: u64) -> Result<KeptPublisher<MemoryKeeper>, Fail> {
+    let mut calls = Listing::empty(alloc);
+    calls.push(failing)?;
+    let keeper = MemoryKeeper::new(alloc, Entries::empty(alloc), calls, Listing::empty(alloc));
+    match KeptPublisher::start(alloc, keeper, &publication(alloc)?) {
+        Ok(site) => Ok(site),
+        Err(_) => Err(Fail::new("no publisher")),
+    }
+}
+
+const JOINS: &[&[u8]] = &[JOIN, SECOND_JOIN];
+
 #[test]
 fn two_workers_serve_at_once(rt: HostRuntime) -> Result<(), Fail> {
-    let gate = Holding {
-        turns: 10_000_000,
-        answered: AtomicU64::new(0),
-        opened: AtomicU64::new(0),
+    let gate = new_gate();
+    let day = Day {
+        messages: JOINS,
+        workers: 2,
+        requests: 2,
     };
-    let left = day::<Brand, Brand, Brand, Brand, _, _>(
-        &rt,
-        rt.alloc(),
-        2,
-        &gate,
-        Blank::new(2),
-        Blank::new(2),
-        Blank::new(2),
-    )?;
+    let site = kept(rt.alloc(), 9)?;
+    let left = serve_stored(&rt, rt.alloc(), site, Vec::new(rt.alloc()), day, &gate)?;
     same(&rt, &gate.opened.load(Ordering::SeqCst), &2);
     same(&rt, &(left.accepted, left.faults), &(2, 0));
     let told = summary(rt.alloc(), &left.journal)?;
     same(
         &rt,
         &told.as_str(),
-        &"calls 2 joins 2 uploads 0 ranges 0 downloads 0 refused 2\n",
+        &"calls 2 joins 2 uploads 0 ranges 0 downloads 0 refused 0\n",
     );
+    Ok(())
+}
+
+// The keeper's calls: the load, and a commit for each join, of which the second fails.
+#[test]
+fn a_join_whose_commit_fails_has_no_place(rt: HostRuntime) -> Result<(), Fail> {
+    let day = Day {
+        messages: &[JOIN, SECOND_JOIN, SECOND_JOIN],
+        workers: 1,
+        requests: 3,
+    };
+    let site = kept(rt.alloc(), 2)?;
+    let left = serve_stored(&rt, rt.alloc(), site, Vec::new(rt.alloc()), day, &OpenGate)?;
+    same(&rt, &(left.accepted, left.faults), &(3, 0));
+    same(&rt, &left.publisher.faults(), &1);
+    let mut places = Vec::new(rt.alloc());
+    for entry in &left.journal {
+        places.push((entry.request.site().0, entry.mark.place))?;
+    }
+    same(&rt, &places.as_slice(), &[(1, 1), (2, 2)].as_slice());
     Ok(())
 }
 
 #[test]
 fn a_door_that_fails_ends_the_day(rt: HostRuntime) -> Result<(), Fail> {
-    let left = day::<Brand, Brand, Brand, Brand, _, _>(
-        &rt,
-        rt.alloc(),
-        3,
-        &OpenGate,
-        Blank::new(2),
-        Blank::new(2),
-        Blank::new(3),
-    )?;
+    let day = Day {
+        messages: JOINS,
+        workers: 2,
+        requests: 3,
+    };
+    let left = serve_day(&rt, rt.alloc(), Nobody { asked: 0 }, day, &OpenGate)?;
     same(&rt, &(left.accepted, left.faults), &(2, 1));
     same(&rt, &left.journal.len(), &2);
     Ok(())

@@ -5,15 +5,13 @@ ghost use Rattle.merge_schema.specs.Valid.{IsValid};
 use crate::same::same;
 use merge_keeper::MemoryKeeper;
 use merge_outside::MemoryCommands;
-use merge_ports::{Entries, MemoryOutside, MemorySink, OpenFault};
+use merge_ports::{Entries, MemoryOutside, MemorySink};
 use merge_schema::{Publication, SchemaFault, read};
-use merge_serve::{Caller, Doors, MemoryDoor};
+use merge_serve::{Caller, MemoryDoors};
 use merge_service::{Hours, serve_store};
 use merge_table::Table;
 use merge_types::{Listing, Octets, SiteId, Words};
 use std::alloc::Global;
-use std::mem;
-use std::snapshot::Snapshot;
 use std::sync::Wait;
 use std::test::Fail;
 use std::thread::Threads;
@@ -29,53 +27,14 @@ const SECOND: &[u8] =
 
 const TWO_JOINS: &[u8] = b"calls 2 joins 2 uploads 0 ranges 0 downloads 0 refused 0\n";
 
-/// Opens one door, at any address.
-#[derive(Drop)]
-struct OneDoor {
-    alloc: Global,
-    callers: Vec<Caller>,
-    handed: usize,
-    faults: u64,
-    asked: Option<Snapshot<Words>>,
-}
-
-impl Doors for OneDoor {
-    ghost use Rattle.std.specs.Prelude.{Some, option_map};
-
-    type Opened = MemoryDoor;
-
-    ghost handed = { λ d. Some d.handed };
-
-    ghost count = { λ d. d.faults };
-
-    ghost asked = { λ d. option_map (λ s. s.value) d.asked };
-
-    fn door(&mut self, address: &Words) -> Result<MemoryDoor, OpenFault> {
-        self.asked = Some(Snapshot::of(address));
-        let callers = mem::replace(&mut self.callers, Vec::new(self.alloc));
-        Ok(MemoryDoor::new(self.alloc, callers, Listing::empty(self.alloc)))
-    }
-
-    fn door_back(&mut self, door: MemoryDoor) {
-        self.handed = door.given;
-        self.faults = self.faults.saturating_add(door.faults);
-    }
-}
-
-fn door(alloc: Global, messages: &[&[u8]]) -> Result<OneDoor, Fail> {
+fn doors(alloc: Global, messages: &[&[u8]]) -> Result<MemoryDoors, Fail> {
     let mut callers = Vec::new(alloc);
     for message in messages {
         let mut caller = Caller::silent(alloc);
         caller.bytes = Listing::new(message.to_vec(alloc)?);
         callers.push(caller)?;
     }
-    Ok(OneDoor {
-        alloc,
-        callers,
-        handed: 0,
-        faults: 0,
-        asked: None,
-    })
+    Ok(MemoryDoors::new(alloc, callers))
 }
 
 // An outside with an empty store of the publisher, whose keeper's call of this number fails.
@@ -111,7 +70,7 @@ fn day<R: Threads + Wait + Sync>(
     requires { (1 ≤ workers) × (workers ≤ 16) }
 {
     let mut outside = outside(alloc, failing)?;
-    let mut doors = door(alloc, messages)?;
+    let mut doors = doors(alloc, messages)?;
     let mut output = MemorySink::new(alloc, Listing::empty(alloc));
     let publication = publication(alloc)?;
     let (store, address) = (Words::of(alloc, "")?, Words::of(alloc, "here")?);

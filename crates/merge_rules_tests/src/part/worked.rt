@@ -65,14 +65,20 @@ fn filtered<L: Ledger>(
     ))
 }
 
-const EQUAL: &str =
-    "name = \"p\"\narticle = [{ name = \"customer\", filter = \"region = HOST_NAME()\", column = [{ name = \"id\", type = \"int\" }, { name = \"region\", type = \"text\" }] }]\nsubscription = [{ site = 1, host = \"north\" }]\n";
+const EQUAL: &str = r#"name = "p"
+article = [{ name = "customer", filter = "region = HOST_NAME()", column = [{ name = "id", type = "int" }, { name = "region", type = "text" }] }]
+subscription = [{ site = 1, host = "north" }]
+"#;
 
-const UNEQUAL: &str =
-    "name = \"p\"\narticle = [{ name = \"customer\", filter = \"NOT region = HOST_NAME()\", column = [{ name = \"id\", type = \"int\" }, { name = \"region\", type = \"text\" }] }]\nsubscription = [{ site = 1, host = \"north\" }]\n";
+const UNEQUAL: &str = r#"name = "p"
+article = [{ name = "customer", filter = "NOT region = HOST_NAME()", column = [{ name = "id", type = "int" }, { name = "region", type = "text" }] }]
+subscription = [{ site = 1, host = "north" }]
+"#;
 
-const NOWHERE: &str =
-    "name = \"p\"\narticle = [{ name = \"customer\", filter = \"region IS NULL\", column = [{ name = \"id\", type = \"int\" }, { name = \"region\", type = \"text\" }] }]\nsubscription = [{ site = 1, host = \"north\" }]\n";
+const NOWHERE: &str = r#"name = "p"
+article = [{ name = "customer", filter = "region IS NULL", column = [{ name = "id", type = "int" }, { name = "region", type = "text" }] }]
+subscription = [{ site = 1, host = "north" }]
+"#;
 
 fn inside(alloc: Global, text: &[u8]) -> Result<(bool, bool), SchemaFault> {
     filtered::<Brand>(alloc, text, Blank::new(1))
@@ -88,8 +94,10 @@ fn filters(rt: HostRuntime) -> Result<(), Fail> {
     Ok(())
 }
 
-const CHAIN: &str =
-    "name = \"p\"\narticle = [{ name = \"customer\", filter = \"region = HOST_NAME()\", column = [{ name = \"id\", type = \"int\" }, { name = \"region\", type = \"text\" }] }, { name = \"orders\", column = [{ name = \"id\", type = \"int\" }, { name = \"cust\", type = \"int\" }], join = [{ column = \"cust\", parent = \"customer\", parent_column = \"id\" }] }, { name = \"line\", column = [{ name = \"ord\", type = \"int\" }, { name = \"qty\", type = \"int\" }], join = [{ column = \"ord\", parent = \"orders\", parent_column = \"id\" }] }]\nsubscription = [{ site = 1, host = \"north\" }, { site = 2, host = \"south\" }]\n";
+const CHAIN: &str = r#"name = "p"
+article = [{ name = "customer", filter = "region = HOST_NAME()", column = [{ name = "id", type = "int" }, { name = "region", type = "text" }] }, { name = "orders", column = [{ name = "id", type = "int" }, { name = "cust", type = "int" }], join = [{ column = "cust", parent = "customer", parent_column = "id" }] }, { name = "line", column = [{ name = "ord", type = "int" }, { name = "qty", type = "int" }], join = [{ column = "ord", parent = "orders", parent_column = "id" }] }]
+subscription = [{ site = 1, host = "north" }, { site = 2, host = "south" }]
+"#;
 
 fn one_move(article: u8, row: u128, site: SiteId, kind: MoveKind) -> Move {
     Move {

@@ -4,56 +4,56 @@ use merge_schema::{Article, Identity, JoinFilter, Subscription, SubscriptionKind
 use merge_types::{Column, ColumnType, Tracking};
 use std::test::Fail;
 
-const SHOP: &str = "
-name = \"shop\"
+const SHOP: &str = r#"
+name = "shop"
 retention_days = 30
 
 [[article]]
-name = \"customer\"
-tracking = \"column\"
-filter = \"branch = HOST_NAME()\"
-resolver = \"maximum\"
-resolver_column = \"rating\"
+name = "customer"
+tracking = "column"
+filter = "branch = HOST_NAME()"
+resolver = "maximum"
+resolver_column = "rating"
 
 [[article.column]]
-name = \"branch\"
-type = \"text\"
+name = "branch"
+type = "text"
 
 [[article.column]]
-name = \"rating\"
-type = \"int\"
+name = "rating"
+type = "int"
 
 [[article.column]]
-name = \"id\"
-type = \"guid\"
+name = "id"
+type = "guid"
 
 [[article]]
-name = \"order\"
+name = "order"
 
 [[article.column]]
-name = \"number\"
-type = \"int\"
+name = "number"
+type = "int"
 identity = { range = 100, pub_range = 1000 }
 
 [[article.column]]
-name = \"customer\"
-type = \"guid\"
+name = "customer"
+type = "guid"
 
 [[article.join]]
-column = \"customer\"
-parent = \"customer\"
-parent_column = \"id\"
+column = "customer"
+parent = "customer"
+parent_column = "id"
 
 [[subscription]]
 site = 3
-host = \"north\"
-kind = \"server\"
+host = "north"
+kind = "server"
 priority = 50
 
 [[subscription]]
 site = 5
-host = \"south\"
-";
+host = "south"
+"#;
 
 fn is_customer(article: &Article) -> bool {
     article.name.as_str() == "customer"

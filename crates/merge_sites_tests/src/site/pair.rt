@@ -277,6 +277,7 @@ impl Play for Pair {
 
     fn check<R: Abort>(&self, rt: &R) -> Result<(), NoMemory> {
         check_publisher(rt, &self.publisher)?;
-        check_subscriber(rt, &self.subscriber)
+        check_subscriber(rt, &self.subscriber);
+        Ok(())
     }
 }

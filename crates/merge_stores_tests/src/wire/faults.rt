@@ -218,11 +218,17 @@ fn at_most_8192_bytes(rt: HostRuntime) -> Result<(), Fail> {
     Ok(())
 }
 
-// What ends inside a head has ended where a head can still come of it.
+// What ends inside a head has ended where a head can still come of it, and where a target has not ended.
 const REQUEST_FRONTS: &[Case] = &[
     (b"", Some(Ended)),
     (b"\r\n", Some(Ended)),
     (b"GET /", Some(Ended)),
+    (b"GET ", Some(Ended)),
+    (b"GET /\xc3", Some(Ended)),
+    (b"GET /\xff", Some(Ended)),
+    (b"GET /\xff ", Some(BadHead)),
+    (b"GET /\x7f", Some(BadHead)),
+    (b"GET  ", Some(BadHead)),
     (b"G\x00", Some(BadHead)),
     (b"POST / HTTP/2", Some(BadHead)),
     (b"POST / HTTP/1.1\r\na b", Some(BadHead)),
