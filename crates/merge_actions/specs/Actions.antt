@@ -3,7 +3,7 @@ use Rattle.std.specs.List.{list_any}
 use Rattle.std.specs.Prelude.{List, false, ℕ, ◌≡◌}
 use Rattle.merge_schema.specs.Valid.{IsValid}
 use Rattle.merge_schema.specs.declared.publication.Publication.{Publication}
-use Rattle.merge_model.specs.Failing.{Slips, failing, faulty}
+use Rattle.merge_model.specs.Failing.{Slips, faulty, faulty_stepping}
 use Rattle.merge_model.specs.History.Model.{Model}
 use Rattle.merge_model.specs.Laws.Promises.{AllAccounted, OldIsPast, RepliesStayInside, SettledHoldsPartition}
 use Rattle.merge_model.specs.Failing.Reach.{AreNone}
@@ -32,8 +32,8 @@ MachineHasPromisesBehindActions = (resolvers : ℕ) (publication : Publication) 
 -- The same comes of actions as where none can fail.
 abbrev pub DoesPlainly : {W : Type 0} → Publication → Stepping W → W → Slips → List Action → Type 0
 DoesPlainly publication stepping w slips actions =
-    (outcomes (failing publication stepping) (faulty w slips) actions ≡ outcomes stepping w actions)
-    × ((after_actions (failing publication stepping) (faulty w slips) actions).world ≡ after_actions stepping w actions)
+    (outcomes (faulty_stepping publication stepping) (faulty w slips) actions ≡ outcomes stepping w actions)
+    × ((after_actions (faulty_stepping publication stepping) (faulty w slips) actions).world ≡ after_actions stepping w actions)
 
 -- So it is where no step fails,
 abbrev pub NoActionFails : {W : Type 0} → (Publication → Saying → Stepping W) → Type 0
@@ -42,7 +42,7 @@ NoActionFails {W = W} stepping = (publication : Publication) (says : Saying) (w 
 -- and where no outcome tells of want of memory or of a fault of the store.
 abbrev pub FailuresShowInOutcomes : {W : Type 0} → (Publication → Saying → Stepping W) → Type 0
 FailuresShowInOutcomes {W = W} stepping = (publication : Publication) (says : Saying) (w : W) (slips : Slips) (actions : List Action)
-    → list_any (refused_for is_slip) (outcomes (failing publication (stepping publication says)) (faulty w slips) actions) ≡ false → DoesPlainly publication (stepping publication says) w slips actions
+    → list_any (refused_for is_slip) (outcomes (faulty_stepping publication (stepping publication says)) (faulty w slips) actions) ≡ false → DoesPlainly publication (stepping publication says) w slips actions
 
 -- Promises, of the model behind actions.
 

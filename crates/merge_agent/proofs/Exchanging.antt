@@ -16,7 +16,7 @@ use Rattle.merge_model.specs.World.Steps.{Sending}
 use Rattle.merge_model.specs.Tables.{SubscriberTables}
 use Rattle.merge_model.proofs.Failing.Calling.{stayed}
 use Rattle.merge_ports.specs.Faults.{Rose}
-use Rattle.merge_world.specs.Messages.{requested}
+use Rattle.merge_world.specs.Messages.{request_of_sending}
 use Rattle.merge_world.specs.Printable.{ArePrintable}
 use Rattle.merge_world.specs.Views.{SubscriberCall, SubscriberView}
 use Rattle.merge_link.specs.Carried.{HasLinkCause, before_response, with_exchange}
@@ -28,7 +28,7 @@ use Rattle.merge_agent.specs.Answers.{Tells}
 use Rattle.merge_agent.specs.Faults.{carrying_fault, fault_of, with_fault}
 use Rattle.merge_agent.specs.Meetings.{Gives, Meeting, Passes, meeting}
 use Rattle.merge_agent.specs.Texts.{IsReadable, request_text}
-use Rattle.merge_agent.specs.Turns.{Broke, HasCauses, HasMessage, IsLeft, IsMade, Makes, Skips, Stepped, Turn, Turns, Unanswered, Unmade, Untaken, taken_by}
+use Rattle.merge_agent.specs.Turns.{Broke, HasCauses, HasMessage, IsLeft, IsMade, Makes, Skips, StepEnds, Turn, Turns, Unanswered, Unmade, Untaken, taken_by}
 use Rattle.merge_agent.specs.declared.answer.Told.{Told}
 use Rattle.merge_agent.specs.declared.fault.SessionFault.{SessionFault}
 use Rattle.merge_agent.specs.declared.fault.SessionFault.TheVariants as fault
@@ -57,10 +57,10 @@ some-made s t m (Ok (Some made)) e = ap back e
 some-made s t m (Err why) e = absurd (cc)
 
 abbrev Calls : Sending → Moment → SubscriberView → SubscriberView → Result (Option Request) Refusal → Type 0
-Calls sending made v w r = SubscriberCall (message_or_none v.tables (requested sending made v.tables)) message_commits v w r
+Calls sending made v w r = SubscriberCall (message_or_none v.tables (request_of_sending sending made v.tables)) message_commits v w r
 
 makes-some : (sending : Sending) (made : Moment) (v w : SubscriberView) (m : Request) → Calls sending made v w (Ok (Some m)) → Makes sending made v w (Ok (Some m))
-makes-some sending made v w m called = (some-made v.tables w.tables m (requested sending made v.tables) called.0, called.1)
+makes-some sending made v w m called = (some-made v.tables w.tables m (request_of_sending sending made v.tables) called.0, called.1)
 
 -- what it refused, and that its store failed only where there was a message to make
 
@@ -68,12 +68,12 @@ refused-as : (s : SubscriberTables) (by : By) (why : Refusal) → message_or_non
 refused-as s (Ok made) why e = absurd (cc)
 refused-as s (Err other) why e = cc
 
-had-message : (sending : Sending) (made : Moment) (s t : SubscriberTables) (found : Option Request) → message_or_none s (requested sending made s) ≡ Ok (t, found) → message_commits found ≡ true → HasMessage sending made s
+had-message : (sending : Sending) (made : Moment) (s t : SubscriberTables) (found : Option Request) → message_or_none s (request_of_sending sending made s) ≡ Ok (t, found) → message_commits found ≡ true → HasMessage sending made s
 had-message sending made s t None e commits = absurd (cc)
-had-message sending made s t (Some m) e commits = (t, m, some-made s t m (requested sending made s) e)
+had-message sending made s t (Some m) e commits = (t, m, some-made s t m (request_of_sending sending made s) e)
 
 pub made-not : (sending : Sending) (made : Moment) (v w : SubscriberView) (why : Refusal) → Calls sending made v w (Err why) → Makes sending made v w (Err (fault_of why))
-made-not sending made v w why (same, inl (refused, still)) = (same, inl (refused-as v.tables (requested sending made v.tables) why refused, still))
+made-not sending made v w why (same, inl (refused, still)) = (same, inl (refused-as v.tables (request_of_sending sending made v.tables) why refused, still))
 made-not sending made v w why (same, inr (inl (memory, still))) = (same, inr (inl (ap fault_of memory, still)))
 made-not sending made v w why (same, inr (inr (store, there, rose))) = (same, inr (inr (ap fault_of store, had-message sending made v.tables there.0.0 there.0.1 there.1 there.2, rose)))
 
@@ -111,7 +111,7 @@ abbrev fault_in : SessionFault → Result (Option (SubscriberTables × Request))
 fault_in why (Ok m) = why
 fault_in why (Err other) = other
 
-told-by : (sending : Sending) (made : Moment) (s : SubscriberTables) (by : By) (why : SessionFault) → requested sending made s ≡ by → with_fault by ≡ Err why → IsTold why
+told-by : (sending : Sending) (made : Moment) (s : SubscriberTables) (by : By) (why : SessionFault) → request_of_sending sending made s ≡ by → with_fault by ≡ Err why → IsTold why
 told-by sending made s (Ok m) why e f = absurd (cc)
 told-by sending made s (Err refused) why e f = subst IsTold (ap (fault_in why) f) (requested-told sending made s refused e)
 
@@ -126,7 +126,7 @@ module _ (address : List ℕ) (sending : Sending) (made : Moment) (v w : Subscri
     at = Unmade made;
     breaks = (same, inl refused);
     passes = passes-still v w co co xo xo lo lo mo mn (made ∷ []) publication (stayed v.faults w.faults still) refl refl (omega arith) gave;
-    causes = causes-told _ _ why (told-by sending made v.tables (requested sending made v.tables) why refl refused);
+    causes = causes-told _ _ why (told-by sending made v.tables (request_of_sending sending made v.tables) why refl refused);
   }
   unmade why (same, inr (inl (memory, still))) = record {
     at = Unmade made;
@@ -191,7 +191,7 @@ module _ (address : List ℕ) (sending : Sending) (made : Moment) (v w : Subscri
         left e why is = subst (λ (p : Publication). IsLeft (taken_by p now told u.tables) why) publication (subst (λ (t : SubscriberTables). IsLeft (taken_by w.publication now told t) why) (sym e) is)
 
         -- what it tells was not taken
-        pub untaken : (why : SessionFault) → Stepped {A = Reply} (taken_by w.publication now told w.tables) w.tables u.tables w.faults u.faults (Err why) → Broke address sending (meeting v co xo lo mo) (meeting u cn xn ln ml) why
+        pub untaken : (why : SessionFault) → StepEnds {A = Reply} (taken_by w.publication now told w.tables) w.tables u.tables w.faults u.faults (Err why) → Broke address sending (meeting v co xo lo mo) (meeting u cn xn ln ml) why
         untaken why (kept, inl (refused, still)) = record {
           at = Untaken made turn;
           breaks = record { request = request; is_made = is_made kept; text = refl; readable = readable; by = inr (told, tells, left kept why (inl refused)) };
@@ -212,7 +212,7 @@ module _ (address : List ℕ) (sending : Sending) (made : Moment) (v w : Subscri
         }
 
         -- it was taken
-        pub turns : (m : Reply) → Stepped (taken_by w.publication now told w.tables) w.tables u.tables w.faults u.faults (Ok m) → Turns address sending (meeting v co xo lo mo) (meeting u cn xn ln ml) m
+        pub turns : (m : Reply) → StepEnds (taken_by w.publication now told w.tables) w.tables u.tables w.faults u.faults (Ok m) → Turns address sending (meeting v co xo lo mo) (meeting u cn xn ln ml) m
         turns m stepped = record {
           made = made;
           turn = turn;
@@ -225,5 +225,5 @@ module _ (address : List ℕ) (sending : Sending) (made : Moment) (v w : Subscri
           passes = over u same (stayed w.faults u.faults stepped.1);
         }
 
-        pub advances : (m : Reply) → Stepped (taken_by w.publication now told w.tables) w.tables u.tables w.faults u.faults (Ok m) → (v.tables.seq < counter_limit) × (v.tables.seq + 1 ≤ u.tables.seq)
+        pub advances : (m : Reply) → StepEnds (taken_by w.publication now told w.tables) w.tables u.tables w.faults u.faults (Ok m) → (v.tables.seq < counter_limit) × (v.tables.seq + 1 ≤ u.tables.seq)
         advances m stepped = let number = numbered sending made v.tables w.tables request makes.0 in let rises = taken-rises w.publication now told w.tables u.tables m stepped.0 in (number.0, omega (arith, number.1, rises))

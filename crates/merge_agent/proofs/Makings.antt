@@ -37,7 +37,7 @@ use Rattle.merge_model.specs.World.Steps.{SendDownload, SendJoin, SendRanges, Se
 use Rattle.merge_model.specs.Subscriber.{is_joining, subscriber_at_moment, subscriber_closed, subscriber_counters, subscriber_last_closed}
 use Rattle.merge_model.specs.Tables.{SubscriberTables}
 use Rattle.merge_model.proofs.Runs.Refusals.{first-none}
-use Rattle.merge_world.specs.Messages.{always, as_request, requested}
+use Rattle.merge_world.specs.Messages.{as_request, request_of_sending, some_if_made}
 use Rattle.merge_world.specs.Printable.{ArePrintable}
 
 -- What holds of the tables and the message that were made.
@@ -99,17 +99,17 @@ anything (Ok (Some made)) = tt
 anything (Ok None) = tt
 anything (Err why) = tt
 
-requested-writable : (sending : Sending) (now : Moment) (s : SubscriberTables) → ArePrintable (λ (row : SubscriberRow). row.version) s.rows → Of (λ (t : SubscriberTables) (m : Request). IsSendableRequest m) (requested sending now s)
+requested-writable : (sending : Sending) (now : Moment) (s : SubscriberTables) → ArePrintable (λ (row : SubscriberRow). row.version) s.rows → Of (λ (t : SubscriberTables) (m : Request). IsSendableRequest m) (request_of_sending sending now s)
 requested-writable SendJoin now s printable = as-request (λ (t : SubscriberTables) (m : Request). IsSendableRequest m) request.Join (make_join s) (anything (make_join s))
 requested-writable SendUpload now s printable =
     as-request (λ (t : SubscriberTables) (m : Request). IsSendableRequest m) request.Upload (make_upload (by_rows s) now s)
     (unless-of (λ (t : SubscriberTables) (m : Upload). All IsProperItem m.items) (sending_refusal s) (upload_made (by_rows s) now s) (λ e.
     if-any (λ (t : SubscriberTables) (m : Upload). All IsProperItem m.items) (upload_sent (by_rows s) (subscriber_closed (subscriber_at_moment now s))) (unsent_rows (by_rows s) s) (upload-writable (by_rows s) now s printable)))
 requested-writable SendRanges now s printable = as-request (λ (t : SubscriberTables) (m : Request). IsSendableRequest m) request.Ranges (make_ranges s) (anything (make_ranges s))
-requested-writable SendDownload now s printable = as-request (λ (t : SubscriberTables) (m : Request). IsSendableRequest m) request.Download (always (make_ask s)) (anything (always (make_ask s)))
+requested-writable SendDownload now s printable = as-request (λ (t : SubscriberTables) (m : Request). IsSendableRequest m) request.Download (some_if_made (make_ask s)) (anything (some_if_made (make_ask s)))
 
-pub writable : (sending : Sending) (now : Moment) (s t : SubscriberTables) (m : Request) → ArePrintable (λ (row : SubscriberRow). row.version) s.rows → requested sending now s ≡ Ok (Some (t, m)) → IsSendableRequest m
-writable sending now s t m printable e = of-made (λ (t : SubscriberTables) (m : Request). IsSendableRequest m) (requested sending now s) t m (requested-writable sending now s printable) e
+pub writable : (sending : Sending) (now : Moment) (s t : SubscriberTables) (m : Request) → ArePrintable (λ (row : SubscriberRow). row.version) s.rows → request_of_sending sending now s ≡ Ok (Some (t, m)) → IsSendableRequest m
+writable sending now s t m printable e = of-made (λ (t : SubscriberTables) (m : Request). IsSendableRequest m) (request_of_sending sending now s) t m (requested-writable sending now s printable) e
 
 -- Each takes a number, which no site has that stands at the limit.
 
@@ -138,11 +138,11 @@ join-numbered s false below = (below, refl)
 abbrev ranges_sent : SubscriberTables → SubscriberTables × RangeAsk
 ranges_sent s = (with_message outstanding.Ranges s, record { site = s.site; seq = s.seq + 1; wants = map want_of s.held })
 
-ask-numbered : (s : SubscriberTables) (refusal : Option Refusal) (t : SubscriberTables) (m : Download) → (refusal ≡ None → Numbered s t) → Of (λ (u : SubscriberTables) (m : Download). Numbered s u) (always (unless refusal (t, m)))
+ask-numbered : (s : SubscriberTables) (refusal : Option Refusal) (t : SubscriberTables) (m : Download) → (refusal ≡ None → Numbered s t) → Of (λ (u : SubscriberTables) (m : Download). Numbered s u) (some_if_made (unless refusal (t, m)))
 ask-numbered s (Some why) t m holds = tt
 ask-numbered s None t m holds = holds refl
 
-requested-numbered : (sending : Sending) (now : Moment) (s : SubscriberTables) → Of (λ (t : SubscriberTables) (m : Request). Numbered s t) (requested sending now s)
+requested-numbered : (sending : Sending) (now : Moment) (s : SubscriberTables) → Of (λ (t : SubscriberTables) (m : Request). Numbered s t) (request_of_sending sending now s)
 requested-numbered SendJoin now s =
     as-request (λ (t : SubscriberTables) (m : Request). Numbered s t) request.Join (make_join s)
     (unless-of (λ (t : SubscriberTables) (m : Join). Numbered s t) (counter_end (subscriber_counters s)) (join_made s) (λ e. join-numbered s s.is_joined (below-limit s e)))
@@ -154,8 +154,8 @@ requested-numbered SendRanges now s =
     as-request (λ (t : SubscriberTables) (m : Request). Numbered s t) request.Ranges (make_ranges s)
     (unless-of (λ (t : SubscriberTables) (m : RangeAsk). Numbered s t) (sending_refusal s) (ranges_made s) (λ e. if-any (λ (t : SubscriberTables) (m : RangeAsk). Numbered s t) (ranges_sent s) s.held (counted s e, refl)))
 requested-numbered SendDownload now s =
-    as-request (λ (t : SubscriberTables) (m : Request). Numbered s t) request.Download (always (make_ask s))
+    as-request (λ (t : SubscriberTables) (m : Request). Numbered s t) request.Download (some_if_made (make_ask s))
     (ask-numbered s (sending_refusal s) (with_message (outstanding.Download s.watermark) s) (record { site = s.site; seq = s.seq + 1; from = s.watermark }) (λ e. (counted s e, refl)))
 
-pub numbered : (sending : Sending) (now : Moment) (s t : SubscriberTables) (m : Request) → requested sending now s ≡ Ok (Some (t, m)) → (s.seq < counter_limit) × (t.seq ≡ s.seq + 1)
-numbered sending now s t m e = of-made (λ (t : SubscriberTables) (m : Request). Numbered s t) (requested sending now s) t m (requested-numbered sending now s) e
+pub numbered : (sending : Sending) (now : Moment) (s t : SubscriberTables) (m : Request) → request_of_sending sending now s ≡ Ok (Some (t, m)) → (s.seq < counter_limit) × (t.seq ≡ s.seq + 1)
+numbered sending now s t m e = of-made (λ (t : SubscriberTables) (m : Request). Numbered s t) (request_of_sending sending now s) t m (requested-numbered sending now s) e

@@ -24,10 +24,10 @@ use Rattle.merge_model.specs.Subscriber.Sending.{join_made, make_ask, make_join,
 use Rattle.merge_model.specs.World.Steps.{SendDownload, SendJoin, SendRanges, SendUpload, Sending}
 use Rattle.merge_model.specs.Subscriber.{is_joining, subscriber_counters, subscriber_last_closed}
 use Rattle.merge_model.specs.Tables.{SubscriberTables}
-use Rattle.merge_model.specs.Subscriber.Taking.{met_by, seq_of, take_reply, taken}
+use Rattle.merge_model.specs.Subscriber.Taking.{met_by, seq_of, tables_after_reply, take_reply}
 use Rattle.merge_model.specs.declared.outcome.Taken.{Taken}
 use Rattle.merge_model.specs.declared.outcome.Taken.TheVariants.{Acted, Missed}
-use Rattle.merge_world.specs.Messages.{always, as_request, requested}
+use Rattle.merge_world.specs.Messages.{as_request, request_of_sending, some_if_made}
 use Rattle.merge_agent.specs.Faults.{expired_as, fault_of}
 use Rattle.merge_agent.specs.Turns.{reply_taken, taken_as, taken_by}
 use Rattle.merge_agent.specs.declared.answer.Told.{Told}
@@ -74,20 +74,20 @@ as-own : {T A : Type 0} (message : A → Request) (by : Result (Option (T × A))
 as-own message (Ok made) own = tt
 as-own message (Err why) own = own
 
-always-own : {T A : Type 0} (by : Result (T × A) Refusal) → IfErr by IsOwn → IfErr (always by) IsOwn
+always-own : {T A : Type 0} (by : Result (T × A) Refusal) → IfErr by IsOwn → IfErr (some_if_made by) IsOwn
 always-own (Ok made) own = tt
 always-own (Err why) own = own
 
 ask-own : (s : SubscriberTables) → IfErr (make_ask s) IsOwn
 ask-own s = let m : Download = record { site = s.site; seq = s.seq + 1; from = s.watermark } in unless-own (sending_refusal s) (with_message (outstanding.Download s.watermark) s, m) (sending-own s)
 
-requested-own : (sending : Sending) (now : Moment) (s : SubscriberTables) → IfErr (requested sending now s) IsOwn
+requested-own : (sending : Sending) (now : Moment) (s : SubscriberTables) → IfErr (request_of_sending sending now s) IsOwn
 requested-own SendJoin now s = as-own request.Join (make_join s) (unless-own (counter_end (subscriber_counters s)) (join_made s) (end-own s))
 requested-own SendUpload now s = as-own request.Upload (make_upload (by_rows s) now s) (unless-own (sending_refusal s) (upload_made (by_rows s) now s) (sending-own s))
 requested-own SendRanges now s = as-own request.Ranges (make_ranges s) (unless-own (sending_refusal s) (ranges_made s) (sending-own s))
-requested-own SendDownload now s = as-own request.Download (always (make_ask s)) (always-own (make_ask s) (ask-own s))
+requested-own SendDownload now s = as-own request.Download (some_if_made (make_ask s)) (always-own (make_ask s) (ask-own s))
 
-pub requested-told : (sending : Sending) (now : Moment) (s : SubscriberTables) (why : Refusal) → requested sending now s ≡ Err why → IsTold (fault_of why)
+pub requested-told : (sending : Sending) (now : Moment) (s : SubscriberTables) (why : Refusal) → request_of_sending sending now s ≡ Err why → IsTold (fault_of why)
 requested-told sending now s why e = own-told why (subst (λ (r : Result (Option (SubscriberTables × Request)) Refusal). IfErr r IsOwn) e (requested-own sending now s))
 
 -- A reply is refused that does not fit.
@@ -113,8 +113,8 @@ if-misfit false x y p q = q
 met-misfit : (p : Publication) (judge : SubscriberJudge) (now : Moment) (m : Reply) (s : SubscriberTables) (found : Option (ℕ × Outstanding)) → IfErr (met_by p judge now m s found) IsMisfit
 met-misfit p judge now m s None = tt
 met-misfit p judge now m s (Some sent) =
-    if-misfit (sent.0 == seq_of m) (unless (reply_fault p sent.1 m s) (taken judge now m s, Acted)) (Ok (s, Missed (seq_of m) sent.0))
-    (unless-misfit (reply_fault p sent.1 m s) (taken judge now m s, Acted) (rule-misfit (broken_by_reply p (standing_of s) (heard_by s) sent.1 m))) tt
+    if-misfit (sent.0 == seq_of m) (unless (reply_fault p sent.1 m s) (tables_after_reply judge now m s, Acted)) (Ok (s, Missed (seq_of m) sent.0))
+    (unless-misfit (reply_fault p sent.1 m s) (tables_after_reply judge now m s, Acted) (rule-misfit (broken_by_reply p (standing_of s) (heard_by s) sent.1 m))) tt
 
 as-told : (m : Reply) (by : Result (SubscriberTables × Taken) Refusal) → IfErr by IsMisfit → IfErr (taken_as m by) IsTold
 as-told m (Ok (t, Acted)) misfit = tt

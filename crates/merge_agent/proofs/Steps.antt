@@ -8,7 +8,7 @@ use Rattle.merge_model.specs.Tables.{SubscriberTables}
 use Rattle.merge_ports.specs.Faults.{Rose}
 use Rattle.merge_link.specs.declared.link.Exchange.{Exchange}
 use Rattle.merge_agent.specs.Meetings.{Meeting, Passes}
-use Rattle.merge_agent.specs.Sessions.{Fails, Follows, IsUnderWay, Leads, Session, Stage, Step, Skip, Take, answered, at, exchanges_of, moments_of, passed, sending_in, stage_behind}
+use Rattle.merge_agent.specs.Sessions.{Fails, Follows, IsUnderWay, Leads, Session, Stage, Step, Skip, Take, session_behind_reply, at, exchanges_of, moments_of, session_at_next_stage, sending_in, stage_behind}
 use Rattle.merge_agent.specs.Turns.{Breaks, Broke, HasCauses, Skips, Turns, exchanges_in, moments_in}
 use Rattle.merge_agent.specs.declared.fault.SessionFault.{SessionFault}
 use Rattle.merge_agent.proofs.Passing.{passes-none, passes-then}
@@ -65,10 +65,10 @@ leads-fails address s t a b c why l f = record {
 -- One turn of a stage.
 
 pub turned : (address : List ℕ) (stage : Stage) (x y : ℕ) (a b : Meeting) (m : Reply) → IsUnderWay stage → Turns address (sending_in stage) a b m
-    → (b.tables ≡ (answered (at stage a.tables x y) b.tables m stage).tables) → Leads address (at stage a.tables x y) (answered (at stage a.tables x y) b.tables m stage) a b
+    → (b.tables ≡ (session_behind_reply (at stage a.tables x y) b.tables m stage).tables) → Leads address (at stage a.tables x y) (session_behind_reply (at stage a.tables x y) b.tables m stage) a b
 turned address stage x y a b m way t same = record {
   steps = Take t.made t.turn ∷ [];
-  follows = (answered (at stage a.tables x y) b.tables m stage, way, record { tables = b.tables; reply = m; takes = t.takes; next = refl }, refl);
+  follows = (session_behind_reply (at stage a.tables x y) b.tables m stage, way, record { tables = b.tables; reply = m; takes = t.takes; next = refl }, refl);
   tables = same;
   passes = t.passes;
 }
@@ -77,7 +77,7 @@ pub skipped : (address : List ℕ) (stage : Stage) (x y : ℕ) (a b : Meeting) �
 skipped address stage x y a b way k =
     subst (λ (tables : SubscriberTables). Leads address (at stage a.tables x y) (at (stage_behind stage) tables x y) a b) (sym k.same) (record {
       steps = Skip k.made ∷ [];
-      follows = (passed (at stage a.tables x y), way, (k.none, refl), refl);
+      follows = (session_at_next_stage (at stage a.tables x y), way, (k.none, refl), refl);
       tables = k.same;
       passes = k.passes;
     })

@@ -8,7 +8,7 @@ use Rattle.merge_batch.specs.declared.reply.Reply.{Reply}
 use Rattle.merge_model.specs.World.Steps.{Sending, SendDownload, SendJoin, SendRanges, SendUpload}
 use Rattle.merge_model.specs.Tables.{SubscriberTables}
 use Rattle.merge_model.specs.declared.letter.Message.TheVariants.{Replies}
-use Rattle.merge_world.specs.Messages.{requested}
+use Rattle.merge_world.specs.Messages.{request_of_sending}
 use Rattle.merge_world.specs.Sessions.{brings_found, download_in, grants, one_if}
 use Rattle.merge_link.specs.declared.link.Exchange.{Exchange}
 use Rattle.merge_agent.specs.Meetings.{Meeting, Passes}
@@ -36,8 +36,8 @@ abbrev pub at : Stage → SubscriberTables → ℕ → ℕ → Session
 at stage tables uploads downloads = record { stage = stage; tables = tables; uploads = uploads; downloads = downloads }
 
 -- a site that has joined does not join again
-abbrev pub begun : SubscriberTables → Session
-begun s = at (if s.is_joined then Uploads else Joins) s 0 0
+abbrev pub session_at_start : SubscriberTables → Session
+session_at_start s = at (if s.is_joined then Uploads else Joins) s 0 0
 
 abbrev pub sending_in : Stage → Sending
 sending_in Joins = SendJoin
@@ -54,8 +54,8 @@ stage_behind Asks = Downloads None
 stage_behind (Downloads target) = Over
 stage_behind Over = Over
 
-abbrev pub passed : Session → Session
-passed s = record s { stage = stage_behind s.stage }
+abbrev pub session_at_next_stage : Session → Session
+session_at_next_stage s = record s { stage = stage_behind s.stage }
 
 -- one join; uploads until there is none to make; requests for ranges until a reply has no grant; downloads until the ask
 -- that was answered came from the target on
@@ -63,16 +63,16 @@ abbrev pub stage_to : Option ℕ → Option Downloaded → Stage
 stage_to target None = Over
 stage_to target (Some m) = let last = unwrap_or target m.last in if nat_le last m.from then Over else Downloads (Some last)
 
-abbrev pub answered : Session → SubscriberTables → Reply → Stage → Session
-answered s tables m Joins = record s { stage = Uploads; tables = tables }
-answered s tables m Uploads = record s { tables = tables; uploads = s.uploads + 1 }
-answered s tables m Asks = record s { stage = if grants (Some (Replies m)) then Asks else Downloads None; tables = tables }
-answered s tables m (Downloads target) = record s {
+abbrev pub session_behind_reply : Session → SubscriberTables → Reply → Stage → Session
+session_behind_reply s tables m Joins = record s { stage = Uploads; tables = tables }
+session_behind_reply s tables m Uploads = record s { tables = tables; uploads = s.uploads + 1 }
+session_behind_reply s tables m Asks = record s { stage = if grants (Some (Replies m)) then Asks else Downloads None; tables = tables }
+session_behind_reply s tables m (Downloads target) = record s {
   stage = stage_to target (download_in (Some (Replies m)));
   tables = tables;
   downloads = s.downloads + one_if (brings_found (download_in (Some (Replies m))));
 }
-answered s tables m Over = s
+session_behind_reply s tables m Over = s
 
 -- A step: there was no message to make at this moment, or a turn.
 pub data Step : Type 0 where
@@ -96,10 +96,10 @@ pub record Replied (publication : Publication) (address : List ℕ) (made : Mome
   pub tables : SubscriberTables
   pub reply : Reply
   pub takes : Takes publication address (sending_in s.stage) made turn s.tables tables reply
-  pub next : t ≡ answered s tables reply s.stage
+  pub next : t ≡ session_behind_reply s tables reply s.stage
 
 abbrev pub Does : Publication → List ℕ → Step → Session → Session → Type 0
-Does publication address (Skip made) s t = (requested (sending_in s.stage) made s.tables ≡ Ok None) × (t ≡ passed s)
+Does publication address (Skip made) s t = (request_of_sending (sending_in s.stage) made s.tables ≡ Ok None) × (t ≡ session_at_next_stage s)
 Does publication address (Take made turn) s t = Replied publication address made turn s t
 
 -- steps one after the other
@@ -132,5 +132,5 @@ Goes address s to old new (Err why) = Fails address s old new why
 
 -- a whole session, and what it answers
 abbrev pub Syncs : List ℕ → Meeting → Meeting → Result Done SessionFault → Type 0
-Syncs address old new (Ok done) = Leads address (begun old.tables) (at Over new.tables done.uploads done.downloads) old new × (done.watermark ≡ new.tables.watermark)
-Syncs address old new (Err why) = Fails address (begun old.tables) old new why
+Syncs address old new (Ok done) = Leads address (session_at_start old.tables) (at Over new.tables done.uploads done.downloads) old new × (done.watermark ≡ new.tables.watermark)
+Syncs address old new (Err why) = Fails address (session_at_start old.tables) old new why

@@ -10,8 +10,8 @@ use Rattle.merge_json.specs.WrittenRequests.{request_data}
 use Rattle.merge_wire.specs.Written.{message_text}
 use Rattle.merge_wire.specs.declared.message.Message.{Message}
 
-abbrev pub posted : List ℕ → Request → Message
-posted address request = record {
+abbrev pub message_of_request : List ℕ → Request → Message
+message_of_request address request = record {
   method = codes "POST";
   path = path_of (kind_of request);
   host = address;
@@ -21,7 +21,7 @@ posted address request = record {
 
 -- a POST to the path of its kind at an address, with the request as JSON
 unfoldable pub request_text : List ℕ → Request → List ℕ
-request_text address request = message_text (posted address request)
+request_text address request = message_text (message_of_request address request)
 
 -- The body that is posted is read as the request, and where the request is within the limits of the product the message may
 -- have such a body.

@@ -14,7 +14,7 @@ use Rattle.merge_model.specs.Tables.{SubscriberTables}
 use Rattle.merge_model.specs.Subscriber.Taking.{take_reply}
 use Rattle.merge_model.specs.declared.outcome.Taken.{Taken}
 use Rattle.merge_model.specs.declared.outcome.Taken.TheVariants.{Acted, Missed}
-use Rattle.merge_world.specs.Messages.{requested}
+use Rattle.merge_world.specs.Messages.{request_of_sending}
 use Rattle.merge_world.specs.Views.{SubscriberView}
 use Rattle.merge_ports.specs.Faults.{Rose}
 use Rattle.merge_link.specs.declared.link.Exchange.{Exchange}
@@ -45,9 +45,9 @@ taken_by publication now (Declined number) s = Err (fault.Refused number)
 
 -- A step of the site was made. Or it failed and no table changed: the definition refuses it, memory was wanting, or the
 -- store failed, which is counted and comes only where the definition makes the step. Nothing else is counted.
-abbrev pub Stepped : {A : Type 0} → Result (SubscriberTables × A) SessionFault → SubscriberTables → SubscriberTables → ℕ → ℕ → Result A SessionFault → Type 0
-Stepped by old new before after (Ok x) = (by ≡ Ok (new, x)) × (after ≡ before)
-Stepped {A} by old new before after (Err why) = (new ≡ old) × ((by ≡ Err why) × (after ≡ before) ⊎ ((why ≡ fault.NoMemory) × (after ≡ before) ⊎ (why ≡ fault.StoreFault) × ((done : SubscriberTables × A) × (by ≡ Ok done)) × (before + 1 ≤ after)))
+abbrev pub StepEnds : {A : Type 0} → Result (SubscriberTables × A) SessionFault → SubscriberTables → SubscriberTables → ℕ → ℕ → Result A SessionFault → Type 0
+StepEnds by old new before after (Ok x) = (by ≡ Ok (new, x)) × (after ≡ before)
+StepEnds {A} by old new before after (Err why) = (new ≡ old) × ((by ≡ Err why) × (after ≡ before) ⊎ ((why ≡ fault.NoMemory) × (after ≡ before) ⊎ (why ≡ fault.StoreFault) × ((done : SubscriberTables × A) × (by ≡ Ok done)) × (before + 1 ≤ after)))
 
 -- an exchange of the link, and the moment behind it
 pub record Turn : Type 0 where
@@ -56,7 +56,7 @@ pub record Turn : Type 0 where
 
 -- such a message was made, and the tables have it
 abbrev pub IsMade : Sending → Moment → SubscriberTables → SubscriberTables → Request → Type 0
-IsMade sending made old sent request = requested sending made old ≡ Ok (Some (sent, request))
+IsMade sending made old sent request = request_of_sending sending made old ≡ Ok (Some (sent, request))
 
 -- there is a message to make
 abbrev pub HasMessage : Sending → Moment → SubscriberTables → Type 0
@@ -65,9 +65,9 @@ HasMessage sending made old = (sent : SubscriberTables) × (request : Request) �
 -- What a site did that was told to make a message. Its store fails only where there is one to make, which is counted, and
 -- nothing else is.
 abbrev pub Makes : Sending → Moment → SubscriberView → SubscriberView → Result (Option Request) SessionFault → Type 0
-Makes sending made old new (Ok None) = (requested sending made old.tables ≡ Ok None) × (new.tables ≡ old.tables) × (new.faults ≡ old.faults)
+Makes sending made old new (Ok None) = (request_of_sending sending made old.tables ≡ Ok None) × (new.tables ≡ old.tables) × (new.faults ≡ old.faults)
 Makes sending made old new (Ok (Some request)) = IsMade sending made old.tables new.tables request × (new.faults ≡ old.faults)
-Makes sending made old new (Err why) = (new.tables ≡ old.tables) × ((with_fault (requested sending made old.tables) ≡ Err why) × (new.faults ≡ old.faults) ⊎ ((why ≡ fault.NoMemory) × (new.faults ≡ old.faults) ⊎ (why ≡ fault.StoreFault) × HasMessage sending made old.tables × (old.faults + 1 ≤ new.faults)))
+Makes sending made old new (Err why) = (new.tables ≡ old.tables) × ((with_fault (request_of_sending sending made old.tables) ≡ Err why) × (new.faults ≡ old.faults) ⊎ ((why ≡ fault.NoMemory) × (new.faults ≡ old.faults) ⊎ (why ≡ fault.StoreFault) × HasMessage sending made old.tables × (old.faults + 1 ≤ new.faults)))
 
 -- the message was made so that it is read again, the link carried it, and the response tells this
 pub record Meets (address : List ℕ) (sending : Sending) (made : Moment) (turn : Turn) (old sent : SubscriberTables) (told : Told) : Type 0 where
@@ -115,7 +115,7 @@ pub record Untakes (publication : Publication) (address : List ℕ) (sending : S
 
 -- what a fault leaves, and how it comes
 abbrev pub Breaks : Publication → List ℕ → Sending → SubscriberTables → SubscriberTables → Break → SessionFault → Type 0
-Breaks publication address sending old new (Unmade made) why = (new ≡ old) × ((with_fault (requested sending made old) ≡ Err why) ⊎ ((why ≡ fault.NoMemory) ⊎ (why ≡ fault.StoreFault) × HasMessage sending made old))
+Breaks publication address sending old new (Unmade made) why = (new ≡ old) × ((with_fault (request_of_sending sending made old) ≡ Err why) ⊎ ((why ≡ fault.NoMemory) ⊎ (why ≡ fault.StoreFault) × HasMessage sending made old))
 Breaks publication address sending old new (Unanswered made) why = ((request : Request) × IsMade sending made old new request) × ((why ≡ fault.NoMemory) ⊎ (why ≡ fault.LinkFault))
 Breaks publication address sending old new (Untaken made turn) why = Untakes publication address sending made turn old new why
 
@@ -134,7 +134,7 @@ pub record Turns (address : List ℕ) (sending : Sending) (old new : Meeting) (m
 -- one for which there was no message to make
 pub record Skips (sending : Sending) (old new : Meeting) : Type 0 where
   pub made : Moment
-  pub none : requested sending made old.tables ≡ Ok None
+  pub none : request_of_sending sending made old.tables ≡ Ok None
   pub same : new.tables ≡ old.tables
   pub passes : Passes [] (made ∷ []) old new
 

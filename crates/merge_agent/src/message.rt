@@ -6,7 +6,7 @@ ghost use Rattle.merge_json.specs.Sendable.{IsSendableRequest};
 ghost use Rattle.merge_json.specs.WrittenRequests.{request_data};
 ghost use Rattle.merge_model.specs.World.Calls.{message_commits, message_or_none};
 ghost use Rattle.merge_wire.specs.Written.{IsVisible};
-ghost use Rattle.merge_world.specs.Messages.{requested, sending_of};
+ghost use Rattle.merge_world.specs.Messages.{request_of_sending, sending_of};
 ghost use Rattle.merge_world.specs.Printable.{ArePrintable};
 ghost use Rattle.merge_world.specs.Views.{SubscriberCall};
 ghost use Rattle.merge_agent.specs.Texts.{IsReadable, request_text};
@@ -54,7 +54,7 @@ fn made_message<S: SubscriberSite>(
     now: Moment,
     sending: Sending,
 ) -> Result<Option<Request>, Refusal>
-    ensures called { SubscriberCall (message_or_none (S.view site.old).tables (requested (sending_of sending) now (S.view site.old).tables)) message_commits (S.view site.old) (S.view site.new) result }
+    ensures called { SubscriberCall (message_or_none (S.view site.old).tables (request_of_sending (sending_of sending) now (S.view site.old).tables)) message_commits (S.view site.old) (S.view site.new) result }
     ensures publication { (S.view site.new).publication ≡ (S.view site.old).publication }
 {
     match sending {

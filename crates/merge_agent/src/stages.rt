@@ -4,7 +4,7 @@ ghost use Rattle.merge_model.specs.declared.letter.Message.TheVariants.{Replies}
 ghost use Rattle.merge_wire.specs.Written.{IsVisible};
 ghost use Rattle.merge_world.specs.Sessions.{brings_found, download_in, grants, one_if};
 ghost use Rattle.merge_agent.specs.Meetings.{meeting};
-ghost use Rattle.merge_agent.specs.Sessions.{Asks, Downloads, Goes, Over, Syncs, Uploads, at, begun};
+ghost use Rattle.merge_agent.specs.Sessions.{Asks, Downloads, Goes, Over, Syncs, Uploads, at, session_at_start};
 
 use crate::exchange::exchange;
 use crate::fault::{Done, SessionFault};
@@ -24,7 +24,7 @@ fn join_first<S: SubscriberSite, N: Link, C: Clock>(
 ) -> Result<(), SessionFault>
     requires { IsVisible address.now }
     ensures peer { N.peer link.new ≡ N.peer link.old }
-    ensures goes { Goes address.now (begun (S.view site.old).tables) (λ _. at Uploads (S.view site.new).tables 0 0)
+    ensures goes { Goes address.now (session_at_start (S.view site.old).tables) (λ _. at Uploads (S.view site.new).tables 0 0)
         (meeting (S.view site.old) (N.coming link.old) (N.exchanges link.old) (N.count link.old) (C.told clock.old))
         (meeting (S.view site.new) (N.coming link.new) (N.exchanges link.new) (N.count link.new) (C.told clock.new)) result }
 {

@@ -1,6 +1,6 @@
 //! What comes of an answer at the subscriber.
 ghost use Rattle.std.specs.Prelude.{◌≡◌};
-ghost use Rattle.merge_agent.specs.Turns.{Stepped, taken_by};
+ghost use Rattle.merge_agent.specs.Turns.{StepEnds, taken_by};
 
 use crate::answer::Told;
 use crate::fault::{SessionFault, refused_as};
@@ -16,7 +16,7 @@ pub(crate) fn take<S: SubscriberSite>(
     now: Moment,
     told: Told,
 ) -> Result<Reply, SessionFault>
-    ensures stepped { Stepped (taken_by (S.view site.old).publication now told (S.view site.old).tables) (S.view site.old).tables (S.view site.new).tables (S.view site.old).faults (S.view site.new).faults result }
+    ensures stepped { StepEnds (taken_by (S.view site.old).publication now told (S.view site.old).tables) (S.view site.old).tables (S.view site.new).tables (S.view site.old).faults (S.view site.new).faults result }
     ensures publication { (S.view site.new).publication ≡ (S.view site.old).publication }
 {
     match told {

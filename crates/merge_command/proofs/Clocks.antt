@@ -14,7 +14,7 @@ use Rattle.merge_world.proofs.Happenings.{event-so}
 use Rattle.merge_world.proofs.Shows.{nobody}
 use Rattle.merge_world.specs.Happenings.{Comes, Happened}
 use Rattle.merge_world.specs.Views.{HandedView, IsOrdered, SitesView, world_of}
-use Rattle.merge_command.specs.Clocked.{AllHappenedAt, AreTold, HappenedAt, RunsAt, Timed, Took, at_moment, happens_at, run_at, sites_at}
+use Rattle.merge_command.specs.Clocked.{AllHappenedAt, AreTold, EventIsTaken, HappenedAt, RunsAt, TimedEvent, at_moment, happens_at, run_at, sites_at}
 use Rattle.merge_command.specs.Taken.{is_taken}
 
 -- one moment more
@@ -34,7 +34,7 @@ ordered-so u v publication sites publications ordered = record {
 
 -- an event of a site that happened
 pub took-so : (here : SiteId) (e e' : Event) (u v : SitesView) (moment : Moment) (began told : Option Moments) (answer : Answer) → is_taken here e ≡ true → e ≡ e'
-    → ((h : HandedView) → Happened e' (sites_at moment u) v h h answer) → IfSome began (λ (m : Moments). moment ≡ next_moment m) → told ≡ option_map later_moments began → Took here e u v began told answer
+    → ((h : HandedView) → Happened e' (sites_at moment u) v h h answer) → IfSome began (λ (m : Moments). moment ≡ next_moment m) → told ≡ option_map later_moments began → EventIsTaken here e u v began told answer
 took-so here e e' u v moment began told answer own is happened next later = record {
   own = own;
   moment = moment;
@@ -44,10 +44,10 @@ took-so here e e' u v moment began told answer own is happened next later = reco
 
 -- Runs.
 module _ (p : Publication) (says : Saying) where
-  abbrev add : List Answer × Faulty World → Timed → List Answer × Faulty World
+  abbrev add : List Answer × Faulty World → TimedEvent → List Answer × Faulty World
   add ran timed = let done = happens_at p says ran.1 timed in (ran.0 ++ done.1 ∷ [], done.0)
 
-  run-more : (f : Faulty World) (events : List Timed) (timed : Timed) → run_at p says f (events ++ timed ∷ []) ≡ add (run_at p says f events) timed
+  run-more : (f : Faulty World) (events : List TimedEvent) (timed : TimedEvent) → run_at p says f (events ++ timed ∷ []) ≡ add (run_at p says f events) timed
   run-more f [] timed = refl
   run-more f (first ∷ events) timed = ap (λ (ran : List Answer × Faulty World). ((happens_at p says f first).1 ∷ ran.0, ran.1)) (run-more (happens_at p says f first).0 events timed)
 
@@ -55,7 +55,7 @@ module _ (p : Publication) (says : Saying) where
   unfolding RunsAt
   none-run w a = stays (λ l. ([], faulty w l)) a a (omega arith)
 
-  one-more : (events : List Timed) (timed : Timed) (first w v : World) (said : List Answer) (answer : Answer) (a b c : ℕ) → RunsAt p says events first w said a b → Comes p says (at_moment timed.0 w) timed.1 v answer b c
+  one-more : (events : List TimedEvent) (timed : TimedEvent) (first w v : World) (said : List Answer) (answer : Answer) (a b c : ℕ) → RunsAt p says events first w said a b → Comes p says (at_moment timed.0 w) timed.1 v answer b c
       → RunsAt p says (events ++ timed ∷ []) first v (said ++ answer ∷ []) a c
   unfolding RunsAt Comes
   one-more events timed first w v said answer a b c so_far comes = same-start (λ l. run_at p says (faulty first l) (events ++ timed ∷ [])) (λ l. add (run_at p says (faulty first l) events) timed) (λ l. (said ++ answer ∷ [], faulty v l)) a c
@@ -74,7 +74,7 @@ nothing-yet u = record {
 }
 
 -- one event more
-pub and-then : (events : List Timed) (u v w : SitesView) (said : List Answer) (timed : Timed) (answer : Answer) → AllHappenedAt events u v said → HappenedAt timed v w answer
+pub and-then : (events : List TimedEvent) (u v w : SitesView) (said : List Answer) (timed : TimedEvent) (answer : Answer) → AllHappenedAt events u v said → HappenedAt timed v w answer
     → AllHappenedAt (events ++ timed ∷ []) u w (said ++ answer ∷ [])
 and-then events u v w said timed answer all one = record {
   runs = λ h. one-more u.publication h.says events timed (world_of u h.tallies) (world_of v h.tallies) (world_of w h.tallies) said answer u.faults v.faults w.faults (all.runs h)

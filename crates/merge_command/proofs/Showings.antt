@@ -3,7 +3,7 @@ use Rattle.std.proofs.Common.{◌≡◌, ◌⊎◌, ◌++◌, ◌∷◌, Bool, L
 use Rattle.merge_types.specs.declared.identifiers.SiteId.{SiteId}
 use Rattle.merge_schema.specs.declared.publication.Publication.{Publication}
 use Rattle.merge_batch.specs.declared.refusal.Refusal.{Refusal}
-use Rattle.merge_model.specs.World.Events.{happens, is_site, looked, looking, machine, reported, showing}
+use Rattle.merge_model.specs.World.Events.{answered_look, answered_show, answered_unless_refused, happens, is_site, machine, report_of_site}
 use Rattle.merge_model.specs.Failing.{Faulty, Slip, Slips, faulty, is_allowed, slip_if, slip_refusal}
 use Rattle.merge_model.specs.World.Naming.{article_by}
 use Rattle.merge_model.specs.Failing.Reach.{stepping}
@@ -31,28 +31,28 @@ IsSaid said answer = (answer ≡ said) ⊎ ((why : Refusal) × (answer ≡ Refus
 
 -- an event that looks is answered, or refused
 module _ (p : Publication) (says : Saying) (answer : Faulty World → Answer) (w : World) (said : Answer) (same : (l : Slips) → answer (faulty w l) ≡ said) where
-  slipped-look : (slip : Slip) (l : Slips) (allowed : Bool) → IsSaid said (looked p (stepping p says) answer (slip_if p (machine p says) allowed l slip Look w (w, Passed))).1
+  slipped-look : (slip : Slip) (l : Slips) (allowed : Bool) → IsSaid said (answered_unless_refused p (stepping p says) answer (slip_if p (machine p says) allowed l slip Look w (w, Passed))).1
   slipped-look slip l true = inr (slip_refusal slip, refl)
   slipped-look slip l false = inl (same l)
 
-  looks : (l : Slips) → IsSaid said (looking p (stepping p says) answer (faulty w l)).1
+  looks : (l : Slips) → IsSaid said (answered_look p (stepping p says) answer (faulty w l)).1
   looks [] = inl (same [])
   looks (None ∷ l) = inl (same l)
   looks (Some slip ∷ l) = slipped-look slip l (is_allowed p w Look slip Passed)
 
 module _ (u : SitesView) (site : SiteId) (name : List ℕ) (place : ℕ) (known : is_site u.publication site ≡ true) (named : article_by u.publication name ≡ Ok place) where
   abbrev asking : (says : Saying) → Faulty World → Answer
-  asking says w = reported u.publication (stepping u.publication says) site (λ (t : PublisherTables). publisher_told u.publication (Rows place) t) (λ (t : SubscriberTables). subscriber_told u.publication (Rows place) t) w
+  asking says w = report_of_site u.publication (stepping u.publication says) site (λ (t : PublisherTables). publisher_told u.publication (Rows place) t) (λ (t : SubscriberTables). subscriber_told u.publication (Rows place) t) w
 
-  is-asked : (says : Saying) (w : Faulty World) → happens u.publication (stepping u.publication says) w (event.Show site name) ≡ looking u.publication (stepping u.publication says) (asking says) w
-  is-asked says w = ap (where-if u.publication says site w (λ (v : Faulty World). showing u.publication (stepping u.publication says) site v (article_by u.publication name))) known
-      ∙ ap (λ (r : Result ℕ (List ℕ)). showing u.publication (stepping u.publication says) site w r) named
+  is-asked : (says : Saying) (w : Faulty World) → happens u.publication (stepping u.publication says) w (event.Show site name) ≡ answered_look u.publication (stepping u.publication says) (asking says) w
+  is-asked says w = ap (where-if u.publication says site w (λ (v : Faulty World). answered_show u.publication (stepping u.publication says) site v (article_by u.publication name))) known
+      ∙ ap (λ (r : Result ℕ (List ℕ)). answered_show u.publication (stepping u.publication says) site w r) named
 
   comes-said : (says : Saying) (tallies : List ℕ) (v : World) (answer : Answer) (a b : ℕ) → Comes u.publication says (world_of u tallies) (event.Show site name) v answer a b → IsSaid (told_at u site (Rows place)) answer
   unfolding Comes
   comes-said says tallies v answer a b r =
       let w = world_of u tallies in
-      let is : (looking u.publication (stepping u.publication says) (asking says) (faulty w (r.slips ++ []))).1 ≡ answer =
+      let is : (answered_look u.publication (stepping u.publication says) (asking says) (faulty w (r.slips ++ []))).1 ≡ answer =
       ap (λ (done : Faulty World × Answer). done.1) (sym (is-asked says (faulty w (r.slips ++ []))) ∙ r.goes []) in
       subst (λ (x : Answer). IsSaid (told_at u site (Rows place)) x) is (looks u.publication says (asking says) w (told_at u site (Rows place)) (λ l. refl) (r.slips ++ []))
 

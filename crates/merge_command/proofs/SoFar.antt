@@ -23,7 +23,7 @@ use Rattle.merge_model.specs.declared.event.Line.TheVariants.{Quiet, Event as Do
 use Rattle.merge_world.proofs.Shows.{nobody}
 use Rattle.merge_world.specs.Views.{IsOrdered, SitesView}
 use Rattle.merge_command.specs.Changed.{Changed, ChangedInPart, IsSilent, LineAnswered, LineInPart}
-use Rattle.merge_command.specs.Clocked.{AllHappenedAt, AreTold, Timed, Took, event_of, moment_of}
+use Rattle.merge_command.specs.Clocked.{AllHappenedAt, AreTold, EventIsTaken, TimedEvent, event_of, moment_of}
 use Rattle.merge_command.specs.Taken.{halt_by, halt_from, halt_of, is_taken, taken_of}
 use Rattle.merge_command.specs.declared.stop.Stop.{Stop}
 use Rattle.merge_command.specs.declared.stop.Stop.TheVariants as stop
@@ -31,7 +31,7 @@ use Rattle.merge_command.proofs.Clocks.{and-then, nothing-yet, ordered-so, told-
 
 -- the lines up to the rest are answered, and the sites are as they left them
 pub record SoFar (here : SiteId) (lines rest : List (List ℕ)) (number : ℕ) (first now : SitesView) (began told : Option Moments) (was written : Option (List ℕ)) : Type 0 where
-  pub timed : List Timed
+  pub timed : List TimedEvent
   pub split : taken_of here lines ≡ map event_of timed ++ taken_of here rest
   pub halt : halt_of here lines ≡ halt_from here number rest
   pub answers : List Answer
@@ -101,24 +101,24 @@ pub silent-here : (u : SitesView) (k : Option Moments) (a : Option (List ℕ)) �
 silent-here u k a = (record { sites = refl; clock = refl }, refl)
 
 -- an event was taken, and its answer was written for the publication behind it
-pub line-answered : (here : SiteId) (e : Event) (u v : SitesView) (k l : Option Moments) (answer : Answer) (p : Publication) (b c : Option (List ℕ)) → Took here e u v k l answer → p ≡ v.publication
+pub line-answered : (here : SiteId) (e : Event) (u v : SitesView) (k l : Option Moments) (answer : Answer) (p : Publication) (b c : Option (List ℕ)) → EventIsTaken here e u v k l answer → p ≡ v.publication
     → Appends b c (text_of (names_of p) answer) → LineAnswered here (Does e) u v k l b c
 line-answered here e u v k l answer p b c took same more = (answer, took, subst (λ (x : Publication). Appends b c (text_of (names_of x) answer)) (same ∙ (took.happened nobody).publication) more)
 
-pub line-in-part : (here : SiteId) (e : Event) (u v : SitesView) (k l : Option Moments) (answer : Answer) (p : Publication) (b c : Option (List ℕ)) → Took here e u v k l answer → p ≡ v.publication
+pub line-in-part : (here : SiteId) (e : Event) (u v : SitesView) (k l : Option Moments) (answer : Answer) (p : Publication) (b c : Option (List ℕ)) → EventIsTaken here e u v k l answer → p ≡ v.publication
     → AppendsFront b c (text_of (names_of p) answer) → LineInPart here (Does e) u v k l b c
 line-in-part here e u v k l answer p b c took same more = inr (answer, took, (more.0, subst (λ (x : Publication). Appends b c (take more.0 (text_of (names_of x) answer))) (same ∙ (took.happened nobody).publication) more.1))
 
 module _ (here : SiteId) (lines : List (List ℕ)) (line : List ℕ) (rest : List (List ℕ)) (number : ℕ) (first u v : SitesView) (began k l : Option Moments) (a b c : Option (List ℕ)) where
   -- the events of the site up to one that is taken
-  split-more : (timed : List Timed) (e : Event) (moment : Moment) → is_taken here e ≡ true → line_of line ≡ Does e → taken_of here lines ≡ map event_of timed ++ taken_of here (line ∷ rest)
+  split-more : (timed : List TimedEvent) (e : Event) (moment : Moment) → is_taken here e ≡ true → line_of line ≡ Does e → taken_of here lines ≡ map event_of timed ++ taken_of here (line ∷ rest)
       → taken_of here lines ≡ map event_of (timed ++ (moment, e) ∷ []) ++ taken_of here rest
   split-more timed e moment own is split = rw (map-append, append_assoc) (rw (is, own) at split)
 
   halt-more : (e : Event) → is_taken here e ≡ true → line_of line ≡ Does e → halt_of here lines ≡ halt_from here number (line ∷ rest) → halt_of here lines ≡ halt_from here (number + 1) rest
   halt-more e own is halt = rw (is, own) at halt
 
-  moments-more : (timed : List Timed) (e : Event) (moment : Moment) → AreTold (map moment_of timed) began k → AreTold (moment ∷ []) k l → AreTold (map moment_of (timed ++ (moment, e) ∷ [])) began l
+  moments-more : (timed : List TimedEvent) (e : Event) (moment : Moment) → AreTold (map moment_of timed) began k → AreTold (moment ∷ []) k l → AreTold (map moment_of (timed ++ (moment, e) ∷ [])) began l
   moments-more timed e moment told more = rw map-append (told-more (map moment_of timed) began k l moment told more)
 
   -- one more line, which says this

@@ -11,5 +11,5 @@ abbrev pub idle : Publication → PublisherView
 idle publication = record { publication = publication; tables = empty_publisher publication; faults = 0; told = None }
 
 -- a subscriber with these tables, beside such a publisher, where so many of its commits failed
-abbrev pub alone : Publication → SubscriberTables → ℕ → Moment → SitesView
-alone publication tables faults moment = sites_view (idle publication) (record { publication = publication; tables = tables; faults = faults; told = None } ∷ []) [] moment
+abbrev pub subscriber_view_alone : Publication → SubscriberTables → ℕ → Moment → SitesView
+subscriber_view_alone publication tables faults moment = sites_view (idle publication) (record { publication = publication; tables = tables; faults = faults; told = None } ∷ []) [] moment

@@ -11,13 +11,13 @@ use Rattle.merge_model.specs.declared.event.Event.{Event}
 use Rattle.merge_model.specs.declared.event.Line.{Line}
 use Rattle.merge_model.specs.declared.event.Line.TheVariants.{Quiet, Event as Does, NoEvent}
 use Rattle.merge_world.specs.Views.{SitesView}
-use Rattle.merge_command.specs.Clocked.{AllHappenedAt, AreTold, IsIdle, Timed, Took, event_of, moment_of}
+use Rattle.merge_command.specs.Clocked.{AllHappenedAt, AreTold, EventIsTaken, IsIdle, TimedEvent, event_of, moment_of}
 use Rattle.merge_command.specs.Taken.{taken_of}
 
 -- The events of the lines before the first that is none of the site, or of all, happened one after the other, each at the next
 -- moment of the clock, and the text of their answers was written.
 pub record Changed (here : SiteId) (lines : List (List ℕ)) (old new : SitesView) (began told : Option Moments) (was now : Option (List ℕ)) : Type 0 where
-  pub timed : List Timed
+  pub timed : List TimedEvent
   pub events : map event_of timed ≡ taken_of here lines
   pub answers : List Answer
   pub happened : AllHappenedAt timed old new answers
@@ -27,7 +27,7 @@ pub record Changed (here : SiteId) (lines : List (List ℕ)) (old new : SitesVie
 -- Some of the first of these events happened, and nothing else did, and a front of the text of their answers was written: all of them
 -- but the last one whole.
 pub record ChangedInPart (here : SiteId) (lines : List (List ℕ)) (old new : SitesView) (began told : Option Moments) (was now : Option (List ℕ)) : Type 0 where
-  pub timed : List Timed
+  pub timed : List TimedEvent
   pub more : List Event
   pub split : taken_of here lines ≡ map event_of timed ++ more
   pub answers : List Answer
@@ -48,10 +48,10 @@ IsSilent old new began told was now = IsIdle old new began told × (now ≡ was)
 -- what a line says was done, and answered whole
 abbrev pub LineAnswered : SiteId → Line → (old new : SitesView) → (began told : Option Moments) → (was now : Option (List ℕ)) → Type 0
 LineAnswered here Quiet old new began told was now = IsSilent old new began told was now
-LineAnswered here (Does e) old new began told was now = (answer : Answer) × Took here e old new began told answer × Appends was now (text_of (names_of old.publication) answer)
+LineAnswered here (Does e) old new began told was now = (answer : Answer) × EventIsTaken here e old new began told answer × Appends was now (text_of (names_of old.publication) answer)
 LineAnswered here (NoEvent word) old new began told was now = ⊥
 
 -- nothing was done for a line, or what it says was done, and answered in part
 abbrev pub LineInPart : SiteId → Line → (old new : SitesView) → (began told : Option Moments) → (was now : Option (List ℕ)) → Type 0
-LineInPart here (Does e) old new began told was now = IsSilent old new began told was now ⊎ ((answer : Answer) × Took here e old new began told answer × AppendsFront was now (text_of (names_of old.publication) answer))
+LineInPart here (Does e) old new began told was now = IsSilent old new began told was now ⊎ ((answer : Answer) × EventIsTaken here e old new began told answer × AppendsFront was now (text_of (names_of old.publication) answer))
 LineInPart here other old new began told was now = IsSilent old new began told was now

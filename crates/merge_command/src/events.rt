@@ -2,7 +2,7 @@
 ghost use Rattle.std.specs.Prelude.{◌≡◌, IfSome, None, false};
 ghost use Rattle.merge_model.specs.Script.Proper.{IsProperAnswer};
 ghost use Rattle.merge_world.specs.Views.{IsOrdered};
-ghost use Rattle.merge_command.specs.Clocked.{IsIdle, Took};
+ghost use Rattle.merge_command.specs.Clocked.{EventIsTaken, IsIdle};
 ghost use Rattle.merge_command.specs.Taken.{is_taken};
 
 use merge_link::Clock;
@@ -51,7 +51,7 @@ pub(crate) fn happen<P: PublisherSite, S: SubscriberSite, C: Clock>(
     event: &Event,
 ) -> Option<Answer>
     requires { IsOrdered (⟦<Sites<P, S> as Seen>⟧.seen sites.old) }
-    ensures took { IfSome result (λ answer. Took here event.now (⟦<Sites<P, S> as Seen>⟧.seen sites.old) (⟦<Sites<P, S> as Seen>⟧.seen sites.new) (C.told clock.old) (C.told clock.new) answer) }
+    ensures took { IfSome result (λ answer. EventIsTaken here event.now (⟦<Sites<P, S> as Seen>⟧.seen sites.old) (⟦<Sites<P, S> as Seen>⟧.seen sites.new) (C.told clock.old) (C.told clock.new) answer) }
     ensures foreign { result ≡ None → is_taken here event.now ≡ false }
     ensures idle { result ≡ None → IsIdle (⟦<Sites<P, S> as Seen>⟧.seen sites.old) (⟦<Sites<P, S> as Seen>⟧.seen sites.new) (C.told clock.old) (C.told clock.new) }
     ensures printable { IfSome result IsProperAnswer }

@@ -7,28 +7,28 @@ use Rattle.merge_schema.specs.declared.publication.Publication.{Publication}
 use Rattle.merge_batch.specs.declared.refusal.Refusal.{Refusal}
 use Rattle.merge_batch.specs.declared.reply.Reply.{Reply}
 use Rattle.merge_batch.specs.declared.request.Request.{Request}
-use Rattle.merge_model.specs.World.Calls.{handled}
+use Rattle.merge_model.specs.World.Calls.{result_of_request}
 use Rattle.merge_model.specs.Tables.{PublisherTables}
 use Rattle.merge_model.specs.World.{Saying}
-use Rattle.merge_draft.specs.Drafting.{DraftingView, decided, decisions_on}
+use Rattle.merge_draft.specs.Drafting.{DraftingView, decisions_on, result_with_decisions}
 use Rattle.merge_draft.proofs.Decided.{handled-is, refused-whatever}
 use Rattle.merge_desk.specs.Marks.{mark_on}
-use Rattle.merge_desk.specs.Replay.{AreDecided, answer_to, answered, decisions_if_made, entry_decisions, mark_in, marks_from, replay}
+use Rattle.merge_desk.specs.Replay.{AreDecided, answer_to, decisions_if_made, entry_decisions, mark_in, marks_from, replay, tables_and_reply}
 use Rattle.merge_desk.specs.Views.{IsJournal, IsKeptDesk}
 use Rattle.merge_desk.specs.declared.entry.Entry.{Entry}
 
 -- An entry's decisions make its step again.
 
 decided-by : (publication : Publication) (says : Saying) (tallies : List ℕ) (now : Moment) (m : Request) (p : PublisherTables) (made : Result (PublisherTables × Reply) Refusal)
-    → handled publication says tallies now m p ≡ made
-    → answered p (decided publication now m (decisions_if_made made (decisions_on publication says tallies now m p)) p) ≡ answered p made
-decided-by publication says tallies now m p (Ok done) e = ap (answered p) (sym (handled-is publication says tallies now m p) ∙ e)
+    → result_of_request publication says tallies now m p ≡ made
+    → tables_and_reply p (result_with_decisions publication now m (decisions_if_made made (decisions_on publication says tallies now m p)) p) ≡ tables_and_reply p made
+decided-by publication says tallies now m p (Ok done) e = ap (tables_and_reply p) (sym (handled-is publication says tallies now m p) ∙ e)
 decided-by publication says tallies now m p (Err why) e =
-    ap (answered p) (refused-whatever publication now m (decisions_on publication says tallies now m p) [] p why (sym (handled-is publication says tallies now m p) ∙ e))
+    ap (tables_and_reply p) (refused-whatever publication now m (decisions_on publication says tallies now m p) [] p why (sym (handled-is publication says tallies now m p) ∙ e))
 
 pub answered-again : (publication : Publication) (says : Saying) (tallies : List ℕ) (now : Moment) (m : Request) (p : PublisherTables)
-    → answered p (decided publication now m (entry_decisions publication says tallies now m p) p) ≡ answered p (handled publication says tallies now m p)
-answered-again publication says tallies now m p = decided-by publication says tallies now m p (handled publication says tallies now m p) refl
+    → tables_and_reply p (result_with_decisions publication now m (entry_decisions publication says tallies now m p) p) ≡ tables_and_reply p (result_of_request publication says tallies now m p)
+answered-again publication says tallies now m p = decided-by publication says tallies now m p (result_of_request publication says tallies now m p) refl
 
 -- An entry is added.
 
@@ -81,14 +81,14 @@ pub desk-next : (publication : Publication) (opening : PublisherTables) (says : 
     (e : Entry) (m : Request) (answer : Reply) (left : PublisherTables → PublisherTables × Reply)
     → IsKeptDesk publication opening says count old es calls faults spent → now ≡ es ++ e ∷ [] → e.request ≡ m
     → e.decisions ≡ entry_decisions old.publication old.says old.tallies e.moment m old.tables → e.mark ≡ mark_on (length es + 1) e.moment m answer
-    → left old.tables ≡ answered old.tables (handled old.publication old.says old.tallies e.moment m old.tables) → mid ≡ old.tables → left mid ≡ (new.tables, answer)
+    → left old.tables ≡ tables_and_reply old.tables (result_of_request old.publication old.says old.tallies e.moment m old.tables) → mid ≡ old.tables → left mid ≡ (new.tables, answer)
     → new.publication ≡ old.publication → new.says ≡ old.says → more ≡ calls + 1 → old.faults ≤ new.faults → spent + 1 ≤ later
     → IsKeptDesk publication opening says count new now more faults later
 desk-next publication opening says count old new mid es now calls more faults spent later e m answer left was pushed same decisions marked worked still put same-publication same-says counted rise spends =
     let stood : left old.tables ≡ (new.tables, answer) = ap left (sym still) ∙ put in
-    let again : answer_to old.publication old.tables e ≡ answered old.tables (handled old.publication old.says old.tallies e.moment m old.tables) =
-    ap (λ q. answered old.tables (decided old.publication e.moment q e.decisions old.tables)) same
-    ∙ ap (λ ds. answered old.tables (decided old.publication e.moment m ds old.tables)) decisions
+    let again : answer_to old.publication old.tables e ≡ tables_and_reply old.tables (result_of_request old.publication old.says old.tallies e.moment m old.tables) =
+    ap (λ q. tables_and_reply old.tables (result_with_decisions old.publication e.moment q e.decisions old.tables)) same
+    ∙ ap (λ ds. tables_and_reply old.tables (result_with_decisions old.publication e.moment m ds old.tables)) decisions
     ∙ answered-again old.publication old.says old.tallies e.moment m old.tables in
     let done : (new.tables, answer) ≡ answer_to publication old.tables e = sym stood ∙ worked ∙ sym again ∙ ap (λ q. answer_to q old.tables e) was.of-publication in
     let decided_so : e.decisions ≡ entry_decisions publication says old.tallies e.moment e.request old.tables =

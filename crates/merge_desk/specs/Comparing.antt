@@ -14,14 +14,14 @@ abbrev pub no_digest : List ℕ
 no_digest = replicate 32 0
 
 -- what stands for a mark that there is not, beside one that there is
-abbrev pub missing : Mark → Mark
-missing other = record { place = 0; moment = other.moment; kind = other.kind; refused = false; asked = no_digest; digest = no_digest }
+abbrev pub mark_for_missing : Mark → Mark
+mark_for_missing other = record { place = 0; moment = other.moment; kind = other.kind; refused = false; asked = no_digest; digest = no_digest }
 
 -- two lists of marks differ, and these are the first two that do
 abbrev pub FirstDiffer : List Mark → List Mark → Mark → Mark → Type 0
 FirstDiffer [] [] a b = ⊥
-FirstDiffer (t ∷ ts) [] a b = (a ≡ t) × (b ≡ missing t)
-FirstDiffer [] (k ∷ ks) a b = (a ≡ missing k) × (b ≡ k)
+FirstDiffer (t ∷ ts) [] a b = (a ≡ t) × (b ≡ mark_for_missing t)
+FirstDiffer [] (k ∷ ks) a b = (a ≡ mark_for_missing k) × (b ≡ k)
 FirstDiffer (t ∷ ts) (k ∷ ks) a b = ((t ≡ k) × FirstDiffer ts ks a b) ⊎ ((t ≢ k) × (a ≡ t) × (b ≡ k))
 
 -- each seat was told what the journal has of it

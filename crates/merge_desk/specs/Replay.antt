@@ -8,23 +8,23 @@ use Rattle.merge_batch.specs.declared.refusal.Refusal.{Refusal}
 use Rattle.merge_batch.specs.declared.reply.Reply.{Reply}
 use Rattle.merge_batch.specs.declared.reply.Reply.TheVariants as reply
 use Rattle.merge_batch.specs.declared.request.Request.{Request}
-use Rattle.merge_model.specs.World.Calls.{handled, questions_on}
+use Rattle.merge_model.specs.World.Calls.{questions_on, result_of_request}
 use Rattle.merge_resolve.specs.Asked.{tallies_after}
 use Rattle.merge_model.specs.Tables.{PublisherTables}
 use Rattle.merge_model.specs.World.{Saying}
-use Rattle.merge_draft.specs.Drafting.{decided, decisions_on}
+use Rattle.merge_draft.specs.Drafting.{decisions_on, result_with_decisions}
 use Rattle.merge_desk.specs.Marks.{mark_on}
 use Rattle.merge_desk.specs.declared.entry.Entry.{Entry}
 use Rattle.merge_desk.specs.declared.mark.Mark.{Mark}
 
 -- the reply that tells a refusal; one that is told no site would be its number alone
-abbrev pub told : Refusal → Reply
-told why = unwrap_or (reply_to why) (reply.Refused (number_of why) [])
+abbrev pub reply_of_refusal : Refusal → Reply
+reply_of_refusal why = unwrap_or (reply_to why) (reply.Refused (number_of why) [])
 
 -- what is made of the tables, and the reply: a request that is refused is answered too, and changes nothing
-abbrev pub answered : PublisherTables → Result (PublisherTables × Reply) Refusal → PublisherTables × Reply
-answered p (Ok done) = done
-answered p (Err why) = (p, told why)
+abbrev pub tables_and_reply : PublisherTables → Result (PublisherTables × Reply) Refusal → PublisherTables × Reply
+tables_and_reply p (Ok done) = done
+tables_and_reply p (Err why) = (p, reply_of_refusal why)
 
 -- the decisions on a request's conflicts; one that is refused has none
 abbrev pub decisions_if_made : Result (PublisherTables × Reply) Refusal → List Decision → List Decision
@@ -32,7 +32,7 @@ decisions_if_made (Ok done) decisions = decisions
 decisions_if_made (Err why) decisions = []
 
 abbrev pub entry_decisions : Publication → Saying → List ℕ → Moment → Request → PublisherTables → List Decision
-entry_decisions publication says tallies now m p = decisions_if_made (handled publication says tallies now m p) (decisions_on publication says tallies now m p)
+entry_decisions publication says tallies now m p = decisions_if_made (result_of_request publication says tallies now m p) (decisions_on publication says tallies now m p)
 
 -- how often each resolver was asked behind a request: all its questions where it is made, and none where it is refused
 abbrev pub asked_if_made : Result (PublisherTables × Reply) Refusal → (old behind : List ℕ) → List ℕ
@@ -40,11 +40,11 @@ asked_if_made (Ok done) old behind = behind
 asked_if_made (Err why) old behind = old
 
 abbrev pub entry_tallies : Publication → Saying → List ℕ → Moment → Request → PublisherTables → List ℕ
-entry_tallies publication says tallies now m p = asked_if_made (handled publication says tallies now m p) tallies (tallies_after tallies (questions_on publication now m p))
+entry_tallies publication says tallies now m p = asked_if_made (result_of_request publication says tallies now m p) tallies (tallies_after tallies (questions_on publication now m p))
 
 -- an entry's request is answered at its moment, with its decisions
 abbrev pub answer_to : Publication → PublisherTables → Entry → PublisherTables × Reply
-answer_to publication p e = answered p (decided publication e.moment e.request e.decisions p)
+answer_to publication p e = tables_and_reply p (result_with_decisions publication e.moment e.request e.decisions p)
 
 -- the tables behind all entries
 abbrev pub replay : Publication → PublisherTables → List Entry → PublisherTables

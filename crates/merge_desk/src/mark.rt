@@ -2,7 +2,7 @@
 ghost use Rattle.std.specs.Prelude.{◌≡◌, IfOk};
 ghost use Rattle.sha2.specs.Sha256.{sha256};
 ghost use Rattle.merge_json.specs.Sendable.{IsSendableReply, IsSendableRequest};
-ghost use Rattle.merge_desk.specs.Comparing.{missing};
+ghost use Rattle.merge_desk.specs.Comparing.{mark_for_missing};
 ghost use Rattle.merge_desk.specs.Marks.{is_refused, mark_on};
 
 use merge_batch::{Kind, Reply, Request};
@@ -59,7 +59,7 @@ pub(crate) fn mark_on(
 
 /// What stands for a mark that there is not, beside one that there is.
 pub(crate) fn missing(other: &Mark) -> Mark
-    ensures { result ≡ missing other.now }
+    ensures { result ≡ mark_for_missing other.now }
 {
     Mark {
         place: 0,

@@ -1,9 +1,9 @@
 //! What the lock of a desk holds.
 ghost use Rattle.std.specs.Prelude.{◌≡◌, ◌+◌, ◌<◌, ◌≤◌, ◌++◌, ◌∷◌, [], ℕ, Err, IfOk, OnErr, OnOk, length};
 ghost use Rattle.merge_json.specs.Sendable.{IsSendableReply, IsSendableRequest};
-ghost use Rattle.merge_model.specs.World.Calls.{handled};
+ghost use Rattle.merge_model.specs.World.Calls.{result_of_request};
 ghost use Rattle.merge_desk.specs.Marks.{mark_on};
-ghost use Rattle.merge_desk.specs.Replay.{answered, entry_decisions, entry_tallies};
+ghost use Rattle.merge_desk.specs.Replay.{entry_decisions, entry_tallies, tables_and_reply};
 ghost use Rattle.merge_desk.specs.declared.fault.DeskFault.TheVariants as fault;
 
 use crate::entry::{Entry, Receipt};
@@ -61,7 +61,7 @@ impl<P: DraftingPublisher, L: Ledger, M: Ledger, N: Ledger, O: Opening> DeskStat
     ) -> Result<Receipt, DeskFault>
         requires permit { permit.amount ≡ 1 }
         requires sendable { IsSendableRequest request.now }
-        ensures reply { IfOk result (λ r. (self.new.tables, r.reply) ≡ answered self.old.tables (handled O.publication O.says self.old.tallies now request.now self.old.tables)) }
+        ensures reply { IfOk result (λ r. (self.new.tables, r.reply) ≡ tables_and_reply self.old.tables (result_of_request O.publication O.says self.old.tallies now request.now self.old.tables)) }
         ensures entry { IfOk result (λ r. self.new.journal ≡ self.old.journal ++ record {
           seat = seat.old.number;
           moment = now;
@@ -103,7 +103,7 @@ impl<P: DraftingPublisher, L: Ledger, M: Ledger, N: Ledger, O: Opening> DeskStat
         requires parts { (0 < calls.old.parts) × (0 < faults.old.parts) }
         requires permit { permit.amount ≡ 1 }
         requires sendable { IsSendableRequest request.now }
-        ensures reply { IfOk result (λ r. (self.new.tables, r.reply) ≡ answered self.old.tables (handled O.publication O.says self.old.tallies now request.now self.old.tables)) }
+        ensures reply { IfOk result (λ r. (self.new.tables, r.reply) ≡ tables_and_reply self.old.tables (result_of_request O.publication O.says self.old.tallies now request.now self.old.tables)) }
         ensures entry { IfOk result (λ r. self.new.journal ≡ self.old.journal ++ record {
           seat = number;
           moment = now;

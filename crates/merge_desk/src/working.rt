@@ -2,9 +2,9 @@
 ghost use Rattle.std.specs.Prelude.{◌≡◌, ◌≤◌, ◌+◌, Err, IfOk, IfSome, OnErr, OnOk, ℕ};
 ghost use Rattle.merge_batch.specs.Refusals.{reply_to};
 ghost use Rattle.merge_json.specs.Sendable.{IsSendableReply};
-ghost use Rattle.merge_model.specs.World.Calls.{handled};
+ghost use Rattle.merge_model.specs.World.Calls.{result_of_request};
 ghost use Rattle.merge_ports.specs.declared.keeper.KeepFault.TheVariants.{Failed};
-ghost use Rattle.merge_desk.specs.Replay.{answered, asked_if_made, decisions_if_made, entry_decisions, entry_tallies, told};
+ghost use Rattle.merge_desk.specs.Replay.{asked_if_made, decisions_if_made, entry_decisions, entry_tallies, reply_of_refusal, tables_and_reply};
 ghost use Rattle.merge_desk.specs.Working.{left_by};
 
 use merge_batch::{Refusal, Reply, Request};
@@ -26,7 +26,7 @@ pub(crate) struct Worked<W: Drop> {
 
 // The reply that tells a refusal.
 fn telling(alloc: Global, refusal: &Refusal) -> Result<Reply, NoMemory>
-    ensures told { IfOk result (λ reply. reply ≡ told refusal.now) }
+    ensures told { IfOk result (λ reply. reply ≡ reply_of_refusal refusal.now) }
     ensures sendable { IfOk result IsSendableReply }
 {
     form_laws();
@@ -43,7 +43,7 @@ pub(crate) fn work_out<P: DraftingPublisher>(
     now: Moment,
     request: &Request,
 ) -> Result<Worked<P::Work>, NoMemory>
-    ensures left { IfOk result (λ w. left_by P.after w.work (P.view publisher.old).tables w.reply ≡ answered (P.view publisher.old).tables (handled (P.view publisher.old).publication (P.view publisher.old).says (P.view publisher.old).tallies now request.now (P.view publisher.old).tables)) }
+    ensures left { IfOk result (λ w. left_by P.after w.work (P.view publisher.old).tables w.reply ≡ tables_and_reply (P.view publisher.old).tables (result_of_request (P.view publisher.old).publication (P.view publisher.old).says (P.view publisher.old).tallies now request.now (P.view publisher.old).tables)) }
     ensures decisions { IfOk result (λ w. w.decisions ≡ entry_decisions (P.view publisher.old).publication (P.view publisher.old).says (P.view publisher.old).tallies now request.now (P.view publisher.old).tables) }
     ensures asked { OnOk result ((P.view publisher.new).tallies ≡ entry_tallies (P.view publisher.old).publication (P.view publisher.old).says (P.view publisher.old).tallies now request.now (P.view publisher.old).tables) }
     ensures ready { IfOk result (λ w. IfSome w.work (λ work. P.IsReady publisher.new work)) }

@@ -10,15 +10,15 @@ use Rattle.merge_batch.specs.declared.reply.Uploaded.{Uploaded}
 use Rattle.merge_batch.specs.declared.request.Request.{Request}
 use Rattle.merge_batch.specs.declared.request.Request.TheVariants as request
 use Rattle.merge_model.specs.Judge.ByNumbers.{by_numbers}
-use Rattle.merge_model.specs.World.Calls.{as_reply, handled}
+use Rattle.merge_model.specs.World.Calls.{as_reply, result_of_request}
 use Rattle.merge_model.specs.Publisher.PublisherUpload.{upload_refusal}
 use Rattle.merge_model.specs.Tables.Refusals.{unless}
 use Rattle.merge_model.specs.Tables.{PublisherTables}
 use Rattle.merge_model.specs.World.{Saying}
-use Rattle.merge_draft.specs.Drafting.{decided, decisions_on}
+use Rattle.merge_draft.specs.Drafting.{decisions_on, result_with_decisions}
 
 pub handled-is : (publication : Publication) (says : Saying) (tallies : List ℕ) (now : Moment) (m : Request) (p : PublisherTables)
-    → handled publication says tallies now m p ≡ decided publication now m (decisions_on publication says tallies now m p) p
+    → result_of_request publication says tallies now m p ≡ result_with_decisions publication now m (decisions_on publication says tallies now m p) p
 handled-is publication says tallies now (request.Join m) p = refl
 handled-is publication says tallies now (request.Upload m) p = refl
 handled-is publication says tallies now (request.Ranges m) p = refl
@@ -28,7 +28,7 @@ same-refusal : (refused : Option Refusal) (a b : PublisherTables × Uploaded) (w
 same-refusal None a b why e = absurd cc
 same-refusal (Some refusal) a b why e = e
 
-pub refused-whatever : (publication : Publication) (now : Moment) (m : Request) (xs ys : List Decision) (p : PublisherTables) (why : Refusal) → decided publication now m xs p ≡ Err why → decided publication now m ys p ≡ Err why
+pub refused-whatever : (publication : Publication) (now : Moment) (m : Request) (xs ys : List Decision) (p : PublisherTables) (why : Refusal) → result_with_decisions publication now m xs p ≡ Err why → result_with_decisions publication now m ys p ≡ Err why
 refused-whatever publication now (request.Join m) xs ys p why e = e
 refused-whatever publication now (request.Upload m) xs ys p why e = same-refusal (upload_refusal publication (by_numbers p) now m p) _ _ why e
 refused-whatever publication now (request.Ranges m) xs ys p why e = e
@@ -36,5 +36,5 @@ refused-whatever publication now (request.Download m) xs ys p why e = e
 
 -- A request that was worked out with what the resolvers decide.
 pub handled-by : (publication : Publication) (says : Saying) (tallies : List ℕ) (now : Moment) (m : Request) (p : PublisherTables) (decisions : List Decision) (done : PublisherTables × Reply)
-    → decided publication now m decisions p ≡ Ok done → decisions ≡ decisions_on publication says tallies now m p → handled publication says tallies now m p ≡ Ok done
-handled-by publication says tallies now m p decisions done made same = handled-is publication says tallies now m p ∙ ap (λ ds. decided publication now m ds p) (sym same) ∙ made
+    → result_with_decisions publication now m decisions p ≡ Ok done → decisions ≡ decisions_on publication says tallies now m p → result_of_request publication says tallies now m p ≡ Ok done
+handled-by publication says tallies now m p decisions done made same = handled-is publication says tallies now m p ∙ ap (λ ds. result_with_decisions publication now m ds p) (sym same) ∙ made

@@ -28,11 +28,11 @@ pub record DraftingView : Type 0 where
   pub tallies : List ℕ
 
 -- what becomes of the tables by a request, and its reply, where the decisions on its conflicts count as these, in the order of its items
-abbrev pub decided : Publication → Moment → Request → List Decision → PublisherTables → Result (PublisherTables × Reply) Refusal
-decided publication now (request.Join m) decisions p = as_reply reply.Joined (join publication now m p)
-decided publication now (request.Upload m) decisions p = as_reply reply.Uploaded (upload publication (by_numbers p) now m decisions p)
-decided publication now (request.Ranges m) decisions p = as_reply reply.Ranged (ranges publication (by_numbers p) now m p)
-decided publication now (request.Download m) decisions p = as_reply reply.Downloaded (download publication (by_numbers p) now m p)
+abbrev pub result_with_decisions : Publication → Moment → Request → List Decision → PublisherTables → Result (PublisherTables × Reply) Refusal
+result_with_decisions publication now (request.Join m) decisions p = as_reply reply.Joined (join publication now m p)
+result_with_decisions publication now (request.Upload m) decisions p = as_reply reply.Uploaded (upload publication (by_numbers p) now m decisions p)
+result_with_decisions publication now (request.Ranges m) decisions p = as_reply reply.Ranged (ranges publication (by_numbers p) now m p)
+result_with_decisions publication now (request.Download m) decisions p = as_reply reply.Downloaded (download publication (by_numbers p) now m p)
 
 -- the decisions on the conflicts of a request, where each resolver says what it says and was asked so often before
 abbrev pub decisions_on : Publication → Saying → List ℕ → Moment → Request → PublisherTables → List Decision

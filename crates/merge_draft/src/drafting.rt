@@ -21,11 +21,11 @@ pub trait DraftingPublisher: Drop {
     ghost use Rattle.merge_batch.specs.declared.refusal.Refusal.{Refusal as OneRefusal};
     ghost use Rattle.merge_batch.specs.declared.refusal.Refusal.TheVariants.{NoMemory as no_memory};
     ghost use Rattle.merge_json.specs.Sendable.{IsSendableReply};
-    ghost use Rattle.merge_model.specs.World.Calls.{handled, questions_on, request_commits};
+    ghost use Rattle.merge_model.specs.World.Calls.{questions_on, request_commits, result_of_request};
     ghost use Rattle.merge_model.specs.Tables.{PublisherTables};
     ghost use Rattle.merge_ports.specs.declared.keeper.KeepFault.TheVariants.{Failed, NoMemory};
     ghost use Rattle.merge_resolve.specs.Asked.{tallies_after};
-    ghost use Rattle.merge_draft.specs.Drafting.{DraftingView, decided, decisions_on};
+    ghost use Rattle.merge_draft.specs.Drafting.{DraftingView, decisions_on, result_with_decisions};
 
     /// What is to be put in place.
     type Work: Drop;
@@ -43,19 +43,19 @@ pub trait DraftingPublisher: Drop {
 
     /// Works a request out. No table changes.
     fn draft(&mut self, now: Moment, request: &Request) -> Result<Drafted<Self::Work>, Refusal>
-        ensures made { IfOk result (λ d. decided (view self.old).publication now request.now d.decisions (view self.old).tables ≡ Ok (after d.work (view self.old).tables, d.reply)) }
+        ensures made { IfOk result (λ d. result_with_decisions (view self.old).publication now request.now d.decisions (view self.old).tables ≡ Ok (after d.work (view self.old).tables, d.reply)) }
         ensures decisions { IfOk result (λ d. d.decisions ≡ decisions_on (view self.old).publication (view self.old).says (view self.old).tallies now request.now (view self.old).tables) }
         ensures ready { IfOk result (λ d. IsReady self.new d.work) }
         ensures commits { IfOk result (λ d. commits d.work ≡ true → request_commits (view self.old).publication now request.now (view self.old).tables d.reply ≡ true) }
         ensures sendable { IfOk result (λ d. IsSendableReply d.reply) }
         ensures refused { (refusal : OneRefusal) → result ≡ Err refusal → (refusal ≡ no_memory)
-            ⊎ (handled (view self.old).publication (view self.old).says (view self.old).tallies now request.now (view self.old).tables ≡ Err refusal) }
+            ⊎ (result_of_request (view self.old).publication (view self.old).says (view self.old).tallies now request.now (view self.old).tables ≡ Err refusal) }
 
         // Each resolver is asked all its questions where the request is made, none where it is
         // refused, and else the first few.
         ensures asked { OnOk result ((view self.new).tallies ≡ tallies_after (view self.old).tallies (questions_on (view self.old).publication now request.now (view self.old).tables)) }
         ensures some { (n : ℕ) × ((view self.new).tallies ≡ tallies_after (view self.old).tallies (take n (questions_on (view self.old).publication now request.now (view self.old).tables))) }
-        ensures none { (refusal : OneRefusal) → handled (view self.old).publication (view self.old).says (view self.old).tallies now request.now (view self.old).tables ≡ Err refusal
+        ensures none { (refusal : OneRefusal) → result_of_request (view self.old).publication (view self.old).says (view self.old).tallies now request.now (view self.old).tables ≡ Err refusal
             → (view self.new).tallies ≡ (view self.old).tallies }
         ensures steady { (k n : ℕ) (asked : _) → (view self.new).says k n asked ≡ (view self.old).says k n asked }
         ensures tables { (view self.new).tables ≡ (view self.old).tables }

@@ -7,7 +7,7 @@ use Rattle.merge_filter.specs.declared.form.FormFault.{FormFault}
 use Rattle.merge_filter.specs.declared.form.FormFault.TheVariants as forms
 use Rattle.merge_filter.specs.declared.form.Stuck.TheVariants as stuck
 use Rattle.merge_filter.specs.declared.word.Word.{Word}
-use Rattle.merge_filter.specs.Answers.{IsReading, name_fault, unknown, mismatch, form_fault}
+use Rattle.merge_filter.specs.Answers.{IsReading, name_fault, unknown_column_or, mismatch, form_fault}
 use Rattle.merge_filter.specs.Form.{all_of, Fails}
 use Rattle.merge_filter.specs.Grammar.{IsFilter}
 use Rattle.merge_filter.specs.Names.{unknown_name}
@@ -24,7 +24,7 @@ is_later (faults.UnknownColumn place) = true
 is_later (faults.TypeMismatch place) = true
 is_later f = false
 
-later : (places : List ℕ) (o m : Option ℕ) (f : FilterFault) → unknown places o (mismatch m) ≡ some f → is_later f ≡ true
+later : (places : List ℕ) (o m : Option ℕ) (f : FilterFault) → unknown_column_or places o (mismatch m) ≡ some f → is_later f ≡ true
 later places (Some index) m f e = let same : faults.UnknownColumn (slice_index_or places index 0) ≡ f = cc in ap is_later (sym same)
 later places None (Some place) f e = let same : faults.TypeMismatch place ≡ f = cc in ap is_later (sym same)
 later places None None f e = absurd cc

@@ -5,7 +5,7 @@ use Rattle.std.proofs.lemmas.Bool.Decides.{nat_tests}
 use Rattle.merge_types.specs.declared.values.Column.{Column}
 use Rattle.merge_filter.specs.declared.word.Word.{Word}
 use Rattle.merge_filter.specs.declared.word.Word.TheVariants as w
-use Rattle.merge_filter.specs.Answers.{name_fault, unknown, mismatch}
+use Rattle.merge_filter.specs.Answers.{name_fault, unknown_column_or, mismatch}
 use Rattle.merge_filter.specs.Eval.{width, operand_width}
 use Rattle.merge_filter.specs.Grammar.{IsFilter, Term, column, host, integer, text, bytes, day, guid, bit, Neg, negated, brackets, compared, null, not_null, Conj, conj, Ands, no_and, and, Filter, filter, Ors, no_or, or, term_words, term_operand, neg_words, conj_words, ands_words, filter_words, ors_words, neg_tree, conj_tree, ands_tree, filter_tree, ors_tree}
 use Rattle.merge_filter.specs.Names.{column_of, is_unknown, unknown_name}
@@ -88,7 +88,7 @@ module _ (columns : List Column) where
         let both = parts (is_unknown columns) (conj_words c) (ors_words cs) h.1 in
         ors_width cs (Or left (conj_tree columns c)) (omega (arith, conj_width c both.0)) both.1
 
-no_unknown : (places : List ℕ) (o m : Option ℕ) → unknown places o (mismatch m) ≡ None → o ≡ None
+no_unknown : (places : List ℕ) (o m : Option ℕ) → unknown_column_or places o (mismatch m) ≡ None → o ≡ None
 no_unknown places None m e = refl
 no_unknown places (Some index) m e = absurd cc
 

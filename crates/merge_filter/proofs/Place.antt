@@ -6,7 +6,7 @@ use Rattle.merge_filter.specs.declared.form.Stuck.{Stuck}
 use Rattle.merge_filter.specs.declared.form.Stuck.TheVariants.{BadForm, TooDeep}
 use Rattle.merge_filter.specs.declared.word.Word.{Word}
 use Rattle.merge_filter.specs.Syntax.{Syntax}
-use Rattle.merge_filter.specs.Form.{many, behind_and, behind_or, filter_of, neg_at, ended, all_of}
+use Rattle.merge_filter.specs.Form.{many, behind_and, behind_or, filter_of, neg_at, syntax_if_ended, all_of}
 use Rattle.merge_filter.specs.Grammar.{Begins, NoneGoesOn, NoneBeginsWithin, Filter, filter_words, filter_tree, filter_levels}
 use Rattle.merge_filter.specs.Answers.{IsBadForm, IsTooDeep, place_left}
 use Rattle.merge_filter.proofs.All.{only}
@@ -33,7 +33,7 @@ module _ (columns : List Column) where
   unfolding all_of
   all_left e ws t v us h = rw h refl
 
-  not_ended : (d : ℕ) (c : Filter) (x : Syntax) (mid : List Word) (f : Stuck) → length (filter_words c) ≤ many → filter_levels c ≤ d → behind_and mid ≡ None → behind_or mid ≡ None → ended x mid ≡ Err f → AllRefused d (filter_words c ++ mid) f
+  not_ended : (d : ℕ) (c : Filter) (x : Syntax) (mid : List Word) (f : Stuck) → length (filter_words c) ≤ many → filter_levels c ≤ d → behind_and mid ≡ None → behind_or mid ≡ None → syntax_if_ended x mid ≡ Err f → AllRefused d (filter_words c ++ mid) f
   not_ended d c x [] f fits lev a o h = absurd cc
   not_ended d c x (v ∷ us) f fits lev a o h =
       record {
@@ -49,7 +49,7 @@ module _ (columns : List Column) where
 
   pub all_refused : (d : ℕ) (ws : List Word) (f : Stuck) → length ws ≤ many → all_of columns d ws ≡ Err f → AllRefused d ws f
   unfolding all_of
-  all_refused d ws f fits h = ⊎_elim first second (bind_err (filter_of (neg_at columns d) ws) (λ x. ended x.0 x.1) f h)
+  all_refused d ws f fits h = ⊎_elim first second (bind_err (filter_of (neg_at columns d) ws) (λ x. syntax_if_ended x.0 x.1) f h)
     where
       first : filter_of (neg_at columns d) ws ≡ Err f → AllRefused d ws f
       first g =
@@ -65,7 +65,7 @@ module _ (columns : List Column) where
             deep = r.deep;
           }
 
-      second : (x : Syntax × List Word) × (filter_of (neg_at columns d) ws ≡ Ok x) × (ended x.0 x.1 ≡ Err f) → AllRefused d ws f
+      second : (x : Syntax × List Word) × (filter_of (neg_at columns d) ws ≡ Ok x) × (syntax_if_ended x.0 x.1 ≡ Err f) → AllRefused d ws f
       second (x, o, g) =
           let c = filter_sound columns d (neg_at columns d) (neg_sound columns d) ws x.1 x.0 o in
           let stops = filter_stops columns d ws x fits o in

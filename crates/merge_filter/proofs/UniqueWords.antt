@@ -11,7 +11,7 @@ use Rattle.merge_filter.specs.declared.kind.Kind.{Kind}
 use Rattle.merge_filter.specs.declared.kind.Kind.TheVariants as kinds
 use Rattle.merge_filter.specs.declared.word.Word.{Word}
 use Rattle.merge_filter.specs.declared.word.Word.TheVariants as w
-use Rattle.merge_filter.specs.Quoting.{unquoted}
+use Rattle.merge_filter.specs.Quoting.{quoted_content}
 use Rattle.merge_filter.specs.Runs.{kind_of, run_len, mark_len, is_blank, behind_blanks}
 use Rattle.merge_filter.specs.Words.{IsReadAs, IsTextWord, Spells, IsFrontWord, front_len, behind_front, place_of, AreWords, AreAllWords, IsBadToken}
 use Rattle.merge_filter.proofs.QuotingLemmas.{unquoted_reads}
@@ -54,7 +54,7 @@ one_word kinds.Number place piece a b (y, fits, spelled, e) (z, fits', spelled',
 one_word kinds.Hex place piece a b (x, d, e) (y, d', e') =
     e ∙ ap (λ (bytes : List ℕ). w.Bytes bytes) (decode_of-same (drop 2 piece) x y d d') ∙ sym e'
 one_word kinds.Quoted place piece a b (x, spelled, is) (y, spelled', other) =
-    let same : y ≡ x = same_list y x (sym (unquoted_reads y) ∙ ap unquoted (sym spelled' ∙ spelled) ∙ unquoted_reads x) in
+    let same : y ≡ x = same_list y x (sym (unquoted_reads y) ∙ ap quoted_content (sym spelled' ∙ spelled) ∙ unquoted_reads x) in
     one_text x a b is (subst (λ (bytes : List ℕ). IsTextWord bytes b) same other)
 one_word kinds.Bracketed place piece a b (x, spelled, is, e) (y, spelled', is', e') =
     let both : 91 ∷ (x ++ 93 ∷ []) ≡ 91 ∷ (y ++ 93 ∷ []) = sym spelled ∙ spelled' in

@@ -32,13 +32,13 @@ abbrev pub mismatch : Option ℕ → Option FilterFault
 mismatch (Some place) = Some (faults.TypeMismatch place)
 mismatch None = None
 
-abbrev pub unknown : List ℕ → Option ℕ → Option FilterFault → Option FilterFault
-unknown places (Some index) other = Some (faults.UnknownColumn (slice_index_or places index 0))
-unknown places None other = other
+abbrev pub unknown_column_or : List ℕ → Option ℕ → Option FilterFault → Option FilterFault
+unknown_column_or places (Some index) other = Some (faults.UnknownColumn (slice_index_or places index 0))
+unknown_column_or places None other = other
 
 -- names come before types
 abbrev pub name_fault : List Column → List Word → List ℕ → Syntax → Option FilterFault
-name_fault columns words places tree = unknown places (unknown_name columns words) (mismatch (unlike_sign columns tree))
+name_fault columns words places tree = unknown_column_or places (unknown_name columns words) (mismatch (unlike_sign columns tree))
 
 -- the place is that of the first word, or the end, at which no filter goes on
 pub record IsBadForm (text : List ℕ) (words : List Word) (places : List ℕ) (place : ℕ) : Type 0 where

@@ -17,50 +17,50 @@ Item = ℕ × (ℕ × (Operand × (Sign × (ℕ × Operand))))
 abbrev pub item_code : Coded Item
 item_code = coded× coded_ℕ (coded× coded_ℕ (coded× (operand.the_row).coded (coded× (sign.the_row).coded (coded× coded_ℕ (operand.the_row).coded))))
 
-abbrev pub plain : ℕ → ℕ → Item
-plain n c = (n, (c, (operands.Host, (Equal, (0, operands.Host)))))
+abbrev pub plain_item : ℕ → ℕ → Item
+plain_item n c = (n, (c, (operands.Host, (Equal, (0, operands.Host)))))
 
 abbrev pub items : Syntax → List Item → List Item
-items (Or a b) rest = items a (items b (plain 0 0 ∷ rest))
-items (And a b) rest = items a (items b (plain 1 0 ∷ rest))
-items (Not a) rest = items a (plain 2 0 ∷ rest)
-items (IsNull c) rest = plain 3 c ∷ rest
-items (IsNotNull c) rest = plain 4 c ∷ rest
+items (Or a b) rest = items a (items b (plain_item 0 0 ∷ rest))
+items (And a b) rest = items a (items b (plain_item 1 0 ∷ rest))
+items (Not a) rest = items a (plain_item 2 0 ∷ rest)
+items (IsNull c) rest = plain_item 3 c ∷ rest
+items (IsNotNull c) rest = plain_item 4 c ∷ rest
 items (Compare x s p y) rest = (5, (0, (x, (s, (p, y))))) ∷ rest
 
 -- two trees from the top of the stack become one, and one becomes its negation
-abbrev pub joined : (Syntax → Syntax → Syntax) → List Syntax → List Syntax
-joined f [] = []
-joined f (b ∷ []) = []
-joined f (b ∷ a ∷ st) = f a b ∷ st
+abbrev pub stack_after_join : (Syntax → Syntax → Syntax) → List Syntax → List Syntax
+stack_after_join f [] = []
+stack_after_join f (b ∷ []) = []
+stack_after_join f (b ∷ a ∷ st) = f a b ∷ st
 
-abbrev pub negated : List Syntax → List Syntax
-negated [] = []
-negated (a ∷ st) = Not a ∷ st
+abbrev pub stack_after_not : List Syntax → List Syntax
+stack_after_not [] = []
+stack_after_not (a ∷ st) = Not a ∷ st
 
 abbrev pub stack_after : ℕ → ℕ → Syntax → List Syntax → List Syntax
-stack_after zero c t st = joined Or st
-stack_after (suc zero) c t st = joined And st
-stack_after (suc (suc zero)) c t st = negated st
+stack_after zero c t st = stack_after_join Or st
+stack_after (suc zero) c t st = stack_after_join And st
+stack_after (suc (suc zero)) c t st = stack_after_not st
 stack_after (suc (suc (suc zero))) c t st = IsNull c ∷ st
 stack_after (suc (suc (suc (suc zero)))) c t st = IsNotNull c ∷ st
 stack_after (suc (suc (suc (suc (suc n))))) c t st = t ∷ st
 
-abbrev pub run : List Item → List Syntax → List Syntax
-run [] st = st
-run (i ∷ is) st = run is (stack_after i.0 i.1.0 (Compare i.1.1.0 i.1.1.1.0 i.1.1.1.1.0 i.1.1.1.1.1) st)
+abbrev pub stack_after_items : List Item → List Syntax → List Syntax
+stack_after_items [] st = st
+stack_after_items (i ∷ is) st = stack_after_items is (stack_after i.0 i.1.0 (Compare i.1.1.0 i.1.1.1.0 i.1.1.1.1.0 i.1.1.1.1.1) st)
 
 abbrev pub top : List Syntax → Syntax
 top [] = IsNull 0
 top (t ∷ st) = t
 
-pub run_items : (t : Syntax) (rest : List Item) (st : List Syntax) → run (items t rest) st ≡ run rest (t ∷ st)
-run_items (Or a b) rest st = run_items a (items b (plain 0 0 ∷ rest)) st ∙ run_items b (plain 0 0 ∷ rest) (a ∷ st)
-run_items (And a b) rest st = run_items a (items b (plain 1 0 ∷ rest)) st ∙ run_items b (plain 1 0 ∷ rest) (a ∷ st)
-run_items (Not a) rest st = run_items a (plain 2 0 ∷ rest) st
+pub run_items : (t : Syntax) (rest : List Item) (st : List Syntax) → stack_after_items (items t rest) st ≡ stack_after_items rest (t ∷ st)
+run_items (Or a b) rest st = run_items a (items b (plain_item 0 0 ∷ rest)) st ∙ run_items b (plain_item 0 0 ∷ rest) (a ∷ st)
+run_items (And a b) rest st = run_items a (items b (plain_item 1 0 ∷ rest)) st ∙ run_items b (plain_item 1 0 ∷ rest) (a ∷ st)
+run_items (Not a) rest st = run_items a (plain_item 2 0 ∷ rest) st
 run_items (IsNull c) rest st = refl
 run_items (IsNotNull c) rest st = refl
 run_items (Compare x s p y) rest st = refl
 
 abbrev pub syntax_code : Coded Syntax
-syntax_code = code_by (List Item) (coded_list item_code) (λ t. items t []) (λ is. top (run is [])) (λ t. ap top (run_items t [] []))
+syntax_code = code_by (List Item) (coded_list item_code) (λ t. items t []) (λ is. top (stack_after_items is [])) (λ t. ap top (run_items t [] []))

@@ -71,8 +71,8 @@ abbrev pub truth_at : Sign → Option Ordering → Truth
 truth_at s (Some o) = truth_of (holds s o)
 truth_at s None = Unknown
 
-abbrev pub compared : Value → Sign → Value → Truth
-compared a s b = truth_at s (order_of a b)
+abbrev pub truth_of_comparison : Value → Sign → Value → Truth
+truth_of_comparison a s b = truth_at s (order_of a b)
 
 abbrev pub is_null : Value → Bool
 is_null values.Null = true
@@ -100,6 +100,6 @@ abbrev pub truth : Syntax → List Value → HostName → Truth
 truth (Or a b) row host = or_of (truth a row host) (truth b row host)
 truth (And a b) row host = and_of (truth a row host) (truth b row host)
 truth (Not a) row host = not_of (truth a row host)
-truth (Compare x s p y) row host = compared (value_of x row host) s (value_of y row host)
+truth (Compare x s p y) row host = truth_of_comparison (value_of x row host) s (value_of y row host)
 truth (IsNull c) row host = truth_of (is_null (slice_index_or row c values.Null))
 truth (IsNotNull c) row host = truth_of (not (is_null (slice_index_or row c values.Null)))

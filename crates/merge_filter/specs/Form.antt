@@ -33,8 +33,8 @@ abbrev pub Read : Type 0 → Type 0
 Read A = Result (A × List Word) Stuck
 
 -- no filter goes on with these words
-abbrev pub stuck : {A : Type 0} → List Word → Result A Stuck
-stuck ws = Err (BadForm (length ws))
+abbrev pub stuck_before : {A : Type 0} → List Word → Result A Stuck
+stuck_before ws = Err (BadForm (length ws))
 
 abbrev pub literal : Value → List Word → Read Operand
 literal v ws = Ok (operands.Literal v, ws)
@@ -45,39 +45,39 @@ bit_of (pos (suc zero)) = Some true
 bit_of z = None
 
 abbrev pub bit_with : Option Bool → List Word → List Word → Read Operand
-bit_with None ws rest = stuck ws
+bit_with None ws rest = stuck_before ws
 bit_with (Some b) ws rest = literal (values.Bit b) rest
 
 unfoldable pub bit_at : List Word → Read Operand
 bit_at (w.Int z ∷ ws) = bit_with (bit_of z) (w.Int z ∷ ws) ws
-bit_at ws = stuck ws
+bit_at ws = stuck_before ws
 
 unfoldable pub operand_at : List Column → List Word → Read Operand
 operand_at columns (w.Name name ∷ ws) = Ok (operands.Column (column_of columns name), ws)
 operand_at columns (w.HostName ∷ w.Open ∷ w.Close ∷ ws) = Ok (operands.Host, ws)
-operand_at columns (w.HostName ∷ w.Open ∷ ws) = stuck ws
-operand_at columns (w.HostName ∷ ws) = stuck ws
+operand_at columns (w.HostName ∷ w.Open ∷ ws) = stuck_before ws
+operand_at columns (w.HostName ∷ ws) = stuck_before ws
 operand_at columns (w.Int z ∷ ws) = literal (values.Int z) ws
 operand_at columns (w.Text bytes day guid ∷ ws) = literal (values.Text bytes) ws
 operand_at columns (w.Bytes bytes ∷ ws) = literal (values.Bytes bytes) ws
 operand_at columns (w.Date ∷ w.Text bytes (Some day) guid ∷ ws) = literal (values.Day day) ws
-operand_at columns (w.Date ∷ ws) = stuck ws
+operand_at columns (w.Date ∷ ws) = stuck_before ws
 operand_at columns (w.Guid ∷ w.Text bytes day (Some guid) ∷ ws) = literal (values.Guid guid) ws
-operand_at columns (w.Guid ∷ ws) = stuck ws
+operand_at columns (w.Guid ∷ ws) = stuck_before ws
 operand_at columns (w.Bit ∷ ws) = bit_at ws
-operand_at columns ws = stuck ws
+operand_at columns ws = stuck_before ws
 
 -- a sign and an operand, behind an operand
 unfoldable pub sign_at : List Column → Operand → List Word → Read Syntax
 sign_at columns x (w.Sign s place ∷ ws) = operand_at columns ws >>= λ y. Ok (Compare x s place y.0, y.1)
-sign_at columns x ws = stuck ws
+sign_at columns x ws = stuck_before ws
 
 -- a test without brackets
 unfoldable pub atom_at : List Column → List Word → Read Syntax
 atom_at columns (w.Name name ∷ w.Is ∷ w.Null ∷ ws) = Ok (IsNull (column_of columns name), ws)
 atom_at columns (w.Name name ∷ w.Is ∷ w.Not ∷ w.Null ∷ ws) = Ok (IsNotNull (column_of columns name), ws)
-atom_at columns (w.Name name ∷ w.Is ∷ w.Not ∷ ws) = stuck ws
-atom_at columns (w.Name name ∷ w.Is ∷ ws) = stuck ws
+atom_at columns (w.Name name ∷ w.Is ∷ w.Not ∷ ws) = stuck_before ws
+atom_at columns (w.Name name ∷ w.Is ∷ ws) = stuck_before ws
 atom_at columns ws = operand_at columns ws >>= λ x. sign_at columns x.0 x.1
 
 -- the words behind an AND, an OR and a closing bracket
@@ -99,7 +99,7 @@ behind_open ws = None
 
 unfoldable pub behind_close : List Word → Result (List Word) Stuck
 behind_close (w.Close ∷ ws) = Ok ws
-behind_close ws = stuck ws
+behind_close ws = stuck_before ws
 
 -- goes on with what is there, or else is done
 abbrev pub go_or : {A B : Type 0} → Option A → B → (A → B) → B
@@ -144,9 +144,9 @@ abbrev pub neg_at : List Column → ℕ → List Word → Read Syntax
 neg_at columns d = neg_with columns (below columns d)
 
 -- all of the words
-abbrev pub ended : Syntax → List Word → Result Syntax Stuck
-ended x [] = Ok x
-ended x (v ∷ ws) = stuck (v ∷ ws)
+abbrev pub syntax_if_ended : Syntax → List Word → Result Syntax Stuck
+syntax_if_ended x [] = Ok x
+syntax_if_ended x (v ∷ ws) = stuck_before (v ∷ ws)
 
 unfoldable pub all_of : List Column → ℕ → List Word → Result Syntax Stuck
-all_of columns d ws = filter_of (neg_at columns d) ws >>= λ x. ended x.0 x.1
+all_of columns d ws = filter_of (neg_at columns d) ws >>= λ x. syntax_if_ended x.0 x.1

@@ -13,5 +13,5 @@ abbrev pub behind_quote : List ℕ → Option (List ℕ)
 behind_quote [] = None
 behind_quote (c ∷ cs) = if c == 39 then Some cs else None
 
-abbrev pub unquoted : List ℕ → Option (List ℕ)
-unquoted piece = option_and_then content_of (behind_quote piece)
+abbrev pub quoted_content : List ℕ → Option (List ℕ)
+quoted_content piece = option_and_then content_of (behind_quote piece)

@@ -36,9 +36,9 @@ keyword_of t =
     else None
 
 -- a keyword, or else a name
-abbrev pub named : List ℕ → Option Word → Word
-named t (Some word) = word
-named t None = w.Name t
+abbrev pub keyword_or_name : List ℕ → Option Word → Word
+keyword_or_name t (Some word) = word
+keyword_or_name t None = w.Name t
 
 -- a sign or a parenthesis, at a place
 abbrev pub mark_of : ℕ → List ℕ → Option Word
@@ -58,11 +58,11 @@ mark_of place (c ∷ d ∷ []) =
 mark_of place t = None
 
 -- each quote of a text is written twice
-abbrev pub doubled : ℕ → List ℕ
-doubled b = if b == 39 then 39 ∷ 39 ∷ [] else b ∷ []
+abbrev pub byte_in_quotes : ℕ → List ℕ
+byte_in_quotes b = if b == 39 then 39 ∷ 39 ∷ [] else b ∷ []
 
-abbrev pub quoted : List ℕ → List ℕ
-quoted bytes = 39 ∷ (flat_map doubled bytes ++ 39 ∷ [])
+abbrev pub text_in_quotes : List ℕ → List ℕ
+text_in_quotes bytes = 39 ∷ (flat_map byte_in_quotes bytes ++ 39 ∷ [])
 
 -- what a text is read as: the value that it is a literal of, or none where it is no literal
 abbrev pub IsReadAs : {V : Type 0} → (List ℕ → V → Type 0) → List ℕ → Option V → Type 0
@@ -76,10 +76,10 @@ IsTextWord bytes word =
 
 -- these bytes, a word of this kind at this place, are the word
 abbrev pub Spells : Kind → ℕ → List ℕ → Word → Type 0
-Spells kinds.Name place t word = (length t ≤ name_limit) × (word ≡ named t (keyword_of t))
+Spells kinds.Name place t word = (length t ≤ name_limit) × (word ≡ keyword_or_name t (keyword_of t))
 Spells kinds.Number place t word = (z : ℤ) × FitsSigned w64 z × (t ≡ signed_decimal z) × (word ≡ w.Int z)
 Spells kinds.Hex place t word = (bytes : List ℕ) × (decode_of (drop 2 t) ≡ Ok bytes) × (word ≡ w.Bytes bytes)
-Spells kinds.Quoted place t word = (bytes : List ℕ) × (t ≡ quoted bytes) × IsTextWord bytes word
+Spells kinds.Quoted place t word = (bytes : List ℕ) × (t ≡ text_in_quotes bytes) × IsTextWord bytes word
 Spells kinds.Bracketed place t word =
     (name : List ℕ) × (t ≡ 91 ∷ (name ++ 93 ∷ [])) × (is_name_text name ≡ true) × (word ≡ w.Name name)
 Spells kinds.Mark place t word = mark_of place t ≡ Some word

@@ -1,7 +1,7 @@
 //! What a filter says of a row.
 ghost use Rattle.std.specs.Prelude.{◌≡◌, ◌+◌, ◌≤◌, length};
 ghost use Rattle.merge_filter.specs.Syntax.{syntax};
-ghost use Rattle.merge_filter.specs.Eval.{truth, truth_of, value_of, value_seen, is_null, holds, compared, width, operand_width, not_of, and_of, or_of};
+ghost use Rattle.merge_filter.specs.Eval.{truth, truth_of, value_of, value_seen, is_null, holds, truth_of_comparison, width, operand_width, not_of, and_of, or_of};
 
 use crate::datum::{Datum, datum_of, order_of};
 use crate::filters::Filter;
@@ -50,7 +50,7 @@ fn holds(sign: Sign, order: Ordering) -> bool
 }
 
 fn compared(left: Datum<'_>, sign: Sign, right: Datum<'_>) -> Truth
-    ensures { result ≡ compared (value_seen left.entry) sign (value_seen right.entry) }
+    ensures { result ≡ truth_of_comparison (value_seen left.entry) sign (value_seen right.entry) }
 {
     match order_of(left, right) {
         Some(order) => truth_of(holds(sign, order)),

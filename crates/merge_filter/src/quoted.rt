@@ -1,6 +1,6 @@
 //! Texts in single quotes.
 ghost use Rattle.std.specs.Prelude.{◌≡◌, IfOk, option_map};
-ghost use Rattle.merge_filter.specs.Quoting.{content_of, behind_quote, unquoted};
+ghost use Rattle.merge_filter.specs.Quoting.{content_of, behind_quote, quoted_content};
 
 use merge_types::NoMemory;
 use std::alloc::Global;
@@ -39,7 +39,7 @@ fn behind_quote(piece: &[u8]) -> Option<&[u8]>
 
 /// The bytes of a text in quotes.
 pub fn unquoted(alloc: Global, piece: &[u8]) -> Result<Option<Vec<u8>>, NoMemory>
-    ensures { IfOk result (λ o. option_map (λ bytes. bytes.items) o ≡ unquoted piece.now) }
+    ensures { IfOk result (λ o. option_map (λ bytes. bytes.items) o ≡ quoted_content piece.now) }
 {
     match behind_quote(piece) {
         Some(body) => content_of(alloc, body),

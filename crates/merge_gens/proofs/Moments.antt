@@ -10,7 +10,7 @@ use Rattle.std.proofs.lemmas.Bool.Decides.{nat_tests}
 use Rattle.merge_types.specs.declared.Moment.{Moment}
 use Rattle.merge_gens.specs.declared.filling.Filling.{Filling}
 use Rattle.merge_gens.specs.declared.closings.Closing.{Closing}
-use Rattle.merge_gens.specs.Book.{Book, IsSound, NeverFall, closed_before, closing_at, closings_between, forgotten, forgotten_if_any, last_before, moved_to, purged}
+use Rattle.merge_gens.specs.Book.{Book, IsSound, NeverFall, book_after_forgetting, book_after_purge, closed_before, closing_at, closings_between, forgotten_if_any, last_before, moved_to}
 
 module _ (R : Closing → Closing → Type 0) (trans : (x y z : Closing) → R x y → R y z → R x z) (xs : List Closing) where
   far : AllAdjacentBelow R xs (length xs) → (k i j : ℕ) (d : Closing) → j ≡ i + 1 + k → j < length xs → R (get_or xs i d) (get_or xs j d)
@@ -117,7 +117,7 @@ forget_step book None = refl
 forget_step book (Some g) = refl
 
 -- where moments do not fall, a purge forgets up to the last that closed before its cutoff
-pub purge_forgets : (book : Book) (cutoff : Moment) → IsSound book → NeverFall book.closings → purged book cutoff ≡ forgotten_if_any book (last_before cutoff book.closings)
+pub purge_forgets : (book : Book) (cutoff : Moment) → IsSound book → NeverFall book.closings → book_after_purge book cutoff ≡ forgotten_if_any book (last_before cutoff book.closings)
 purge_forgets book cutoff sound fall =
     let B : List Closing → Book = λ (l : List Closing). record { filling = book.filling; closings = l } in
     ap B (sym (purge_list cutoff book.closings sound.ascending fall)) ∙ forget_step book (last_before cutoff book.closings)

@@ -8,7 +8,7 @@ use Rattle.merge_gens.specs.declared.plan.GenerationChange.TheVariants.{Enter, C
 use Rattle.merge_gens.specs.declared.plan.GenerationPlan.{GenerationPlan}
 use Rattle.merge_types.specs.Limits.{entry_limit}
 use Rattle.merge_gens.specs.Book.{Book, IsSound, closings_between}
-use Rattle.merge_gens.specs.Plan.{filling_after, closing_moment, book_after, book_after_all, book_of, settled}
+use Rattle.merge_gens.specs.Plan.{filling_after, closing_moment, book_after, book_after_all, book_of, book_after_plan}
 use Rattle.merge_gens.proofs.ClosedGenerations.{sound_moved}
 
 -- a book that keeps more generations from before, with the same filling
@@ -25,7 +25,7 @@ changed_behind earlier book (change ∷ changes) =
     ∙ changed_behind earlier (book_after book change) changes
 
 -- the plan that a book without a past comes to settles every book at that filling
-pub settled_is : (book : Book) (plan : GenerationPlan) (changes : List GenerationChange) → book_of plan ≡ book_after_all (record { filling = book.filling; closings = [] }) changes → settled book plan ≡ book_after_all book changes
+pub settled_is : (book : Book) (plan : GenerationPlan) (changes : List GenerationChange) → book_of plan ≡ book_after_all (record { filling = book.filling; closings = [] }) changes → book_after_plan book plan ≡ book_after_all book changes
 settled_is book plan changes is =
     ap (behind book.closings) is ∙ sym (changed_behind book.closings (record { filling = book.filling; closings = [] }) changes)
     ∙ ap (λ closings. book_after_all (record { filling = book.filling; closings = closings }) changes) (append-nil book.closings)

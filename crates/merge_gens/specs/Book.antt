@@ -7,7 +7,7 @@ use Rattle.merge_types.specs.declared.Moment.{Moment}
 use Rattle.merge_gens.specs.declared.filling.Filling.{Filling}
 use Rattle.merge_gens.specs.declared.closings.Closing.{Closing}
 use Rattle.merge_types.specs.Limits.{entry_limit}
-use Rattle.merge_gens.specs.Filling.{filled_by, closed}
+use Rattle.merge_gens.specs.Filling.{filled_by, filling_after_close}
 
 -- where the filling stands, and the closed generations that are kept, in ascending order
 pub record Book : Type 0 where
@@ -40,27 +40,27 @@ moved_to book filling moment = record {
 }
 
 -- the book after so many entries
-abbrev pub entered : Book → ℕ → Moment → Book
-entered book count moment = moved_to book (filled_by book.filling count) moment
+abbrev pub book_after_entries : Book → ℕ → Moment → Book
+book_after_entries book count moment = moved_to book (filled_by book.filling count) moment
 
 -- the book after a closing of the open generation
 abbrev pub closed_now : Book → Moment → Book
-closed_now book moment = moved_to book (closed book.filling) moment
+closed_now book moment = moved_to book (filling_after_close book.filling) moment
 
 -- the moment at which the generation closed, where it is kept
 abbrev pub moment_of : List Closing → ℕ → Option ℕ
 moment_of closings generation = option_map (λ c. c.moment.0) (find (λ c. c.generation == generation) closings)
 
 -- the book without the generations that closed before the cutoff
-abbrev pub purged : Book → Moment → Book
-purged book cutoff = record {
+abbrev pub book_after_purge : Book → Moment → Book
+book_after_purge book cutoff = record {
   filling = book.filling;
   closings = filter (λ c. nat_le cutoff.0 c.moment.0) book.closings;
 }
 
 -- the book without the generations up to one
-abbrev pub forgotten : Book → ℕ → Book
-forgotten book up_to = record {
+abbrev pub book_after_forgetting : Book → ℕ → Book
+book_after_forgetting book up_to = record {
   filling = book.filling;
   closings = filter (λ c. nat_lt up_to c.generation) book.closings;
 }
@@ -68,7 +68,7 @@ forgotten book up_to = record {
 -- where there is a generation
 abbrev pub forgotten_if_any : Book → Option ℕ → Book
 forgotten_if_any book None = book
-forgotten_if_any book (Some up_to) = forgotten book up_to
+forgotten_if_any book (Some up_to) = book_after_forgetting book up_to
 
 abbrev pub closed_before : Moment → Closing → Bool
 closed_before cutoff closing = nat_lt closing.moment.0 cutoff.0

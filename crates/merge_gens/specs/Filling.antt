@@ -20,8 +20,8 @@ filled_by filling count = record {
 }
 
 -- the open generation closes where it holds an entry, and the next one is open
-abbrev pub closed : Filling → Filling
-closed filling = if filling.filled == 0 then filling else record { last_closed = filling.last_closed + 1; filled = 0 }
+abbrev pub filling_after_close : Filling → Filling
+filling_after_close filling = if filling.filled == 0 then filling else record { last_closed = filling.last_closed + 1; filled = 0 }
 
 -- one more entry: it is the last of its generation where it makes a thousand, and the generation closes
 abbrev pub with_entry : Filling → Filling

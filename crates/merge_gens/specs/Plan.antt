@@ -7,13 +7,13 @@ use Rattle.merge_gens.specs.declared.plan.GenerationChange.TheVariants.{Enter, C
 use Rattle.merge_gens.specs.declared.plan.GenerationAnswer.{GenerationAnswer}
 use Rattle.merge_gens.specs.declared.plan.GenerationAnswer.TheVariants.{Entered, Closed}
 use Rattle.merge_gens.specs.declared.plan.GenerationPlan.{GenerationPlan}
-use Rattle.merge_gens.specs.Filling.{generations_of, filled_by, closed}
+use Rattle.merge_gens.specs.Filling.{generations_of, filled_by, filling_after_close}
 use Rattle.merge_gens.specs.Book.{Book, BookWithRoom, IsSound, moved_to}
 
 -- where the filling stands after one change
 abbrev pub filling_after : Filling → GenerationChange → Filling
 filling_after filling (Enter count moment) = filled_by filling count
-filling_after filling (Close moment) = closed filling
+filling_after filling (Close moment) = filling_after_close filling
 
 -- what the generations keep that close by the change
 abbrev pub closing_moment : GenerationChange → Moment
@@ -23,7 +23,7 @@ closing_moment (Close moment) = moment
 -- what the change answers
 abbrev pub answer_of : Filling → GenerationChange → GenerationAnswer
 answer_of filling (Enter count moment) = Entered (generations_of filling count)
-answer_of filling (Close moment) = Closed (closed filling).last_closed
+answer_of filling (Close moment) = Closed (filling_after_close filling).last_closed
 
 -- no number reaches the greatest that there is
 abbrev pub IsAllowed : Filling → GenerationChange → Type 0
@@ -52,11 +52,11 @@ abbrev pub book_of : GenerationPlan → Book
 book_of plan = record { filling = plan.filling; closings = plan.closings }
 
 -- the book after a plan
-abbrev pub settled : Book → GenerationPlan → Book
-settled book plan = record { filling = plan.filling; closings = book.closings ++ plan.closings }
+abbrev pub book_after_plan : Book → GenerationPlan → Book
+book_after_plan book plan = record { filling = plan.filling; closings = book.closings ++ plan.closings }
 
 -- the plan is for the book as it stands: nothing was added and nothing closed since it was made. The book has the memory for it
 pub record IsPrepared (held : BookWithRoom) (plan : GenerationPlan) : Type 0 where
   pub current : plan.before ≡ held.book.filling
   pub room : length plan.closings ≤ held.room
-  pub sound : IsSound (settled held.book plan)
+  pub sound : IsSound (book_after_plan held.book plan)

@@ -1,9 +1,9 @@
 //! A site's generations, and what is kept of the closed ones.
 ghost use Rattle.std.specs.Prelude.{◌≡◌, ◌+◌, ◌≤◌, ◌<◌, ◌↔◌, [], nat_lt, nat_le, IsTrue, count_by, length, IfOk, IsOk, OnOk, OnErr};
 ghost use Rattle.merge_types.specs.Limits.{entry_limit};
-ghost use Rattle.merge_gens.specs.Filling.{generations_of, closed};
-ghost use Rattle.merge_gens.specs.Book.{IsSound, moved_to, entered, closed_now, moment_of, purged, forgotten, last_before};
-ghost use Rattle.merge_gens.specs.Plan.{settled, IsPrepared, AreAllowed, answers_of, book_after_all};
+ghost use Rattle.merge_gens.specs.Filling.{generations_of, filling_after_close};
+ghost use Rattle.merge_gens.specs.Book.{IsSound, moved_to, book_after_entries, closed_now, moment_of, book_after_purge, book_after_forgetting, last_before};
+ghost use Rattle.merge_gens.specs.Plan.{book_after_plan, IsPrepared, AreAllowed, answers_of, book_after_all};
 
 use crate::closings::{
     add_closings, append, count_before, each_closed, generations_rise, keep_above, keep_from,
@@ -75,7 +75,7 @@ impl GenerationBook {
     pub fn enter(&mut self, count: u64, moment: Moment) -> Result<Vec<u64>, NoMemory>
         requires { self.old.book.filling.last_closed + count < u64.MAX }
         ensures generations { IfOk result (λ generations. generations.items ≡ generations_of self.old.book.filling count) }
-        ensures ok { OnOk result (self.new.book ≡ entered self.old.book count moment) }
+        ensures ok { OnOk result (self.new.book ≡ book_after_entries self.old.book count moment) }
         ensures err { OnErr result (self.new.book ≡ self.old.book) }
 
         // What takes no memory is not refused.
@@ -89,7 +89,7 @@ impl GenerationBook {
     /// Closes the open generation where it has an entry, and gives the last closed one.
     pub fn close(&mut self, moment: Moment) -> Result<u64, NoMemory>
         requires { self.old.book.filling.last_closed < u64.MAX }
-        ensures last { IfOk result (λ last. last ≡ (closed self.old.book.filling).last_closed) }
+        ensures last { IfOk result (λ last. last ≡ (filling_after_close self.old.book.filling).last_closed) }
         ensures ok { OnOk result (self.new.book ≡ closed_now self.old.book moment) }
         ensures err { OnErr result (self.new.book ≡ self.old.book) }
 
@@ -109,7 +109,7 @@ impl GenerationBook {
     ) -> Result<(Vec<u64>, GenerationPlan), NoMemory>
         requires { self.old.book.filling.last_closed + count < u64.MAX }
         ensures generations { IfOk result (λ prepared. prepared.0.items ≡ generations_of self.old.book.filling count) }
-        ensures plan { IfOk result (λ prepared. settled self.old.book prepared.1 ≡ entered self.old.book count moment) }
+        ensures plan { IfOk result (λ prepared. book_after_plan self.old.book prepared.1 ≡ book_after_entries self.old.book count moment) }
         ensures ready { IfOk result (λ prepared. IsPrepared self.new prepared.1) }
         ensures same { self.new.book ≡ self.old.book }
         ensures room { self.old.room ≤ self.new.room }
@@ -126,8 +126,8 @@ impl GenerationBook {
     /// and the plan.
     pub fn prepare_close(&mut self, moment: Moment) -> Result<(u64, GenerationPlan), NoMemory>
         requires { self.old.book.filling.last_closed < u64.MAX }
-        ensures last { IfOk result (λ prepared. prepared.0 ≡ (closed self.old.book.filling).last_closed) }
-        ensures plan { IfOk result (λ prepared. settled self.old.book prepared.1 ≡ closed_now self.old.book moment) }
+        ensures last { IfOk result (λ prepared. prepared.0 ≡ (filling_after_close self.old.book.filling).last_closed) }
+        ensures plan { IfOk result (λ prepared. book_after_plan self.old.book prepared.1 ≡ closed_now self.old.book moment) }
         ensures ready { IfOk result (λ prepared. IsPrepared self.new prepared.1) }
         ensures same { self.new.book ≡ self.old.book }
         ensures room { self.old.room ≤ self.new.room }
@@ -147,7 +147,7 @@ impl GenerationBook {
     ) -> Result<(GenerationAnswers, GenerationPlan), NoMemory>
         requires { AreAllowed self.old.book.filling changes.now }
         ensures answers { IfOk result (λ prepared. prepared.0 ≡ answers_of self.old.book.filling changes.now) }
-        ensures plan { IfOk result (λ prepared. settled self.old.book prepared.1 ≡ book_after_all self.old.book changes.now) }
+        ensures plan { IfOk result (λ prepared. book_after_plan self.old.book prepared.1 ≡ book_after_all self.old.book changes.now) }
         ensures ready { IfOk result (λ prepared. IsPrepared self.new prepared.1) }
         ensures same { self.new.book ≡ self.old.book }
         ensures room { self.old.room ≤ self.new.room }
@@ -164,7 +164,7 @@ impl GenerationBook {
     /// was added and nothing closed since. No memory is taken.
     pub fn settle(&mut self, plan: GenerationPlan)
         requires { IsPrepared self.old plan }
-        ensures book { self.new.book ≡ settled self.old.book plan }
+        ensures book { self.new.book ≡ book_after_plan self.old.book plan }
         ensures room { self.new.room + length plan.closings ≡ self.old.room }
     {
         let GenerationPlan {
@@ -218,7 +218,7 @@ impl GenerationBook {
     /// Forgets each kept generation that closed before the cutoff, and gives their count.
     pub fn purge(&mut self, cutoff: Moment) -> u64
         ensures count { result ≡ count_by (λ c. nat_lt c.moment.0 cutoff.0) self.old.book.closings }
-        ensures book { self.new.book ≡ purged self.old.book cutoff }
+        ensures book { self.new.book ≡ book_after_purge self.old.book cutoff }
         ensures room { self.new.room ≡ self.old.room + result }
     {
         let before = self.closings.len();
@@ -229,7 +229,7 @@ impl GenerationBook {
     /// Forgets each kept generation up to one, and gives their count.
     pub fn forget(&mut self, up_to: u64) -> u64
         ensures count { result ≡ count_by (λ c. nat_le c.generation up_to) self.old.book.closings }
-        ensures book { self.new.book ≡ forgotten self.old.book up_to }
+        ensures book { self.new.book ≡ book_after_forgetting self.old.book up_to }
         ensures room { self.new.room ≡ self.old.room + result }
     {
         let before = self.closings.len();
@@ -261,7 +261,7 @@ impl GenerationBook {
     fn prepare_to(&mut self, filling: Filling, moment: Moment) -> Result<GenerationPlan, NoMemory>
         requires unfilled { filling.filled < entry_limit }
         requires onward { self.old.book.filling.last_closed ≤ filling.last_closed }
-        ensures plan { IfOk result (λ plan. settled self.old.book plan ≡ moved_to self.old.book filling moment) }
+        ensures plan { IfOk result (λ plan. book_after_plan self.old.book plan ≡ moved_to self.old.book filling moment) }
         ensures ready { IfOk result (λ plan. IsPrepared self.new plan) }
         ensures same { self.new.book ≡ self.old.book }
         ensures room { self.old.room ≤ self.new.room }

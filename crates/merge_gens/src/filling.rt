@@ -1,7 +1,7 @@
 //! How entries fill generations.
 ghost use Rattle.std.specs.Prelude.{◌≡◌, ◌+◌, ◌≤◌, ◌<◌, IfOk, IsOk};
 ghost use Rattle.merge_types.specs.Limits.{entry_limit};
-ghost use Rattle.merge_gens.specs.Filling.{generation_of, generations_of, filled_by, closed, FillsOneByOne};
+ghost use Rattle.merge_gens.specs.Filling.{generation_of, generations_of, filled_by, filling_after_close, FillsOneByOne};
 
 use merge_types::limits::ENTRY_LIMIT;
 use merge_types::{Exact, NoMemory};
@@ -61,7 +61,7 @@ impl Filling {
     // After a closing of the open generation.
     pub(crate) fn closed(self) -> Filling
         requires fits { self.last_closed < u64.MAX }
-        ensures { result ≡ closed self }
+        ensures { result ≡ filling_after_close self }
     {
         if self.filled == 0 {
             return self;

@@ -34,13 +34,13 @@ use Rattle.merge_model.specs.Tables.Keys.{at_number, put_number}
 use Rattle.merge_model.specs.Subscriber.Sending.{want_of, with_message}
 use Rattle.merge_model.specs.Subscriber.{subscriber_at_moment, subscriber_drawn, taken_value, with_version_if}
 use Rattle.merge_model.specs.Tables.{SubscriberTables}
-use Rattle.merge_model.specs.Subscriber.Taking.{taken}
+use Rattle.merge_model.specs.Subscriber.Taking.{tables_after_reply}
 use Rattle.merge_model.specs.declared.letter.Letter.{Letter}
 use Rattle.merge_model.specs.declared.letter.Message.{Message}
 use Rattle.merge_model.specs.declared.letter.Message.TheVariants.{Asks, Replies}
 use Rattle.merge_model.proofs.Lists.Finding.{all-weaker, at_put_other, at_put_same, some_same}
 use Rattle.merge_laws.proofs.Received.Subscribing.{number-decided, same_number}
-use Rattle.merge_honest.specs.Answered.{Answered, IsHeard, IsNextOf, IsOutstanding, LetterAnswers, MessageAnswers, TakesAll, number_in}
+use Rattle.merge_honest.specs.Answered.{IsHeard, IsNextOf, IsOutstanding, LetterAnswers, LettersAnswer, MessageAnswers, TakesAll, number_in}
 
 -- A subscriber goes on: an older message that is still outstanding was so before, and it heard of no more ranges since.
 pub record Onward (s t : SubscriberTables) : Type 0 where
@@ -81,7 +81,7 @@ letter-by subscribers s t letter true same at o i =
 letter-by subscribers s t letter false differs at o i =
     (subst (λ (x : Option SubscriberTables). MessageAnswers x letter.message) (sym (at_put_other t.site.0 letter.site.0 t subscribers differs)) i.0, i.1)
 
-pub subscriber-on : (subscribers : List (ℕ × SubscriberTables)) (pool : List Letter) (s t : SubscriberTables) → at_number subscribers s.site.0 ≡ Some s → Onward s t → Answered subscribers pool → Answered (put_number subscribers t.site.0 t) pool
+pub subscriber-on : (subscribers : List (ℕ × SubscriberTables)) (pool : List Letter) (s t : SubscriberTables) → at_number subscribers s.site.0 ≡ Some s → Onward s t → LettersAnswer subscribers pool → LettersAnswer (put_number subscribers t.site.0 t) pool
 subscriber-on subscribers pool s t at o i = all-weaker (LetterAnswers subscribers) (LetterAnswers (put_number subscribers t.site.0 t)) (λ letter here. letter-by subscribers s t letter (letter.site.0 == t.site.0) (number-decided letter.site.0 t.site.0) at o here) pool i
 
 -- How it goes on.
@@ -142,12 +142,12 @@ change-onward now s change d key found is =
     version-onward s key found (record (subscriber_at_moment now s) { changes = s.changes + 1; held = d.1 }) refl refl refl
     (subst (λ (draw : Result (Value × List (ℕ × Holder)) Refusal). IfOk draw (λ x. (article : ℕ) → heard_in x.1 article ≡ heard_in s.held article)) is (draw-heard s change)) refl
 
-pub taken-onward : (judge : SubscriberJudge) (now : Moment) (m : Reply) (s : SubscriberTables) → Onward s (taken judge now m s)
-taken-onward judge now (reply.Joined m) s = none-onward s (taken judge now (reply.Joined m) s) refl (omega arith) refl
-taken-onward judge now (reply.Uploaded m) s = none-onward s (taken judge now (reply.Uploaded m) s) refl (omega arith) refl
-taken-onward judge now (reply.Ranged m) s = none-onward s (taken judge now (reply.Ranged m) s) refl (omega arith) refl
-taken-onward judge now (reply.Downloaded m) s = none-onward s (taken judge now (reply.Downloaded m) s) refl (omega arith) refl
-taken-onward judge now (reply.Refused number values) s = none-onward s (taken judge now (reply.Refused number values) s) refl (omega arith) refl
+pub taken-onward : (judge : SubscriberJudge) (now : Moment) (m : Reply) (s : SubscriberTables) → Onward s (tables_after_reply judge now m s)
+taken-onward judge now (reply.Joined m) s = none-onward s (tables_after_reply judge now (reply.Joined m) s) refl (omega arith) refl
+taken-onward judge now (reply.Uploaded m) s = none-onward s (tables_after_reply judge now (reply.Uploaded m) s) refl (omega arith) refl
+taken-onward judge now (reply.Ranged m) s = none-onward s (tables_after_reply judge now (reply.Ranged m) s) refl (omega arith) refl
+taken-onward judge now (reply.Downloaded m) s = none-onward s (tables_after_reply judge now (reply.Downloaded m) s) refl (omega arith) refl
+taken-onward judge now (reply.Refused number values) s = none-onward s (tables_after_reply judge now (reply.Refused number values) s) refl (omega arith) refl
 
 -- What is sent.
 

@@ -30,7 +30,7 @@ use Rattle.merge_model.specs.History.Pasts.{past_after}
 use Rattle.merge_model.specs.Tables.Publications.{by_site}
 use Rattle.merge_model.specs.Publisher.{at_moment, last_closed}
 use Rattle.merge_model.specs.Publisher.PublisherJoin.{join_acts}
-use Rattle.merge_model.specs.Publisher.PublisherLocal.{Drawn, drawn, next_dot}
+use Rattle.merge_model.specs.Publisher.PublisherLocal.{Drawn, draw_for_change, next_dot}
 use Rattle.merge_model.specs.Publisher.PublisherUpload.{brings_news}
 use Rattle.merge_model.specs.Failing.Runs.{model_behind}
 use Rattle.merge_model.specs.World.Steps.{Action, CloseAt, Deliver, Forget, Look, Make, MakeAnew, Pass, Send, kept_decisions, step_by, upload_questions}
@@ -105,7 +105,7 @@ module _ (publication : Publication) where
     make-fine : (site : SiteId) (change : Change) → has_article publication (article_of change) ≡ true → Fine (noted_make publication judges site change w h)
     make-fine site change has = (let p : PublisherTables = at_moment w.moment w.publisher in
         if-fine (site.0 == 0) (Noting.noted_at_publisher publication (judges.publisher 0) change p h) (let k : History = elim (subscriber_at w site) [ None ↦ h | Some s ↦ Noting.noted_at_subscriber publication change s h ] in k)
-        (own-fine (judges.publisher 0) change p h (drawn publication p change) has fine) (there-fine change (subscriber_at w site) h has fine))
+        (own-fine (judges.publisher 0) change p h (draw_for_change publication p change) has fine) (there-fine change (subscriber_at w site) h has fine))
 
     join-fine : (judge : PublisherJudge) (j : Join) → Fine (Noting.noted_join judge j w.publisher h)
     join-fine judge j =

@@ -10,8 +10,8 @@ use Rattle.merge_schema.specs.Valid.{IsValid}
 use Rattle.merge_schema.specs.declared.publication.Publication.{Publication}
 use Rattle.merge_model.specs.declared.outcome.Outcome.TheVariants.{Passed}
 use Rattle.merge_batch.specs.declared.refusal.Refusal.TheVariants.{UnknownSite}
-use Rattle.merge_model.specs.World.Events.{acting, after, happens, looked, looking}
-use Rattle.merge_model.specs.Failing.{Faulty, Slip, Slips, failing, faulty, is_allowed, slip_if}
+use Rattle.merge_model.specs.World.Events.{after, answered_action, answered_look, answered_unless_refused, happens}
+use Rattle.merge_model.specs.Failing.{Faulty, Slip, Slips, faulty, faulty_stepping, is_allowed, slip_if}
 use Rattle.merge_model.specs.History.Model.{Model, empty_model, model, model_step}
 use Rattle.merge_model.specs.Failing.Runs.{model_behind}
 use Rattle.merge_model.specs.World.Session.{Stepping}
@@ -29,7 +29,7 @@ after-append publication stepping w (e ∷ first) second = after-append publicat
 
 module _ (publication : Publication) (says : Saying) where
   abbrev world_fails : Stepping (Faulty Model)
-  world_fails = failing publication (model publication says)
+  world_fails = faulty_stepping publication (model publication says)
 
   abbrev run_of : List ℕ → Slips → List Event → Faulty Model
   run_of tallies slips events = after publication world_fails (faulty (empty_model publication tallies) slips) events
@@ -56,7 +56,7 @@ module _ (publication : Publication) (says : Saying) where
   unfolding report
   drops None rest m = refl
   drops (Some slip) rest m = elim (is_allowed publication m.world Look slip Passed)
-      as (λ (b : Bool). (looked publication world_fails (λ (f : Faulty Model). Fine) (slip_if publication (model publication says) b rest slip Look m (m, Passed))).0 ≡ faulty m rest) [
+      as (λ (b : Bool). (answered_unless_refused publication world_fails (λ (f : Faulty Model). Fine) (slip_if publication (model publication says) b rest slip Look m (m, Passed))).0 ≡ faulty m rest) [
         | true ↦ ap (λ (n : Model). (let f : Faulty Model = faulty n rest in f)) (same-tallies m slip.asked)
         | false ↦ refl
       ]
@@ -100,10 +100,10 @@ module _ (publication : Publication) (says : Saying) where
   where-there false x y f is same = absurd cc
 
   sent-by : (m : Model) (site : SiteId) (sending : Sending) → is_subscription publication site.0 ≡ true
-      → (if is_subscription publication site.0 then acting publication world_fails 0 (Send site sending) (faulty m []) else looking publication world_fails (λ (f : Faulty Model). Refused (UnknownSite site)) (faulty m [])).0 ≡ faulty (model_step publication says m (Send site sending)).0 []
+      → (if is_subscription publication site.0 then answered_action publication world_fails 0 (Send site sending) (faulty m []) else answered_look publication world_fails (λ (f : Faulty Model). Refused (UnknownSite site)) (faulty m [])).0 ≡ faulty (model_step publication says m (Send site sending)).0 []
   sent-by m site sending is =
       let f : Faulty Model = faulty m [] in
-      where-there (is_subscription publication site.0) (acting publication world_fails 0 (Send site sending) f) (looking publication world_fails (λ (g : Faulty Model). Refused (UnknownSite site)) f) (faulty (model_step publication says m (Send site sending)).0 []) is refl
+      where-there (is_subscription publication site.0) (answered_action publication world_fails 0 (Send site sending) f) (answered_look publication world_fails (λ (g : Faulty Model). Refused (UnknownSite site)) f) (faulty (model_step publication says m (Send site sending)).0 []) is refl
 
   sent-same : (m : Model) (site : SiteId) (sending : Sending) → is_subscription publication site.0 ≡ true → (happens publication world_fails (faulty m []) (sends sending site)).0 ≡ faulty (model_step publication says m (Send site sending)).0 []
   unfolding sends

@@ -27,11 +27,11 @@ use Rattle.merge_model.specs.World.Faults.{reply_fault}
 use Rattle.merge_model.specs.Judge.{SubscriberJudge}
 use Rattle.merge_model.specs.Publisher.{counters, last_closed}
 use Rattle.merge_model.specs.Tables.Refusals.{counter_end, unless}
-use Rattle.merge_model.specs.Subscriber.Reinit.{reinitialised}
+use Rattle.merge_model.specs.Subscriber.Reinit.{result_of_reinit}
 use Rattle.merge_model.specs.Subscriber.Sending.{join_made, join_of, ranges_made, sending_refusal, unsent_rows, upload_made, upload_sent, want_of, with_message}
 use Rattle.merge_model.specs.Subscriber.{is_joining, subscriber_at_moment, subscriber_closed, subscriber_counters, subscriber_drawn, subscriber_last_closed, subscriber_local_refusal, subscriber_made_locally, subscriber_next_dot, subscriber_version_at, with_version_if}
 use Rattle.merge_model.specs.Tables.{PublisherTables, SubscriberTables}
-use Rattle.merge_model.specs.Subscriber.Taking.{met_by, seq_of, take_reply, taken}
+use Rattle.merge_model.specs.Subscriber.Taking.{met_by, seq_of, tables_after_reply, take_reply}
 use Rattle.merge_model.specs.declared.outcome.Taken.{Taken}
 use Rattle.merge_model.specs.declared.outcome.Taken.TheVariants.{Acted, Missed}
 use Rattle.merge_model.proofs.Runs.Refusals.{first-none}
@@ -77,10 +77,10 @@ publisher-low p none = let low = counters-low (counters p) none in (low.0, low.1
 
 -- Closing, and entries.
 
-pub closed-up : (filling : Filling) → (fill.closed filling).last_closed ≤ filling.last_closed + 1
+pub closed-up : (filling : Filling) → (fill.filling_after_close filling).last_closed ≤ filling.last_closed + 1
 closed-up filling = grind (arith, nat_tests)
 
-pub closed-unfilled : (filling : Filling) → (fill.closed filling).filled < entry_limit
+pub closed-unfilled : (filling : Filling) → (fill.filling_after_close filling).filled < entry_limit
 closed-unfilled filling = grind (arith, nat_tests)
 
 entered-up : (last filled : ℕ) → filled < entry_limit → last + (filled + 1) / entry_limit ≤ last + 1
@@ -161,7 +161,7 @@ ranges-by : (s : SubscriberTables) (held : List (ℕ × Holder)) → AreLow s �
 ranges-by s [] low b = tt
 ranges-by s (entry ∷ entries) low b = message-bounded ask.Ranges s low.seq b
 
-anew-bounded : (judge : SubscriberJudge) (now : Moment) (s : SubscriberTables) → AreLow s → IsBounded s → IsBounded (reinitialised judge (subscriber_at_moment now s)).0
+anew-bounded : (judge : SubscriberJudge) (now : Moment) (s : SubscriberTables) → AreLow s → IsBounded s → IsBounded (result_of_reinit judge (subscriber_at_moment now s)).0
 anew-bounded judge now s low b = record {
   changes = b.changes;
   closed = (let up = closed-up s.gens.filling in let below = low.closed in omega (arith, up, below));
@@ -171,7 +171,7 @@ anew-bounded judge now s low b = record {
 
 -- A reply moves no counter.
 
-taken-bounded : (judge : SubscriberJudge) (now : Moment) (m : Reply) (s : SubscriberTables) → IsBounded s → IsBounded (taken judge now m s)
+taken-bounded : (judge : SubscriberJudge) (now : Moment) (m : Reply) (s : SubscriberTables) → IsBounded s → IsBounded (tables_after_reply judge now m s)
 taken-bounded judge now (reply.Joined m) s b = record { changes = b.changes; closed = b.closed; seq = b.seq; unfilled = b.unfilled }
 taken-bounded judge now (reply.Uploaded m) s b = record { changes = b.changes; closed = b.closed; seq = b.seq; unfilled = b.unfilled }
 taken-bounded judge now (reply.Ranged m) s b = record { changes = b.changes; closed = b.closed; seq = b.seq; unfilled = b.unfilled }
@@ -180,8 +180,8 @@ taken-bounded judge now (reply.Refused number values) s b = record { changes = b
 
 met-bounded : (publication : Publication) (judge : SubscriberJudge) (now : Moment) (m : Reply) (s : SubscriberTables) (found : Option (ℕ × Outstanding)) → IsBounded s → IfOk (met_by publication judge now m s found) (λ a. IsBounded a.0)
 met-bounded publication judge now m s None b = b
-met-bounded publication judge now m s (Some sent) b = elim (sent.0 == seq_of m) as (λ (same : Bool). (let done : Result (SubscriberTables × Taken) Refusal = if same then unless (reply_fault publication sent.1 m s) (taken judge now m s, Acted) else Ok (s, Missed (seq_of m) sent.0) in IfOk done (λ a. IsBounded a.0))) [
-  | true ↦ unless-bounded s (reply_fault publication sent.1 m s) (taken judge now m s) Acted (λ none. taken-bounded judge now m s b)
+met-bounded publication judge now m s (Some sent) b = elim (sent.0 == seq_of m) as (λ (same : Bool). (let done : Result (SubscriberTables × Taken) Refusal = if same then unless (reply_fault publication sent.1 m s) (tables_after_reply judge now m s, Acted) else Ok (s, Missed (seq_of m) sent.0) in IfOk done (λ a. IsBounded a.0))) [
+  | true ↦ unless-bounded s (reply_fault publication sent.1 m s) (tables_after_reply judge now m s) Acted (λ none. taken-bounded judge now m s b)
   | false ↦ b
 ]
 
@@ -201,5 +201,5 @@ calls-bounded publication = record {
   of_ranges = λ s b. unless-made (sending_refusal s) (ranges_made s) (λ none. ranges-by s s.held (sending-low s none) b);
   of_ask = λ s b. unless-bounded s (sending_refusal s) (with_message (ask.Download s.watermark) s) _ (λ none. message-bounded (ask.Download s.watermark) s (sending-low s none).seq b);
   of_reply = λ judge now m s b. reply-bounded publication judge now m s b;
-  of_anew = λ judge now s b. unless-bounded s (counter_end (subscriber_counters s)) (reinitialised judge (subscriber_at_moment now s)).0 _ (λ none. anew-bounded judge now s (sub-low s none) b);
+  of_anew = λ judge now s b. unless-bounded s (counter_end (subscriber_counters s)) (result_of_reinit judge (subscriber_at_moment now s)).0 _ (λ none. anew-bounded judge now s (sub-low s none) b);
 }

@@ -29,7 +29,7 @@ use Rattle.merge_model.specs.Publisher.PublisherRanges.{ranges}
 use Rattle.merge_model.specs.Publisher.PublisherUpload.{upload}
 use Rattle.merge_model.specs.Subscriber.Reinit.{reinitialise}
 use Rattle.merge_model.specs.Subscriber.Sending.{make_ask, make_join, make_ranges, make_upload}
-use Rattle.merge_model.specs.World.Steps.{Action, CloseAt, Deliver, Forget, Look, Make, MakeAnew, Pass, Send, SendDownload, SendJoin, SendRanges, SendUpload, Sending, after_upload, answered, at_subscriber, close_at, close_publisher, close_subscriber, deliver_letter, deliver_reply, deliver_request, kept_decisions, make_anew, make_at, make_at_publisher, make_at_subscriber, post, posted, send_from, step_by, unless_refused, upload_questions}
+use Rattle.merge_model.specs.World.Steps.{Action, CloseAt, Deliver, Forget, Look, Make, MakeAnew, Pass, Send, SendDownload, SendJoin, SendRanges, SendUpload, Sending, after_upload, at_subscriber, close_at, close_publisher, close_subscriber, deliver_letter, deliver_reply, deliver_request, kept_decisions, make_anew, make_at, make_at_publisher, make_at_subscriber, post, post_if_made, post_reply, send_from, step_by, unless_refused, upload_questions}
 use Rattle.merge_model.specs.Subscriber.{close_subscriber_generation, subscriber_local}
 use Rattle.merge_model.specs.Tables.{PublisherTables, SubscriberTables}
 use Rattle.merge_model.specs.Subscriber.Taking.{take_reply}
@@ -88,11 +88,11 @@ module _ (publication : Publication) (S : SubscriberTables → Type 0) where
     call-holds (Err refusal) act ok each = h
     call-holds (Ok a) act ok each = each a ok
 
-    posted-holds : {A : Type 0} (site : SiteId) (message : A → Request) (made : Option (SubscriberTables × A)) → OfMade S made → Holds (posted site message w made).0
+    posted-holds : {A : Type 0} (site : SiteId) (message : A → Request) (made : Option (SubscriberTables × A)) → OfMade S made → Holds (post_if_made site message w made).0
     posted-holds site message None new = h
     posted-holds site message (Some made) new = with-holds made.0 w new h
 
-    sent-holds : {A : Type 0} (site : SiteId) (message : A → Request) (done : Result (Option (SubscriberTables × A)) Refusal) → IfOk done (λ made. OfMade S made) → Holds (unless_refused w done (posted site message w)).0
+    sent-holds : {A : Type 0} (site : SiteId) (message : A → Request) (done : Result (Option (SubscriberTables × A)) Refusal) → IfOk done (λ made. OfMade S made) → Holds (unless_refused w done (post_if_made site message w)).0
     sent-holds site message (Err refusal) new = h
     sent-holds site message (Ok made) new = posted-holds site message made new
 
@@ -115,7 +115,7 @@ module _ (publication : Publication) (S : SubscriberTables → Type 0) where
       send-holds SendRanges s k = sent-holds s.site (λ (m : RangeAsk). request.Ranges m) (make_ranges s) (keeps.of_ranges s k)
       send-holds SendDownload s k = call-holds (make_ask s) (λ (made : SubscriberTables × Download). post s.site (Asks (request.Download made.1)) (with_subscriber made.0 w)) (keeps.of_ask s k) (λ a new. with-holds a.0 w new h)
 
-      answered-holds : {A : Type 0} (site : SiteId) (message : A → Reply) (done : Result (PublisherTables × A) Refusal) → Holds (answered site message w done).0
+      answered-holds : {A : Type 0} (site : SiteId) (message : A → Reply) (done : Result (PublisherTables × A) Refusal) → Holds (post_reply site message w done).0
       answered-holds {A = A} site message done = publisher-holds done (λ (made : PublisherTables × A). post site (Replies (message made.1)) (with_publisher made.0 w)) (λ a. h)
 
       upload-holds : (judge : PublisherJudge) (site : SiteId) (m : Upload) (done : Result (PublisherTables × Uploaded) Refusal) → Holds (after_upload publication says judge site m w done).0

@@ -7,8 +7,8 @@ use Rattle.merge_schema.specs.Places.{is_subscription}
 use Rattle.merge_schema.specs.declared.publication.Publication.{Publication}
 use Rattle.merge_batch.specs.declared.refusal.Refusal.{Refusal}
 use Rattle.merge_batch.specs.declared.refusal.Refusal.TheVariants.{UnknownSite}
-use Rattle.merge_model.specs.World.Events.{after, answers, happens, looking, session_answer, syncing, watermark_in}
-use Rattle.merge_model.specs.Failing.{Faulty, Slips, failing, faulty}
+use Rattle.merge_model.specs.World.Events.{after, answered_look, answered_sync, answers, happens, session_answer, watermark_in}
+use Rattle.merge_model.specs.Failing.{Faulty, Slips, faulty, faulty_stepping}
 use Rattle.merge_model.specs.History.Model.{Model, model}
 use Rattle.merge_model.specs.Laws.Promises.{IsSettled}
 use Rattle.merge_model.specs.Failing.Runs.{model_behind}
@@ -57,8 +57,8 @@ module _ {W : Type 0} (publication : Publication) (stepping : Stepping W) (site 
   abbrev watermark : Session W → ℕ
   watermark s = watermark_in publication stepping site s.world
 
-  syncs : (w : W) → happens publication stepping w (event.Sync site) ≡ syncing publication stepping site w
-  syncs w = if-there (is_subscription publication site.0) (syncing publication stepping site w) (looking publication stepping (λ (v : W). Refused (UnknownSite site)) w) subscribes
+  syncs : (w : W) → happens publication stepping w (event.Sync site) ≡ answered_sync publication stepping site w
+  syncs w = if-there (is_subscription publication site.0) (answered_sync publication stepping site w) (answered_look publication stepping (λ (v : W). Refused (UnknownSite site)) w) subscribes
 
   sync-answers : (w : W) → answers publication stepping w (event.Sync site ∷ []) ≡ session_answer publication stepping site (session stepping site w) ∷ []
   sync-answers w = ap (λ (done : W × Answer). done.1 ∷ []) (syncs w)
@@ -71,7 +71,7 @@ module _ {W : Type 0} (publication : Publication) (stepping : Stepping W) (site 
 
 module _ (publication : Publication) (says : Saying) (m : Model) (slips : Slips) (site : SiteId) (subscribes : is_subscription publication site.0 ≡ true) where
   abbrev fails : Stepping (Faulty Model)
-  fails = failing publication (model publication says)
+  fails = faulty_stepping publication (model publication says)
 
   abbrev failed : Session (Faulty Model)
   failed = session fails site (faulty m slips)
@@ -115,12 +115,12 @@ ends-too k site None ends = tt
 ends-too k site (Some why) ends = inl ends
 
 finishes-by : (publication : Publication) (says : Saying) (m : Model) (slips : Slips) (site : SiteId) → is_subscription publication site.0 ≡ true
-    → (let plain : Session Model = session (model publication says) site m in EndsBy plain.world site plain.stop) → (let failed : Session (Faulty Model) = session (failing publication (model publication says)) site (faulty m slips) in
+    → (let plain : Session Model = session (model publication says) site m in EndsBy plain.world site plain.stop) → (let failed : Session (Faulty Model) = session (faulty_stepping publication (model publication says)) site (faulty m slips) in
     (b : Bool) → slips_by failed.stop ≡ b → EndsOrFails failed.world.world site failed.stop)
 finishes-by publication says m slips site subscribes ends true is =
-    let failed : Session (Faulty Model) = session (failing publication (model publication says)) site (faulty m slips) in ends-by failed.world.world site failed.stop is
+    let failed : Session (Faulty Model) = session (faulty_stepping publication (model publication says)) site (faulty m slips) in ends-by failed.world.world site failed.stop is
 finishes-by publication says m slips site subscribes ends false none =
-    let failed : Session (Faulty Model) = session (failing publication (model publication says)) site (faulty m slips) in
+    let failed : Session (Faulty Model) = session (faulty_stepping publication (model publication says)) site (faulty m slips) in
     let same = is-plain publication says m slips site subscribes none in
     ends-too failed.world.world site failed.stop (subst (λ (k : Model). EndsBy k site failed.stop) (sym same.world) (subst (λ (stop : Option Refusal). EndsBy (session (model publication says) site m).world site stop) (sym same.stop) ends))
 
@@ -130,7 +130,7 @@ known-subscribes publication m whole s here = (whole.1.known s.site.0 s here).su
 pub failing-finish : OfEveryValidRun SessionFinishes → OfEveryValidRun FailingSessionFinishes
 failing-finish plain resolvers publication valid says tallies events_slips events slips s here begins =
     let m : Model = model_behind publication says tallies events_slips events in
-    let failed : Session (Faulty Model) = session (failing publication (model publication says)) s.site (faulty m slips) in
+    let failed : Session (Faulty Model) = session (faulty_stepping publication (model publication says)) s.site (faulty m slips) in
     finishes-by publication says m slips s.site (known-subscribes publication m (sent-well-always publication says tallies events_slips events (resolvers, valid)) s here)
     (plain resolvers publication valid says tallies events_slips events s here begins) (slips_by failed.stop) refl
 
@@ -141,7 +141,7 @@ none-slips (Some why) none = absurd cc
 pub failing-settle : OfEveryValidRun FailingSessionSettles
 failing-settle resolvers publication valid says tallies events_slips events slips s t here ended there =
     let m : Model = model_behind publication says tallies events_slips events in
-    let failed : Session (Faulty Model) = session (failing publication (model publication says)) s.site (faulty m slips) in
+    let failed : Session (Faulty Model) = session (faulty_stepping publication (model publication says)) s.site (faulty m slips) in
     let same = is-plain publication says m slips s.site (known-subscribes publication m (sent-well-always publication says tallies events_slips events (resolvers, valid)) s here) (none-slips failed.stop ended) in
     subst (λ (k : Model). IsSettled publication k t) (sym same.world)
     (sessions-settle publication says tallies events_slips events s t here (sym same.stop ∙ ended) (ap (λ (k : Model). subscriber_at k.world s.site) (sym same.world) ∙ there))

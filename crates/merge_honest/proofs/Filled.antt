@@ -23,11 +23,11 @@ use Rattle.merge_model.specs.Judge.{SubscriberJudge}
 use Rattle.merge_model.specs.Laws.{SubscriberIsSorted}
 use Rattle.merge_model.specs.History.Noting
 use Rattle.merge_model.specs.History.Pasts.{past_after}
-use Rattle.merge_model.specs.Subscriber.Reinit.{reinitialised}
+use Rattle.merge_model.specs.Subscriber.Reinit.{result_of_reinit}
 use Rattle.merge_model.specs.Subscriber.Sending.{upload_sent, with_message}
 use Rattle.merge_model.specs.Subscriber.{subscriber_at_moment, subscriber_closed, subscriber_last_closed, subscriber_local_refusal, subscriber_made_locally, subscriber_next_dot, subscriber_version_at, with_version_if}
 use Rattle.merge_model.specs.Tables.{SubscriberTables}
-use Rattle.merge_model.specs.Subscriber.Taking.{taken}
+use Rattle.merge_model.specs.Subscriber.Taking.{tables_after_reply}
 use Rattle.merge_model.specs.World.{Saying, World, empty_world, subscriber_at, with_subscriber}
 use Rattle.merge_model.proofs.Lists.Finding.{found-named}
 use Rattle.merge_laws.specs.Facts.Numbered.{InOrder}
@@ -107,7 +107,7 @@ module _ (made : List MadeChange) (c : MadeChange) (s : SubscriberTables) (at : 
       }
 
 -- A reply leaves the open generation.
-reply-filled : (made : List MadeChange) (judge : SubscriberJudge) (now : Moment) (m : Reply) (s : SubscriberTables) → IsFilled made s → IsFilled made (taken judge now m s)
+reply-filled : (made : List MadeChange) (judge : SubscriberJudge) (now : Moment) (m : Reply) (s : SubscriberTables) → IsFilled made s → IsFilled made (tables_after_reply judge now m s)
 reply-filled made judge now (reply.Joined m) s f = record { few = f.few; entered = f.entered }
 reply-filled made judge now (reply.Uploaded m) s f = record { few = f.few; entered = f.entered }
 reply-filled made judge now (reply.Ranged m) s f = record { few = f.few; entered = f.entered }
@@ -153,15 +153,15 @@ module _ (publication : Publication) (says : Saying) where
       (λ n x differs there. subst (λ (made : List MadeChange). IsFilled made x) (sym (made-other h c n differs)) (f n x there))
 
   anew-filled : (w : World) (h : History) (s : SubscriberTables) → Ground publication w h → AreFilled w h → subscriber_at w s.site ≡ Some s
-      → (let judge : SubscriberJudge = by_made h s.site in AreFilled (with_subscriber (reinitialised judge (subscriber_at_moment w.moment s)).0 w) (Noting.noted_anew judge s h))
+      → (let judge : SubscriberJudge = by_made h s.site in AreFilled (with_subscriber (result_of_reinit judge (subscriber_at_moment w.moment s)).0 w) (Noting.noted_anew judge s h))
   anew-filled w h s g f at =
       let judge : SubscriberJudge = by_made h s.site in
       let k : History = Noting.noted_anew judge s h in
       let a : Alike h k = anew-keep (λ (x : History). Alike h x) (alike-notes h) judge s h (alike-itself h) in
       let c : IsFilled (made_at h s.site.0) (subscriber_closed (subscriber_at_moment w.moment s)) = closing-filled (made_at h s.site.0) w.moment s (order-at w h s g at) (here-filled w h s f at) in
       let same : made_at k s.site.0 ≡ made_at h s.site.0 = a.made s.site.0 (λ zero. found-named w.subscribers s.site.0 s g.none at zero) in
-      subscriber-on w k s (reinitialised judge (subscriber_at_moment w.moment s)).0 refl
-      (subst (λ (made : List MadeChange). IsFilled made (reinitialised judge (subscriber_at_moment w.moment s)).0) (sym same) (record { few = c.few; entered = c.entered }))
+      subscriber-on w k s (result_of_reinit judge (subscriber_at_moment w.moment s)).0 refl
+      (subst (λ (made : List MadeChange). IsFilled made (result_of_reinit judge (subscriber_at_moment w.moment s)).0) (sym same) (record { few = c.few; entered = c.entered }))
       (alike-filled w h k g a.made f)
 
   pub filled-keeps : StepsKeep publication says (Ground publication) AreFilled
@@ -188,7 +188,7 @@ module _ (publication : Publication) (says : Saying) where
     replies = λ w h s number m sent g f at there out none. (let judge : SubscriberJudge = by_made h s.site in
         let a : Alike h (Noting.noted_reply judge s.site (pasts_with h number) m h) = reply-keep (λ (x : History). Alike h x) (alike-notes h) judge s.site (pasts_with h number) m h (alike-itself h) in
         let k : History = Noting.noted_reply judge s.site (pasts_with h number) m h in
-        let t : SubscriberTables = taken judge w.moment m s in
+        let t : SubscriberTables = tables_after_reply judge w.moment m s in
         let j : AreFilled w k = alike-filled w h k g a.made f in
         subscriber-on w k s t (reply-site judge w.moment m s) (reply-filled (made_at k s.site.0) judge w.moment m s (here-filled w k s j at)) j);
   }

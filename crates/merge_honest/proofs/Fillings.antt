@@ -68,10 +68,10 @@ fills-more filling count counted more low f each =
     (fills-from filling count 0 counted more (subst (Fills counted) (sym (none-yet filling low)) f) each)
 
 -- a closing
-closing-behind : (filling : Filling) (generation : ℕ) → (fill.closed filling).last_closed + 1 < generation → filling.last_closed + 1 < generation
+closing-behind : (filling : Filling) (generation : ℕ) → (fill.filling_after_close filling).last_closed + 1 < generation → filling.last_closed + 1 < generation
 closing-behind filling generation up = grind (arith, nat_tests, up)
 
-pub fills-closed : (counted : ℕ → ℕ) (filling : Filling) → Fills counted filling → Fills counted (fill.closed filling)
+pub fills-closed : (counted : ℕ → ℕ) (filling : Filling) → Fills counted filling → Fills counted (fill.filling_after_close filling)
 fills-closed counted filling f = record {
   few = f.few;
   entered = closed-by counted filling (filling.filled == 0) refl f.entered (f.behind (filling.last_closed + 1 + 1) (omega arith));

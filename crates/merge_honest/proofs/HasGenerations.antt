@@ -69,8 +69,8 @@ made-is (Some why) rows x made e = absurd (grind (arith, e))
 made-is None [] x made e = absurd (grind (arith, e))
 made-is None (row ∷ rest) x made e = (omega arith, cc)
 
-closes-behind : (filling : Filling) (received : ℕ) → received ≤ filling.last_closed → (received ≡ filling.last_closed → 1 ≤ filling.filled) → received < (fill.closed filling).last_closed
-closes-behind filling received up some = elim (filling.filled == 0) as (λ (b : Bool). (filling.filled == 0) ≡ b → received < (fill.closed filling).last_closed) [
+closes-behind : (filling : Filling) (received : ℕ) → received ≤ filling.last_closed → (received ≡ filling.last_closed → 1 ≤ filling.filled) → received < (fill.filling_after_close filling).last_closed
+closes-behind filling received up some = elim (filling.filled == 0) as (λ (b : Bool). (filling.filled == 0) ≡ b → received < (fill.filling_after_close filling).last_closed) [
   | true ↦ (λ e. (let none : filling.filled ≡ 0 = grind (arith, nat_tests, e) in
       let differs : received ≡ filling.last_closed → ⊥ = λ same. (let one = some same in omega (arith, one, none)) in grind (arith, nat_tests, e, up, differs)))
   | false ↦ (λ e. grind (arith, nat_tests, e, up))
@@ -94,7 +94,7 @@ module _ (publication : Publication) (w : World) (h : History) (g : Ground publi
   upload-goes some =
       let few = next-few h s.site s.received in
       let limit = own-filled.few (s.received + 1) in
-      batch-goes (λ (to : ℕ). length (judge.changed_between s.received to)) s.received (fill.closed s.gens.filling).last_closed
+      batch-goes (λ (to : ℕ). length (judge.changed_between s.received to)) s.received (fill.filling_after_close s.gens.filling).last_closed
       (closes-behind s.gens.filling s.received (g.received.subscribers site.0 s at).own (entered-some some)) (omega (arith, few, limit))
 
   pub makes-generation : (made : SubscriberTables × Upload) → make_upload judge w.moment s ≡ Ok (Some made) → HasGeneration made.1

@@ -57,15 +57,15 @@ use Rattle.merge_model.specs.Tables.Keys.{at_number, put_number}
 use Rattle.merge_model.specs.History.Model.{Model, model_step}
 use Rattle.merge_model.specs.Tables.Publications.{identities, identity_of, rules_of}
 use Rattle.merge_model.specs.Publisher.{holder_for, new_holders}
-use Rattle.merge_model.specs.Publisher.PublisherDownload.{asked, reply_to}
-use Rattle.merge_model.specs.Publisher.PublisherLocal.{Drawn, after_answer, drawn, drawn_from, no_draw, own_ask, taken_from}
-use Rattle.merge_model.specs.Publisher.PublisherRanges.{ask_by, plans, ranged}
-use Rattle.merge_model.specs.Subscriber.Reinit.{reinitialised}
+use Rattle.merge_model.specs.Publisher.PublisherDownload.{reply_to, tables_after_download}
+use Rattle.merge_model.specs.Publisher.PublisherLocal.{Drawn, after_answer, draw_for_change, drawn_from, no_draw, own_ask, taken_from}
+use Rattle.merge_model.specs.Publisher.PublisherRanges.{ask_by, plans, reply_to_ranges}
+use Rattle.merge_model.specs.Subscriber.Reinit.{result_of_reinit}
 use Rattle.merge_model.specs.Subscriber.Sending.{join_of, upload_sent, want_of, with_message}
 use Rattle.merge_model.specs.World.Steps.{Action}
 use Rattle.merge_model.specs.Subscriber.{subscriber_at_moment, subscriber_closed, subscriber_drawn, subscriber_made_locally, subscriber_next_dot, subscriber_version_at, taken_value, with_version_if}
 use Rattle.merge_model.specs.Tables.{PublisherTables, SubscriberTables}
-use Rattle.merge_model.specs.Subscriber.Taking.{taken, with_grant}
+use Rattle.merge_model.specs.Subscriber.Taking.{tables_after_reply, with_grant}
 use Rattle.merge_model.specs.World.{Saying, World, empty_world, subscriber_at}
 use Rattle.merge_model.specs.declared.letter.Letter.{Letter}
 use Rattle.merge_model.specs.declared.letter.Message.{Message}
@@ -143,7 +143,7 @@ module _ (publication : Publication) (p : PublisherTables) (book : IsBook (rules
   found-goes article None = same-goes
   found-goes article (Some holder) = from-goes article holder (answer_to_take holder)
 
-draw-goes : (publication : Publication) (p : PublisherTables) (change : Change) → IsBook (rules_of publication) p.grants → IfOk (drawn publication p change) (λ d. GoesOn (rules_of publication) p.grants d.grants)
+draw-goes : (publication : Publication) (p : PublisherTables) (change : Change) → IsBook (rules_of publication) p.grants → IfOk (draw_for_change publication p change) (λ d. GoesOn (rules_of publication) p.grants d.grants)
 draw-goes publication p (Insert article values) book = found-goes publication p book article (at_number p.held article)
 draw-goes publication p (Update article row values) book = same-goes publication p book
 draw-goes publication p (Delete article row) book = same-goes publication p book
@@ -234,7 +234,7 @@ module _ (publication : Publication) (grants : List Grant) (site : ℕ) where
   ranged-fits (ask.Upload from to) m s e = absurd (grind (arith, e))
   ranged-fits (ask.Download from) m s e = absurd (grind (arith, e))
 
-  reply-well : (judge : SubscriberJudge) (now : Moment) (sent : Outstanding) (m : Reply) (s : SubscriberTables) → reply_fault publication sent m s ≡ None → MessageIsGranted publication grants site (Replies m) → Well s.held → Well (taken judge now m s).held
+  reply-well : (judge : SubscriberJudge) (now : Moment) (sent : Outstanding) (m : Reply) (s : SubscriberTables) → reply_fault publication sent m s ≡ None → MessageIsGranted publication grants site (Replies m) → Well s.held → Well (tables_after_reply judge now m s).held
   reply-well judge now sent (reply.Joined m) s none is well = well
   reply-well judge now sent (reply.Uploaded m) s none is well = well
   reply-well judge now sent (reply.Ranged m) s none is well = (let fits = ranged-fits sent m s none in received-well m.grants s.held fits.0 fits.1 is well)
@@ -362,12 +362,12 @@ module _ (publication : Publication) where
 
     -- an answer about ranges tells what is granted then
     ranges-on : (w : World) (h : History) (number : ℕ) (site : SiteId) (m : RangeAsk) → HeldIn w h → comes w number site (Asks (request.Ranges m))
-        → (let more : List Grant = grants_with_all w.publisher.grants (plans publication m w.publisher) in HeldRanges publication more w.subscribers (w.pool ++ record { site = site; message = Replies (reply.Ranged (ranged m (plans publication m w.publisher))) } ∷ []))
+        → (let more : List Grant = grants_with_all w.publisher.grants (plans publication m w.publisher) in HeldRanges publication more w.subscribers (w.pool ++ record { site = site; message = Replies (reply.Ranged (reply_to_ranges m (plans publication m w.publisher))) } ∷ []))
     ranges-on w h number site m i at =
         let more : List Grant = grants_with_all w.publisher.grants (plans publication m w.publisher) in
         let asks : AsksWell publication w.publisher.grants site.0 m = pool-at (LetterIs w.publisher.grants) w number (record { site = site; message = Asks (request.Ranges m) }) at i.letters in
-        let told : List RangeGrant = (ranged m (plans publication m w.publisher)).grants in
-        letter-on more w.subscribers w.pool site (Replies (reply.Ranged (ranged m (plans publication m w.publisher))))
+        let told : List RangeGrant = (reply_to_ranges m (plans publication m w.publisher)).grants in
+        letter-on more w.subscribers w.pool site (Replies (reply.Ranged (reply_to_ranges m (plans publication m w.publisher))))
         (subst (λ (n : ℕ). AllByRecursion (IsNumbered more n) told) asks.sender (plans-granted (rules_of publication) w.publisher.grants m.site m.wants))
         (grants-on w.publisher.grants more w.subscribers w.pool (all-grow (rules_of publication) w.publisher.grants (map (ask_by m.site) m.wants), plans-book (rules_of publication) w.publisher.grants (map (ask_by m.site) m.wants) i.book) i)
 
@@ -383,7 +383,7 @@ module _ (publication : Publication) where
       same = λ w h s b p at none. same-on w h s s b.1.0 at refl refl;
       subscriber_change = λ w h s change d b p at named fine is none. change-on w h s change d b.1.0 at is;
       subscriber_closing = λ w h s b p at none. same-on w h s (subscriber_closed (subscriber_at_moment w.moment s)) b.1.0 at refl refl;
-      anew = λ w h s b p at none. same-on w h s (reinitialised (by_made h s.site) (subscriber_at_moment w.moment s)).0 b.1.0 at refl refl;
+      anew = λ w h s b p at none. same-on w h s (result_of_reinit (by_made h s.site) (subscriber_at_moment w.moment s)).0 b.1.0 at refl refl;
       sends_join = λ w h s b p at joining none. message-on w h s (with_message ask.Join s) (Asks (request.Join (join_of s))) b.1.0 at refl refl tt;
       sends_upload = λ w h s b p at fine none. (let made = upload_sent (by_made h s.site) (subscriber_closed (subscriber_at_moment w.moment s)) in message-on w h s made.0 (Asks (request.Upload made.1)) b.1.0 at refl refl tt);
       sends_ranges = λ w h s b p at fine none. message-on w h s (with_message ask.Ranges s) (Asks (request.Ranges (record { site = s.site; seq = s.seq + 1; wants = map want_of s.held }))) b.1.0 at refl refl (record {
@@ -397,9 +397,9 @@ module _ (publication : Publication) where
       uploads = λ w h number m b p at fine news none. answer-on w h m.site (Replies (reply.Uploaded (told_by (by_past h (pasts_with h number)) m))) b.1.0 tt;
       uploads_again = λ w h number m b p at old none. answer-on w h m.site (Replies (reply.Uploaded (told_by (by_past h (pasts_with h number)) m))) b.1.0 tt;
       answers_ranges = λ w h site m b p none. no-silence publication says (Ground publication) HeldIn kept-received pool w site m b.1.1 none;
-      answers_ask = λ w h number site m b p at fine none. answer-on w h site (Replies (reply.Downloaded (reply_to publication (by_past h (pasts_with h number)) m (asked m (here w))))) b.1.0 tt;
+      answers_ask = λ w h number site m b p at fine none. answer-on w h site (Replies (reply.Downloaded (reply_to publication (by_past h (pasts_with h number)) m (tables_after_download m (here w))))) b.1.0 tt;
       replies = λ w h s number m sent b p at there out fits none. (let judge : SubscriberJudge = by_made h s.site in
-          subscriber-on w.publisher.grants w.subscribers w.pool s (taken judge w.moment m s) (reply-site judge w.moment m s)
+          subscriber-on w.publisher.grants w.subscribers w.pool s (tables_after_reply judge w.moment m s) (reply-site judge w.moment m s)
           (reply-well publication w.publisher.grants s.site.0 judge w.moment sent m s fits (pool-at (LetterIs w.publisher.grants) w number (record { site = s.site; message = Replies m }) there b.1.0.letters) (here-well w h s b.1.0 at)) b.1.0);
     }
 

@@ -41,20 +41,20 @@ use Rattle.merge_model.specs.History.Model.{Model, empty_model, model}
 use Rattle.merge_model.specs.History.Noting
 use Rattle.merge_model.specs.History.Pasts.{past_after}
 use Rattle.merge_model.specs.Tables.Publications.{by_site}
-use Rattle.merge_model.specs.Publisher.{closed, last_closed}
-use Rattle.merge_model.specs.Publisher.PublisherDownload.{TouchedRow, asked, batch_end, inside_keys, is_between, item_of, reply_to, touched_row, touched_rows}
+use Rattle.merge_model.specs.Publisher.{last_closed, tables_after_close}
+use Rattle.merge_model.specs.Publisher.PublisherDownload.{TouchedRow, batch_end, inside_keys, is_between, item_of, reply_to, tables_after_download, touched_row, touched_rows}
 use Rattle.merge_model.specs.Publisher.PublisherJoin.{is_left_of, join_taken}
-use Rattle.merge_model.specs.Publisher.PublisherLocal.{Drawn, changing_locally, drawn, local_refusal, made_locally, next_dot, version_at, with_draw}
+use Rattle.merge_model.specs.Publisher.PublisherLocal.{Drawn, changing_locally, draw_for_change, local_refusal, made_locally, next_dot, version_at, with_draw}
 use Rattle.merge_model.specs.Publisher.PublisherPurge.{is_old_left, purge}
-use Rattle.merge_model.specs.Publisher.PublisherRanges.{plans, ranged, with_grants}
+use Rattle.merge_model.specs.Publisher.PublisherRanges.{plans, reply_to_ranges, with_grants}
 use Rattle.merge_model.specs.Publisher.PublisherUpload.{changing_by, taken_in, with_acts}
-use Rattle.merge_model.specs.Subscriber.Reinit.{discarded, reinitialised}
+use Rattle.merge_model.specs.Subscriber.Reinit.{discarded_versions, result_of_reinit}
 use Rattle.merge_model.specs.Failing.Runs.{model_behind}
 use Rattle.merge_model.specs.Subscriber.Sending.{join_of, upload_sent, want_of, with_message}
 use Rattle.merge_model.specs.World.Steps.{kept_decisions, upload_questions}
 use Rattle.merge_model.specs.Subscriber.{subscriber_at_moment, subscriber_closed, subscriber_last_closed, subscriber_made_locally, subscriber_next_dot}
 use Rattle.merge_model.specs.Tables.{PublisherTables, SubscriberTables}
-use Rattle.merge_model.specs.Subscriber.Taking.{key_of_download, taken}
+use Rattle.merge_model.specs.Subscriber.Taking.{key_of_download, tables_after_reply}
 use Rattle.merge_model.specs.World.{Saying, World, with_publisher, with_subscriber}
 use Rattle.merge_model.specs.declared.event.Event.{Event}
 use Rattle.merge_model.specs.declared.letter.Letter.{Letter}
@@ -238,10 +238,10 @@ module _ (publication : Publication) where
       let told : is_some (at_row_site w.publisher.mappings place) ≡ true = ap (λ (found : Option Mapping). is_some found) ((ground publication m b.0).lines.moves key site.0) ∙ told-some (last_line h key site.0) generation at in
       place-has (KeyIsMade h.made) w.publisher.mappings place i.moves told
 
-  reply-made : (w : World) (h : History) (number : ℕ) (m : Download) → Base w h → In w h → (let q : PublisherTables = asked m (here w) in ItemsMade h.made (Replies (reply.Downloaded (reply_to publication (by_past h (pasts_with h number)) m q))))
+  reply-made : (w : World) (h : History) (number : ℕ) (m : Download) → Base w h → In w h → (let q : PublisherTables = tables_after_download m (here w) in ItemsMade h.made (Replies (reply.Downloaded (reply_to publication (by_past h (pasts_with h number)) m q))))
   reply-made w h number m b i =
       let judge : PublisherJudge = by_past h (pasts_with h number) in
-      let q : PublisherTables = asked m (here w) in
+      let q : PublisherTables = tables_after_download m (here w) in
       let inside : List Key = inside_keys publication m.site q in
       let keys : List Key = entry.keys_of q.rows (judge.moved_rows m.site.0) in
       let sent = reply_to publication judge m q in
@@ -305,7 +305,7 @@ module _ (publication : Publication) where
       subscriber_change = λ w h s change d b i at named fine is. made-on h.made (Noting.with_change publication (subscriber_next_dot s) (subscriber_last_closed s + 1) change d.0 h).made w.publisher.mappings w.pool (λ c inside. inr inside) i;
       subscriber_closing = λ w h s b i at. i;
       anew = λ w h s b i at. (let judge : SubscriberJudge = by_made h s.site in
-          same-on h.made (Noting.noted_anew judge s h).made w.publisher.mappings w.pool (fold-leave (λ (x : History). x.made) (Noting.with_discarded s.site) (λ x row. refl) (discarded judge s) h) i);
+          same-on h.made (Noting.noted_anew judge s h).made w.publisher.mappings w.pool (fold-leave (λ (x : History). x.made) (Noting.with_discarded s.site) (λ x row. refl) (discarded_versions judge s) h) i);
       sends_join = λ w h s b i at joining. posts-on h.made w.publisher.mappings w.pool s.site (Asks (request.Join (join_of s))) tt i;
       sends_upload = λ w h s b i at fine. posts-on h.made w.publisher.mappings w.pool s.site (Asks (request.Upload (upload_sent (by_made h s.site) (subscriber_closed (subscriber_at_moment w.moment s))).1)) tt i;
       sends_ranges = λ w h s b i at fine. posts-on h.made w.publisher.mappings w.pool s.site (Asks (request.Ranges (record { site = s.site; seq = s.seq + 1; wants = map want_of s.held }))) tt i;
@@ -321,8 +321,8 @@ module _ (publication : Publication) where
           posts-on (Noting.with_acts_noted publication judge m (acts_in publication says judge m w) (pasts_with h number) (here w) h).made (taken_in publication judge m (acts_in publication says judge m w) (here w)).mappings w.pool m.site (Replies (reply.Uploaded (told_by judge m))) tt
           (upload-on w h number m b i at));
       uploads_again = λ w h number m b i at old. posts-on h.made w.publisher.mappings w.pool m.site (Replies (reply.Uploaded (told_by (by_past h (pasts_with h number)) m))) tt i;
-      answers_ranges = λ w h site m b i. posts-on h.made w.publisher.mappings w.pool site (Replies (reply.Ranged (ranged m (plans publication m w.publisher)))) tt i;
-      answers_ask = λ w h number site m b i at fine. posts-on h.made w.publisher.mappings w.pool site (Replies (reply.Downloaded (reply_to publication (by_past h (pasts_with h number)) m (asked m (here w))))) (reply-made w h number m b i) i;
+      answers_ranges = λ w h site m b i. posts-on h.made w.publisher.mappings w.pool site (Replies (reply.Ranged (reply_to_ranges m (plans publication m w.publisher)))) tt i;
+      answers_ask = λ w h number site m b i at fine. posts-on h.made w.publisher.mappings w.pool site (Replies (reply.Downloaded (reply_to publication (by_past h (pasts_with h number)) m (tables_after_download m (here w))))) (reply-made w h number m b i) i;
       replies = λ w h s number m sent b i at there out fits. (let judge : SubscriberJudge = by_made h s.site in
           same-on h.made (Noting.noted_reply judge s.site (pasts_with h number) m h).made w.publisher.mappings w.pool (reply-leave (λ (x : History). x.made) (λ x pasts. refl) judge s.site (pasts_with h number) m h) i);
     }

@@ -38,12 +38,12 @@ use Rattle.merge_model.specs.History.{History}
 use Rattle.merge_model.specs.Judge.{SubscriberJudge}
 use Rattle.merge_model.specs.Tables.Keys.{drop_row, put_number, put_row, row_at}
 use Rattle.merge_model.specs.Laws.{SubscriberIsSorted}
-use Rattle.merge_model.specs.Subscriber.Reinit.{reinitialised}
+use Rattle.merge_model.specs.Subscriber.Reinit.{result_of_reinit}
 use Rattle.merge_model.specs.Failing.Runs.{model_behind}
 use Rattle.merge_model.specs.Subscriber.Sending.{upload_end, upload_item, upload_sent, with_message}
 use Rattle.merge_model.specs.Subscriber.{generations_at, subscriber_at_moment, subscriber_closed, subscriber_last_closed, subscriber_made_locally, subscriber_next_dot, subscriber_version_at, with_open, with_version_if}
 use Rattle.merge_model.specs.Tables.{SubscriberTables}
-use Rattle.merge_model.specs.Subscriber.Taking.{key_of_download, row_above, taken, with_item, with_order}
+use Rattle.merge_model.specs.Subscriber.Taking.{key_of_download, row_above, tables_after_reply, with_item, with_order}
 use Rattle.merge_model.specs.World.{Saying, World, empty_world, subscriber_at}
 use Rattle.merge_model.specs.declared.event.Event.{Event}
 use Rattle.merge_model.specs.declared.letter.Letter.{Letter}
@@ -122,7 +122,7 @@ items-own n judge received [] rows all = all
 items-own n judge received (item ∷ items) rows all = items-own n judge received items (with_item judge received rows item)
     (item-by n (judge.is_unsent received (key_of_download item)) rows (with_order (key_of_download item) item.act rows) all (order-own n (key_of_download item) item.act rows all))
 
-taken-own : (n : ℕ) (judge : SubscriberJudge) (now : Moment) (m : Reply) (s : SubscriberTables) → AllOwn n s.rows → AllOwn n (taken judge now m s).rows
+taken-own : (n : ℕ) (judge : SubscriberJudge) (now : Moment) (m : Reply) (s : SubscriberTables) → AllOwn n s.rows → AllOwn n (tables_after_reply judge now m s).rows
 taken-own n judge now (reply.Joined m) s all = all
 taken-own n judge now (reply.Uploaded m) s all = above-own n m.received s.rows all
 taken-own n judge now (reply.Ranged m) s all = all
@@ -220,7 +220,7 @@ module _ (publication : Publication) (says : Saying) where
         let key : Key = key_of (subscriber_next_dot s) change in
         subscriber-on w h s t (version-site _ _ _) (version-own s.site.0 key (version_after publication (subscriber_next_dot s) d.0 change (subscriber_version_at s key)) u (after-pair publication (subscriber_next_dot s) d.0 change (subscriber_version_at s key)) (here-own w h s i at)) i);
     subscriber_closing = λ w h s g i at. subscriber-on w h s (subscriber_closed (subscriber_at_moment w.moment s)) refl (here-own w h s i at) i;
-    anew = λ w h s g i at. subscriber-on w h s (reinitialised (by_made h s.site) (subscriber_at_moment w.moment s)).0 refl tt i;
+    anew = λ w h s g i at. subscriber-on w h s (result_of_reinit (by_made h s.site) (subscriber_at_moment w.moment s)).0 refl tt i;
     sends_join = λ w h s g i at joining. message-on w h s (with_message ask.Join s) (Asks (request.Join _)) i at refl refl tt;
     sends_upload = λ w h s g i at fine. message-on w h s (upload_sent (by_made h s.site) (subscriber_closed (subscriber_at_moment w.moment s))).0 (Asks (request.Upload _)) i at refl refl (upload-own w h s g i at);
     sends_ranges = λ w h s g i at fine. message-on w h s (with_message ask.Ranges s) (Asks (request.Ranges _)) i at refl refl tt;
@@ -231,7 +231,7 @@ module _ (publication : Publication) (says : Saying) where
     uploads_again = λ w h number m g i at none. letter-on w.subscribers w.pool m.site (Replies (reply.Uploaded _)) tt i;
     answers_ranges = λ w h site m g i. letter-on w.subscribers w.pool site (Replies (reply.Ranged _)) tt i;
     answers_ask = λ w h number site m g i at fine. letter-on w.subscribers w.pool site (Replies (reply.Downloaded _)) tt i;
-    replies = λ w h s number m sent g i at there out none. subscriber-on w h s (taken (by_made h s.site) w.moment m s) (reply-site (by_made h s.site) w.moment m s) (taken-own s.site.0 (by_made h s.site) w.moment m s (here-own w h s i at)) i;
+    replies = λ w h s number m sent g i at there out none. subscriber-on w h s (tables_after_reply (by_made h s.site) w.moment m s) (reply-site (by_made h s.site) w.moment m s) (taken-own s.site.0 (by_made h s.site) w.moment m s (here-own w h s i at)) i;
   }
 
 own-pairs-begin : (publication : Publication) (tallies : List ℕ) → (let w : World = empty_world publication tallies in OwnPairs w.subscribers w.pool)

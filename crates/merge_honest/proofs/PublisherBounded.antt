@@ -32,11 +32,11 @@ use Rattle.merge_model.specs.World.Faults.{upload_fault}
 use Rattle.merge_model.specs.Judge.{PublisherJudge}
 use Rattle.merge_model.specs.Tables.Keys.{row_at}
 use Rattle.merge_model.specs.Tables.Publications.{identity_column, types_at}
-use Rattle.merge_model.specs.Publisher.{at_moment, closed, counters, last_closed, site_refusal}
-use Rattle.merge_model.specs.Publisher.PublisherDownload.{asked, download_refusal, reply_to}
-use Rattle.merge_model.specs.Publisher.PublisherLocal.{Drawn, changing_locally, drawn, local_refusal, made_locally, next_dot, version_at, with_draw}
+use Rattle.merge_model.specs.Publisher.{at_moment, counters, last_closed, site_refusal, tables_after_close}
+use Rattle.merge_model.specs.Publisher.PublisherDownload.{download_refusal, reply_to, tables_after_download}
+use Rattle.merge_model.specs.Publisher.PublisherLocal.{Drawn, changing_locally, draw_for_change, local_refusal, made_locally, next_dot, version_at, with_draw}
 use Rattle.merge_model.specs.Publisher.PublisherPurge.{is_old_tombstone}
-use Rattle.merge_model.specs.Publisher.PublisherUpload.{brings_news, changing_by, taken_in, too_many_new, upload_refusal, uploaded, with_acts}
+use Rattle.merge_model.specs.Publisher.PublisherUpload.{brings_news, changing_by, tables_after_upload, taken_in, too_many_new, upload_refusal, with_acts}
 use Rattle.merge_model.specs.Tables.Refusals.{counter_end, refused_if, unless}
 use Rattle.merge_model.specs.World.Steps.{Action, step_by}
 use Rattle.merge_model.specs.Tables.{PublisherTables}
@@ -147,20 +147,20 @@ module _ (publication : Publication) (few : length publication.subscriptions ≤
   local-within : (judge : PublisherJudge) (now : Moment) (change : Change) (p : PublisherTables) (refusal : Option Refusal) → local_refusal publication change p ≡ refusal → Within p
       → (let done : Result (PublisherTables × RowId) Refusal = elim refusal [
         | Some why ↦ Err why
-        | None ↦ elim (drawn publication p change) [ Err why ↦ Err why | Ok d ↦ Ok (made_locally publication judge change d (at_moment now p)) ]
+        | None ↦ elim (draw_for_change publication p change) [ Err why ↦ Err why | Ok d ↦ Ok (made_locally publication judge change d (at_moment now p)) ]
       ] in IfOk done (λ a. Within a.0))
   local-within judge now change p (Some why) is k = tt
-  local-within judge now change p None is k = drawn-within judge now change p (drawn publication p change) k is
+  local-within judge now change p None is k = drawn-within judge now change p (draw_for_change publication p change) k is
 
   -- Closings.
 
-  closed-within : (now : Moment) (p : PublisherTables) → Within p → counter_end (counters p) ≡ None → Within (closed (at_moment now p))
+  closed-within : (now : Moment) (p : PublisherTables) → Within p → counter_end (counters p) ≡ None → Within (tables_after_close (at_moment now p))
   closed-within now p k none =
       let low = (publisher-low p none).1 in
       let up = closed-up p.gens.filling in
       (record { changes = k.0.changes; closed = omega (arith, low, up); rows = k.0.rows }, k.1, closed-unfilled p.gens.filling)
 
-  asked-within : (now : Moment) (m : Download) (p : PublisherTables) → Within p → download_refusal publication now m p ≡ None → Within (asked m (at_moment now p))
+  asked-within : (now : Moment) (m : Download) (p : PublisherTables) → Within p → download_refusal publication now m p ≡ None → Within (tables_after_download m (at_moment now p))
   asked-within now m p k none =
       let site = first-none (site_refusal publication m.site m.seq now p) _ none in
       let mark = first-none (refused_if (nat_lt (last_closed p) m.from) (WrongWatermark m.from (last_closed p))) _ site.1 in
@@ -190,11 +190,11 @@ module _ (publication : Publication) (few : length publication.subscriptions ≤
   pub step-within : (says : Saying) (judges : Judges) (w : World) (action : Action) → Within w.publisher → Within (step_by publication says judges w action).0.publisher
   step-within says judges w action k = step-holds publication Within
       (λ judge now change p k. local-within judge now change p (local_refusal publication change p) refl k)
-      (λ now p k. made-where (λ (done : PublisherTables × ℕ). Within done.0) (counter_end (counters p)) (closed (at_moment now p), last_closed (closed (at_moment now p))) (λ none. closed-within now p k none))
+      (λ now p k. made-where (λ (done : PublisherTables × ℕ). Within done.0) (counter_end (counters p)) (tables_after_close (at_moment now p), last_closed (tables_after_close (at_moment now p))) (λ none. closed-within now p k none))
       (λ now m p k. join-ok Within publication now m p (record { changes = k.0.changes; closed = k.0.closed; rows = k.0.rows }, k.1, k.2) (record { changes = k.0.changes; closed = k.0.closed; rows = k.0.rows }, k.1, k.2))
-      (λ judge now m decisions p k. made-where (λ (done : PublisherTables × Uploaded). Within done.0) (upload_refusal publication judge now m p) (uploaded publication judge m decisions (at_moment now p), _) (λ none. upload-within judge now m decisions p (brings_news judge m) k none))
+      (λ judge now m decisions p k. made-where (λ (done : PublisherTables × Uploaded). Within done.0) (upload_refusal publication judge now m p) (tables_after_upload publication judge m decisions (at_moment now p), _) (λ none. upload-within judge now m decisions p (brings_news judge m) k none))
       (λ judge now m p k. ranges-ok Within publication judge now m p (record { changes = k.0.changes; closed = k.0.closed; rows = k.0.rows }, k.1, k.2))
-      (λ judge now m p k. made-where (λ (done : PublisherTables × _). Within done.0) (download_refusal publication now m p) (asked m (at_moment now p), reply_to publication judge m (asked m (at_moment now p))) (λ none. asked-within now m p k none))
+      (λ judge now m p k. made-where (λ (done : PublisherTables × _). Within done.0) (download_refusal publication now m p) (tables_after_download m (at_moment now p), reply_to publication judge m (tables_after_download m (at_moment now p))) (λ none. asked-within now m p k none))
       (λ now p k. (
       let kept : Key × PublisherRow → Bool = λ (row : Key × PublisherRow). not (is_old_tombstone publication (at_moment now p) row) in
       let fewer = filter-short kept p.rows in

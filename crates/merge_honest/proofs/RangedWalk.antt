@@ -11,7 +11,7 @@ use Rattle.merge_batch.specs.declared.request.Request.TheVariants as request
 use Rattle.merge_batch.proofs.Values.{slice_get-append_past}
 use Rattle.merge_model.specs.History.{History}
 use Rattle.merge_model.specs.History.Model.{Model, model_step}
-use Rattle.merge_model.specs.Publisher.PublisherRanges.{plans, ranged, with_grants}
+use Rattle.merge_model.specs.Publisher.PublisherRanges.{plans, reply_to_ranges, with_grants}
 use Rattle.merge_model.specs.World.Steps.{Action, post}
 use Rattle.merge_model.specs.World.{Saying, World, with_publisher, with_subscriber}
 use Rattle.merge_model.specs.declared.letter.Letter.{Letter}
@@ -58,14 +58,14 @@ module _ (publication : Publication) (says : Saying) (B P : World → History �
   pub record RangedKeep : Type 0 where
     pub silent : (pool : List Letter) → StepsKeep publication says (Before pool) (Silent pool)
     pub answers : (w : World) (h : History) (number : ℕ) (site : SiteId) (m : RangeAsk) → B w h → P w h → comes w number site (Asks (request.Ranges m))
-        → Sends P site (Replies (reply.Ranged (ranged m (plans publication m w.publisher)))) (with_publisher (with_grants (plans publication m w.publisher) (here w)) w) h
+        → Sends P site (Replies (reply.Ranged (reply_to_ranges m (plans publication m w.publisher)))) (with_publisher (with_grants (plans publication m w.publisher) (here w)) w) h
 
   -- an answer that tells ranges is no silent one
   pub no-silence : {A : Type 0} (pool : List Letter) (w : World) (site : SiteId) (m : RangeAsk) → w.pool ≡ pool
-      → tells_ranges pool (post site (Replies (reply.Ranged (ranged m (plans publication m w.publisher)))) (with_publisher (with_grants (plans publication m w.publisher) (here w)) w)).0 ≡ false → A
+      → tells_ranges pool (post site (Replies (reply.Ranged (reply_to_ranges m (plans publication m w.publisher)))) (with_publisher (with_grants (plans publication m w.publisher) (here w)) w)).0 ≡ false → A
   no-silence pool w site m same none =
       let v : World = with_publisher (with_grants (plans publication m w.publisher) (here w)) w in
-      let message : Message = Replies (reply.Ranged (ranged m (plans publication m w.publisher))) in
+      let message : Message = Replies (reply.Ranged (reply_to_ranges m (plans publication m w.publisher))) in
       not-both (tells_ranges pool (post site message v).0) none (posted-tells pool v site message same)
 
   module _ (keeps : RangedKeep) where

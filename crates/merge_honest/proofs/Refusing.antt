@@ -27,7 +27,7 @@ use Rattle.merge_model.specs.History.Model.{Model}
 use Rattle.merge_model.specs.Publisher.{counters, last_closed, later, site_refusal, state_of, state_refusal, unknown_site}
 use Rattle.merge_model.specs.Publisher.PublisherUpload.{too_many_new}
 use Rattle.merge_model.specs.Tables.Refusals.{counter_end, unless}
-use Rattle.merge_model.specs.World.Steps.{answered, deliver_letter, deliver_request, unless_refused}
+use Rattle.merge_model.specs.World.Steps.{deliver_letter, deliver_request, post_reply, unless_refused}
 use Rattle.merge_model.specs.Tables.{PublisherTables}
 use Rattle.merge_model.specs.World.{Saying, World, letter_at}
 use Rattle.merge_model.specs.Judge.ByHistory.{by_history}

@@ -17,7 +17,7 @@ use Rattle.merge_model.specs.Tables.Refusals.{unless}
 use Rattle.merge_model.specs.Failing.Runs.{model_behind}
 use Rattle.merge_model.specs.World.Steps.{deliver_letter, deliver_reply, unless_refused}
 use Rattle.merge_model.specs.Tables.{SubscriberTables}
-use Rattle.merge_model.specs.Subscriber.Taking.{met_by, seq_of, take_reply, taken}
+use Rattle.merge_model.specs.Subscriber.Taking.{met_by, seq_of, tables_after_reply, take_reply}
 use Rattle.merge_model.specs.World.{Saying, World, subscriber_at, with_subscriber}
 use Rattle.merge_model.specs.declared.letter.Letter.{Letter}
 use Rattle.merge_model.specs.declared.letter.Message.TheVariants.{Replies}
@@ -73,7 +73,7 @@ module _ (publication : Publication) (m : Model) (site : SiteId) (r : Reply) (fi
 
   met-not : (s : SubscriberTables) (judge : SubscriberJudge) (found : Option (ℕ × Outstanding)) → subscriber_at m.world site ≡ Some s → s.outstanding ≡ found → (why : Refusal) → met_by publication judge m.world.moment r s found ≡ Err why → ⊥
   met-not s judge None there out why e = cc
-  met-not s judge (Some sent) there out why e = numbered-not s (taken judge m.world.moment r s) sent.0 (sent.0 == seq_of r) (reply_fault publication sent.1 r s)
+  met-not s judge (Some sent) there out why e = numbered-not s (tables_after_reply judge m.world.moment r s) sent.0 (sent.0 == seq_of r) (reply_fault publication sent.1 r s)
       (λ same. (let is : sent.0 ≡ seq_of r = grind (arith, nat_tests, same) in
       fits s sent.1 there (out ∙ ap (λ (n : ℕ). (let found : Option (ℕ × Outstanding) = Some (n, sent.1) in found)) is))) why e
 

@@ -19,7 +19,7 @@ use Rattle.merge_model.specs.History.Model.{Model}
 use Rattle.merge_model.specs.Failing.Runs.{model_behind}
 use Rattle.merge_model.specs.Subscriber.{subscriber_last_closed}
 use Rattle.merge_model.specs.Tables.{SubscriberTables}
-use Rattle.merge_model.specs.Subscriber.Taking.{seq_of, taken}
+use Rattle.merge_model.specs.Subscriber.Taking.{seq_of, tables_after_reply}
 use Rattle.merge_model.specs.World.{subscriber_at}
 use Rattle.merge_model.specs.declared.letter.Letter.{Letter}
 use Rattle.merge_model.specs.declared.letter.Message.TheVariants.{Replies}

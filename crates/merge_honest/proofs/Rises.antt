@@ -14,7 +14,7 @@ use Rattle.merge_model.specs.Judge.ByNumbers.{received_by_number}
 use Rattle.merge_model.specs.Judge.{PublisherJudge}
 use Rattle.merge_model.specs.Tables.Keys.{at_number, put_number}
 use Rattle.merge_model.specs.Publisher.{last_closed, no_state, state_of}
-use Rattle.merge_model.specs.Publisher.PublisherDownload.{asked, synced}
+use Rattle.merge_model.specs.Publisher.PublisherDownload.{state_after_download, tables_after_download}
 use Rattle.merge_model.specs.Publisher.PublisherJoin.{join_acts, join_taken, joined_state}
 use Rattle.merge_model.specs.Publisher.PublisherUpload.{state_seeing, taken_in, with_taken}
 use Rattle.merge_model.specs.Tables.{PublisherTables}
@@ -72,11 +72,11 @@ pub again-remembered : (p : PublisherTables) (m : Join) → 1 ≤ m.seq → join
 again-remembered p m low acts = again-some p m (at_number p.sites m.site.0) refl low acts
 
 -- a site asks
-pub asked-rises : (p : PublisherTables) (m : Download) → Rises p (asked m p)
+pub asked-rises : (p : PublisherTables) (m : Download) → Rises p (tables_after_download m p)
 asked-rises p m = record {
   received = λ n. (let e = (asked-same m p).received n in omega (arith, e));
   closed = filling-rises p.gens.filling;
-  states = λ n is. put-some p.sites m.site.0 n (synced m p (state_of p m.site)) is;
+  states = λ n is. put-some p.sites m.site.0 n (state_after_download m p (state_of p m.site)) is;
 }
 
 -- An upload is taken.

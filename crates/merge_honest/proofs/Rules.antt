@@ -33,7 +33,7 @@ use Rattle.merge_laws.proofs.Lineages.LineagesAlways.{Kept, kept-always}
 use Rattle.merge_laws.specs.Facts.LineagesStand.{EveryVersion}
 use Rattle.merge_owed.specs.Identity.{TakenStands, ValueWasTaken}
 use Rattle.merge_owed.proofs.IdentityKept.{taken-stands, values-taken}
-use Rattle.merge_honest.specs.Answered.{Answered}
+use Rattle.merge_honest.specs.Answered.{LettersAnswer}
 use Rattle.merge_honest.specs.Bounded.{AreBounded}
 use Rattle.merge_honest.specs.Filled.{HasGeneration}
 use Rattle.merge_honest.specs.HeldRanges.{HeldRanges}
@@ -59,7 +59,7 @@ pub record Known (publication : Publication) (m : Model) : Type 0 where
   pub named : AllNamed m
   pub begun : AllUploads HasGeneration m.world
   pub held : HeldRanges publication m.world.publisher.grants m.world.subscribers m.world.pool
-  pub answered : Answered m.world.subscribers m.world.pool
+  pub answered : LettersAnswer m.world.subscribers m.world.pool
   -- identity values were taken, and stand
   pub taken : EveryVersion (λ (key : Key) (version : Version) (past : Past). ValueWasTaken publication m.history.made key version.body) m
   pub stands : AllByRecursion (TakenStands publication m) m.history.made

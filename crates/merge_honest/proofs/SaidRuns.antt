@@ -16,12 +16,12 @@ use Rattle.merge_batch.specs.LocalChanges.{article_of}
 use Rattle.merge_batch.specs.declared.refusal.Refusal.{Refusal}
 use Rattle.merge_batch.specs.declared.refusal.Refusal.TheVariants.{UnknownName, UnknownSite}
 use Rattle.merge_batch.specs.declared.reply.Downloaded.{Downloaded}
-use Rattle.merge_model.specs.World.Events.{acting, after, changing, happens, is_site, looking, syncing, where_site, where_subscriber}
-use Rattle.merge_model.specs.Failing.{Faulty, Slip, Slips, acting_with, failing, fails, is_allowed, questions_by, slip_if}
+use Rattle.merge_model.specs.World.Events.{after, answered_action, answered_change, answered_look, answered_sync, happens, is_site, where_site, where_subscriber}
+use Rattle.merge_model.specs.Failing.{Faulty, Slip, Slips, acting_with, fails, faulty_stepping, is_allowed, questions_by, slip_if}
 use Rattle.merge_model.specs.Laws.{is_report}
 use Rattle.merge_model.specs.World.Naming.{and_then, article_by, delete_by, insert_by, place_from, same_name, settings_by, update_by}
 use Rattle.merge_model.specs.Tables.Publications.{columns_at}
-use Rattle.merge_model.specs.World.Session.{Session, Stepping, after_download, all_downloads, all_ranges, all_uploads, answered_as, arrived, as_it_is, ask, asking_ranges, downloaded_in, downloading, exchange, has_grant, is_joined_in, joining, last_message, range_asks, session, then_deliver, unless_stopped, unsent_generations, uploading, with_answer, with_download, with_upload}
+use Rattle.merge_model.specs.World.Session.{Session, Stepping, after_download, all_downloads, all_ranges, all_uploads, answered_as, as_it_is, ask, downloaded_in, downloads_up_to, exchange, has_grant, is_joined_in, join_if_due, last_message, range_asks, range_requests_up_to, session, session_after_reply, then_deliver, unless_stopped, unsent_generations, uploads_up_to, with_answer, with_download, with_upload}
 use Rattle.merge_model.specs.World.Steps.{Action, CloseAt, Deliver, Forget, Look, Make, MakeAnew, Pass, Send, SendDownload, SendJoin, SendRanges, SendUpload, Sending}
 use Rattle.merge_model.specs.declared.answer.Answer.{Answer}
 use Rattle.merge_model.specs.declared.answer.Answer.TheVariants.{Refused}
@@ -97,7 +97,7 @@ module _ {W : Type 0} (publication : Publication) (stepping : Stepping W) (P : W
     abbrev Keeps : (Session W → Session W) → Type 0
     Keeps next = (t : Session W) → P t.world → P (next t).world
 
-    arrived-keeps : (next : Session W → Session W) (s : Session W) (made : W × Outcome) → Keeps next → P made.0 → P (arrived stepping site next s made).world
+    arrived-keeps : (next : Session W → Session W) (s : Session W) (made : W × Outcome) → Keeps next → P made.0 → P (session_after_reply stepping site next s made).world
     arrived-keeps next s (w, Took taken) more h = more (record s { world = w }) h
     arrived-keeps next s (w, Refuses refusal) more h = h
     arrived-keeps next s (w, outcome) more h = h
@@ -120,18 +120,18 @@ module _ {W : Type 0} (publication : Publication) (stepping : Stepping W) (P : W
     if-keeps true x y first second = first
     if-keeps false x y first second = second
 
-    joining-keeps : (s : Session W) → P s.world → P (joining stepping site s).world
+    joining-keeps : (s : Session W) → P s.world → P (join_if_due stepping site s).world
     joining-keeps s h = if-keeps (is_joined_in stepping site s.world) s (exchange stepping site SendJoin (as_it_is stepping site) (as_it_is stepping site) s) h
         (exchange-keeps SendJoin (as_it_is stepping site) (as_it_is stepping site) s (λ t. refl) (λ t k. k) h)
 
-    uploading-keeps : (n : ℕ) (s : Session W) → P s.world → P (uploading stepping site n s).world
+    uploading-keeps : (n : ℕ) (s : Session W) → P s.world → P (uploads_up_to stepping site n s).world
     uploading-keeps zero s h = h
-    uploading-keeps (suc n) s h = exchange-keeps SendUpload (with_upload stepping site) (uploading stepping site n) s (λ t. refl) (uploading-keeps n) h
+    uploading-keeps (suc n) s h = exchange-keeps SendUpload (with_upload stepping site) (uploads_up_to stepping site n) s (λ t. refl) (uploading-keeps n) h
 
-    asking-keeps : (n : ℕ) (s : Session W) → P s.world → P (asking_ranges stepping site n s).world
+    asking-keeps : (n : ℕ) (s : Session W) → P s.world → P (range_requests_up_to stepping site n s).world
     asking-keeps zero s h = h
-    asking-keeps (suc n) s h = exchange-keeps SendRanges (as_it_is stepping site) (λ (t : Session W). if has_grant stepping site (last_message stepping site t.world) then asking_ranges stepping site n t else t) s (λ t. refl)
-        (λ t k. if-keeps (has_grant stepping site (last_message stepping site t.world)) (asking_ranges stepping site n t) t (asking-keeps n t k) k) h
+    asking-keeps (suc n) s h = exchange-keeps SendRanges (as_it_is stepping site) (λ (t : Session W). if has_grant stepping site (last_message stepping site t.world) then range_requests_up_to stepping site n t else t) s (λ t. refl)
+        (λ t k. if-keeps (has_grant stepping site (last_message stepping site t.world)) (range_requests_up_to stepping site n t) t (asking-keeps n t k) k) h
 
     with_answer-stays : (s : Session W) → (with_answer stepping site s).world ≡ s.world
     with_answer-stays s = of (downloaded_in stepping site (last_message stepping site s.world))
@@ -151,14 +151,14 @@ module _ {W : Type 0} (publication : Publication) (stepping : Stepping W) (P : W
     download-keeps : (next : Downloaded → Session W → Session W) (s : Session W) → ((m : Downloaded) → Keeps (next m)) → P s.world → P (exchange stepping site SendDownload (with_answer stepping site) (after_download stepping site next) s).world
     download-keeps next s more h = exchange-keeps SendDownload (with_answer stepping site) (after_download stepping site next) s with_answer-stays (λ t k. after_download-keeps next t more k) h
 
-    downloading-keeps : (n target : ℕ) (s : Session W) → P s.world → P (downloading stepping site n target s).world
+    downloading-keeps : (n target : ℕ) (s : Session W) → P s.world → P (downloads_up_to stepping site n target s).world
     downloading-keeps zero target s h = h
-    downloading-keeps (suc n) target s h = download-keeps (λ (m : Downloaded) (t : Session W). if nat_le target m.from then t else downloading stepping site n target t) s
-        (λ m u j. if-keeps (nat_le target m.from) u (downloading stepping site n target u) j (downloading-keeps n target u j)) h
+    downloading-keeps (suc n) target s h = download-keeps (λ (m : Downloaded) (t : Session W). if nat_le target m.from then t else downloads_up_to stepping site n target t) s
+        (λ m u j. if-keeps (nat_le target m.from) u (downloads_up_to stepping site n target u) j (downloading-keeps n target u j)) h
 
     downloads-keep : (s : Session W) → P s.world → P (all_downloads stepping site s).world
-    downloads-keep s h = download-keeps (λ (m : Downloaded) (t : Session W). if nat_le m.last m.from then t else downloading stepping site (m.last + 1 - m.from) m.last t) s
-        (λ m u j. if-keeps (nat_le m.last m.from) u (downloading stepping site (m.last + 1 - m.from) m.last u) j (downloading-keeps (m.last + 1 - m.from) m.last u j)) h
+    downloads-keep s h = download-keeps (λ (m : Downloaded) (t : Session W). if nat_le m.last m.from then t else downloads_up_to stepping site (m.last + 1 - m.from) m.last t) s
+        (λ m u j. if-keeps (nat_le m.last m.from) u (downloads_up_to stepping site (m.last + 1 - m.from) m.last u) j (downloading-keeps (m.last + 1 - m.from) m.last u j)) h
 
     start_of : W → Session W
     start_of w = record {
@@ -170,7 +170,7 @@ module _ {W : Type 0} (publication : Publication) (stepping : Stepping W) (P : W
 
     session-said : (w : W) → P w → P (session stepping site w).world
     session-said w h =
-        let joined : Session W = joining stepping site (record { world = w; uploads = 0; downloads = 0; stop = None }) in
+        let joined : Session W = join_if_due stepping site (record { world = w; uploads = 0; downloads = 0; stop = None }) in
         let sent : Session W = unless_stopped stepping site (all_uploads stepping site) joined in
         let ranged : Session W = unless_stopped stepping site (all_ranges stepping site) sent in
         unless_stopped-keeps (all_downloads stepping site) ranged downloads-keep
@@ -183,16 +183,16 @@ module _ {W : Type 0} (publication : Publication) (stepping : Stepping W) (P : W
   answer-keeps true x y first second = first
   answer-keeps false x y first second = second
 
-  looking-keeps : (w : W) (answer : W → Answer) → P w → P (looking publication stepping answer w).0
+  looking-keeps : (w : W) (answer : W → Answer) → P w → P (answered_look publication stepping answer w).0
   looking-keeps w answer h = subst (λ (v : W). P v) (sym (looking-leaves publication stepping answer w)) (of_act w Look tt h)
 
   site-keeps : (site : SiteId) (w : W) (next : W → W × Answer) → P (next w).0 → P w → P (where_site publication stepping site w next).0
-  site-keeps site w next keeps h = answer-keeps (is_site publication site) (next w) (looking publication stepping (λ (v : W). Refused (UnknownSite site)) w) keeps (looking-keeps w (λ (v : W). Refused (UnknownSite site)) h)
+  site-keeps site w next keeps h = answer-keeps (is_site publication site) (next w) (answered_look publication stepping (λ (v : W). Refused (UnknownSite site)) w) keeps (looking-keeps w (λ (v : W). Refused (UnknownSite site)) h)
 
   subscriber-keeps : (site : SiteId) (w : W) (next : W → W × Answer) → P (next w).0 → P w → P (where_subscriber publication stepping site w next).0
-  subscriber-keeps site w next keeps h = answer-keeps (is_subscription publication site.0) (next w) (looking publication stepping (λ (v : W). Refused (UnknownSite site)) w) keeps (looking-keeps w (λ (v : W). Refused (UnknownSite site)) h)
+  subscriber-keeps site w next keeps h = answer-keeps (is_subscription publication site.0) (next w) (answered_look publication stepping (λ (v : W). Refused (UnknownSite site)) w) keeps (looking-keeps w (λ (v : W). Refused (UnknownSite site)) h)
 
-  changing-keeps : (site : SiteId) (w : W) (named : Result Change (List ℕ)) → IfOk named (λ change. IsSaid publication (Make site change)) → P w → P (changing publication stepping site w named).0
+  changing-keeps : (site : SiteId) (w : W) (named : Result Change (List ℕ)) → IfOk named (λ change. IsSaid publication (Make site change)) → P w → P (answered_change publication stepping site w named).0
   changing-keeps site w (Err name) said h = looking-keeps w (λ (v : W). Refused (UnknownName name)) h
   changing-keeps site w (Ok change) said h = of_act w (Make site change) said h
 
@@ -201,17 +201,17 @@ module _ {W : Type 0} (publication : Publication) (stepping : Stepping W) (P : W
 
   event-keeps : (w : W) (e : Event) → P w → P (happens publication stepping w e).0
   event-keeps w (event.Wait seconds) h = of_act w (Pass seconds) tt h
-  event-keeps w (event.Insert site article values) h = site-keeps site w (λ (v : W). changing publication stepping site v (insert_by publication article values)) (changing-keeps site w (insert_by publication article values) (insert-said publication site article values) h) h
-  event-keeps w (event.Update site article row values) h = site-keeps site w (λ (v : W). changing publication stepping site v (update_by publication article row values)) (changing-keeps site w (update_by publication article row values) (update-said publication site article row values) h) h
-  event-keeps w (event.Delete site article row) h = site-keeps site w (λ (v : W). changing publication stepping site v (delete_by publication article row)) (changing-keeps site w (delete_by publication article row) (delete-said publication site article row) h) h
-  event-keeps w (event.Close site) h = site-keeps site w (acting publication stepping 0 (CloseAt site)) (of_act w (CloseAt site) tt h) h
-  event-keeps w (event.Sync site) h = subscriber-keeps site w (syncing publication stepping site) (session-said publication stepping P of_act site w h) h
-  event-keeps w (event.SendJoin site) h = subscriber-keeps site w (acting publication stepping 0 (Send site SendJoin)) (of_act w (Send site SendJoin) tt h) h
-  event-keeps w (event.SendUpload site) h = subscriber-keeps site w (acting publication stepping 0 (Send site SendUpload)) (of_act w (Send site SendUpload) tt h) h
-  event-keeps w (event.SendRanges site) h = subscriber-keeps site w (acting publication stepping 0 (Send site SendRanges)) (of_act w (Send site SendRanges) tt h) h
-  event-keeps w (event.SendDownload site) h = subscriber-keeps site w (acting publication stepping 0 (Send site SendDownload)) (of_act w (Send site SendDownload) tt h) h
+  event-keeps w (event.Insert site article values) h = site-keeps site w (λ (v : W). answered_change publication stepping site v (insert_by publication article values)) (changing-keeps site w (insert_by publication article values) (insert-said publication site article values) h) h
+  event-keeps w (event.Update site article row values) h = site-keeps site w (λ (v : W). answered_change publication stepping site v (update_by publication article row values)) (changing-keeps site w (update_by publication article row values) (update-said publication site article row values) h) h
+  event-keeps w (event.Delete site article row) h = site-keeps site w (λ (v : W). answered_change publication stepping site v (delete_by publication article row)) (changing-keeps site w (delete_by publication article row) (delete-said publication site article row) h) h
+  event-keeps w (event.Close site) h = site-keeps site w (answered_action publication stepping 0 (CloseAt site)) (of_act w (CloseAt site) tt h) h
+  event-keeps w (event.Sync site) h = subscriber-keeps site w (answered_sync publication stepping site) (session-said publication stepping P of_act site w h) h
+  event-keeps w (event.SendJoin site) h = subscriber-keeps site w (answered_action publication stepping 0 (Send site SendJoin)) (of_act w (Send site SendJoin) tt h) h
+  event-keeps w (event.SendUpload site) h = subscriber-keeps site w (answered_action publication stepping 0 (Send site SendUpload)) (of_act w (Send site SendUpload) tt h) h
+  event-keeps w (event.SendRanges site) h = subscriber-keeps site w (answered_action publication stepping 0 (Send site SendRanges)) (of_act w (Send site SendRanges) tt h) h
+  event-keeps w (event.SendDownload site) h = subscriber-keeps site w (answered_action publication stepping 0 (Send site SendDownload)) (of_act w (Send site SendDownload) tt h) h
   event-keeps w (event.Deliver number) h = of_act w (Deliver number) tt h
-  event-keeps w (event.Reinit site) h = subscriber-keeps site w (acting publication stepping 0 (MakeAnew site)) (of_act w (MakeAnew site) tt h) h
+  event-keeps w (event.Reinit site) h = subscriber-keeps site w (answered_action publication stepping 0 (MakeAnew site)) (of_act w (MakeAnew site) tt h) h
   event-keeps w event.Purge h = of_act w Forget tt h
   event-keeps w (event.Restart site) h = report-keeps w (event.Restart site) refl h
   event-keeps w (event.Show site article) h = report-keeps w (event.Show site article) refl h
@@ -245,5 +245,5 @@ module _ {W : Type 0} (publication : Publication) (stepping : Stepping W) (P : W
   fails-keep f Forget said h = acting-keeps f.slips Forget f.world (stepping.act f.world Forget) h (of_act f.world Forget said h)
   fails-keep f Look said h = acting-keeps f.slips Look f.world (stepping.act f.world Look) h (of_act f.world Look said h)
 
-  pub runs-said : (events : List Event) (f : Faulty W) → P f.world → P (after publication (failing publication stepping) f events).world
-  runs-said events f h = events-said publication (failing publication stepping) (λ (g : Faulty W). P g.world) fails-keep events f h
+  pub runs-said : (events : List Event) (f : Faulty W) → P f.world → P (after publication (faulty_stepping publication stepping) f events).world
+  runs-said events f h = events-said publication (faulty_stepping publication stepping) (λ (g : Faulty W). P g.world) fails-keep events f h

@@ -25,7 +25,7 @@ use Rattle.merge_model.specs.History.{History, Past}
 use Rattle.merge_model.specs.Judge.{PublisherJudge}
 use Rattle.merge_model.specs.Tables.Keys.{has_key, put_row}
 use Rattle.merge_model.specs.Publisher.{last_closed, site_refusal}
-use Rattle.merge_model.specs.Publisher.PublisherDownload.{TouchedRow, asked, batch_end, download_refusal, inside_keys, is_between, item_of, reply_to, touched_row, touched_rows}
+use Rattle.merge_model.specs.Publisher.PublisherDownload.{TouchedRow, batch_end, download_refusal, inside_keys, is_between, item_of, reply_to, tables_after_download, touched_row, touched_rows}
 use Rattle.merge_model.specs.Tables.Refusals.{refused_if}
 use Rattle.merge_model.specs.Tables.{PublisherTables}
 use Rattle.merge_model.specs.Subscriber.Taking.{key_of_download}
@@ -144,10 +144,10 @@ below-last : (last from : ℕ) (b : Bool) → nat_lt last from ≡ b → b ≡ f
 below-last last from b is none = grind (arith, nat_tests, is, none)
 
 pub told-well : (publication : Publication) (w : World) (h : History) (incoming : List (Key × Past)) (m : Download) → IsStrictlySortedBy key_cmp (keys_of w.publisher.rows) → EntriesFill w h → download_refusal publication w.moment m w.publisher ≡ None
-    → (let q : PublisherTables = asked m (here w) in ReplyIsWell q (reply_to publication (by_past h incoming) m q))
+    → (let q : PublisherTables = tables_after_download m (here w) in ReplyIsWell q (reply_to publication (by_past h incoming) m q))
 told-well publication w h incoming m sorted fill fine =
     let judge : PublisherJudge = by_past h incoming in
-    let q : PublisherTables = asked m (here w) in
+    let q : PublisherTables = tables_after_download m (here w) in
     let all = first-none (site_refusal publication m.site m.seq w.moment w.publisher) _ fine in
     let mark = first-none (refused_if (nat_lt (last_closed w.publisher) m.from) (WrongWatermark m.from (last_closed w.publisher))) _ all.1 in
     let none = mark.0 in

@@ -24,19 +24,19 @@ use Rattle.merge_model.specs.Judge.{PublisherJudge, SubscriberJudge}
 use Rattle.merge_model.specs.Tables.Keys.{at_number, put_number}
 use Rattle.merge_model.specs.History.Model.{Model, empty_model, model}
 use Rattle.merge_model.specs.Tables.Publications.{by_site}
-use Rattle.merge_model.specs.Publisher.{closed, empty_publisher, last_closed}
-use Rattle.merge_model.specs.Publisher.PublisherDownload.{asked, reply_to}
+use Rattle.merge_model.specs.Publisher.{empty_publisher, last_closed, tables_after_close}
+use Rattle.merge_model.specs.Publisher.PublisherDownload.{reply_to, tables_after_download}
 use Rattle.merge_model.specs.Publisher.PublisherJoin.{join_acts, join_taken}
 use Rattle.merge_model.specs.Publisher.PublisherLocal.{made_locally}
 use Rattle.merge_model.specs.Publisher.PublisherPurge.{purge}
-use Rattle.merge_model.specs.Publisher.PublisherRanges.{plans, ranged, with_grants}
+use Rattle.merge_model.specs.Publisher.PublisherRanges.{plans, reply_to_ranges, with_grants}
 use Rattle.merge_model.specs.Publisher.PublisherUpload.{taken_in}
-use Rattle.merge_model.specs.Subscriber.Reinit.{reinitialised}
+use Rattle.merge_model.specs.Subscriber.Reinit.{result_of_reinit}
 use Rattle.merge_model.specs.Failing.Runs.{model_behind}
 use Rattle.merge_model.specs.Subscriber.Sending.{join_of, sending_refusal, upload_sent, with_message}
 use Rattle.merge_model.specs.Subscriber.{empty_subscriber, is_joining, subscriber_at_moment, subscriber_closed, subscriber_made_locally, with_version_if}
 use Rattle.merge_model.specs.Tables.{PublisherTables, SubscriberTables}
-use Rattle.merge_model.specs.Subscriber.Taking.{taken}
+use Rattle.merge_model.specs.Subscriber.Taking.{tables_after_reply}
 use Rattle.merge_model.specs.World.{Saying, World, empty_world, letter_at, subscriber_at}
 use Rattle.merge_model.specs.declared.event.Event.{Event}
 use Rattle.merge_model.specs.declared.letter.Letter.{Letter}
@@ -121,12 +121,12 @@ module _ (publication : Publication) where
   version-joined key None u = refl
   version-joined key (Some version) u = refl
 
-  taken-known : (p : PublisherTables) (judge : SubscriberJudge) (now : Moment) (m : Reply) (s : SubscriberTables) → IsWell publication p s.site (Replies m) → IsKnown publication p s.site.0 s → IsKnown publication p s.site.0 (taken judge now m s)
+  taken-known : (p : PublisherTables) (judge : SubscriberJudge) (now : Moment) (m : Reply) (s : SubscriberTables) → IsWell publication p s.site (Replies m) → IsKnown publication p s.site.0 s → IsKnown publication p s.site.0 (tables_after_reply judge now m s)
   taken-known p judge now (reply.Joined m) s well k = record { subscribes = k.subscribes; remembered = λ joined. well }
-  taken-known p judge now (reply.Uploaded m) s well k = stays-known p s.site.0 s (taken judge now (reply.Uploaded m) s) refl k
-  taken-known p judge now (reply.Ranged m) s well k = stays-known p s.site.0 s (taken judge now (reply.Ranged m) s) refl k
-  taken-known p judge now (reply.Downloaded m) s well k = stays-known p s.site.0 s (taken judge now (reply.Downloaded m) s) refl k
-  taken-known p judge now (reply.Refused number values) s well k = stays-known p s.site.0 s (taken judge now (reply.Refused number values) s) refl k
+  taken-known p judge now (reply.Uploaded m) s well k = stays-known p s.site.0 s (tables_after_reply judge now (reply.Uploaded m) s) refl k
+  taken-known p judge now (reply.Ranged m) s well k = stays-known p s.site.0 s (tables_after_reply judge now (reply.Ranged m) s) refl k
+  taken-known p judge now (reply.Downloaded m) s well k = stays-known p s.site.0 s (tables_after_reply judge now (reply.Downloaded m) s) refl k
+  taken-known p judge now (reply.Refused number values) s well k = stays-known p s.site.0 s (tables_after_reply judge now (reply.Refused number values) s) refl k
 
   -- who sends a message
   is-sender : (p : PublisherTables) (s : SubscriberTables) → IsKnown publication p s.site.0 s → IsSentBy publication s.site s.site
@@ -173,13 +173,13 @@ module _ (publication : Publication) where
     sent-well-keeps = record {
       moment = λ w h now b i. i;
       own_change = λ w h change d b i fine is. (let q : PublisherTables = (made_locally publication (by_past h (pasts_with h 0)) change d (here w)).0 in publisher-on w.publisher q w.subscribers w.pool (same-rises w.publisher q refl (omega arith)) i);
-      own_closing = λ w h b i. publisher-on w.publisher (closed (here w)) w.subscribers w.pool (same-rises w.publisher (closed (here w)) refl (filling-rises w.publisher.gens.filling)) i;
+      own_closing = λ w h b i. publisher-on w.publisher (tables_after_close (here w)) w.subscribers w.pool (same-rises w.publisher (tables_after_close (here w)) refl (filling-rises w.publisher.gens.filling)) i;
       forgetting = λ w h b i. (let q : PublisherTables = (purge publication w.moment w.publisher).0 in publisher-on w.publisher q w.subscribers w.pool (same-rises w.publisher q refl (omega arith)) i);
       same = λ w h s b i at. subscriber-on w.publisher w.subscribers w.pool s s refl (here-known w h s i at) i;
       subscriber_change = λ w h s change d b i at named fine is. (let t : SubscriberTables = (subscriber_made_locally publication change d (subscriber_at_moment w.moment s)).0 in
           subscriber-on w.publisher w.subscribers w.pool s t (version-site _ _ _) (stays-known w.publisher s.site.0 s t (version-joined _ _ _) (here-known w h s i at)) i);
       subscriber_closing = λ w h s b i at. (let t : SubscriberTables = subscriber_closed (subscriber_at_moment w.moment s) in subscriber-on w.publisher w.subscribers w.pool s t refl (stays-known w.publisher s.site.0 s t refl (here-known w h s i at)) i);
-      anew = λ w h s b i at. (let t : SubscriberTables = (reinitialised (by_made h s.site) (subscriber_at_moment w.moment s)).0 in
+      anew = λ w h s b i at. (let t : SubscriberTables = (result_of_reinit (by_made h s.site) (subscriber_at_moment w.moment s)).0 in
           subscriber-on w.publisher w.subscribers w.pool s t refl (record { subscribes = (here-known w h s i at).subscribes; remembered = λ joined. absurd (grind (arith, joined)) }) i);
       sends_join = λ w h s b i at joining. message-put w h s (with_message ask.Join s) (Asks (request.Join (join_of s))) i at refl refl (record { sender = is-sender w.publisher s (here-known w h s i at); numbered = omega arith });
       sends_upload = λ w h s b i at fine. (let c : SubscriberTables = subscriber_closed (subscriber_at_moment w.moment s) in
@@ -202,10 +202,10 @@ module _ (publication : Publication) where
           answer-put w q m.site (Replies (reply.Uploaded (told_by judge m))) (from-here w q (upload-rises publication judge (here w) m (acts_in publication says judge m w) (news-above w h b.0.received (pasts_with h number) m news))) tt i);
       uploads_again = λ w h number m b i at none. answer-put w (here w) m.site (Replies (reply.Uploaded (told_by (by_past h (pasts_with h number)) m))) (same-rises w.publisher (here w) refl (omega arith)) tt i;
       answers_ranges = λ w h site m b i. (let q : PublisherTables = with_grants (plans publication m w.publisher) (here w) in
-          answer-put w q site (Replies (reply.Ranged (ranged m (plans publication m w.publisher)))) (same-rises w.publisher q refl (omega arith)) tt i);
-      answers_ask = λ w h number site m b i at fine. (let q : PublisherTables = asked m (here w) in
+          answer-put w q site (Replies (reply.Ranged (reply_to_ranges m (plans publication m w.publisher)))) (same-rises w.publisher q refl (omega arith)) tt i);
+      answers_ask = λ w h number site m b i at fine. (let q : PublisherTables = tables_after_download m (here w) in
           answer-put w q site (Replies (reply.Downloaded (reply_to publication (by_past h (pasts_with h number)) m q))) (from-here w q (asked-rises (here w) m)) (told-well publication w h (pasts_with h number) m b.0.sorted.rows_ascend b.2 fine) i);
-      replies = λ w h s number m sent b i at there out none. (let t : SubscriberTables = taken (by_made h s.site) w.moment m s in
+      replies = λ w h s number m sent b i at there out none. (let t : SubscriberTables = tables_after_reply (by_made h s.site) w.moment m s in
           subscriber-on w.publisher w.subscribers w.pool s t (reply-site (by_made h s.site) w.moment m s)
           (taken-known w.publisher (by_made h s.site) w.moment m s (letter-well w h number (record { site = s.site; message = Replies m }) i there) (here-known w h s i at)) i);
     }

@@ -35,13 +35,13 @@ use Rattle.merge_model.specs.Tables.Keys.{at_number}
 use Rattle.merge_model.specs.History.Model.{Model, did_something, model_step, noted_action, noted_if, noted_letter, with_posted}
 use Rattle.merge_model.specs.Laws.Promises.{is_expired_at}
 use Rattle.merge_model.specs.Publisher.{counters, later, no_state, state_of}
-use Rattle.merge_model.specs.Publisher.PublisherDownload.{asked, download_refusal, reply_to}
-use Rattle.merge_model.specs.Publisher.PublisherJoin.{join_refusal, joined}
-use Rattle.merge_model.specs.Publisher.PublisherRanges.{plans, ranged, ranges_refusal, with_grants}
-use Rattle.merge_model.specs.Publisher.PublisherUpload.{is_new, too_many_new, upload_refusal, uploaded}
+use Rattle.merge_model.specs.Publisher.PublisherDownload.{download_refusal, reply_to, tables_after_download}
+use Rattle.merge_model.specs.Publisher.PublisherJoin.{join_refusal, tables_after_join}
+use Rattle.merge_model.specs.Publisher.PublisherRanges.{plans, ranges_refusal, reply_to_ranges, with_grants}
+use Rattle.merge_model.specs.Publisher.PublisherUpload.{is_new, tables_after_upload, too_many_new, upload_refusal}
 use Rattle.merge_model.specs.Tables.Refusals.{counter_end, first_refusal, refused_if, unless}
 use Rattle.merge_model.specs.Subscriber.Sending.{join_made, join_of, ranges_made, sending_refusal, unsent_rows, upload_made, upload_sent, want_of, with_message}
-use Rattle.merge_model.specs.World.Steps.{Deliver, Send, SendDownload, SendJoin, SendRanges, SendUpload, Sending, deliver_letter, deliver_request, kept_decisions, post, posted, send_from, step_by, unless_refused, upload_questions}
+use Rattle.merge_model.specs.World.Steps.{Deliver, Send, SendDownload, SendJoin, SendRanges, SendUpload, Sending, deliver_letter, deliver_request, kept_decisions, post, post_if_made, send_from, step_by, unless_refused, upload_questions}
 use Rattle.merge_model.specs.Subscriber.{subscriber_at_moment, subscriber_closed, subscriber_counters}
 use Rattle.merge_model.specs.Tables.{PublisherTables, SubscriberTables}
 use Rattle.merge_model.specs.World.{Saying, World, letter_at, subscriber_at, with_publisher, with_subscriber}
@@ -172,7 +172,7 @@ module _ (publication : Publication) (says : Saying) where
     pub join-asked : s.is_joined ≡ false → Asked s.site (model_step publication says m (Send s.site SendJoin))
     join-asked joining =
         let u : SubscriberTables = with_message ask.Join s in
-        let act : Option (SubscriberTables × Join) → World × Outcome = posted s.site (λ (y : Join). request.Join y) w in
+        let act : Option (SubscriberTables × Join) → World × Outcome = post_if_made s.site (λ (y : Join). request.Join y) w in
         step-made SendJoin
         (unless-known K w h (counter_end (subscriber_counters s)) own-ends (join_made s) act h (λ fine.
         subst (λ (b : Bool). (let made : Option (SubscriberTables × Join) = if b then None else Some (u, join_of s) in After K (act made) h h)) (sym joining)
@@ -183,7 +183,7 @@ module _ (publication : Publication) (says : Saying) where
       upload-asked =
           let judge : SubscriberJudge = by_made h s.site in
           let made : SubscriberTables × Upload = upload_sent judge (subscriber_closed (subscriber_at_moment w.moment s)) in
-          let act : Option (SubscriberTables × Upload) → World × Outcome = posted s.site (λ (y : Upload). request.Upload y) w in
+          let act : Option (SubscriberTables × Upload) → World × Outcome = post_if_made s.site (λ (y : Upload). request.Upload y) w in
           step-made SendUpload
           (unless-known K w h (sending_refusal s) (sending-ends joined) (upload_made judge w.moment s) act h (λ fine.
           elim (unsent_rows judge s) as (λ (rows : List (Key × ℕ)). (let sent : Option (SubscriberTables × Upload) = elim rows [ [] ↦ None | row ∷ rest ↦ Some made ] in After K (act sent) h h)) [
@@ -195,7 +195,7 @@ module _ (publication : Publication) (says : Saying) where
       ranges-asked =
           let u : SubscriberTables = with_message ask.Ranges s in
           let a : RangeAsk = record { site = s.site; seq = s.seq + 1; wants = map want_of s.held } in
-          let act : Option (SubscriberTables × RangeAsk) → World × Outcome = posted s.site (λ (y : RangeAsk). request.Ranges y) w in
+          let act : Option (SubscriberTables × RangeAsk) → World × Outcome = post_if_made s.site (λ (y : RangeAsk). request.Ranges y) w in
           step-made SendRanges
           (unless-known K w h (sending_refusal s) (sending-ends joined) (ranges_made s) act h (λ fine.
           elim s.held as (λ (held : List (ℕ × Holder)). (let made : Option (SubscriberTables × RangeAsk) = elim held [ [] ↦ None | entry ∷ entries ↦ Some (u, a) ] in After K (act made) h h)) [
@@ -225,18 +225,18 @@ module _ (publication : Publication) (says : Saying) where
     reply-put v noting r = post-step (Replied site) site (Replies r) v noting k.history (r, letter-there site (Replies r) v)
 
     request-replied : (r : Request) (noting : History) → After (Replied site) (deliver_request publication says judge site r k.world) noting k.history
-    request-replied (request.Join m) noting = unless-step (Replied site) k.world k.history (λ why. tt) (join_refusal publication m k.world.publisher) (joined m (here k.world), record { seq = m.seq })
-        (λ (made : PublisherTables × Joined). post site (Replies (reply.Joined made.1)) (with_publisher made.0 k.world)) noting (λ fine. reply-put (with_publisher (joined m (here k.world)) k.world) noting (reply.Joined (record { seq = m.seq })))
+    request-replied (request.Join m) noting = unless-step (Replied site) k.world k.history (λ why. tt) (join_refusal publication m k.world.publisher) (tables_after_join m (here k.world), record { seq = m.seq })
+        (λ (made : PublisherTables × Joined). post site (Replies (reply.Joined made.1)) (with_publisher made.0 k.world)) noting (λ fine. reply-put (with_publisher (tables_after_join m (here k.world)) k.world) noting (reply.Joined (record { seq = m.seq })))
     request-replied (request.Upload m) noting =
-        let q : PublisherTables = uploaded publication judge m (kept_decisions says k.world.tallies (upload_questions publication judge k.world.moment m k.world.publisher)) (here k.world) in
+        let q : PublisherTables = tables_after_upload publication judge m (kept_decisions says k.world.tallies (upload_questions publication judge k.world.moment m k.world.publisher)) (here k.world) in
         unless-step (Replied site) k.world k.history (λ why. tt) (upload_refusal publication judge k.world.moment m k.world.publisher) (q, told_by judge m)
         (λ (made : PublisherTables × Uploaded). post site (Replies (reply.Uploaded made.1)) (uploaded_world publication says judge m made.0 k.world)) noting (λ fine. reply-put (uploaded_world publication says judge m q k.world) noting (reply.Uploaded (told_by judge m)))
     request-replied (request.Ranges m) noting =
         let q : PublisherTables = with_grants (plans publication m k.world.publisher) (here k.world) in
-        unless-step (Replied site) k.world k.history (λ why. tt) (ranges_refusal publication judge k.world.moment m k.world.publisher) (q, ranged m (plans publication m k.world.publisher))
-        (λ (made : PublisherTables × Ranged). post site (Replies (reply.Ranged made.1)) (with_publisher made.0 k.world)) noting (λ fine. reply-put (with_publisher q k.world) noting (reply.Ranged (ranged m (plans publication m k.world.publisher))))
+        unless-step (Replied site) k.world k.history (λ why. tt) (ranges_refusal publication judge k.world.moment m k.world.publisher) (q, reply_to_ranges m (plans publication m k.world.publisher))
+        (λ (made : PublisherTables × Ranged). post site (Replies (reply.Ranged made.1)) (with_publisher made.0 k.world)) noting (λ fine. reply-put (with_publisher q k.world) noting (reply.Ranged (reply_to_ranges m (plans publication m k.world.publisher))))
     request-replied (request.Download m) noting =
-        let q : PublisherTables = asked m (here k.world) in
+        let q : PublisherTables = tables_after_download m (here k.world) in
         unless-step (Replied site) k.world k.history (λ why. tt) (download_refusal publication k.world.moment m k.world.publisher) (q, reply_to publication judge m q)
         (λ (made : PublisherTables × Downloaded). post site (Replies (reply.Downloaded made.1)) (with_publisher made.0 k.world)) noting (λ fine. reply-put (with_publisher q k.world) noting (reply.Downloaded (reply_to publication judge m q)))
 

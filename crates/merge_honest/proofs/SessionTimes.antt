@@ -31,14 +31,14 @@ use Rattle.merge_model.specs.Tables.Keys.{at_number, put_number}
 use Rattle.merge_model.specs.History.Model.{Model, model, model_step}
 use Rattle.merge_model.specs.History.Noting
 use Rattle.merge_model.specs.Publisher.{at_moment, later, no_state, state_of}
-use Rattle.merge_model.specs.Publisher.PublisherDownload.{asked, download, in_step, synced}
-use Rattle.merge_model.specs.Publisher.PublisherJoin.{join, join_acts, join_refusal, join_taken, joined, joined_state}
-use Rattle.merge_model.specs.Publisher.PublisherLocal.{Drawn, drawn, made_locally}
+use Rattle.merge_model.specs.Publisher.PublisherDownload.{download, in_step, state_after_download, tables_after_download}
+use Rattle.merge_model.specs.Publisher.PublisherJoin.{join, join_acts, join_refusal, join_taken, joined_state, tables_after_join}
+use Rattle.merge_model.specs.Publisher.PublisherLocal.{Drawn, draw_for_change, made_locally}
 use Rattle.merge_model.specs.Publisher.PublisherUpload.{state_seeing, taken_in, upload}
 use Rattle.merge_model.specs.Tables.Refusals.{counter_end}
 use Rattle.merge_model.specs.Subscriber.Sending.{join_made, join_of, make_ask, make_join, make_ranges, make_upload, with_message}
 use Rattle.merge_model.specs.World.Session.{ask as asking}
-use Rattle.merge_model.specs.World.Steps.{Action, Deliver, Send, SendDownload, SendJoin, SendRanges, SendUpload, Sending, deliver_letter, deliver_reply, deliver_request, kept_decisions, post, posted, send_from, step_by, unless_refused, upload_questions}
+use Rattle.merge_model.specs.World.Steps.{Action, Deliver, Send, SendDownload, SendJoin, SendRanges, SendUpload, Sending, deliver_letter, deliver_reply, deliver_request, kept_decisions, post, post_if_made, send_from, step_by, unless_refused, upload_questions}
 use Rattle.merge_model.specs.Subscriber.{subscriber_counters}
 use Rattle.merge_model.specs.Tables.{PublisherTables, SubscriberTables}
 use Rattle.merge_model.specs.World.{Judges, Saying, World, letter_at, subscriber_at, with_publisher, with_subscriber}
@@ -117,16 +117,16 @@ module _ (publication : Publication) (n low : ℕ) where
   joined-synced : (m : Join) (p : PublisherTables) → Q p → Q (join_taken m p)
   joined-synced m p k = (k.0, synced-put low m.site.0 n (joined_state m p.latest (state_of p m.site)) p.sites (n == m.site.0) (number-decided n m.site.0) (λ same. k.0) k.1)
 
-  asked-synced : (m : Download) (p : PublisherTables) → Q p → Q (asked m p)
+  asked-synced : (m : Download) (p : PublisherTables) → Q p → Q (tables_after_download m p)
   asked-synced m p k = (
     k.0,
-    synced-put low m.site.0 n (synced m p (state_of p m.site)) p.sites (n == m.site.0) (number-decided n m.site.0)
+    synced-put low m.site.0 n (state_after_download m p (state_of p m.site)) p.sites (n == m.site.0) (number-decided n m.site.0)
         (λ same. raised-up low (state_of p m.site).last_sync (in_step m p) (subst (λ (x : ℕ). low ≤ (unwrap_or (at_number p.sites x) no_state).last_sync) same (state-synced low (at_number p.sites n) k.1))) k.1,
   )
 
   step-synced : (says : Saying) (judges : Judges) (w : World) (action : Action) → Q w.publisher → Q (step_by publication says judges w action).0.publisher
   step-synced says judges w action k = step-holds publication Q
-      (λ judge now change p q. local-ok Q publication judge now change p (drawn-synced judge now change p (drawn publication p change) q))
+      (λ judge now change p q. local-ok Q publication judge now change p (drawn-synced judge now change p (draw_for_change publication p change) q))
       (λ now p q. close-ok Q now p (now-synced now p q))
       (λ now m p q. join-ok Q publication now m p (joined-synced m (at_moment now p) (now-synced now p q)) (now-synced now p q))
       (λ judge now m decisions p q. upload-ok Q publication judge now m decisions p (taken-synced judge m (acts_of judge m decisions (at_moment now p)) (at_moment now p) (now-synced now p q)) (now-synced now p q))
@@ -150,7 +150,7 @@ module _ (publication : Publication) (says : Saying) (judges : Judges) (w : Worl
   found-stays site None act each = refl
   found-stays site (Some s) act each = each s
 
-  posted-stays : {A : Type 0} (site : SiteId) (message : A → Request) (made : Option (SubscriberTables × A)) → Stays (posted site message w made)
+  posted-stays : {A : Type 0} (site : SiteId) (message : A → Request) (made : Option (SubscriberTables × A)) → Stays (post_if_made site message w made)
   posted-stays site message None = refl
   posted-stays site message (Some made) = refl
 
@@ -230,14 +230,14 @@ module _ (publication : Publication) (says : Saying) (m : Model) (s : Subscriber
       let v : World = with_subscriber u w in
       let k : Model = posted_model s.site (Asks (request.Join a)) v h in
       let judge : PublisherJudge = by_past k.history (pasts_with k.history (length v.pool + 1)) in
-      let q : PublisherTables = joined a (here k.world) in
+      let q : PublisherTables = tables_after_join a (here k.world) in
       let d : Joined = record { seq = a.seq } in
       let x : World = with_publisher q k.world in
       let noting : History = Noting.noted_join judge a w.publisher k.history in
       let n : Model = posted_model s.site (Replies (reply.Joined d)) x noting in
       let own : SubscriberJudge = by_made n.history s.site in
       let there : subscriber_at v s.site ≡ Some u = at_put_same s.site.0 u w.subscribers in
-      let act : Option (SubscriberTables × Join) → World × Outcome = posted s.site (λ (y : Join). request.Join y) w in
+      let act : Option (SubscriberTables × Join) → World × Outcome = post_if_made s.site (λ (y : Join). request.Join y) w in
       let acts : join_acts a (here w) ≡ true = grind (arith, nat_tests, behind) in
       send-step publication says Acts Rests s.site m s SendJoin at
       (unless-step (Sent publication says Acts Rests s.site) w h (λ why. tt) (counter_end (subscriber_counters s)) (join_made s) act h (λ fine.

@@ -9,7 +9,7 @@ use Rattle.merge_batch.specs.declared.refusal.Refusal.{Refusal}
 use Rattle.merge_batch.specs.declared.reply.Downloaded.{Downloaded}
 use Rattle.merge_model.specs.History.Model.{Model, model, model_step}
 use Rattle.merge_model.specs.Failing.Runs.{model_behind}
-use Rattle.merge_model.specs.World.Session.{Session, after_download, all_downloads, all_ranges, all_uploads, answered_as, arrived, as_it_is, ask, asking_ranges, downloaded_in, downloading, exchange, has_grant, is_joined_in, joining, last_message, range_asks, session, then_deliver, unless_stopped, unsent_generations, uploading, with_answer, with_download, with_upload}
+use Rattle.merge_model.specs.World.Session.{Session, after_download, all_downloads, all_ranges, all_uploads, answered_as, as_it_is, ask, downloaded_in, downloads_up_to, exchange, has_grant, is_joined_in, join_if_due, last_message, range_asks, range_requests_up_to, session, session_after_reply, then_deliver, unless_stopped, unsent_generations, uploads_up_to, with_answer, with_download, with_upload}
 use Rattle.merge_model.specs.World.Steps.{Deliver, Send, SendDownload, SendJoin, SendRanges, SendUpload, Sending}
 use Rattle.merge_model.specs.Tables.{SubscriberTables}
 use Rattle.merge_model.specs.Publisher.{state_of}
@@ -98,7 +98,7 @@ module _ (publication : Publication) (says : Saying) (resolvers : ℕ) (valid : 
 
   module _ (P Acts Rests Q : Model → Type 0) (of_deliver : (k : Model) (number : ℕ) → P k → P (model_step publication says k (Deliver number)).0) where
     arrived-stands : (v : Session Model) (done : Model × Outcome) (next : Session Model → Session Model) → v.stop ≡ None → P done.0 → Ends Acts Rests done → ((why : Refusal) → done.1 ≡ Refuses why → ⊥)
-        → ((x : Session Model) → x.stop ≡ None → P x.world → Acts x.world → Standing Q (next x)) → ((k : Model) → P k → Rests k → Q k) → Standing Q (arrived (model publication says) site next v done)
+        → ((x : Session Model) → x.stop ≡ None → P x.world → Acts x.world → Standing Q (next x)) → ((k : Model) → P k → Rests k → Q k) → Standing Q (session_after_reply (model publication says) site next v done)
     arrived-stands v (k, Took taken) next none p ends never acts rests = acts (record v { world = k }) none p ends
     arrived-stands v (k, Refuses why) next none p ends never acts rests = absurd (never why refl)
     arrived-stands v (k, NoPost) next none p ends never acts rests = goes-on Q k v.stop none (rests k p ends)
@@ -164,13 +164,13 @@ module _ (publication : Publication) (says : Saying) (resolvers : ℕ) (valid : 
   asked-here k r sending asked = of-own k r (λ (x : SiteId). Asked publication says x (model_step publication says k (Send x sending))) asked
 
   -- Uploads.
-  uploading-stands : (count : ℕ) (u : Session Model) → u.stop ≡ None → Ready u.world → Standing Ready (uploading (model publication says) site count u)
+  uploading-stands : (count : ℕ) (u : Session Model) → u.stop ≡ None → Ready u.world → Standing Ready (uploads_up_to (model publication says) site count u)
   uploading-stands zero u none r = goes-on Ready u.world u.stop none r
   uploading-stands (suc count) u none r =
       let k : Model = u.world in
       let s : SubscriberTables = r.tables in
       let g : Ground publication k.world k.history = ground k r.keeps.0 in
-      exchange-stands (UploadLeaves k s) (UploadRests s) SendUpload u r (with_upload (model publication says) site) (uploading (model publication says) site count) (λ v. refl) none
+      exchange-stands (UploadLeaves k s) (UploadRests s) SendUpload u r (with_upload (model publication says) site) (uploads_up_to (model publication says) site count) (λ v. refl) none
       (upload-leaves publication says k s (own-here k r) (g.received.subscribers site.0 s r.here).own (g.numbered.subscribers s.site.0 s (own-here k r)).named)
       (asked-here k r SendUpload (upload-asked publication says k s (own-here k r) (own-behind k r) r.joined (own-time k r)))
       (λ x ended p l. uploading-stands count x ended (record { keeps = p; tables = l.tables; here = next-here k x.world r l.tables l.here; joined = l.joined ∙ r.joined }))
@@ -184,17 +184,17 @@ module _ (publication : Publication) (says : Saying) (resolvers : ℕ) (valid : 
   if-stands Q false x y one other = other
 
   -- Ranges.
-  asking-stands : (count : ℕ) (u : Session Model) → u.stop ≡ None → Ready u.world → Standing Ready (asking_ranges (model publication says) site count u)
+  asking-stands : (count : ℕ) (u : Session Model) → u.stop ≡ None → Ready u.world → Standing Ready (range_requests_up_to (model publication says) site count u)
   asking-stands zero u none r = goes-on Ready u.world u.stop none r
   asking-stands (suc count) u none r =
       let k : Model = u.world in
       let s : SubscriberTables = r.tables in
-      let next : Session Model → Session Model = λ (t : Session Model). if has_grant (model publication says) site (last_message (model publication says) site t.world) then asking_ranges (model publication says) site count t else t in
+      let next : Session Model → Session Model = λ (t : Session Model). if has_grant (model publication says) site (last_message (model publication says) site t.world) then range_requests_up_to (model publication says) site count t else t in
       exchange-stands (RangesLeave k s) (λ n. (n.world ≡ k.world) × (n.history ≡ k.history)) SendRanges u r (as_it_is (model publication says) site) next (λ v. refl) none
       (ranges-leave publication says k s (own-here k r))
       (asked-here k r SendRanges (ranges-asked publication says k s (own-here k r) (own-behind k r) r.joined (own-time k r)))
       (λ x ended p l. (let more : Ready x.world = record { keeps = p; tables = l.tables; here = next-here k x.world r l.tables l.here; joined = l.joined ∙ r.joined } in
-      if-stands Ready (has_grant (model publication says) site (last_message (model publication says) site x.world)) (asking_ranges (model publication says) site count x) x (asking-stands count x ended more) (goes-on Ready x.world x.stop ended more)))
+      if-stands Ready (has_grant (model publication says) site (last_message (model publication says) site x.world)) (range_requests_up_to (model publication says) site count x) x (asking-stands count x ended more) (goes-on Ready x.world x.stop ended more)))
       (λ n p l. record { keeps = p; tables = s; here = ap (λ (v : World). subscriber_at v site) l.0 ∙ r.here; joined = r.joined })
 
   ranges-stand : (u : Session Model) → u.stop ≡ None → Ready u.world → Standing Ready (all_ranges (model publication says) site u)
@@ -225,14 +225,14 @@ module _ (publication : Publication) (says : Saying) (resolvers : ℕ) (valid : 
       fetched-stands next x (downloaded_in (model publication says) site (last_message (model publication says) site x.world)) (goes-on Ready x.world x.stop ended there) (λ d. more d x ended there)))
       (λ n p never. absurd never)
 
-  downloading-stands : (count target : ℕ) (u : Session Model) → u.stop ≡ None → Ready u.world → Standing Ready (downloading (model publication says) site count target u)
+  downloading-stands : (count target : ℕ) (u : Session Model) → u.stop ≡ None → Ready u.world → Standing Ready (downloads_up_to (model publication says) site count target u)
   downloading-stands zero target u none r = goes-on Ready u.world u.stop none r
-  downloading-stands (suc count) target u none r = download-stands u (λ (d : Downloaded) (t : Session Model). if nat_le target d.from then t else downloading (model publication says) site count target t) none r
-      (λ d x ended more. if-stands Ready (nat_le target d.from) x (downloading (model publication says) site count target x) (goes-on Ready x.world x.stop ended more) (downloading-stands count target x ended more))
+  downloading-stands (suc count) target u none r = download-stands u (λ (d : Downloaded) (t : Session Model). if nat_le target d.from then t else downloads_up_to (model publication says) site count target t) none r
+      (λ d x ended more. if-stands Ready (nat_le target d.from) x (downloads_up_to (model publication says) site count target x) (goes-on Ready x.world x.stop ended more) (downloading-stands count target x ended more))
 
   downloads-stand : (u : Session Model) → u.stop ≡ None → Ready u.world → Standing Ready (all_downloads (model publication says) site u)
-  downloads-stand u none r = download-stands u (λ (d : Downloaded) (t : Session Model). if nat_le d.last d.from then t else downloading (model publication says) site (d.last + 1 - d.from) d.last t) none r
-      (λ d x ended more. if-stands Ready (nat_le d.last d.from) x (downloading (model publication says) site (d.last + 1 - d.from) d.last x) (goes-on Ready x.world x.stop ended more) (downloading-stands (d.last + 1 - d.from) d.last x ended more))
+  downloads-stand u none r = download-stands u (λ (d : Downloaded) (t : Session Model). if nat_le d.last d.from then t else downloads_up_to (model publication says) site (d.last + 1 - d.from) d.last t) none r
+      (λ d x ended more. if-stands Ready (nat_le d.last d.from) x (downloads_up_to (model publication says) site (d.last + 1 - d.from) d.last x) (goes-on Ready x.world x.stop ended more) (downloading-stands (d.last + 1 - d.from) d.last x ended more))
 
   -- The join.
   joined-is : (k : Model) (s : SubscriberTables) (b : Bool) → subscriber_at k.world site ≡ Some s → is_joined_in (model publication says) site k ≡ b → s.is_joined ≡ b
@@ -269,7 +269,7 @@ module _ (publication : Publication) (says : Saying) (resolvers : ℕ) (valid : 
       (λ n p never. absurd never)
 
   joining-stands : (u : Session Model) (s : SubscriberTables) → u.stop ≡ None → IsBehind publication says u.world → subscriber_at u.world.world site ≡ Some s → (s.is_joined ≡ true → InTime publication says site u.world)
-      → Standing Ready (joining (model publication says) site u)
+      → Standing Ready (join_if_due (model publication says) site u)
   joining-stands u s none b here begins = elim (is_joined_in (model publication says) site u.world)
       as (λ (joined : Bool). is_joined_in (model publication says) site u.world ≡ joined
       → Standing Ready (if joined then u else exchange (model publication says) site SendJoin (as_it_is (model publication says) site) (as_it_is (model publication says) site) u)) [
@@ -286,7 +286,7 @@ module _ (publication : Publication) (says : Saying) (resolvers : ℕ) (valid : 
   session-stands : (m : Model) (s : SubscriberTables) → IsBehind publication says m → subscriber_at m.world site ≡ Some s → (s.is_joined ≡ true → InTime publication says site m) → Standing Ready (session (model publication says) site m)
   session-stands m s b here begins =
       let started : Session Model = record { world = m; uploads = 0; downloads = 0; stop = None } in
-      let joined : Session Model = joining (model publication says) site started in
+      let joined : Session Model = join_if_due (model publication says) site started in
       let sent : Session Model = unless_stopped (model publication says) site (all_uploads (model publication says) site) joined in
       let ranged : Session Model = unless_stopped (model publication says) site (all_ranges (model publication says) site) sent in
       stopped-stands (all_downloads (model publication says) site) ranged ranged.stop refl

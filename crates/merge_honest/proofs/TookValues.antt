@@ -47,20 +47,20 @@ use Rattle.merge_model.specs.History.Model.{Model, empty_model, model, model_ste
 use Rattle.merge_model.specs.History.Noting
 use Rattle.merge_model.specs.History.Pasts.{past_after}
 use Rattle.merge_model.specs.Tables.Publications.{by_site, identity_of, rules_of}
-use Rattle.merge_model.specs.Publisher.{closed, holder_for, last_closed, new_holders}
-use Rattle.merge_model.specs.Publisher.PublisherDownload.{asked, reply_to}
+use Rattle.merge_model.specs.Publisher.{holder_for, last_closed, new_holders, tables_after_close}
+use Rattle.merge_model.specs.Publisher.PublisherDownload.{reply_to, tables_after_download}
 use Rattle.merge_model.specs.Publisher.PublisherJoin.{join_taken}
-use Rattle.merge_model.specs.Publisher.PublisherLocal.{Drawn, after_answer, drawn, drawn_from, local_refusal, made_locally, next_dot, no_draw, own_ask, taken_from}
+use Rattle.merge_model.specs.Publisher.PublisherLocal.{Drawn, after_answer, draw_for_change, drawn_from, local_refusal, made_locally, next_dot, no_draw, own_ask, taken_from}
 use Rattle.merge_model.specs.Publisher.PublisherPurge.{purge}
-use Rattle.merge_model.specs.Publisher.PublisherRanges.{plans, ranged, with_grants as with_ranges}
+use Rattle.merge_model.specs.Publisher.PublisherRanges.{plans, reply_to_ranges, with_grants as with_ranges}
 use Rattle.merge_model.specs.Publisher.PublisherUpload.{taken_in}
-use Rattle.merge_model.specs.Subscriber.Reinit.{discarded, reinitialised}
+use Rattle.merge_model.specs.Subscriber.Reinit.{discarded_versions, result_of_reinit}
 use Rattle.merge_model.specs.Failing.Runs.{model_behind, model_behind_actions}
 use Rattle.merge_model.specs.Subscriber.Sending.{join_of, upload_sent, want_of, with_message}
 use Rattle.merge_model.specs.World.Steps.{Action, kept_decisions, upload_questions}
 use Rattle.merge_model.specs.Subscriber.{subscriber_at_moment, subscriber_closed, subscriber_drawn, subscriber_last_closed, subscriber_local_refusal, subscriber_made_locally, subscriber_next_dot, subscriber_version_at, taken_value, with_version_if}
 use Rattle.merge_model.specs.Tables.{PublisherTables, SubscriberTables}
-use Rattle.merge_model.specs.Subscriber.Taking.{taken, with_grant}
+use Rattle.merge_model.specs.Subscriber.Taking.{tables_after_reply, with_grant}
 use Rattle.merge_model.specs.World.{Saying, World, subscriber_at, with_publisher, with_subscriber}
 use Rattle.merge_model.specs.declared.event.Event.{Event}
 use Rattle.merge_model.specs.declared.letter.Letter.{Letter}
@@ -163,9 +163,9 @@ draws-for : {X : Type 0} (publication : Publication) (article : ℕ) (held : X �
 draws-for publication article held value Q (Ok x) more is = more x is
 draws-for publication article held value Q (Err why) more is = tt
 
-own-draw : (publication : Publication) (p : PublisherTables) (change : Change) → Holds publication p.held → IfOk (drawn publication p change) (λ d. DrawsFor publication change d.held d.value)
+own-draw : (publication : Publication) (p : PublisherTables) (change : Change) → Holds publication p.held → IfOk (draw_for_change publication p change) (λ d. DrawsFor publication change d.held d.value)
 own-draw publication p (Insert article values) holds =
-    draws-for publication article (λ (d : Drawn). d.held) (λ (d : Drawn). d.value) (λ (d : Drawn). DrawsFor publication (Insert article values) d.held d.value) (drawn publication p (Insert article values)) (λ d draws. (draws.0, λ dot insert has. draws.1 has))
+    draws-for publication article (λ (d : Drawn). d.held) (λ (d : Drawn). d.value) (λ (d : Drawn). DrawsFor publication (Insert article values) d.held d.value) (draw_for_change publication p (Insert article values)) (λ d draws. (draws.0, λ dot insert has. draws.1 has))
     (found-draws publication p article holds (at_number p.held article) refl)
 own-draw publication p (Update article row values) holds = (holds, λ dot insert has. absurd cc)
 own-draw publication p (Delete article row) holds = (holds, λ dot insert has. absurd cc)
@@ -200,7 +200,7 @@ all-held : (publication : Publication) (grants : List RangeGrant) (held : List (
 all-held publication [] held holds = holds
 all-held publication (grant ∷ grants) held holds = all-held publication grants (with_grant held grant) (one-held publication held grant (at_number held grant.article) holds)
 
-reply-held : (publication : Publication) (judge : SubscriberJudge) (now : Moment) (m : Reply) (s : SubscriberTables) → Holds publication s.held → Holds publication (taken judge now m s).held
+reply-held : (publication : Publication) (judge : SubscriberJudge) (now : Moment) (m : Reply) (s : SubscriberTables) → Holds publication s.held → Holds publication (tables_after_reply judge now m s).held
 reply-held publication judge now (reply.Joined m) s holds = holds
 reply-held publication judge now (reply.Uploaded m) s holds = holds
 reply-held publication judge now (reply.Ranged m) s holds = all-held publication m.grants s.held holds
@@ -296,7 +296,7 @@ module _ (publication : Publication) where
   put-on w h k s t same new made i = record { own = i.own; each = put-each (λ (n : ℕ) (x : SubscriberTables). Holds publication x.held) w.subscribers s t same new i.each; made = made }
 
   module _ (says : Saying) where
-    own-on : (w : World) (h : History) (change : Change) (d : Drawn) → Base w h → In w h → local_refusal publication change w.publisher ≡ None → drawn publication w.publisher change ≡ Ok d
+    own-on : (w : World) (h : History) (change : Change) (d : Drawn) → Base w h → In w h → local_refusal publication change w.publisher ≡ None → draw_for_change publication w.publisher change ≡ Ok d
         → (let judge : PublisherJudge = by_past h (pasts_with h 0) in In (record w { publisher = (made_locally publication judge change d (here w)).0 }) (own_noted publication judge change d (here w) h))
     own-on w h change d b i fine is =
         let m : Model = record { world = w; history = h } in
@@ -335,7 +335,7 @@ module _ (publication : Publication) where
     took-keep = record {
       moment = λ w h now b i. made-is w (record w { moment = now }) h h refl refl i.made i;
       own_change = λ w h change d b i fine is. own-on w h change d b i fine is;
-      own_closing = λ w h b i. made-is w (with_publisher (closed (here w)) w) h h refl refl i.made i;
+      own_closing = λ w h b i. made-is w (with_publisher (tables_after_close (here w)) w) h h refl refl i.made i;
       forgetting = λ w h b i. (
           let judge : PublisherJudge = by_past h (pasts_with h 0) in
           let keys : List Key = Noting.old_tombstones publication (here w) in
@@ -346,8 +346,8 @@ module _ (publication : Publication) where
       subscriber_change = λ w h s change d b i at named fine is. sub-on w h s change d b i at named fine is;
       subscriber_closing = λ w h s b i at. put-on w h h s (subscriber_closed (subscriber_at_moment w.moment s)) refl (i.each s.site.0 s at) i.made i;
       anew = λ w h s b i at. (let judge : SubscriberJudge = by_made h s.site in
-          put-on w h (Noting.noted_anew judge s h) s (reinitialised judge (subscriber_at_moment w.moment s)).0 refl (i.each s.site.0 s at)
-          (same-made h.made (Noting.noted_anew judge s h) (fold-leave (λ (x : History). x.made) (Noting.with_discarded s.site) (λ x row. refl) (discarded judge s) h) i.made) i);
+          put-on w h (Noting.noted_anew judge s h) s (result_of_reinit judge (subscriber_at_moment w.moment s)).0 refl (i.each s.site.0 s at)
+          (same-made h.made (Noting.noted_anew judge s h) (fold-leave (λ (x : History). x.made) (Noting.with_discarded s.site) (λ x row. refl) (discarded_versions judge s) h) i.made) i);
       sends_join = λ w h s b i at joining. (let t : SubscriberTables = with_message ask.Join s in let v : World = with_subscriber t w in
           posts s.site (Asks (request.Join (join_of s))) v v h refl refl (put-on w h h s t refl (i.each s.site.0 s at) i.made i));
       sends_upload = λ w h s b i at fine. (let made : SubscriberTables × Upload = upload_sent (by_made h s.site) (subscriber_closed (subscriber_at_moment w.moment s)) in let v : World = with_subscriber made.0 w in
@@ -367,10 +367,10 @@ module _ (publication : Publication) where
           (made-is w (with_publisher q w) h k refl refl
           (acts-keep-makers (λ (change : MadeChange). HasIdentity publication change.key → is_some change.identity ≡ true) publication judge (kept_decisions says w.tallies (upload_questions publication judge w.moment m w.publisher)) w h number m.site m b at i.made) i));
       uploads_again = λ w h number m b i at old. (let judge : PublisherJudge = by_past h (pasts_with h number) in posts m.site (Replies (reply.Uploaded (told_by judge m))) (uploaded_world publication says judge m (here w) w) w h refl refl i);
-      answers_ranges = λ w h site m b i. posts site (Replies (reply.Ranged (ranged m (plans publication m w.publisher)))) (with_publisher (with_ranges (plans publication m w.publisher) (here w)) w) w h refl refl i;
-      answers_ask = λ w h number site m b i at fine. posts site (Replies (reply.Downloaded (reply_to publication (by_past h (pasts_with h number)) m (asked m (here w))))) (with_publisher (asked m (here w)) w) w h refl refl i;
+      answers_ranges = λ w h site m b i. posts site (Replies (reply.Ranged (reply_to_ranges m (plans publication m w.publisher)))) (with_publisher (with_ranges (plans publication m w.publisher) (here w)) w) w h refl refl i;
+      answers_ask = λ w h number site m b i at fine. posts site (Replies (reply.Downloaded (reply_to publication (by_past h (pasts_with h number)) m (tables_after_download m (here w))))) (with_publisher (tables_after_download m (here w)) w) w h refl refl i;
       replies = λ w h s number m sent b i at there out fits. (let judge : SubscriberJudge = by_made h s.site in
-          put-on w h (Noting.noted_reply judge s.site (pasts_with h number) m h) s (taken judge w.moment m s) (reply-site judge w.moment m s) (reply-held publication judge w.moment m s (i.each s.site.0 s at))
+          put-on w h (Noting.noted_reply judge s.site (pasts_with h number) m h) s (tables_after_reply judge w.moment m s) (reply-site judge w.moment m s) (reply-held publication judge w.moment m s (i.each s.site.0 s at))
           (same-made h.made (Noting.noted_reply judge s.site (pasts_with h number) m h) (reply-leave (λ (x : History). x.made) (λ x pasts. refl) judge s.site (pasts_with h number) m h) i.made) i);
     }
 

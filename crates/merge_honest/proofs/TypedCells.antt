@@ -25,7 +25,7 @@ use Rattle.merge_units.specs.declared.version.Body.TheVariants.{Dead, Live}
 use Rattle.merge_units.specs.declared.version.Cell.{Cell}
 use Rattle.merge_resolve.specs.Columns.{body_value, cell_value}
 use Rattle.merge_resolve.specs.Counted.{fit_all, fit_columns, fits_place, is_within, own_placed, with_own, with_own_value, within_or_kept}
-use Rattle.merge_resolve.specs.Questions.{Asked, both_place, case_asked, counted, question_asked}
+use Rattle.merge_resolve.specs.Questions.{Asked, both_place, case_asked, decision_for_question, question_asked}
 use Rattle.merge_resolve.specs.declared.case.CaseKind.{CaseKind}
 use Rattle.merge_resolve.specs.declared.case.CaseKind.TheVariants as kind
 use Rattle.merge_resolve.specs.declared.case.ConflictCase.{ConflictCase}
@@ -261,7 +261,7 @@ module _ (meeting : Meeting) (resolver : ℕ) (decides : Option ℕ) (types : Li
   take-fits tracking.ByColumn ss = tt
 
   list-fits : (tr : Tracking) (ours theirs : List Cell) (ss : List Side) (values : List Value) → HasColumns tr (length types) ours → CellsTyped fits tr ours
-      → FitsDecided tr ss (counted (question_asked meeting (asked_by meeting resolver decides types identity tr) (Live ours) (Live theirs) (case.Conflict ss)) (Custom values))
+      → FitsDecided tr ss (decision_for_question (question_asked meeting (asked_by meeting resolver decides types identity tr) (Live ours) (Live theirs) (case.Conflict ss)) (Custom values))
   list-fits tracking.Row (p ∷ []) theirs ss values columns typed =
       let asked : Asked = asked_by meeting resolver decides types identity tracking.Row in
       let c : ConflictCase = case_asked meeting asked (Live (p ∷ [])) (Live theirs) (case.Conflict ss) in
@@ -280,7 +280,7 @@ module _ (meeting : Meeting) (resolver : ℕ) (decides : Option ℕ) (types : Li
       (λ fit. own-columns identity own ours c values refl refl typed fit)
 
   counted-fits : (tr : Tracking) (ours theirs : List Cell) (ss : List Side) (decision : Decision) → HasColumns tr (length types) ours → CellsTyped fits tr ours
-      → FitsDecided tr ss (counted (question_asked meeting (asked_by meeting resolver decides types identity tr) (Live ours) (Live theirs) (case.Conflict ss)) decision)
+      → FitsDecided tr ss (decision_for_question (question_asked meeting (asked_by meeting resolver decides types identity tr) (Live ours) (Live theirs) (case.Conflict ss)) decision)
   counted-fits tr ours theirs ss KeepPublisher columns typed = keep-fits tr ss
   counted-fits tr ours theirs ss TakeSubscriber columns typed = take-fits tr ss
   counted-fits tr ours theirs ss (Custom values) columns typed = list-fits tr ours theirs ss values columns typed

@@ -25,7 +25,7 @@ use Rattle.merge_model.specs.Publisher.PublisherRanges.{ranges}
 use Rattle.merge_model.specs.Publisher.PublisherUpload.{upload}
 use Rattle.merge_model.specs.Subscriber.Reinit.{reinitialise}
 use Rattle.merge_model.specs.Subscriber.Sending.{make_ask, make_join, make_ranges, make_upload}
-use Rattle.merge_model.specs.World.Steps.{Action, CloseAt, Deliver, Forget, Look, Make, MakeAnew, Pass, Send, SendDownload, SendJoin, SendRanges, SendUpload, Sending, at_subscriber, close_publisher, close_subscriber, deliver_letter, deliver_reply, deliver_request, kept_decisions, make_anew, make_at_publisher, make_at_subscriber, post, posted, send_from, step_by, unless_refused, upload_questions}
+use Rattle.merge_model.specs.World.Steps.{Action, CloseAt, Deliver, Forget, Look, Make, MakeAnew, Pass, Send, SendDownload, SendJoin, SendRanges, SendUpload, Sending, at_subscriber, close_publisher, close_subscriber, deliver_letter, deliver_reply, deliver_request, kept_decisions, make_anew, make_at_publisher, make_at_subscriber, post, post_if_made, send_from, step_by, unless_refused, upload_questions}
 use Rattle.merge_model.specs.Subscriber.{close_subscriber_generation, subscriber_local}
 use Rattle.merge_model.specs.Tables.{PublisherTables, SubscriberTables}
 use Rattle.merge_model.specs.Subscriber.Taking.{take_reply}
@@ -64,11 +64,11 @@ module _ (Has : Upload → Type 0) where
     more-uploads : (site : SiteId) (message : Message) → OfUpload Has message → AllByRecursion (λ (letter : Letter). OfUpload Has letter.message) (post site message w).0.pool
     more-uploads site message new = all-more (λ (letter : Letter). OfUpload Has letter.message) w.pool (record { site = site; message = message }) h new
 
-    posted-uploads : {A : Type 0} (site : SiteId) (message : A → Request) (made : Option (SubscriberTables × A)) → ((a : SubscriberTables × A) → made ≡ Some a → OfUpload Has (Asks (message a.1))) → AllUploads (posted site message w made).0
+    posted-uploads : {A : Type 0} (site : SiteId) (message : A → Request) (made : Option (SubscriberTables × A)) → ((a : SubscriberTables × A) → made ≡ Some a → OfUpload Has (Asks (message a.1))) → AllUploads (post_if_made site message w made).0
     posted-uploads site message None each = h
     posted-uploads site message (Some a) each = more-uploads site (Asks (message a.1)) (each a refl)
 
-    sent-uploads : {A : Type 0} (site : SiteId) (message : A → Request) (done : Result (Option (SubscriberTables × A)) Refusal) → ((a : SubscriberTables × A) → done ≡ Ok (Some a) → OfUpload Has (Asks (message a.1))) → AllUploads (unless_refused w done (posted site message w)).0
+    sent-uploads : {A : Type 0} (site : SiteId) (message : A → Request) (done : Result (Option (SubscriberTables × A)) Refusal) → ((a : SubscriberTables × A) → done ≡ Ok (Some a) → OfUpload Has (Asks (message a.1))) → AllUploads (unless_refused w done (post_if_made site message w)).0
     sent-uploads site message (Err refusal) each = h
     sent-uploads site message (Ok made) each = posted-uploads site message made (λ a is. each a (is-ok made a is))
       where

@@ -66,5 +66,5 @@ HasRanges message = Unit {0}
 abbrev pub LetterAnswers : List (ℕ × SubscriberTables) → Letter → Type 0
 LetterAnswers subscribers letter = MessageAnswers (at_number subscribers letter.site.0) letter.message × HasRanges letter.message
 
-abbrev pub Answered : List (ℕ × SubscriberTables) → List Letter → Type 0
-Answered subscribers pool = AllByRecursion (LetterAnswers subscribers) pool
+abbrev pub LettersAnswer : List (ℕ × SubscriberTables) → List Letter → Type 0
+LettersAnswer subscribers pool = AllByRecursion (LetterAnswers subscribers) pool

@@ -8,7 +8,7 @@ use Rattle.merge_batch.specs.declared.refusal.Refusal.TheVariants.{CounterEnd, T
 use Rattle.merge_batch.specs.declared.request.Request.TheVariants as request
 use Rattle.merge_batch.specs.declared.request.Upload.{Upload}
 use Rattle.merge_model.specs.Publisher.Acts.{acts_of}
-use Rattle.merge_model.specs.Failing.{Faulty, Slips, failing, faulty}
+use Rattle.merge_model.specs.Failing.{Faulty, Slips, faulty, faulty_stepping}
 use Rattle.merge_model.specs.History.Model.{Model, model}
 use Rattle.merge_model.specs.Laws.Promises.{IsSettled, is_expired_at}
 use Rattle.merge_model.specs.Publisher.{counters}
@@ -61,9 +61,9 @@ EndsOrFails k site (Some why) = EndsFor k site why ⊎ (is_slip why ≡ true)
 
 abbrev pub FailingSessionFinishes : Publication → Saying → Model → Type 0
 FailingSessionFinishes publication says m = (slips : Slips) (s : SubscriberTables) → subscriber_at m.world s.site ≡ Some s → MayBegin publication m s
-    → (let done : Session (Faulty Model) = session (failing publication (model publication says)) s.site (faulty m slips) in EndsOrFails done.world.world s.site done.stop)
+    → (let done : Session (Faulty Model) = session (faulty_stepping publication (model publication says)) s.site (faulty m slips) in EndsOrFails done.world.world s.site done.stop)
 
 -- and one that ends without a refusal leaves its site settled
 abbrev pub FailingSessionSettles : Publication → Saying → Model → Type 0
 FailingSessionSettles publication says m = (slips : Slips) (s t : SubscriberTables) → subscriber_at m.world s.site ≡ Some s
-    → (let done : Session (Faulty Model) = session (failing publication (model publication says)) s.site (faulty m slips) in done.stop ≡ None → subscriber_at done.world.world.world s.site ≡ Some t → IsSettled publication done.world.world t)
+    → (let done : Session (Faulty Model) = session (faulty_stepping publication (model publication says)) s.site (faulty m slips) in done.stop ≡ None → subscriber_at done.world.world.world s.site ≡ Some t → IsSettled publication done.world.world t)

@@ -34,7 +34,7 @@ use Rattle.merge_ports.specs.Entries.{Map, entry_cmp, entry_exact}
 use Rattle.merge_record.specs.Tables.{row_key_bytes, IsRowKey, row_site_bytes, IsRowSite, grant_key_at, grant_key_bytes, IsGrantKey}
 use Rattle.merge_record.proofs.Codecs.{are_records}
 use Rattle.merge_record.proofs.TableCodecs.{grant_key_is}
-use Rattle.merge_keeper.specs.Encoded.{Part, KeepsOrder, AllKeys, AllEditKeys, encoded, encoded_entry, encoded_edits, puts_of}
+use Rattle.merge_keeper.specs.Encoded.{Part, KeepsOrder, AllKeys, AllEditKeys, encoded_entries, encoded_entry, encoded_edits, puts_of}
 use Rattle.merge_keeper.specs.Entries.{row_entry_key, mapping_key, closing_key, conflict_key, held_key, grant_key_in, grant_key, grant_value, site_key, closing_value, conflict_value, closing_pair, closing_of, conflict_pair, conflict_of, was_received, held_value, held_entries, range_entries, closing_entries, conflict_entries}
 use Rattle.merge_keeper.specs.Stored.{closings_after, conflicts_after, held_put, held_after, closing_edits, conflict_edits, held_edits, HasGrantKey, IsNew, AreNew}
 use Rattle.merge_keeper.proofs.Bytes.{be_order, fronts_order, length-to_be_bytes}
@@ -81,9 +81,9 @@ site_keys_order = record { same = λ x y px py. be_order w16 x y px py }
 
 -- a member that is made of a key and a value has their entry
 paired_again : {X K V L W : Type 0} (pair : X → K × V) (of : K × V → X) (f : K → L) (g : K → V → W) → ((e : K × V) → encoded_entry f g (pair (of e)) ≡ encoded_entry f g e)
-    → (es : List (K × V)) → encoded f g (map pair (map of es)) ≡ encoded f g es
+    → (es : List (K × V)) → encoded_entries f g (map pair (map of es)) ≡ encoded_entries f g es
 paired_again pair of f g same [] = refl
-paired_again {L = L} {W = W} pair of f g same (e ∷ es) = ap (λ (x : L × W). x ∷ encoded f g (map pair (map of es))) (same e) ∙ ap (λ l. encoded_entry f g e ∷ l) (paired_again pair of f g same es)
+paired_again {L = L} {W = W} pair of f g same (e ∷ es) = ap (λ (x : L × W). x ∷ encoded_entries f g (map pair (map of es))) (same e) ∙ ap (λ l. encoded_entry f g e ∷ l) (paired_again pair of f g same es)
 
 pub closings_follow : (closings : List Closing) (edits : List (Edit ℕ Moment)) → AllKeys (λ n. n < 2 ^ 64) (map closing_pair closings) → AllEditKeys (λ n. n < 2 ^ 64) edits
     → closing_entries (closings_after closings edits) ≡ rows_after_all entry_cmp (closing_entries closings) (closing_edits edits)
@@ -145,7 +145,7 @@ held_follow [] held s h ps = refl
 held_follow (p ∷ puts) held s h ps =
     held_follow puts (insert_entry nat_cmp held p.0 p.1) (sorted_put nat_cmp nat_cmp_total p.0 p.1 held s) (keys-insert (λ n. n < 2 ^ 8) nat_cmp p.0 p.1 ps.0.0 held h) ps.1
     ∙ ap (λ l. rows_after_all entry_cmp l (held_edits puts))
-    (ap (encoded held_key held_value) (kept_insert was_received p.0 p.1 ps.0.1 held s)
+    (ap (encoded_entries held_key held_value) (kept_insert was_received p.0 p.1 ps.0.1 held s)
     ∙ encoded-insert (λ n. n < 2 ^ 8) nat_cmp entry_cmp held_key held_value exact_unsigned held_keys_order p.0 p.1 ps.0.0 (filter was_received held) (keys_kept (λ n. n < 2 ^ 8) was_received held h))
 
 after_append : {L W : Type 0} (cmp : L → L → Ordering) (a b : List (Edit L W)) (es : List (L × W)) → rows_after_all cmp es (a ++ b) ≡ rows_after_all cmp (rows_after_all cmp es a) b

@@ -19,7 +19,7 @@ use Rattle.merge_ident.specs.declared.grants.Grant.{Grant}
 use Rattle.merge_ports.specs.declared.entry.EntryKey.{EntryKey}
 use Rattle.merge_ports.specs.Entries.{Map, entry_cmp}
 use Rattle.merge_record.specs.Tables.{IsRowKey, IsRowSite}
-use Rattle.merge_keeper.specs.Encoded.{Part, AllKeys, AllEditKeys, AreFrom, all_entries, all_edits, all_after, encoded, encoded_edits, puts_of}
+use Rattle.merge_keeper.specs.Encoded.{Part, AllKeys, AllEditKeys, AreFrom, all_entries, all_edits, all_after, encoded_entries, encoded_edits, puts_of}
 use Rattle.merge_keeper.specs.Entries.{state_key, row_entry_key, mapping_key, closing_key, conflict_key, held_key, grant_key, site_key, publisher_row_value, subscriber_row_value, mapping_value, closing_value, conflict_value, held_value, grant_value, site_value, closing_pair, conflict_pair, was_received, row_entries, mapping_entries, closing_entries, conflict_entries, held_entries, range_entries, site_entries}
 use Rattle.merge_keeper.specs.Stored.{publisher_state, publisher_records, publisher_after, publisher_edits, subscriber_state, subscriber_records, subscriber_after, subscriber_edits, held_put, closing_edits, conflict_edits, held_edits, IsPublisherKeyed, FitPublisher, IsSubscriberKeyed, FitSubscriber}
 use Rattle.merge_keeper.specs.declared.stored.PublisherStored.{PublisherStored}
@@ -37,7 +37,7 @@ by_table x y lt = ap (λ (o : Ordering). ordering_then o (slice_cmp nat_cmp x.ke
 abbrev table_of : EntryKey → ℕ
 table_of k = k.table
 
-encoded_keys : {K V L W : Type 0} (Q : L → Type 0) (f : K → L) (g : K → V → W) → ((k : K) → Q (f k)) → (es : List (K × V)) → AllKeys Q (encoded f g es)
+encoded_keys : {K V L W : Type 0} (Q : L → Type 0) (f : K → L) (g : K → V → W) → ((k : K) → Q (f k)) → (es : List (K × V)) → AllKeys Q (encoded_entries f g es)
 encoded_keys Q f g all [] = tt
 encoded_keys Q f g all (e ∷ es) = (all e.0, encoded_keys Q f g all es)
 

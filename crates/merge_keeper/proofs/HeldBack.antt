@@ -18,7 +18,7 @@ use Rattle.merge_schema.specs.declared.publication.Publication.{Publication}
 use Rattle.merge_record.specs.declared.ranges.HeldRanges.{HeldRanges}
 use Rattle.merge_keeper.specs.Entries.{held_ranges, next_held, was_received}
 use Rattle.merge_keeper.specs.Given.{has_holder}
-use Rattle.merge_keeper.specs.Start.{are_kept, has_values, holder_of, identity_at, is_next_in, replaced, with_held}
+use Rattle.merge_keeper.specs.Start.{are_kept, has_values, holder_of, identity_at, is_next_in, with_held, with_value_at}
 use Rattle.merge_keeper.specs.SubscriberRules.{held_with}
 use Rattle.merge_keeper.proofs.Fronts.{and_first, and_second}
 
@@ -80,7 +80,7 @@ pub record Restored (publication : Publication) (x : ℕ × HeldRanges) : Type 0
   pub ranges : held_ranges (holder_pair publication x).1 ≡ x.1
   pub received : was_received (holder_pair publication x) ≡ true
   pub same : option_map (λ identity. holder_of identity x.1) (identity_at publication x.0) ≡ Some (holder_pair publication x).1
-  pub put : (held : List (ℕ × Holder)) → with_held publication held x.0 x.1 ≡ replaced held x.0 (holder_pair publication x).1
+  pub put : (held : List (ℕ × Holder)) → with_held publication held x.0 x.1 ≡ with_value_at held x.0 (holder_pair publication x).1
 
 -- the holder of a record that was received
 restored_by : (publication : Publication) (x : ℕ × HeldRanges) → IsReceived publication x → (o : Option Identity) → identity_at publication x.0 ≡ o → is_some o ≡ true → Restored publication x
@@ -89,7 +89,7 @@ restored_by publication x r (Some identity) e h = record {
   ranges = ap (λ (o : Option Identity). held_ranges (holder_with o x.1)) e ∙ held_back identity x.1 r.kept;
   received = ap (λ (o : Option Identity). nat_lt 0 (holder_with o x.1).have) e ∙ r.have;
   same = ap (λ (o : Option Identity). option_map (λ identity. holder_of identity x.1) o) e ∙ ap (λ (o : Option Identity). (let h : Option Holder = Some (holder_with o x.1) in h)) (sym e);
-  put = λ held. ap (λ (o : Option Identity). option_map_or (λ identity. replaced held x.0 (holder_of identity x.1)) o held) e ∙ ap (λ (o : Option Identity). replaced held x.0 (holder_with o x.1)) (sym e);
+  put = λ held. ap (λ (o : Option Identity). option_map_or (λ identity. with_value_at held x.0 (holder_of identity x.1)) o held) e ∙ ap (λ (o : Option Identity). with_value_at held x.0 (holder_with o x.1)) (sym e);
 }
 
 pub restored : (publication : Publication) (x : ℕ × HeldRanges) → IsReceived publication x → Restored publication x
@@ -99,7 +99,7 @@ pub held_put : (publication : Publication) (held : List (ℕ × Holder)) (xs : L
 held_put publication held [] r = refl
 held_put publication held (x ∷ xs) r =
     ap (λ (now : List (ℕ × Holder)). held_after publication now xs) ((restored publication x r.0).put held)
-    ∙ held_put publication (replaced held x.0 (holder_pair publication x).1) xs r.1
+    ∙ held_put publication (with_value_at held x.0 (holder_pair publication x).1) xs r.1
 
 -- ---- what was received is what is in the place of others
 
@@ -129,24 +129,24 @@ apart_too : (a b : ℕ) → a < b → (b == a) ≡ false
 apart_too a b h = grind (arith, nat_tests, h)
 
 -- a value at a number that is not there changes nothing
-none_replaced : (n : ℕ) (v : Holder) (ps : List (ℕ × Holder)) → AreOver n ps → replaced ps n v ≡ ps
+none_replaced : (n : ℕ) (v : Holder) (ps : List (ℕ × Holder)) → AreOver n ps → with_value_at ps n v ≡ ps
 none_replaced n v [] h = refl
 none_replaced n v (p ∷ ps) h =
-    ap (λ (b : Bool). (let l : List (ℕ × Holder) = cond b (n, v) p ∷ replaced ps n v in l)) (apart_too n p.0 h.0)
+    ap (λ (b : Bool). (let l : List (ℕ × Holder) = cond b (n, v) p ∷ with_value_at ps n v in l)) (apart_too n p.0 h.0)
     ∙ ap (λ (l : List (ℕ × Holder)). p ∷ l) (none_replaced n v ps h.1)
 
 -- values behind the first one leave it
 first_stays : (p : ℕ × Holder) (held ps : List (ℕ × Holder)) → AreOver p.0 ps → held_with (p ∷ held) ps ≡ p ∷ held_with held ps
 first_stays p held [] h = refl
 first_stays p held (q ∷ ps) h =
-    ap (λ (b : Bool). held_with (cond b (q.0, q.1) p ∷ replaced held q.0 q.1) ps) (apart p.0 q.0 h.0)
-    ∙ first_stays p (replaced held q.0 q.1) ps h.1
+    ap (λ (b : Bool). held_with (cond b (q.0, q.1) p ∷ with_value_at held q.0 q.1) ps) (apart p.0 q.0 h.0)
+    ∙ first_stays p (with_value_at held q.0 q.1) ps h.1
 
 -- the one at the number of the first one takes its place
 first_replaced : (p q : ℕ × Holder) (held ps : List (ℕ × Holder)) → p.0 ≡ q.0 → AreOver p.0 held → AreOver p.0 ps → held_with (p ∷ held) (q ∷ ps) ≡ q ∷ held_with held ps
 first_replaced p q held ps same over later =
     let here : (p.0 == q.0) ≡ true = grind (arith, nat_tests, same) in
-    ap (λ (b : Bool). held_with (cond b (q.0, q.1) p ∷ replaced held q.0 q.1) ps) here
+    ap (λ (b : Bool). held_with (cond b (q.0, q.1) p ∷ with_value_at held q.0 q.1) ps) here
     ∙ ap (λ (l : List (ℕ × Holder)). held_with (q ∷ l) ps) (none_replaced q.0 q.1 held (subst (λ (n : ℕ). AreOver n held) same over))
     ∙ first_stays q held ps (subst (λ (n : ℕ). AreOver n ps) same later)
 
@@ -221,11 +221,11 @@ key_step : (p : ℕ × Holder) (n : ℕ) (v : Holder) (b : Bool) → (p.0 == n) 
 key_step p n v true e = sym (eqb-true p.0 n e)
 key_step p n v false e = refl
 
-keys_stay : (n : ℕ) (v : Holder) (held : List (ℕ × Holder)) → keys_of (replaced held n v) ≡ keys_of held
+keys_stay : (n : ℕ) (v : Holder) (held : List (ℕ × Holder)) → keys_of (with_value_at held n v) ≡ keys_of held
 keys_stay n v [] = refl
 keys_stay n v (p ∷ held) =
-    ap (λ (k : ℕ). k ∷ keys_of (replaced held n v)) (key_step p n v (p.0 == n) refl) ∙ ap (λ (l : List ℕ). p.0 ∷ l) (keys_stay n v held)
+    ap (λ (k : ℕ). k ∷ keys_of (with_value_at held n v)) (key_step p n v (p.0 == n) refl) ∙ ap (λ (l : List ℕ). p.0 ∷ l) (keys_stay n v held)
 
 pub held_keys : (held ps : List (ℕ × Holder)) → keys_of (held_with held ps) ≡ keys_of held
 held_keys held [] = refl
-held_keys held (p ∷ ps) = held_keys (replaced held p.0 p.1) ps ∙ keys_stay p.0 p.1 held
+held_keys held (p ∷ ps) = held_keys (with_value_at held p.0 p.1) ps ∙ keys_stay p.0 p.1 held

@@ -2,14 +2,14 @@
 use Rattle.std.proofs.Common.{◌≡◌, ◌∙◌, ◌≤◌, Result, Ok, Err, IfOk, ◌++◌, pos, List, [], ◌∷◌, length, map, unwrap_or, slice_get, refl, arith}
 use Rattle.std.specs.Option.{option_map}
 use Rattle.merge_ident.specs.Holders.{Received, range_of, next_of}
-use Rattle.merge_keeper.specs.Edits.{listed}
+use Rattle.merge_keeper.specs.Edits.{list_of_option}
 use Rattle.merge_keeper.specs.Entries.{next_held}
 
 pub next_listed : (held : List Received) → unwrap_or (option_map next_of (slice_get held 0)) (pos 0) ≡ next_held held
 next_listed [] = refl
 next_listed (first ∷ rest) = refl
 
-pub ranges_listed : (held : List Received) → length held ≤ 2 → listed (option_map range_of (slice_get held 0)) ++ listed (option_map range_of (slice_get held 1)) ≡ map range_of held
+pub ranges_listed : (held : List Received) → length held ≤ 2 → list_of_option (option_map range_of (slice_get held 0)) ++ list_of_option (option_map range_of (slice_get held 1)) ≡ map range_of held
 ranges_listed [] two = refl
 ranges_listed (first ∷ []) two = refl
 ranges_listed (first ∷ second ∷ []) two = refl

@@ -30,11 +30,11 @@ use Rattle.merge_ports.specs.Entries.{Map, entry_cmp}
 use Rattle.merge_record.specs.Tables.{IsRowKey, IsRowSite}
 use Rattle.merge_record.specs.declared.ranges.HeldRanges.{HeldRanges}
 use Rattle.merge_keeper.specs.Entries.{closing_entries, closing_key, closing_pair, conflict_entries, conflict_key, conflict_pair, held_key, held_ranges, mapping_entries, mapping_key, publisher_row_value, range_entries, row_entries, row_entry_key, site_entries, site_key, state_key, was_received}
-use Rattle.merge_keeper.specs.Encoded.{encoded}
+use Rattle.merge_keeper.specs.Encoded.{encoded_entries}
 use Rattle.merge_keeper.specs.Given.{IsBeginning, IsMap}
 use Rattle.merge_keeper.specs.Orders.{IsPublisherOrdered}
 use Rattle.merge_keeper.specs.PublisherRules.{held_pair, own_ranges, range_pairs, range_records, state_of, with_records, IsRangeRecord, KeepRules}
-use Rattle.merge_keeper.specs.PublisherStart.{begun, closing_is_sound, go_from, grant_is_sound, is_held, is_sound, loading, move_is_sound, no_state, own_is_sound, publisher_loaded, reading_of, row_is_sound, site_is_sound, state_is_sound, tables_with, with_record}
+use Rattle.merge_keeper.specs.PublisherStart.{closing_is_sound, go_from, grant_is_sound, is_held, is_sound, loading_of_publisher, move_is_sound, no_state, own_is_sound, publisher_first_state, publisher_loaded, reading_of, row_is_sound, site_is_sound, state_is_sound, tables_with, with_record}
 use Rattle.merge_keeper.specs.Start.{are_kept, conflict_is_sound, holder_of, holds_last, identity_at, is_counter, last_conflict, last_conflict_behind, last_own, loaded_behind, own_count, own_grants, KeepOneByOne, Loading}
 use Rattle.merge_keeper.specs.States.{IsFront}
 use Rattle.merge_keeper.specs.Stored.{publisher_records, publisher_state, HasGrantKey}
@@ -155,7 +155,7 @@ not_state publication owns t (Held article held) h = omega arith
 not_state publication owns t (Granted grant) h = omega arith
 not_state publication owns t (Subscribed site state) h = omega arith
 
-from_two : (publication : Publication) (owns : List (ℕ × Range)) (t : PublisherStored) (rs : List PublisherRecord) → Sound (loading publication owns) Fits t rs → AreFrom entry_of 2 rs
+from_two : (publication : Publication) (owns : List (ℕ × Range)) (t : PublisherStored) (rs : List PublisherRecord) → Sound (loading_of_publisher publication owns) Fits t rs → AreFrom entry_of 2 rs
 from_two publication owns t [] h = tt
 from_two publication owns t (r ∷ rs) h = (not_state publication owns t r h.0.1, from_two publication owns (with_record publication t r) rs h.1)
 
@@ -188,7 +188,7 @@ record Begins (last : ℕ) (o : Option PublisherRecord) (s : Front) : Type 0 whe
   read : o ≡ Some (State s)
   sound : state_is_sound last s ≡ true
 
-begins : (last : ℕ) (key : EntryKey) (o : Option PublisherRecord) (s : Front) → begun last key o ≡ Ok s → Begins last o s
+begins : (last : ℕ) (key : EntryKey) (o : Option PublisherRecord) (s : Front) → publisher_first_state last key o ≡ Ok s → Begins last o s
 begins last key None s e = absurd cc
 begins last key (Some (Row k row)) s e = absurd cc
 begins last key (Some (Mapped place mapping)) s e = absurd cc
@@ -205,7 +205,7 @@ begins last key (Some (State q)) s e =
     }
 
 goes_from : (publication : Publication) (owns : List (ℕ × Range)) (held : List (ℕ × Holder)) (es : Map) (t : PublisherStored) (r : Result Front EntryKey) → go_from publication owns held es r ≡ Ok t
-    → (s : Front) × (r ≡ Ok s) × (loaded_behind (loading publication owns) (tables_with held s) es ≡ Ok t)
+    → (s : Front) × (r ≡ Ok s) × (loaded_behind (loading_of_publisher publication owns) (tables_with held s) es ≡ Ok t)
 goes_from publication owns held es t (Ok s) e = (s, refl, e)
 goes_from publication owns held es t (Err key) e = absurd cc
 
@@ -231,7 +231,7 @@ are_ranges (inr grant ∷ xs) = (refl, are_ranges xs)
 -- The lists of what loads, from the last table to the first: each member keeps the rules behind those before it.
 module _ (publication : Publication) (owns : List (ℕ × Range)) (held : List (ℕ × Holder)) (s : Front) where
   abbrev loads : Loading PublisherStored PublisherRecord
-  loads = loading publication owns
+  loads = loading_of_publisher publication owns
 
   -- sites alone, behind all other tables
   record Sites (t : PublisherStored) (rs : List PublisherRecord) : Type 0 where
@@ -385,7 +385,7 @@ record Lists (publication : Publication) (owns : List (ℕ × Range)) (held : Li
   ranges : List Ranged
   sites : List (ℕ × SiteState)
   parts : rs ≡ all_of rows mappings closings conflicts (map range_con ranges) sites
-  now_is : after (loading publication owns) (tables_with held s) rs ≡ full publication (tables held s rows mappings closings conflicts) ranges sites
+  now_is : after (loading_of_publisher publication owns) (tables_with held s) rs ≡ full publication (tables held s rows mappings closings conflicts) ranges sites
   rows_sound : KeepOneByOne (λ f x. Fits (row_con x) × (row_is_sound publication (tables held s f [] [] []) x.0 x.1 ≡ true)) [] rows
   mappings_sound : KeepOneByOne (λ f x. Fits (mapping_con x) × (move_is_sound publication (tables held s rows f [] []) x.0 x.1 ≡ true)) [] mappings
   closings_sound : AllByRecursion (λ x. Fits (Closed x) × (closing_is_sound s.last_closed x ≡ true)) closings
@@ -401,7 +401,7 @@ record Lists (publication : Publication) (owns : List (ℕ × Range)) (held : Li
 
 -- rows, and mappings behind them
 module _ (publication : Publication) (owns : List (ℕ × Range)) (held : List (ℕ × Holder)) (s : Front) (rs : List PublisherRecord) where
-  lists_with : (rows : List (RowKey × PublisherRow)) (rest : List PublisherRecord) → rs ≡ map row_con rows ++ rest → after (loading publication owns) (tables_with held s) rs ≡ after (loading publication owns) (tables held s rows [] [] []) rest
+  lists_with : (rows : List (RowKey × PublisherRow)) (rest : List PublisherRecord) → rs ≡ map row_con rows ++ rest → after (loading_of_publisher publication owns) (tables_with held s) rs ≡ after (loading_of_publisher publication owns) (tables held s rows [] [] []) rest
       → KeepOneByOne (λ f x. Fits (row_con x) × (row_is_sound publication (tables held s f [] [] []) x.0 x.1 ≡ true)) [] rows → IsStrictlySortedBy key_cmp (keys_of rows) → Mappings publication owns held s rows rest → Lists publication owns held s rs
   lists_with rows rest parts now_is sound up b =
       let c = b.more in
@@ -434,16 +434,16 @@ module _ (publication : Publication) (owns : List (ℕ × Range)) (held : List (
         sites_up = e.sites_up;
       }
 
-  rows_split : Ascend entry_of rs → Split (loading publication owns) entry_of Fits row_con (λ f. tables held s f [] [] []) 2 [] rs → Lists publication owns held s rs
+  rows_split : Ascend entry_of rs → Split (loading_of_publisher publication owns) entry_of Fits row_con (λ f. tables held s f [] [] []) 2 [] rs → Lists publication owns held s rs
   rows_split up a =
       let ups = sorted_split entry_cmp (key_at entry_of) row_con a.members a.rest (subst (Ascend entry_of) a.parts up) in
       lists_with a.members a.rest a.parts a.after_is a.sound
       (sorted_as entry_cmp key_cmp (λ (x : RowKey × PublisherRow). row_entry_key x.0) (λ (x : RowKey × PublisherRow). x.0) (λ (x : RowKey × PublisherRow). IsRowKey x.0) (λ x y p q. row_keys_order.same x.0 y.0 p q) a.members (each_so _ _ (λ f x q. q.0.0) [] a.members a.sound) ups.0)
       (mappings_of publication owns held s a.members a.rest ups.1 a.above a.rest_sound)
 
-  lists : Ascend entry_of rs → Sound (loading publication owns) Fits (tables_with held s) rs → Lists publication owns held s rs
+  lists : Ascend entry_of rs → Sound (loading_of_publisher publication owns) Fits (tables_with held s) rs → Lists publication owns held s rs
   lists up sound =
-      rows_split up (split (loading publication owns) entry_of Fits row_con (λ f. tables held s f [] [] []) 2 row_of (λ f x. refl) [] rs up (from_two publication owns (tables_with held s) rs sound) sound)
+      rows_split up (split (loading_of_publisher publication owns) entry_of Fits row_con (λ f. tables held s f [] [] []) 2 row_of (λ f x. refl) [] rs up (from_two publication owns (tables_with held s) rs sound) sound)
 
 -- ---- what the ranges say
 
@@ -618,7 +618,7 @@ module _ (publication : Publication) (held : List (ℕ × Holder)) (beginning : 
           subst (λ (h : HeldRanges). option_map (λ identity. holder_of identity h) (identity_at publication y.0) ≡ Some (holder_pair publication y).1) (sym back.ranges) back.same
 
   range_entries_are : map entry_of six ≡ range_entries now.held now.grants
-  range_entries_are = sym (pairs_listed (map pair_of six) (range_pairs_are x.ranges) ∙ ap (map entry_of) (map_twice (λ (e : Pair). e.1) pair_of six ∙ map_same six)) ∙ ap (encoded same_key bytes_of) (sym pairs_are) ∙ pairs_encoded now.held now.grants
+  range_entries_are = sym (pairs_listed (map pair_of six) (range_pairs_are x.ranges) ∙ ap (map entry_of) (map_twice (λ (e : Pair). e.1) pair_of six ∙ map_same six)) ∙ ap (encoded_entries same_key bytes_of) (sym pairs_are) ∙ pairs_encoded now.held now.grants
 
   records_are : all ≡ publisher_records now
   records_are =
@@ -653,14 +653,14 @@ unfolding IsStrictlySortedBy
 loaded_back publication held e es t map_fits beginning h =
     let owns : List (ℕ × Range) = own_grants (e ∷ es) in
     let last : ℕ = last_conflict (e ∷ es) in
-    let g = goes_from publication owns held es t (begun last e.0 (reading_of e)) h in
+    let g = goes_from publication owns held es t (publisher_first_state last e.0 (reading_of e)) h in
     let b = begins last e.0 (reading_of e) g.0 g.1 in
     let first = record_is e map_fits.bytes.0 (State g.0) b.read in
-    let f = found (loading publication owns) entry_of Fits record_is es (tables_with held g.0) t map_fits.bytes.1 g.2 in
+    let f = found (loading_of_publisher publication owns) entry_of Fits record_is es (tables_with held g.0) t map_fits.bytes.1 g.2 in
     let up : Ascend entry_of f.records = subst (IsStrictlySortedBy entry_cmp) (ap keys_of f.entries ∙ map_twice (λ (p : EntryKey × List ℕ). p.0) entry_of f.records) map_fits.ascends.1 in
     let x = lists publication owns held g.0 f.records up f.sound in
     let all_is : e ∷ es ≡ (state_key, state_bytes g.0) ∷ map entry_of f.records = ap (λ (q : EntryKey × List ℕ). (let m : Map = q ∷ es in m)) first.0 ∙ ap (λ (m : Map). (state_key, state_bytes g.0) ∷ m) f.entries in
-    let owns_are : owns ≡ own_ranges f.records = ap own_grants all_is ∙ own_ranges_are f.records (sound_fits (loading publication owns) Fits f.records (tables_with held g.0) f.sound) in
+    let owns_are : owns ≡ own_ranges f.records = ap own_grants all_is ∙ own_ranges_are f.records (sound_fits (loading_of_publisher publication owns) Fits f.records (tables_with held g.0) f.sound) in
     let last_is : last ≡ last_conflict_behind 0 (map entry_of f.records) = ap last_conflict all_is in
     subst (LoadedBack publication held (e ∷ es)) (sym x.now_is ∙ f.now_is) (is_back publication held beginning g.0 last (e ∷ es) first.1 b.sound f.records owns all_is x owns_are last_is)
 

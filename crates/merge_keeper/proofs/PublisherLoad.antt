@@ -22,11 +22,11 @@ use Rattle.merge_schema.specs.declared.publication.Publication.{Publication}
 use Rattle.merge_ports.specs.declared.entry.EntryKey.{EntryKey}
 use Rattle.merge_ports.specs.Entries.{Map, entry_cmp, entry_exact}
 use Rattle.merge_record.specs.declared.ranges.HeldRanges.{HeldRanges}
-use Rattle.merge_keeper.specs.Encoded.{encoded, encoded_edit, encoded_edits, encoded_entry, puts_of, AllEditKeys, AllKeys, KeepsOrder}
+use Rattle.merge_keeper.specs.Encoded.{encoded_entries, encoded_edit, encoded_edits, encoded_entry, puts_of, AllEditKeys, AllKeys, KeepsOrder}
 use Rattle.merge_keeper.specs.Entries.{closing_entries, closing_key, closing_pair, closing_value, conflict_entries, conflict_key, conflict_pair, conflict_value, grant_key, held_entries, held_ranges, mapping_entries, range_entries, row_entries, publisher_row_value, site_entries, state_key, was_received}
 use Rattle.merge_keeper.specs.PublisherRules.{held_pair, own_range, own_ranges, range_pairs, range_records, state_of, with_closings, with_conflicts, with_mappings, with_records, with_rows, IsRangeRecord, KeepRules}
-use Rattle.merge_keeper.specs.PublisherStart.{begun, closing_is_sound, go_from, is_sound, loading, publisher_loaded, reading_of, site_is_sound, state_is_sound, tables_with}
-use Rattle.merge_keeper.specs.Start.{holder_of, identity_at, last_conflict, last_conflict_behind, loaded_behind, number_in, own_grants, replaced, KeepOneByOne, Loading}
+use Rattle.merge_keeper.specs.PublisherStart.{closing_is_sound, go_from, is_sound, loading_of_publisher, publisher_first_state, publisher_loaded, reading_of, site_is_sound, state_is_sound, tables_with}
+use Rattle.merge_keeper.specs.Start.{holder_of, identity_at, last_conflict, last_conflict_behind, loaded_behind, number_in, own_grants, with_value_at, KeepOneByOne, Loading}
 use Rattle.merge_keeper.specs.Stored.{publisher_records, publisher_state}
 use Rattle.merge_keeper.specs.SubscriberRules.{held_with}
 use Rattle.merge_keeper.specs.declared.publisher_record.PublisherRecord.{PublisherRecord}
@@ -108,7 +108,7 @@ puts_always (g ∷ gs) = (tt, puts_always gs)
 same_order : KeepsOrder Always entry_cmp entry_cmp same_key
 same_order = record { same = λ x y p q. refl }
 
-pub pairs_encoded : (held : List (ℕ × Holder)) (grants : List Grant) → encoded same_key bytes_of (range_pairs held grants) ≡ range_entries held grants
+pub pairs_encoded : (held : List (ℕ × Holder)) (grants : List Grant) → encoded_entries same_key bytes_of (range_pairs held grants) ≡ range_entries held grants
 pairs_encoded held grants =
     encoded-after_all Always entry_cmp entry_cmp same_key bytes_of entry_exact same_order (puts_of grant_key Granted grants) (puts_always grants) (map held_pair (filter was_received held)) (keys_always (map held_pair (filter was_received held)))
     ∙ ap (λ (m : Map). rows_after_all entry_cmp m (encoded_edits same_key bytes_of (puts_of grant_key Granted grants))) (map_twice (encoded_entry same_key bytes_of) held_pair (filter was_received held))
@@ -122,10 +122,10 @@ held_pairs : (ps : List (ℕ × Holder)) → AllByRecursion IsRangePair (map hel
 held_pairs [] = tt
 held_pairs (p ∷ ps) = ((refl, refl), held_pairs ps)
 
-pub pairs_listed : (es : List Pair) → AllByRecursion IsRangePair es → encoded same_key bytes_of es ≡ map entry_of (map (λ (e : Pair). e.1) es)
+pub pairs_listed : (es : List Pair) → AllByRecursion IsRangePair es → encoded_entries same_key bytes_of es ≡ map entry_of (map (λ (e : Pair). e.1) es)
 pairs_listed [] h = refl
 pairs_listed (e ∷ es) h =
-    ap (λ (k : EntryKey). (let m : Map = (k, (entry_of e.1).1) ∷ encoded same_key bytes_of es in m)) (sym h.0.0) ∙ ap (λ (m : Map). entry_of e.1 ∷ m) (pairs_listed es h.1)
+    ap (λ (k : EntryKey). (let m : Map = (k, (entry_of e.1).1) ∷ encoded_entries same_key bytes_of es in m)) (sym h.0.0) ∙ ap (λ (m : Map). entry_of e.1 ∷ m) (pairs_listed es h.1)
 
 fits_range : (r : PublisherRecord) → (entry_of r).0.table ≡ 6 → IsRangeRecord r → Fits r
 fits_range (State front) e h = absurd (omega (arith, e))
@@ -155,9 +155,9 @@ abbrev IsRestored : Publication → ℕ × Holder → Type 0
 IsRestored publication p = option_map (λ identity. holder_of identity (held_ranges p.1)) (identity_at publication p.0) ≡ Some p.1
 
 put_by_identity : (o : Option Identity) (now : List (ℕ × Holder)) (p : ℕ × Holder) → option_map (λ identity. holder_of identity (held_ranges p.1)) o ≡ Some p.1
-    → option_map_or (λ identity. replaced now p.0 (holder_of identity (held_ranges p.1))) o now ≡ replaced now p.0 p.1
+    → option_map_or (λ identity. with_value_at now p.0 (holder_of identity (held_ranges p.1))) o now ≡ with_value_at now p.0 p.1
 put_by_identity None now p e = absurd cc
-put_by_identity (Some identity) now p e = ap (λ (holder : Holder). replaced now p.0 holder) (some_holder (holder_of identity (held_ranges p.1)) p.1 e)
+put_by_identity (Some identity) now p e = ap (λ (holder : Holder). with_value_at now p.0 holder) (some_holder (holder_of identity (held_ranges p.1)) p.1 e)
   where
     some_holder : (a b : Holder) → (let x : Option Holder = Some a in x) ≡ Some b → a ≡ b
     some_holder a b e = cc
@@ -166,7 +166,7 @@ held_again : (publication : Publication) (now ps : List (ℕ × Holder)) → All
 held_again publication now [] h = refl
 held_again publication now (p ∷ ps) h =
     ap (λ (new : List (ℕ × Holder)). held_after publication new (map (λ (p : ℕ × Holder). (let x : ℕ × HeldRanges = (p.0, held_ranges p.1) in x)) ps)) (put_by_identity (identity_at publication p.0) now p h.0)
-    ∙ held_again publication (replaced now p.0 p.1) ps h.1
+    ∙ held_again publication (with_value_at now p.0 p.1) ps h.1
 
 none_in_six : (k : EntryKey) → k.table ≡ 6 → number_in k ≡ None
 none_in_six k e = rw e refl
@@ -199,7 +199,7 @@ module _ (publication : Publication) (held : List (ℕ × Holder)) (t : Publishe
   ranges = range_records t.held t.grants
 
   abbrev l : Loading PublisherStored PublisherRecord
-  l = loading publication (own_ranges ranges)
+  l = loading_of_publisher publication (own_ranges ranges)
 
   abbrev base : PublisherStored
   base = with_conflicts t held t.conflicts
@@ -321,15 +321,15 @@ module _ (publication : Publication) (held : List (ℕ × Holder)) (t : Publishe
   abbrev chosen : Bool → Result Front EntryKey
   chosen b = cond b (Ok (state_of t)) (Err state_key)
 
-  begins : begun (last_conflict all) state_key (reading_of (state_key, publisher_state t)) ≡ Ok (state_of t)
+  begins : publisher_first_state (last_conflict all) state_key (reading_of (state_key, publisher_state t)) ≡ Ok (state_of t)
   begins =
-      ap (begun (last_conflict all) state_key) (reads_again (State (state_of t)) h.fits)
+      ap (publisher_first_state (last_conflict all) state_key) (reads_again (State (state_of t)) h.fits)
       ∙ ap chosen (ap (λ (n : ℕ). state_is_sound n (state_of t)) last_found ∙ h.state)
 
   pub records_load : publisher_loaded publication held (publisher_records t) ≡ Ok t
   records_load =
       ap (publisher_loaded publication held) records_are
       ∙ ap (go_from publication (own_grants all) held behind) begins
-      ∙ ap (λ (owns : List (ℕ × Range)). loaded_behind (loading publication owns) (tables_with held (state_of t)) behind) owns_are
+      ∙ ap (λ (owns : List (ℕ × Range)). loaded_behind (loading_of_publisher publication owns) (tables_with held (state_of t)) behind) owns_are
       ∙ sound_loads l entry_of Fits reads_again records (with_rows t held []) all_sound
       ∙ ap (λ (x : PublisherStored). Ok x) (after_is ∙ tables_are)

@@ -32,7 +32,7 @@ use Rattle.merge_keeper.specs.Start.{are_kept, conflict_is_sound, holder_of, ide
 use Rattle.merge_keeper.specs.States.{subscriber_spelling, IsSubscriberState}
 use Rattle.merge_keeper.specs.Stored.{subscriber_records, subscriber_state}
 use Rattle.merge_keeper.specs.SubscriberRules.{held_with, state_of, KeepRules, Numbered, Run}
-use Rattle.merge_keeper.specs.SubscriberStart.{begun, closing_is_sound, first_missing, generation_in, go_from, has_closings, held_is_sound, last_number, loading, no_state, passed, reading_of, row_is_sound, state_is_sound, subscriber_loaded, tables_with, talk_is_sound, with_record}
+use Rattle.merge_keeper.specs.SubscriberStart.{closing_is_sound, first_missing, generation_in, go_from, has_closings, held_is_sound, last_number, loading_of_subscriber, next_behind_entry, no_state, reading_of, row_is_sound, state_is_sound, subscriber_first_state, subscriber_loaded, tables_with, talk_is_sound, with_record}
 use Rattle.merge_keeper.specs.declared.states.SubscriberState.{SubscriberState}
 use Rattle.merge_keeper.specs.declared.stored.SubscriberStored.{SubscriberStored}
 use Rattle.merge_keeper.specs.declared.subscriber_record.SubscriberRecord.{SubscriberRecord}
@@ -99,7 +99,7 @@ none_past_six [] h = refl
 none_past_six (r ∷ rs) h = absurd (not_past_six r h.0)
 
 -- a second state breaks a rule
-from_two : (publication : Publication) (t : SubscriberStored) (rs : List SubscriberRecord) → Sound (loading publication) Fits t rs → AreFrom entry_of 2 rs
+from_two : (publication : Publication) (t : SubscriberStored) (rs : List SubscriberRecord) → Sound (loading_of_subscriber publication) Fits t rs → AreFrom entry_of 2 rs
 from_two publication t [] h = tt
 from_two publication t (State s ∷ rs) h = absurd (no_truth h.0.1)
 from_two publication t (Row key row ∷ rs) h = (omega arith, from_two publication (with_record publication t (Row key row)) rs h.1)
@@ -134,7 +134,7 @@ stays last next (c ∷ cs) fits h =
     ∙ ap (λ (b : Bool). first_missing last (cond (b && nat_le c.generation last) (next + 1) next) (map closing_entry cs)) differs
     ∙ stays last next cs fits.1 (rises_less (next + 1) (c.generation + 1) cs (omega (arith, h.0)) h.1)
 
-passes : (last next generation : ℕ) → generation ≡ next → generation ≤ last → passed last next (Some generation) ≡ next + 1
+passes : (last next generation : ℕ) → generation ≡ next → generation ≤ last → next_behind_entry last next (Some generation) ≡ next + 1
 passes last next generation same within =
     let here : (generation == next) ≡ true = grind (arith, nat_tests, same) in
     let le : nat_le generation last ≡ true = grind (arith, nat_tests, within) in
@@ -160,7 +160,7 @@ run_found last next (c ∷ cs) fits up within le most =
 
 missing_append : (last next : ℕ) (front rest : Map) → first_missing last next (front ++ rest) ≡ first_missing last (first_missing last next front) rest
 missing_append last next [] rest = refl
-missing_append last next (e ∷ front) rest = missing_append last (passed last next (generation_in e.0)) front rest
+missing_append last next (e ∷ front) rest = missing_append last (next_behind_entry last next (generation_in e.0)) front rest
 
 bounds_of : (t : SubscriberStored) (c : Closing) → closing_is_sound t c ≡ true → (t.received + 1 ≤ c.generation) × (c.generation ≤ t.filling.last_closed)
 unfolding closing_is_sound
@@ -202,7 +202,7 @@ record Begins (site : SiteId) (all : Map) (o : Option SubscriberRecord) (s : Sub
   sound : state_is_sound site (last_conflict all) s ≡ true
   closings : has_closings all s ≡ true
 
-begins : (site : SiteId) (all : Map) (key : EntryKey) (o : Option SubscriberRecord) (s : SubscriberState) → begun site all key o ≡ Ok s → Begins site all o s
+begins : (site : SiteId) (all : Map) (key : EntryKey) (o : Option SubscriberRecord) (s : SubscriberState) → subscriber_first_state site all key o ≡ Ok s → Begins site all o s
 begins site all key None s e = absurd cc
 begins site all key (Some (Row k row)) s e = absurd cc
 begins site all key (Some (Closed c)) s e = absurd cc
@@ -218,7 +218,7 @@ begins site all key (Some (State q)) s e =
     }
 
 goes_from : (publication : Publication) (site : SiteId) (held : List (ℕ × Holder)) (es : Map) (t : SubscriberStored) (r : Result SubscriberState EntryKey) → go_from publication site held es r ≡ Ok t
-    → (s : SubscriberState) × (r ≡ Ok s) × (loaded_behind (loading publication) (tables_with site held s) es ≡ Ok t)
+    → (s : SubscriberState) × (r ≡ Ok s) × (loaded_behind (loading_of_subscriber publication) (tables_with site held s) es ≡ Ok t)
 goes_from publication site held es t (Ok s) e = (s, refl, e)
 goes_from publication site held es t (Err key) e = absurd cc
 
@@ -246,7 +246,7 @@ record Lists (publication : Publication) (site : SiteId) (held : List (ℕ × Ho
   conflicts : List ConflictRow
   ranges : List (ℕ × HeldRanges)
   parts : rs ≡ map row_con rows ++ (map Closed closings ++ (map Lost conflicts ++ map held_con ranges))
-  now_is : after (loading publication) (tables_with site held s) rs ≡ tables site held s rows closings conflicts (held_after publication held ranges)
+  now_is : after (loading_of_subscriber publication) (tables_with site held s) rs ≡ tables site held s rows closings conflicts (held_after publication held ranges)
   rows_sound : KeepOneByOne (λ f x. Fits (row_con x) × (row_is_sound publication (tables site held s f [] [] held) x.0 x.1 ≡ true)) [] rows
   closings_sound : KeepOneByOne (λ f x. Fits (Closed x) × (closing_is_sound (tables site held s rows f [] held) x ≡ true)) [] closings
   conflicts_sound : KeepOneByOne (λ f x. Fits (Lost x) × (conflict_is_sound publication (length f) s.front.conflicts x ≡ true)) [] conflicts
@@ -256,9 +256,9 @@ record Lists (publication : Publication) (site : SiteId) (held : List (ℕ × Ho
   conflicts_up : IsStrictlySortedBy nat_cmp (map (λ (row : ConflictRow). row.number) conflicts)
   ranges_up : IsStrictlySortedBy nat_cmp (map (λ (x : ℕ × HeldRanges). x.0) ranges)
 
-lists : (publication : Publication) (site : SiteId) (held : List (ℕ × Holder)) (s : SubscriberState) (rs : List SubscriberRecord) → Ascend entry_of rs → Sound (loading publication) Fits (tables_with site held s) rs → Lists publication site held s rs
+lists : (publication : Publication) (site : SiteId) (held : List (ℕ × Holder)) (s : SubscriberState) (rs : List SubscriberRecord) → Ascend entry_of rs → Sound (loading_of_subscriber publication) Fits (tables_with site held s) rs → Lists publication site held s rs
 lists publication site held s rs up sound =
-    let l : Loading SubscriberStored SubscriberRecord = loading publication in
+    let l : Loading SubscriberStored SubscriberRecord = loading_of_subscriber publication in
     let a = split l entry_of Fits row_con (λ f. tables site held s f [] [] held) 2 row_of (λ f x. refl) [] rs up (from_two publication (tables_with site held s) rs sound) sound in
     let up_a = sorted_split entry_cmp (key_at entry_of) row_con a.members a.rest (subst (Ascend entry_of) a.parts up) in
     let b = split l entry_of Fits Closed (λ f. tables site held s a.members f [] held) 4 closing_of (λ f x. refl) [] a.rest up_a.1 (all_so (λ r. 3 ≤ (entry_of r).0.table) (λ r. 4 ≤ (entry_of r).0.table) past_three a.rest a.above) a.rest_sound in
@@ -430,10 +430,10 @@ pub loaded_back : (publication : Publication) (site : SiteId) (held : List (ℕ 
     → subscriber_loaded publication site held (e ∷ es) ≡ Ok t → LoadedBack publication site held (e ∷ es) t
 unfolding IsStrictlySortedBy
 loaded_back publication site held e es t map_fits beginning h =
-    let g = goes_from publication site held es t (begun site (e ∷ es) e.0 (reading_of e)) h in
+    let g = goes_from publication site held es t (subscriber_first_state site (e ∷ es) e.0 (reading_of e)) h in
     let b = begins site (e ∷ es) e.0 (reading_of e) g.0 g.1 in
     let first = record_is e map_fits.bytes.0 (State g.0) b.read in
-    let f = found (loading publication) entry_of Fits record_is es (tables_with site held g.0) t map_fits.bytes.1 g.2 in
+    let f = found (loading_of_subscriber publication) entry_of Fits record_is es (tables_with site held g.0) t map_fits.bytes.1 g.2 in
     let up : Ascend entry_of f.records = subst (IsStrictlySortedBy entry_cmp) (ap keys_of f.entries ∙ map_twice (λ (p : EntryKey × List ℕ). p.0) entry_of f.records) map_fits.ascends.1 in
     let x = lists publication site held g.0 f.records up f.sound in
     let all_is : e ∷ es ≡ (state_key, subscriber_spelling g.0) ∷ map entry_of f.records = ap (λ (q : EntryKey × List ℕ). (let m : Map = q ∷ es in m)) first.0 ∙ ap (λ (m : Map). (state_key, subscriber_spelling g.0) ∷ m) f.entries in

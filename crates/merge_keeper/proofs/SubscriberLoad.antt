@@ -24,11 +24,11 @@ use Rattle.merge_record.specs.declared.ranges.HeldRanges.{HeldRanges}
 use Rattle.merge_record.proofs.TableCodecs.{held_is, row_key_is, subscriber_row_is}
 use Rattle.merge_keeper.specs.Encoded.{encoded_entry}
 use Rattle.merge_keeper.specs.Entries.{closing_entries, closing_key, closing_pair, closing_value, conflict_entries, conflict_key, conflict_pair, conflict_value, held_entries, held_key, held_ranges, held_value, row_entries, row_entry_key, state_key, subscriber_row_value, was_received}
-use Rattle.merge_keeper.specs.Start.{go_on, holder_of, identity_at, last_conflict, last_conflict_behind, loaded_behind, replaced, Loading}
+use Rattle.merge_keeper.specs.Start.{go_on, holder_of, identity_at, last_conflict, last_conflict_behind, loaded_behind, with_value_at, Loading}
 use Rattle.merge_keeper.specs.States.{subscriber_spelling, subscriber_state_at, IsConflict, IsSubscriberState}
 use Rattle.merge_keeper.specs.Stored.{subscriber_records, subscriber_state}
 use Rattle.merge_keeper.specs.SubscriberRules.{held_with, state_of, value_of, with_closings, with_conflicts, with_rows, KeepRules, Run}
-use Rattle.merge_keeper.specs.SubscriberStart.{begun, first_missing, generation_in, go_from, has_closings, is_sound, loading, outstanding_of, passed, reading_in, reading_of, state_is_sound, subscriber_loaded}
+use Rattle.merge_keeper.specs.SubscriberStart.{first_missing, generation_in, go_from, has_closings, is_sound, loading_of_subscriber, next_behind_entry, outstanding_of, reading_in, reading_of, state_is_sound, subscriber_first_state, subscriber_loaded}
 use Rattle.merge_keeper.specs.declared.states.SubscriberState.{SubscriberState}
 use Rattle.merge_keeper.specs.declared.stored.SubscriberStored.{SubscriberStored}
 use Rattle.merge_keeper.specs.declared.subscriber_record.SubscriberRecord.{SubscriberRecord}
@@ -69,7 +69,7 @@ held_reads article holder ha hh =
 pub missing_skips : {X : Type 0} (entry : X → EntryKey × List ℕ) → ((x : X) → generation_in (entry x).0 ≡ None) → (last next : ℕ) (xs : List X) (rest : Map) → first_missing last next (map entry xs ++ rest) ≡ first_missing last next rest
 missing_skips entry none last next [] rest = refl
 missing_skips entry none last next (x ∷ xs) rest =
-    ap (λ (o : Option ℕ). first_missing last (passed last next o) (map entry xs ++ rest)) (none x) ∙ missing_skips entry none last next xs rest
+    ap (λ (o : Option ℕ). first_missing last (next_behind_entry last next o) (map entry xs ++ rest)) (none x) ∙ missing_skips entry none last next xs rest
 
 abbrev pub closing_entry : Closing → EntryKey × List ℕ
 closing_entry c = (closing_key c.generation, closing_value c.generation c.moment)
@@ -82,8 +82,8 @@ passed_by_test true next e = refl
 passed_by_test false next e = absurd cc
 
 -- a closed generation has its number in its key
-pub one_passed : (last next : ℕ) (c : Closing) (rest : Map) → c.generation < 2 ^ 64 → first_missing last next (closing_entry c ∷ rest) ≡ first_missing last (passed last next (Some c.generation)) rest
-one_passed last next c rest fits = ap (λ (o : Option ℕ). first_missing last (passed last next o) rest) (again (to_be_bytes w64) (number_at w64) (IsBelow (2 ^ 64)) num64 c.generation fits)
+pub one_passed : (last next : ℕ) (c : Closing) (rest : Map) → c.generation < 2 ^ 64 → first_missing last next (closing_entry c ∷ rest) ≡ first_missing last (next_behind_entry last next (Some c.generation)) rest
+one_passed last next c rest fits = ap (λ (o : Option ℕ). first_missing last (next_behind_entry last next o) rest) (again (to_be_bytes w64) (number_at w64) (IsBelow (2 ^ 64)) num64 c.generation fits)
 
 run_is : (last next : ℕ) (closings : List Closing) (rest : Map) → AllByRecursion (λ c. c.generation < 2 ^ 64) closings → Run last next closings → first_missing last next (map closing_entry closings ++ rest) ≡ first_missing last (last + 1) rest
 run_is last next [] rest fits h = ap (λ (n : ℕ). first_missing last n rest) h
@@ -116,7 +116,7 @@ whole t =
 
 module _ (publication : Publication) (held : List (ℕ × Holder)) (t : SubscriberStored) (h : KeepRules publication held t) where
   abbrev l : Loading SubscriberStored SubscriberRecord
-  l = loading publication
+  l = loading_of_subscriber publication
 
   abbrev row_list : Map
   row_list = map (encoded_entry row_entry_key subscriber_row_value) t.rows
@@ -167,8 +167,8 @@ module _ (publication : Publication) (held : List (ℕ × Holder)) (t : Subscrib
   abbrev chosen : Bool → Result SubscriberState EntryKey
   chosen b = cond b (Ok (state_of t)) (Err state_key)
 
-  begins : begun t.site all state_key (reading_of (state_key, subscriber_state t)) ≡ Ok (state_of t)
-  begins = ap (begun t.site all state_key) (state_reads t h.fits) ∙ ap chosen state_stands
+  begins : subscriber_first_state t.site all state_key (reading_of (state_key, subscriber_state t)) ≡ Ok (state_of t)
+  begins = ap (subscriber_first_state t.site all state_key) (state_reads t h.fits) ∙ ap chosen state_stands
 
   rows_load : loaded_behind l (with_rows t held []) behind ≡ loaded_behind l (with_rows t held t.rows) (map closing_entry t.closings ++ (map conflict_entry t.conflicts ++ map held_entry held_list))
   rows_load =
@@ -192,9 +192,9 @@ module _ (publication : Publication) (held : List (ℕ × Holder)) (t : Subscrib
   IsHeldSo p = (p.0 < 2 ^ 8) × IsHeld (held_ranges p.1) × (is_sound publication t (Held p.0 (held_ranges p.1)) ≡ true) × (option_map (λ identity. holder_of identity (held_ranges p.1)) (identity_at publication p.0) ≡ Some p.1)
 
   put_by_identity : (o : Option Identity) (now : List (ℕ × Holder)) (p : ℕ × Holder) → option_map (λ identity. holder_of identity (held_ranges p.1)) o ≡ Some p.1
-      → option_map_or (λ identity. replaced now p.0 (holder_of identity (held_ranges p.1))) o now ≡ replaced now p.0 p.1
+      → option_map_or (λ identity. with_value_at now p.0 (holder_of identity (held_ranges p.1))) o now ≡ with_value_at now p.0 p.1
   put_by_identity None now p e = absurd cc
-  put_by_identity (Some identity) now p e = ap (λ (holder : Holder). replaced now p.0 holder) (some_holder (holder_of identity (held_ranges p.1)) p.1 e)
+  put_by_identity (Some identity) now p e = ap (λ (holder : Holder). with_value_at now p.0 holder) (some_holder (holder_of identity (held_ranges p.1)) p.1 e)
     where
       some_holder : (a b : Holder) → (let x : Option Holder = Some a in x) ≡ Some b → a ≡ b
       some_holder a b e = cc
@@ -204,7 +204,7 @@ module _ (publication : Publication) (held : List (ℕ × Holder)) (t : Subscrib
   held_load now (p ∷ ps) g =
       ap (λ (o : Option SubscriberRecord). go_on l (λ next. loaded_behind l next (map held_entry ps)) (with_all now) (held_key p.0) o) (held_reads p.0 p.1 g.0.0 g.0.1)
       ∙ rw g.0.2 (ap (λ (new : List (ℕ × Holder)). loaded_behind l (with_all new) (map held_entry ps)) (put_by_identity (identity_at publication p.0) now p g.0.3))
-      ∙ held_load (replaced now p.0 p.1) ps g.1
+      ∙ held_load (with_value_at now p.0 p.1) ps g.1
 
   pub records_load : subscriber_loaded publication t.site held (subscriber_records t) ≡ Ok t
   records_load =

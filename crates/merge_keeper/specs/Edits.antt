@@ -42,9 +42,9 @@ abbrev pub talk_of_changes : SubscriberChanges → Talk
 talk_of_changes c = record { seq = c.seq; outstanding = outstanding_number c.outstanding; from = outstanding_from c.outstanding; to = outstanding_to c.outstanding; received = c.received; watermark = c.watermark; kind = kind_of c.outstanding; phase = phase_number c.is_joined }
 
 -- what is there, as a list
-abbrev pub listed : {X : Type 0} → Option X → List X
-listed None = []
-listed (Some x) = x ∷ []
+abbrev pub list_of_option : {X : Type 0} → Option X → List X
+list_of_option None = []
+list_of_option (Some x) = x ∷ []
 
 -- the state records after a step
 abbrev pub publisher_state_of : PublisherChanges → PublisherState

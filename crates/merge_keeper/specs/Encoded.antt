@@ -10,8 +10,8 @@ use Rattle.merge_table.specs.Edits.{key_of, rows_after_all}
 abbrev pub encoded_entry : {K L V W : Type 0} → (K → L) → (K → V → W) → K × V → L × W
 encoded_entry f g e = (f e.0, g e.0 e.1)
 
-abbrev pub encoded : {K L V W : Type 0} → (K → L) → (K → V → W) → List (K × V) → List (L × W)
-encoded f g es = map (encoded_entry f g) es
+abbrev pub encoded_entries : {K L V W : Type 0} → (K → L) → (K → V → W) → List (K × V) → List (L × W)
+encoded_entries f g es = map (encoded_entry f g) es
 
 abbrev pub encoded_edit : {K L V W : Type 0} → (K → L) → (K → V → W) → Edit K V → Edit L W
 encoded_edit f g (Put k v) = Put (f k) (g k v)

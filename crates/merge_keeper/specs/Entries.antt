@@ -23,7 +23,7 @@ use Rattle.merge_record.specs.Versions.{version_bytes}
 use Rattle.merge_record.specs.Tables.{row_key_bytes, row_site_bytes, mapping_bytes, grant_key_bytes, range_bytes, held_bytes, site_state_bytes}
 use Rattle.merge_record.specs.declared.ranges.GrantKey.{GrantKey}
 use Rattle.merge_record.specs.declared.ranges.HeldRanges.{HeldRanges}
-use Rattle.merge_keeper.specs.Encoded.{encoded, puts_of}
+use Rattle.merge_keeper.specs.Encoded.{encoded_entries, puts_of}
 
 abbrev pub in_table : ℕ → List ℕ → EntryKey
 in_table table key = record { table = table; key = key }
@@ -127,23 +127,23 @@ abbrev pub was_received : ℕ × Holder → Bool
 was_received p = nat_lt 0 p.1.have
 
 abbrev pub row_entries : {R : Type 0} → (RowKey → R → List ℕ) → List (RowKey × R) → Map
-row_entries value rows = encoded row_entry_key value rows
+row_entries value rows = encoded_entries row_entry_key value rows
 
 abbrev pub mapping_entries : List (RowSite × Mapping) → Map
-mapping_entries mappings = encoded mapping_key mapping_value mappings
+mapping_entries mappings = encoded_entries mapping_key mapping_value mappings
 
 abbrev pub closing_entries : List Closing → Map
-closing_entries closings = encoded closing_key closing_value (map closing_pair closings)
+closing_entries closings = encoded_entries closing_key closing_value (map closing_pair closings)
 
 abbrev pub conflict_entries : List ConflictRow → Map
-conflict_entries conflicts = encoded conflict_key conflict_value (map conflict_pair conflicts)
+conflict_entries conflicts = encoded_entries conflict_key conflict_value (map conflict_pair conflicts)
 
 abbrev pub held_entries : List (ℕ × Holder) → Map
-held_entries held = encoded held_key held_value (filter was_received held)
+held_entries held = encoded_entries held_key held_value (filter was_received held)
 
 -- the entries of what is held, and those of all grants, which stand in the order of their keys and not in that of the list
 abbrev pub range_entries : List (ℕ × Holder) → List Grant → Map
 range_entries held grants = rows_after_all entry_cmp (held_entries held) (puts_of grant_key grant_value grants)
 
 abbrev pub site_entries : List (ℕ × SiteState) → Map
-site_entries sites = encoded site_key site_value sites
+site_entries sites = encoded_entries site_key site_value sites

@@ -182,8 +182,8 @@ pub record GoesOn (so_far : PublisherSoFar) : Type 0 where
 
 -- ---- the pass
 
-abbrev pub loading : Publication → List (ℕ × Range) → Loading PublisherStored PublisherRecord
-loading publication owns = record { reading = reading_of; is_sound = is_sound publication owns; with_record = with_record publication }
+abbrev pub loading_of_publisher : Publication → List (ℕ × Range) → Loading PublisherStored PublisherRecord
+loading_of_publisher publication owns = record { reading = reading_of; is_sound = is_sound publication owns; with_record = with_record publication }
 
 -- the tables of a state alone, where these ranges were held before any was received
 abbrev pub tables_with : List (ℕ × Holder) → Front → PublisherStored
@@ -205,15 +205,15 @@ abbrev pub no_state : Front
 no_state = record { site = 0; changes = 0; last_closed = 0; filled = 0; conflicts = 0; latest = 0 }
 
 -- the state comes first; where it is missing or breaks a rule, the first entry is named
-abbrev pub begun : ℕ → EntryKey → Option PublisherRecord → Result Front EntryKey
-begun last key (Some (State state)) = if state_is_sound last state then Ok state else Err key
-begun last key r = Err key
+abbrev pub publisher_first_state : ℕ → EntryKey → Option PublisherRecord → Result Front EntryKey
+publisher_first_state last key (Some (State state)) = if state_is_sound last state then Ok state else Err key
+publisher_first_state last key r = Err key
 
 abbrev pub go_from : Publication → List (ℕ × Range) → List (ℕ × Holder) → Map → Result Front EntryKey → Loaded PublisherStored
-go_from publication owns held es (Ok state) = loaded_behind (loading publication owns) (tables_with held state) es
+go_from publication owns held es (Ok state) = loaded_behind (loading_of_publisher publication owns) (tables_with held state) es
 go_from publication owns held es (Err key) = Err key
 
 -- the store of no entries is that of a publisher that has committed nothing
 abbrev pub publisher_loaded : Publication → List (ℕ × Holder) → Map → Loaded PublisherStored
 publisher_loaded publication held [] = Ok (tables_with held no_state)
-publisher_loaded publication held (e ∷ es) = go_from publication (own_grants (e ∷ es)) held es (begun (last_conflict (e ∷ es)) e.0 (reading_of e))
+publisher_loaded publication held (e ∷ es) = go_from publication (own_grants (e ∷ es)) held es (publisher_first_state (last_conflict (e ∷ es)) e.0 (reading_of e))

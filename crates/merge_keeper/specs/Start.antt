@@ -164,12 +164,12 @@ insert_by_begin grants new = take (place_by_begin grants new) grants ++ new ∷ 
 abbrev pub replaced_at : {V : Type 0} → ℕ → V → ℕ × V → ℕ × V
 replaced_at number value p = if p.0 == number then (number, value) else p
 
-abbrev pub replaced : {V : Type 0} → List (ℕ × V) → ℕ → V → List (ℕ × V)
-replaced ps number value = map (replaced_at number value) ps
+abbrev pub with_value_at : {V : Type 0} → List (ℕ × V) → ℕ → V → List (ℕ × V)
+with_value_at ps number value = map (replaced_at number value) ps
 
 -- the ranges that are held of all articles, with those of a record
 abbrev pub with_held : Publication → List (ℕ × Holder) → ℕ → HeldRanges → List (ℕ × Holder)
-with_held publication held article ranges = option_map_or (λ identity. replaced held article (holder_of identity ranges)) (identity_at publication article) held
+with_held publication held article ranges = option_map_or (λ identity. with_value_at held article (holder_of identity ranges)) (identity_at publication article) held
 
 -- ---- conflicts, and what the rules seek behind a record
 

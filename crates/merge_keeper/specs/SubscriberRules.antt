@@ -12,7 +12,7 @@ use Rattle.merge_record.specs.Rows.{IsSubscriberRow}
 use Rattle.merge_record.specs.Tables.{IsRowKey, IsHeld}
 use Rattle.merge_keeper.specs.Edits.{head_of_row}
 use Rattle.merge_keeper.specs.Entries.{held_ranges, was_received}
-use Rattle.merge_keeper.specs.Start.{conflict_is_sound, holder_of, identity_at, replaced, KeepOneByOne}
+use Rattle.merge_keeper.specs.Start.{conflict_is_sound, holder_of, identity_at, with_value_at, KeepOneByOne}
 use Rattle.merge_keeper.specs.States.{IsConflict, IsSubscriberState}
 use Rattle.merge_keeper.specs.Stored.{kind_of, outstanding_from, outstanding_number, outstanding_to, phase_number}
 use Rattle.merge_keeper.specs.SubscriberStart.{closing_is_sound, held_is_sound, row_is_sound, state_is_sound, tables_with}
@@ -43,7 +43,7 @@ with_conflicts t held conflicts = record (with_closings t held t.closings) { con
 -- the ranges of some articles in place of those that were there
 abbrev pub held_with : List (ℕ × Holder) → List (ℕ × Holder) → List (ℕ × Holder)
 held_with held [] = held
-held_with held (p ∷ ps) = held_with (replaced held p.0 p.1) ps
+held_with held (p ∷ ps) = held_with (with_value_at held p.0 p.1) ps
 
 -- the generations run on from one to the last
 abbrev pub Run : ℕ → ℕ → List Closing → Type 0

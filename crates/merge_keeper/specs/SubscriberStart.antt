@@ -63,14 +63,14 @@ abbrev pub generation_in : EntryKey → Option ℕ
 generation_in key = if key.table == 4 then whole_of (number_at w64 key.key) else None
 
 -- the generation behind one, where that is the one, and is at most the last
-abbrev pub passed : ℕ → ℕ → Option ℕ → ℕ
-passed last next None = next
-passed last next (Some generation) = if (generation == next) && nat_le generation last then next + 1 else next
+abbrev pub next_behind_entry : ℕ → ℕ → Option ℕ → ℕ
+next_behind_entry last next None = next
+next_behind_entry last next (Some generation) = if (generation == next) && nat_le generation last then next + 1 else next
 
 -- the first generation from one on, up to the last, that has no key, where the entries ascend; the one behind the last where all have
 abbrev pub first_missing : ℕ → ℕ → Map → ℕ
 first_missing last next [] = next
-first_missing last next (e ∷ es) = first_missing last (passed last next (generation_in e.0)) es
+first_missing last next (e ∷ es) = first_missing last (next_behind_entry last next (generation_in e.0)) es
 
 -- an outstanding kind is 0 exactly where its number is 0
 unfoldable pub talk_is_sound : Talk → Bool
@@ -146,8 +146,8 @@ pub record GoesOn (so_far : SubscriberSoFar) : Type 0 where
 
 -- ---- the pass
 
-abbrev pub loading : Publication → Loading SubscriberStored SubscriberRecord
-loading publication = record { reading = reading_of; is_sound = is_sound publication; with_record = with_record publication }
+abbrev pub loading_of_subscriber : Publication → Loading SubscriberStored SubscriberRecord
+loading_of_subscriber publication = record { reading = reading_of; is_sound = is_sound publication; with_record = with_record publication }
 
 abbrev pub message_of : Talk → Outstanding
 message_of talk = if talk.kind == 1 then Join else (if talk.kind == 2 then Upload talk.from talk.to else (if talk.kind == 3 then Ranges else Download talk.from))
@@ -181,15 +181,15 @@ no_state site = record {
 }
 
 -- the state comes first; where it is missing or breaks a rule, the first entry is named
-abbrev pub begun : SiteId → Map → EntryKey → Option SubscriberRecord → Result SubscriberState EntryKey
-begun site all key (Some (State state)) = if state_is_sound site (last_conflict all) state && has_closings all state then Ok state else Err key
-begun site all key r = Err key
+abbrev pub subscriber_first_state : SiteId → Map → EntryKey → Option SubscriberRecord → Result SubscriberState EntryKey
+subscriber_first_state site all key (Some (State state)) = if state_is_sound site (last_conflict all) state && has_closings all state then Ok state else Err key
+subscriber_first_state site all key r = Err key
 
 abbrev pub go_from : Publication → SiteId → List (ℕ × Holder) → Map → Result SubscriberState EntryKey → Loaded SubscriberStored
-go_from publication site held es (Ok state) = loaded_behind (loading publication) (tables_with site held state) es
+go_from publication site held es (Ok state) = loaded_behind (loading_of_subscriber publication) (tables_with site held state) es
 go_from publication site held es (Err key) = Err key
 
 -- the store of no entries is that of a subscriber that has committed nothing
 abbrev pub subscriber_loaded : Publication → SiteId → List (ℕ × Holder) → Map → Loaded SubscriberStored
 subscriber_loaded publication site held [] = Ok (tables_with site held (no_state site))
-subscriber_loaded publication site held (e ∷ es) = go_from publication site held es (begun site (e ∷ es) e.0 (reading_of e))
+subscriber_loaded publication site held (e ∷ es) = go_from publication site held es (subscriber_first_state site (e ∷ es) e.0 (reading_of e))

@@ -11,7 +11,7 @@ ghost use Rattle.merge_keeper.specs.declared.stored.PublisherStored.{PublisherSt
 ghost use Rattle.merge_keeper.specs.declared.stored.SubscriberStored.{SubscriberStored as Subscriber};
 ghost use Rattle.merge_keeper.specs.Encoded.{encoded_edit};
 ghost use Rattle.merge_keeper.specs.Entries.{conflict_bytes, held_ranges, in_table, next_held};
-ghost use Rattle.merge_keeper.specs.Edits.{ArePublisherShort, AreSubscriberShort, IsShortEdit, head_of_row, listed, publisher_state_of, subscriber_state_of, talk_of_changes};
+ghost use Rattle.merge_keeper.specs.Edits.{ArePublisherShort, AreSubscriberShort, IsShortEdit, head_of_row, list_of_option, publisher_state_of, subscriber_state_of, talk_of_changes};
 ghost use Rattle.merge_keeper.specs.States.{is_talk, has_kind};
 ghost use Rattle.merge_keeper.specs.Stored.{publisher_edits, subscriber_edits};
 
@@ -202,7 +202,7 @@ fn listed(
     first: Option<Range>,
     second: Option<Range>,
 ) -> Result<Listing<Range>, NoMemory>
-    ensures { IfOk result (λ ranges. ranges ≡ listed first ++ listed second) }
+    ensures { IfOk result (λ ranges. ranges ≡ list_of_option first ++ list_of_option second) }
 {
     let mut ranges = Listing::empty(alloc);
     if let Some(first) = first {

@@ -18,8 +18,8 @@ ghost use Rattle.merge_keeper.specs.Given.{Entry as AnyEntry, IsBeginning, IsMap
 ghost use Rattle.merge_keeper.specs.Orders.{IsPublisherOrdered, IsSubscriberOrdered};
 ghost use Rattle.merge_keeper.specs.Start.{loaded_behind, IsFirstBroken};
 ghost use Rattle.merge_keeper.specs.PublisherRules.{KeepRules as PublisherKeeps};
-ghost use Rattle.merge_keeper.specs.PublisherStart.{loading as publisher_loading, publisher_loaded};
-ghost use Rattle.merge_keeper.specs.SubscriberStart.{loading as subscriber_loading, subscriber_loaded};
+ghost use Rattle.merge_keeper.specs.PublisherStart.{loading_of_publisher as publisher_loading, publisher_loaded};
+ghost use Rattle.merge_keeper.specs.SubscriberStart.{loading_of_subscriber as subscriber_loading, subscriber_loaded};
 ghost use Rattle.merge_keeper.specs.SubscriberRules.{KeepRules};
 ghost use Rattle.merge_keeper.specs.Stored.{publisher_records, publisher_after, publisher_edits, subscriber_records, subscriber_after, subscriber_edits, IsPublisherKeyed, FitPublisher, IsSubscriberKeyed, FitSubscriber};
 

@@ -5,7 +5,7 @@ ghost use Rattle.merge_ident.specs.Holders.{AreKept};
 ghost use Rattle.merge_ident.specs.Stored.{can_follow};
 ghost use Rattle.merge_keeper.specs.Grants.{grants_in};
 ghost use Rattle.merge_keeper.specs.Start.{Gives, last_conflict, loaded_behind, one_loaded, own_grants};
-ghost use Rattle.merge_keeper.specs.PublisherStart.{begun, closing_is_sound, grant_is_sound, has_space, is_held, is_sound, limit_of, loading, move_is_sound, no_state, own_is_sound, publisher_loaded, reading_of, row_is_sound, site_is_sound, state_is_sound, tables_of, tables_with, with_record, CanAdd, GoesOn, is_indexed};
+ghost use Rattle.merge_keeper.specs.PublisherStart.{publisher_first_state, closing_is_sound, grant_is_sound, has_space, is_held, is_sound, limit_of, loading_of_publisher, move_is_sound, no_state, own_is_sound, publisher_loaded, reading_of, row_is_sound, site_is_sound, state_is_sound, tables_of, tables_with, with_record, CanAdd, GoesOn, is_indexed};
 
 use crate::counts::Counts;
 use crate::grants::GrantsSoFar;
@@ -271,7 +271,7 @@ fn take_in(
     value: &Octets,
 ) -> Result<(), StartFault>
     requires on { GoesOn so_far.old }
-    ensures given { Gives (λ u. tables_of so_far.new) result (one_loaded (loading publication.now owns.now) (tables_of so_far.old) (key.now, value.now)) }
+    ensures given { Gives (λ u. tables_of so_far.new) result (one_loaded (loading_of_publisher publication.now owns.now) (tables_of so_far.old) (key.now, value.now)) }
     ensures on { OnOk result (GoesOn so_far.new) }
 {
     match record_in(alloc, key, value.as_slice())? {
@@ -295,7 +295,7 @@ fn take_all(
     entries: Rows<'_, EntryKey, Octets>,
 ) -> Result<(), StartFault>
     requires on { GoesOn so_far.old }
-    ensures given { Gives (λ u. tables_of so_far.new) result (loaded_behind (loading publication.now owns.now) (tables_of so_far.old) entries.entry) }
+    ensures given { Gives (λ u. tables_of so_far.new) result (loaded_behind (loading_of_publisher publication.now owns.now) (tables_of so_far.old) entries.entry) }
 {
     for (key, value) in entries {
         take_in(alloc, publication, owns, so_far, key, value)?;
@@ -332,7 +332,7 @@ fn first_state(
     key: &EntryKey,
     value: &Octets,
 ) -> Result<Front, StartFault>
-    ensures given { Gives (λ state. state) result (begun last key.now (reading_of (key.now, value.now))) }
+    ensures given { Gives (λ state. state) result (publisher_first_state last key.now (reading_of (key.now, value.now))) }
     ensures small { IfOk result (λ state. state.changes < number_limit) }
 {
     match record_in(alloc, key, value.as_slice())? {
@@ -366,7 +366,7 @@ fn start_behind(
     requires mappings { tables.mappings ≡ [] }
     requires grants { tables.grants ≡ [] }
     requires small { tables.changes < number_limit }
-    ensures { Gives (λ t. t) result (loaded_behind (loading publication.now owns.now) tables entries.entry) }
+    ensures { Gives (λ t. t) result (loaded_behind (loading_of_publisher publication.now owns.now) tables entries.entry) }
 {
     let mut so_far = PublisherSoFar {
         tables,

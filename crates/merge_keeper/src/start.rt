@@ -4,7 +4,7 @@ ghost use Rattle.std.specs.List.{list_all};
 ghost use Rattle.merge_types.specs.Limits.{number_limit};
 ghost use Rattle.merge_ident.specs.Holders.{AreKept, HasValues, IsNextIn};
 ghost use Rattle.merge_batch.specs.Lineages.{knows_tops as body_knows_tops};
-ghost use Rattle.merge_keeper.specs.Start.{are_kept, cell_site_is_known, conflict_is_sound, conflict_reading, conflict_row, dot_site_is_known, has_values, holds_last, identity_at, is_counter, is_next_in, last_conflict, last_own, number_in, own_count, own_grant, own_grants, pair_reading, replaced, row_was_made, same_range, top_sites_are_known, version_is_sound, was_made, with_held};
+ghost use Rattle.merge_keeper.specs.Start.{are_kept, cell_site_is_known, conflict_is_sound, conflict_reading, conflict_row, dot_site_is_known, has_values, holds_last, identity_at, is_counter, is_next_in, last_conflict, last_own, number_in, own_count, own_grant, own_grants, pair_reading, row_was_made, same_range, top_sites_are_known, version_is_sound, was_made, with_held, with_value_at};
 
 use crate::ConflictValue;
 use merge_batch::{fits_article, is_site, knows_tops, maker_of};
@@ -329,7 +329,7 @@ pub(crate) fn replaced(
     article: u8,
     ranges: Ranges,
 ) -> Result<Vec<(u8, Ranges)>, NoMemory>
-    ensures { IfOk result (λ all. all.items ≡ replaced held.now article ranges) }
+    ensures { IfOk result (λ all. all.items ≡ with_value_at held.now article ranges) }
 {
     let mut all = Vec::new(alloc);
     for place in held {

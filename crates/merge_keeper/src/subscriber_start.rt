@@ -5,7 +5,7 @@ ghost use Rattle.merge_types.specs.Limits.{number_limit};
 ghost use Rattle.merge_ident.specs.Holders.{AreKept};
 ghost use Rattle.merge_keeper.specs.Counts.{count_at};
 ghost use Rattle.merge_keeper.specs.Start.{Gives, last_conflict, loaded_behind, one_loaded};
-ghost use Rattle.merge_keeper.specs.SubscriberStart.{begun, closing_is_sound, first_missing, generation_in, has_closings, has_space, held_is_sound, is_sound, last_number, limit_of, loading, message_of, no_state, outstanding_of, passed, reading_of, row_is_sound, state_is_sound, subscriber_loaded, tables_with, talk_is_sound, with_record, CanAdd, GoesOn};
+ghost use Rattle.merge_keeper.specs.SubscriberStart.{subscriber_first_state, closing_is_sound, first_missing, generation_in, has_closings, has_space, held_is_sound, is_sound, last_number, limit_of, loading_of_subscriber, message_of, no_state, outstanding_of, next_behind_entry, reading_of, row_is_sound, state_is_sound, subscriber_loaded, tables_with, talk_is_sound, with_record, CanAdd, GoesOn};
 
 use crate::counts::Counts;
 use crate::start::{
@@ -47,7 +47,7 @@ fn generation_in(alloc: Global, key: &EntryKey) -> Result<Option<u64>, NoMemory>
 // The generation behind one, where that is the one, and is at most the last.
 fn passed(last: u64, next: u64, generation: Option<u64>) -> u64
     requires { last < number_limit }
-    ensures { result ≡ passed last next generation }
+    ensures { result ≡ next_behind_entry last next generation }
 {
     match generation {
         Some(generation) if generation == next && generation <= last => next + 1,
@@ -261,7 +261,7 @@ fn take_in(
     value: &Octets,
 ) -> Result<(), StartFault>
     requires on { GoesOn so_far.old }
-    ensures given { Gives (λ u. so_far.new.tables) result (one_loaded (loading publication.now) so_far.old.tables (key.now, value.now)) }
+    ensures given { Gives (λ u. so_far.new.tables) result (one_loaded (loading_of_subscriber publication.now) so_far.old.tables (key.now, value.now)) }
     ensures on { OnOk result (GoesOn so_far.new) }
 {
     match record_in(alloc, key, value.as_slice())? {
@@ -284,7 +284,7 @@ fn take_all(
     entries: Rows<'_, EntryKey, Octets>,
 ) -> Result<(), StartFault>
     requires on { GoesOn so_far.old }
-    ensures given { Gives (λ u. so_far.new.tables) result (loaded_behind (loading publication.now) so_far.old.tables entries.entry) }
+    ensures given { Gives (λ u. so_far.new.tables) result (loaded_behind (loading_of_subscriber publication.now) so_far.old.tables entries.entry) }
 {
     for (key, value) in entries {
         take_in(alloc, publication, so_far, key, value)?;
@@ -378,7 +378,7 @@ fn first_state(
     key: &EntryKey,
     value: &Octets,
 ) -> Result<SubscriberState, StartFault>
-    ensures given { Gives (λ state. state) result (begun site entries.now key.now (reading_of (key.now, value.now))) }
+    ensures given { Gives (λ state. state) result (subscriber_first_state site entries.now key.now (reading_of (key.now, value.now))) }
     ensures small { IfOk result (λ state. state.front.changes < number_limit) }
 {
     if let Some(SubscriberRecord::State(state)) = record_in(alloc, key, value.as_slice())? {
@@ -399,7 +399,7 @@ fn start_behind(
 ) -> Result<SubscriberStored, StartFault>
     requires rows { tables.rows ≡ [] }
     requires small { tables.changes < number_limit }
-    ensures { Gives (λ t. t) result (loaded_behind (loading publication.now) tables entries.entry) }
+    ensures { Gives (λ t. t) result (loaded_behind (loading_of_subscriber publication.now) tables entries.entry) }
 {
     let counts = Counts::new(alloc);
     let mut so_far = SubscriberSoFar { tables, counts };

@@ -44,7 +44,7 @@ use Rattle.merge_model.specs.Publisher.PublisherDownload.{TouchedRow, item_of}
 use Rattle.merge_batch.specs.Orders.{order_by}
 use Rattle.merge_model.specs.Publisher.PublisherLocal.{version_at}
 use Rattle.merge_model.specs.Tables.Publications.{tracking_at}
-use Rattle.merge_model.specs.Subscriber.Reinit.{discarded, numbered_from}
+use Rattle.merge_model.specs.Subscriber.Reinit.{discarded_rows_from, discarded_versions}
 use Rattle.merge_model.specs.Subscriber.Sending.{upload_item}
 use Rattle.merge_model.specs.Subscriber.{subscriber_version_at, with_version_if}
 use Rattle.merge_types.specs.declared.row_key.RowKey.{RowKey as Key}
@@ -206,16 +206,16 @@ module _ (Q : List Dot → Type 0) where
   discarded-step true row fits = fits
   discarded-step false row fits = tt
 
-  discarded-fit : (judge : SubscriberJudge) (s : SubscriberTables) → OfOwnRows s.rows → OfVersions (discarded judge s)
+  discarded-fit : (judge : SubscriberJudge) (s : SubscriberTables) → OfOwnRows s.rows → OfVersions (discarded_versions judge s)
   discarded-fit judge s all = all-filter_map (λ (row : Key × SubscriberRow). OfVersion row.1.version) (λ (row : Key × Version). OfVersion row.1) (λ (row : Key × SubscriberRow). if judge.is_unsent s.received row.0 then Some (row.0, row.1.version) else None)
       (λ row fits. discarded-step (judge.is_unsent s.received row.0) row fits) s.rows all
 
-  numbered-fit : (s : SubscriberTables) (number : ℕ) (rows : List (Key × Version)) → OfVersions rows → OfLost Q (numbered_from s number rows)
+  numbered-fit : (s : SubscriberTables) (number : ℕ) (rows : List (Key × Version)) → OfVersions rows → OfLost Q (discarded_rows_from s number rows)
   numbered-fit s number [] all = tt
   numbered-fit s number (row ∷ rows) all = (all.0, numbered-fit s (number + 1) rows all.1)
 
-  pub anew-lost : (judge : SubscriberJudge) (s : SubscriberTables) (number : ℕ) → OfOwnRows s.rows → OfLost Q (numbered_from s number (discarded judge s))
-  anew-lost judge s number all = numbered-fit s number (discarded judge s) (discarded-fit judge s all)
+  pub anew-lost : (judge : SubscriberJudge) (s : SubscriberTables) (number : ℕ) → OfOwnRows s.rows → OfLost Q (discarded_rows_from s number (discarded_versions judge s))
+  anew-lost judge s number all = numbered-fit s number (discarded_versions judge s) (discarded-fit judge s all)
 
   -- Messages.
 

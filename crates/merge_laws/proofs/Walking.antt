@@ -40,24 +40,24 @@ use Rattle.merge_model.specs.Judge.{PublisherJudge, SubscriberJudge}
 use Rattle.merge_model.specs.Tables.Keys.{at_number, put_number}
 use Rattle.merge_model.specs.History.Model.{Model, model_step, noted_action, noted_if, noted_letter, did_something, with_letter, with_posted}
 use Rattle.merge_model.specs.History.Noting
-use Rattle.merge_model.specs.Publisher.{at_moment, closed, counters, last_closed}
-use Rattle.merge_model.specs.Publisher.PublisherDownload.{asked, download_refusal, reply_to}
-use Rattle.merge_model.specs.Publisher.PublisherJoin.{join, join_acts, join_refusal, join_taken, joined}
-use Rattle.merge_model.specs.Publisher.PublisherLocal.{Drawn, drawn, local_refusal, made_locally, next_dot}
+use Rattle.merge_model.specs.Publisher.{at_moment, counters, last_closed, tables_after_close}
+use Rattle.merge_model.specs.Publisher.PublisherDownload.{download_refusal, reply_to, tables_after_download}
+use Rattle.merge_model.specs.Publisher.PublisherJoin.{join, join_acts, join_refusal, join_taken, tables_after_join}
+use Rattle.merge_model.specs.Publisher.PublisherLocal.{Drawn, draw_for_change, local_refusal, made_locally, next_dot}
 use Rattle.merge_model.specs.Publisher.PublisherPurge.{purge}
-use Rattle.merge_model.specs.Publisher.PublisherRanges.{plans, ranged, ranges_refusal, with_grants}
-use Rattle.merge_model.specs.Publisher.PublisherUpload.{brings_news, taken_in, upload_refusal, uploaded}
+use Rattle.merge_model.specs.Publisher.PublisherRanges.{plans, ranges_refusal, reply_to_ranges, with_grants}
+use Rattle.merge_model.specs.Publisher.PublisherUpload.{brings_news, tables_after_upload, taken_in, upload_refusal}
 use Rattle.merge_model.specs.Tables.Refusals.{counter_end, unless}
-use Rattle.merge_model.specs.Subscriber.Reinit.{reinitialised}
+use Rattle.merge_model.specs.Subscriber.Reinit.{result_of_reinit}
 use Rattle.merge_model.specs.Subscriber.Sending.{join_made, join_of, ranges_made, sending_refusal, unsent_rows, upload_made, upload_sent, want_of, with_message}
-use Rattle.merge_model.specs.World.Steps.{Action, CloseAt, Deliver, Forget, Look, Make, MakeAnew, Pass, Send, SendDownload, SendJoin, SendRanges, SendUpload, Sending, answered, at_subscriber, close_at, close_publisher, close_subscriber, deliver_letter, deliver_reply, deliver_request, kept_decisions, make_anew, make_at, make_at_publisher, make_at_subscriber, post, posted, send_from, step_by, unless_refused, upload_questions}
+use Rattle.merge_model.specs.World.Steps.{Action, CloseAt, Deliver, Forget, Look, Make, MakeAnew, Pass, Send, SendDownload, SendJoin, SendRanges, SendUpload, Sending, at_subscriber, close_at, close_publisher, close_subscriber, deliver_letter, deliver_reply, deliver_request, kept_decisions, make_anew, make_at, make_at_publisher, make_at_subscriber, post, post_if_made, post_reply, send_from, step_by, unless_refused, upload_questions}
 use Rattle.merge_resolve.specs.Questions.{question_of as asked_of}
 use Rattle.merge_model.specs.declared.outcome.Outcome.TheVariants.{Closes, Discards, Made, NoLetter, Refuses, Took}
 use Rattle.merge_model.specs.declared.outcome.Outcome.{Outcome}
 use Rattle.merge_model.specs.Subscriber.{subscriber_at_moment, subscriber_closed, subscriber_counters, subscriber_drawn, subscriber_last_closed, subscriber_local_refusal, subscriber_made_locally, subscriber_next_dot}
 use Rattle.merge_types.specs.declared.row_key.RowKey.{RowKey as Key}
 use Rattle.merge_model.specs.Tables.{PublisherTables, SubscriberTables}
-use Rattle.merge_model.specs.Subscriber.Taking.{met_by, seq_of, taken}
+use Rattle.merge_model.specs.Subscriber.Taking.{met_by, seq_of, tables_after_reply}
 use Rattle.merge_model.specs.declared.outcome.Taken.TheVariants.{Acted, Missed}
 use Rattle.merge_model.specs.declared.outcome.Taken.{Taken}
 use Rattle.merge_model.specs.World.{Saying, World, letter_at, subscriber_at, with_publisher, with_subscriber}
@@ -103,9 +103,9 @@ comes w number site message = letter_at w number ≡ Some (record { site = site;
 pub record StepsKeep (publication : Publication) (says : Saying) (B P : World → History → Type 0) : Type 0 where
   pub moment : (w : World) (h : History) (now : Moment) → B w h → P w h → P (record w { moment = now }) h
   -- the publisher's own
-  pub own_change : (w : World) (h : History) (change : Change) (d : Drawn) → B w h → P w h → local_refusal publication change w.publisher ≡ None → drawn publication w.publisher change ≡ Ok d
+  pub own_change : (w : World) (h : History) (change : Change) (d : Drawn) → B w h → P w h → local_refusal publication change w.publisher ≡ None → draw_for_change publication w.publisher change ≡ Ok d
       → (let judge : PublisherJudge = by_past h (pasts_with h 0) in P (with_publisher (made_locally publication judge change d (here w)).0 w) (own_noted publication judge change d (here w) h))
-  pub own_closing : (w : World) (h : History) → B w h → P w h → P (with_publisher (closed (here w)) w) h
+  pub own_closing : (w : World) (h : History) → B w h → P w h → P (with_publisher (tables_after_close (here w)) w) h
   pub forgetting : (w : World) (h : History) → B w h → P w h
       → P (with_publisher (purge publication w.moment w.publisher).0 w) (Noting.noted_purge publication (by_past h (pasts_with h 0)) (here w) h)
   -- a subscriber's own
@@ -115,7 +115,7 @@ pub record StepsKeep (publication : Publication) (says : Saying) (B P : World �
       → P (with_subscriber (subscriber_made_locally publication change d (subscriber_at_moment w.moment s)).0 w) (Noting.with_change publication (subscriber_next_dot s) (subscriber_last_closed s + 1) change d.0 h)
   pub subscriber_closing : (w : World) (h : History) (s : SubscriberTables) → B w h → P w h → subscriber_at w s.site ≡ Some s → P (with_subscriber (subscriber_closed (subscriber_at_moment w.moment s)) w) h
   pub anew : (w : World) (h : History) (s : SubscriberTables) → B w h → P w h → subscriber_at w s.site ≡ Some s
-      → (let judge : SubscriberJudge = by_made h s.site in P (with_subscriber (reinitialised judge (subscriber_at_moment w.moment s)).0 w) (Noting.noted_anew judge s h))
+      → (let judge : SubscriberJudge = by_made h s.site in P (with_subscriber (result_of_reinit judge (subscriber_at_moment w.moment s)).0 w) (Noting.noted_anew judge s h))
   -- the messages that it makes
   pub sends_join : (w : World) (h : History) (s : SubscriberTables) → B w h → P w h → subscriber_at w s.site ≡ Some s → s.is_joined ≡ false
       → Sends P s.site (Asks (request.Join (join_of s))) (with_subscriber (with_message ask.Join s) w) h
@@ -137,13 +137,13 @@ pub record StepsKeep (publication : Publication) (says : Saying) (B P : World �
   pub uploads_again : (w : World) (h : History) (number : ℕ) (m : Upload) → B w h → P w h → comes w number m.site (Asks (request.Upload m))
       → (let judge : PublisherJudge = by_past h (pasts_with h number) in brings_news judge m ≡ false → Sends P m.site (Replies (reply.Uploaded (told_by judge m))) (uploaded_world publication says judge m (here w) w) h)
   pub answers_ranges : (w : World) (h : History) (site : SiteId) (m : RangeAsk) → B w h → P w h
-      → Sends P site (Replies (reply.Ranged (ranged m (plans publication m w.publisher)))) (with_publisher (with_grants (plans publication m w.publisher) (here w)) w) h
+      → Sends P site (Replies (reply.Ranged (reply_to_ranges m (plans publication m w.publisher)))) (with_publisher (with_grants (plans publication m w.publisher) (here w)) w) h
   pub answers_ask : (w : World) (h : History) (number : ℕ) (site : SiteId) (m : Download) → B w h → P w h → comes w number site (Asks (request.Download m)) → download_refusal publication w.moment m w.publisher ≡ None
-      → Sends P site (Replies (reply.Downloaded (reply_to publication (by_past h (pasts_with h number)) m (asked m (here w))))) (with_publisher (asked m (here w)) w) h
+      → Sends P site (Replies (reply.Downloaded (reply_to publication (by_past h (pasts_with h number)) m (tables_after_download m (here w))))) (with_publisher (tables_after_download m (here w)) w) h
   -- and replies that come to a subscriber and fit
   pub replies : (w : World) (h : History) (s : SubscriberTables) (number : ℕ) (m : Reply) (sent : Outstanding) → B w h → P w h → subscriber_at w s.site ≡ Some s → comes w number s.site (Replies m)
       → s.outstanding ≡ Some (seq_of m, sent) → reply_fault publication sent m s ≡ None
-      → (let judge : SubscriberJudge = by_made h s.site in P (with_subscriber (taken judge w.moment m s) w) (Noting.noted_reply judge s.site (pasts_with h number) m h))
+      → (let judge : SubscriberJudge = by_made h s.site in P (with_subscriber (tables_after_reply judge w.moment m s) w) (Noting.noted_reply judge s.site (pasts_with h number) m h))
 
 -- the letter that was posted last
 pub letter-last : (pool : List Letter) (letter : Letter) → slice_get (pool ++ letter ∷ []) (length pool) ≡ Some letter
@@ -163,7 +163,7 @@ posted-noted site message w h =
     found-letter (letter_at (post site message w).0 (length w.pool + 1)) letter h (letter-after (post site message w).0 (length w.pool) ∙ letter-last w.pool letter)
 
 -- a draw asks for no moment
-from-later : (publication : Publication) (now : Moment) (p : PublisherTables) (change : Change) → drawn publication (at_moment now p) change ≡ drawn publication p change
+from-later : (publication : Publication) (now : Moment) (p : PublisherTables) (change : Change) → draw_for_change publication (at_moment now p) change ≡ draw_for_change publication p change
 from-later publication now p (Insert article values) = refl
 from-later publication now p (Update article row values) = refl
 from-later publication now p (Delete article row) = refl
@@ -215,7 +215,7 @@ module _ (publication : Publication) (says : Saying) (B P : World → History �
 
     -- Local changes.
 
-    own-drawn : (change : Change) (draw : Result Drawn Refusal) → local_refusal publication change w.publisher ≡ None → drawn publication w.publisher change ≡ draw
+    own-drawn : (change : Change) (draw : Result Drawn Refusal) → local_refusal publication change w.publisher ≡ None → draw_for_change publication w.publisher change ≡ draw
         → (let judge : PublisherJudge = by_past h (pasts_with h 0) in
         let done : Result (PublisherTables × RowId) Refusal = elim draw [ Err refusal ↦ Err refusal | Ok d ↦ Ok (made_locally publication judge change d (here w)) ] in
         let after : History = elim draw [ Err refusal ↦ h | Ok d ↦ own_noted publication judge change d (here w) h ] in
@@ -227,12 +227,12 @@ module _ (publication : Publication) (says : Saying) (B P : World → History �
         → (let judge : PublisherJudge = by_past h (pasts_with h 0) in
         let done : Result (PublisherTables × RowId) Refusal = elim refusal [
           | Some why ↦ Err why
-          | None ↦ elim (drawn publication w.publisher change) [ Err why ↦ Err why | Ok d ↦ Ok (made_locally publication judge change d (here w)) ]
+          | None ↦ elim (draw_for_change publication w.publisher change) [ Err why ↦ Err why | Ok d ↦ Ok (made_locally publication judge change d (here w)) ]
         ] in
-        let after : History = elim (drawn publication w.publisher change) [ Err why ↦ h | Ok d ↦ own_noted publication judge change d (here w) h ] in
+        let after : History = elim (draw_for_change publication w.publisher change) [ Err why ↦ h | Ok d ↦ own_noted publication judge change d (here w) h ] in
         After (unless_refused w done (λ (made : PublisherTables × RowId). (with_publisher made.0 w, Made made.1))) after h)
     own-refused change (Some why) is = p
-    own-refused change None is = own-drawn change (drawn publication w.publisher change) is refl
+    own-refused change None is = own-drawn change (draw_for_change publication w.publisher change) is refl
 
     own-after : (change : Change) → After (make_at_publisher publication (by_history h) change w) (Noting.noted_at_publisher publication (by_past h (pasts_with h 0)) change (here w) h) h
     own-after change =
@@ -269,7 +269,7 @@ module _ (publication : Publication) (says : Saying) (B P : World → History �
 
     close-after : (site : SiteId) → After (close_at site w) h h
     close-after site = if-same (site.0 == 0) (close_publisher w) (at_subscriber site w (close_subscriber w)) h
-        (unless-after (counter_end (counters w.publisher)) (closed (here w), last_closed (closed (here w))) (λ (done : PublisherTables × ℕ). (with_publisher done.0 w, Closes done.1)) h (λ fine. keeps.own_closing w h b p))
+        (unless-after (counter_end (counters w.publisher)) (tables_after_close (here w), last_closed (tables_after_close (here w))) (λ (done : PublisherTables × ℕ). (with_publisher done.0 w, Closes done.1)) h (λ fine. keeps.own_closing w h b p))
         (there-same site (subscriber_at w site) (close_subscriber w) refl
         (λ s at. (let t : SubscriberTables = subscriber_closed (subscriber_at_moment w.moment s) in
         unless-after (counter_end (subscriber_counters s)) (t, subscriber_last_closed t) (λ (done : SubscriberTables × ℕ). (with_subscriber done.0 w, Closes done.1)) h (λ fine. keeps.subscriber_closing w h s b p (own site s at)))))
@@ -277,44 +277,44 @@ module _ (publication : Publication) (says : Saying) (B P : World → History �
     -- Messages that a subscriber makes.
 
     module _ (site : SiteId) (s : SubscriberTables) (at : subscriber_at w site ≡ Some s) where
-      join-after : (b : Bool) → s.is_joined ≡ b → (let made : Option (SubscriberTables × Join) = if b then None else Some (with_message ask.Join s, join_of s) in After (posted s.site (λ (m : Join). request.Join m) w made) h h)
+      join-after : (b : Bool) → s.is_joined ≡ b → (let made : Option (SubscriberTables × Join) = if b then None else Some (with_message ask.Join s, join_of s) in After (post_if_made s.site (λ (m : Join). request.Join m) w made) h h)
       join-after true is = p
       join-after false is = post-after s.site (Asks (request.Join (join_of s))) (with_subscriber (with_message ask.Join s) w) h h (keeps.sends_join w h s b p (own site s at) is)
 
       upload-after : (rows : List (Key × ℕ)) → sending_refusal s ≡ None
-          → (let made : Option (SubscriberTables × Upload) = elim rows [ [] ↦ None | row ∷ rest ↦ Some (upload_sent (by_made h s.site) (subscriber_closed (subscriber_at_moment w.moment s))) ] in After (posted s.site (λ (m : Upload). request.Upload m) w made) h h)
+          → (let made : Option (SubscriberTables × Upload) = elim rows [ [] ↦ None | row ∷ rest ↦ Some (upload_sent (by_made h s.site) (subscriber_closed (subscriber_at_moment w.moment s))) ] in After (post_if_made s.site (λ (m : Upload). request.Upload m) w made) h h)
       upload-after [] fine = p
       upload-after (row ∷ rest) fine =
           let made : SubscriberTables × Upload = upload_sent (by_made h s.site) (subscriber_closed (subscriber_at_moment w.moment s)) in
           post-after s.site (Asks (request.Upload made.1)) (with_subscriber made.0 w) h h (keeps.sends_upload w h s b p (own site s at) fine)
 
-      ranges-after : (held : List (ℕ × Holder)) → sending_refusal s ≡ None → (let made : Option (SubscriberTables × RangeAsk) = elim held [ [] ↦ None | entry ∷ entries ↦ Some (with_message ask.Ranges s, record { site = s.site; seq = s.seq + 1; wants = map want_of s.held }) ] in After (posted s.site (λ (m : RangeAsk). request.Ranges m) w made) h h)
+      ranges-after : (held : List (ℕ × Holder)) → sending_refusal s ≡ None → (let made : Option (SubscriberTables × RangeAsk) = elim held [ [] ↦ None | entry ∷ entries ↦ Some (with_message ask.Ranges s, record { site = s.site; seq = s.seq + 1; wants = map want_of s.held }) ] in After (post_if_made s.site (λ (m : RangeAsk). request.Ranges m) w made) h h)
       ranges-after [] fine = p
       ranges-after (entry ∷ entries) fine = post-after s.site (Asks (request.Ranges (record { site = s.site; seq = s.seq + 1; wants = map want_of s.held }))) (with_subscriber (with_message ask.Ranges s) w) h h (keeps.sends_ranges w h s b p (own site s at) fine)
 
       send-after : (sending : Sending) → After (send_from (by_history h) sending w s) h h
-      send-after SendJoin = unless-after (counter_end (subscriber_counters s)) (join_made s) (posted s.site (λ (m : Join). request.Join m) w) h (λ fine. join-after s.is_joined refl)
-      send-after SendUpload = unless-after (sending_refusal s) (upload_made (by_made h s.site) w.moment s) (posted s.site (λ (m : Upload). request.Upload m) w) h (λ fine. upload-after (unsent_rows (by_made h s.site) s) fine)
-      send-after SendRanges = unless-after (sending_refusal s) (ranges_made s) (posted s.site (λ (m : RangeAsk). request.Ranges m) w) h (λ fine. ranges-after s.held fine)
+      send-after SendJoin = unless-after (counter_end (subscriber_counters s)) (join_made s) (post_if_made s.site (λ (m : Join). request.Join m) w) h (λ fine. join-after s.is_joined refl)
+      send-after SendUpload = unless-after (sending_refusal s) (upload_made (by_made h s.site) w.moment s) (post_if_made s.site (λ (m : Upload). request.Upload m) w) h (λ fine. upload-after (unsent_rows (by_made h s.site) s) fine)
+      send-after SendRanges = unless-after (sending_refusal s) (ranges_made s) (post_if_made s.site (λ (m : RangeAsk). request.Ranges m) w) h (λ fine. ranges-after s.held fine)
       send-after SendDownload =
           let made : SubscriberTables × Download = (with_message (ask.Download s.watermark) s, record { site = s.site; seq = s.seq + 1; from = s.watermark }) in
           unless-after (sending_refusal s) made (λ (done : SubscriberTables × Download). post s.site (Asks (request.Download done.1)) (with_subscriber done.0 w)) h
           (λ fine. post-after s.site (Asks (request.Download made.1)) (with_subscriber made.0 w) h h (keeps.sends_ask w h s b p (own site s at) fine))
 
       anew-after : After (make_anew (by_history h) w s) (Noting.noted_anew (by_made h s.site) s h) h
-      anew-after = unless-after (counter_end (subscriber_counters s)) (reinitialised (by_made h s.site) (subscriber_at_moment w.moment s)) (λ (done : SubscriberTables × ℕ). (with_subscriber done.0 w, Discards done.1)) (Noting.noted_anew (by_made h s.site) s h)
+      anew-after = unless-after (counter_end (subscriber_counters s)) (result_of_reinit (by_made h s.site) (subscriber_at_moment w.moment s)) (λ (done : SubscriberTables × ℕ). (with_subscriber done.0 w, Discards done.1)) (Noting.noted_anew (by_made h s.site) s h)
           (λ fine. keeps.anew w h s b p (own site s at))
 
       -- Replies.
 
       replied-after : (number : ℕ) (m : Reply) (sent : Outstanding) (fault : Option Refusal) → comes w number s.site (Replies m) → s.outstanding ≡ Some (seq_of m, sent) → reply_fault publication sent m s ≡ fault
-          → (let done : Result (SubscriberTables × Taken) Refusal = unless fault (taken (by_made h s.site) w.moment m s, Acted) in
+          → (let done : Result (SubscriberTables × Taken) Refusal = unless fault (tables_after_reply (by_made h s.site) w.moment m s, Acted) in
           After (unless_refused w done (λ (made : SubscriberTables × Taken). (with_subscriber made.0 w, Took made.1))) (Noting.noted_reply (by_made h s.site) s.site (pasts_with h number) m h) h)
       replied-after number m sent (Some why) here out none = p
       replied-after number m sent None here out none = keeps.replies w h s number m sent b p (own site s at) here out none
 
       numbered-after : (number : ℕ) (m : Reply) (seq : ℕ) (sent : Outstanding) (b : Bool) → comes w number s.site (Replies m) → s.outstanding ≡ Some (seq, sent) → (seq == seq_of m) ≡ b
-          → (let done : Result (SubscriberTables × Taken) Refusal = if b then unless (reply_fault publication sent m s) (taken (by_made h s.site) w.moment m s, Acted) else Ok (s, Missed (seq_of m) seq) in
+          → (let done : Result (SubscriberTables × Taken) Refusal = if b then unless (reply_fault publication sent m s) (tables_after_reply (by_made h s.site) w.moment m s, Acted) else Ok (s, Missed (seq_of m) seq) in
           After (unless_refused w done (λ (made : SubscriberTables × Taken). (with_subscriber made.0 w, Took made.1))) (Noting.noted_reply (by_made h s.site) s.site (pasts_with h number) m h) h)
       numbered-after number m seq sent true here out same =
           let is : seq ≡ seq_of m = grind (arith, nat_tests, same) in
@@ -355,10 +355,10 @@ module _ (publication : Publication) (says : Saying) (B P : World → History �
     join-taken number m false at fine acts = keeps.joins_again w h number m b p at acts
 
     join-come : (number : ℕ) (m : Join) → comes w number m.site (Asks (request.Join m))
-        → After (answered m.site (λ (made : Joined). reply.Joined made) w (join publication w.moment m w.publisher)) (Noting.noted_join (by_past h (pasts_with h number)) m w.publisher h) h
-    join-come number m at = unless-after (join_refusal publication m w.publisher) (joined m (here w), record { seq = m.seq }) (λ (made : PublisherTables × Joined). post m.site (Replies (reply.Joined made.1)) (with_publisher made.0 w))
+        → After (post_reply m.site (λ (made : Joined). reply.Joined made) w (join publication w.moment m w.publisher)) (Noting.noted_join (by_past h (pasts_with h number)) m w.publisher h) h
+    join-come number m at = unless-after (join_refusal publication m w.publisher) (tables_after_join m (here w), record { seq = m.seq }) (λ (made : PublisherTables × Joined). post m.site (Replies (reply.Joined made.1)) (with_publisher made.0 w))
         (Noting.noted_join (by_past h (pasts_with h number)) m w.publisher h)
-        (λ fine. post-after m.site (Replies (reply.Joined (record { seq = m.seq }))) (with_publisher (joined m (here w)) w) (Noting.noted_join (by_past h (pasts_with h number)) m w.publisher h) h
+        (λ fine. post-after m.site (Replies (reply.Joined (record { seq = m.seq }))) (with_publisher (tables_after_join m (here w)) w) (Noting.noted_join (by_past h (pasts_with h number)) m w.publisher h) h
         (join-taken number m (join_acts m w.publisher) at fine refl))
 
     upload-taken : (number : ℕ) (m : Upload) (b : Bool) → comes w number m.site (Asks (request.Upload m))
@@ -376,7 +376,7 @@ module _ (publication : Publication) (says : Saying) (B P : World → History �
     upload-come number m at =
         let judge : PublisherJudge = by_past h (pasts_with h number) in
         let decisions : List Decision = kept_decisions says w.tallies (upload_questions publication judge w.moment m w.publisher) in
-        let q : PublisherTables = uploaded publication judge m decisions (here w) in
+        let q : PublisherTables = tables_after_upload publication judge m decisions (here w) in
         unless-after (upload_refusal publication judge w.moment m w.publisher) (q, told_by judge m)
         (λ (made : PublisherTables × Uploaded). post m.site (Replies (reply.Uploaded made.1)) (uploaded_world publication says judge m made.0 w))
         (Noting.noted_upload publication judge m decisions (pasts_with h number) (here w) h)
@@ -387,7 +387,7 @@ module _ (publication : Publication) (says : Saying) (B P : World → History �
         → (let letter : Letter = record { site = site; message = Asks m } in After (deliver_letter publication says (by_history h) number w letter) (noted_letter publication says (by_history h) number w letter h) h)
     request-come number site (request.Join m) at fits =
         let same : m.site ≡ site = join-site m (joined_at w.publisher site) site (at_number w.subscribers site.0) fits in
-        subst (λ (x : SiteId). After (answered x (λ (made : Joined). reply.Joined made) w (join publication w.moment m w.publisher)) (Noting.noted_join (by_past h (pasts_with h number)) m w.publisher h) h) same
+        subst (λ (x : SiteId). After (post_reply x (λ (made : Joined). reply.Joined made) w (join publication w.moment m w.publisher)) (Noting.noted_join (by_past h (pasts_with h number)) m w.publisher h) h) same
         (join-come number m (subst (λ (x : SiteId). comes w number x (Asks (request.Join m))) (sym same) at))
     request-come number site (request.Upload m) at fits =
         let judge : PublisherJudge = by_past h (pasts_with h number) in
@@ -398,11 +398,11 @@ module _ (publication : Publication) (says : Saying) (B P : World → History �
     request-come number site (request.Ranges m) at fits =
         let judge : PublisherJudge = by_past h (pasts_with h number) in
         let q : PublisherTables = with_grants (plans publication m w.publisher) (here w) in
-        unless-after (ranges_refusal publication judge w.moment m w.publisher) (q, ranged m (plans publication m w.publisher)) (λ (made : PublisherTables × Ranged). post site (Replies (reply.Ranged made.1)) (with_publisher made.0 w)) h
-        (λ fine. post-after site (Replies (reply.Ranged (ranged m (plans publication m w.publisher)))) (with_publisher q w) h h (keeps.answers_ranges w h site m b p))
+        unless-after (ranges_refusal publication judge w.moment m w.publisher) (q, reply_to_ranges m (plans publication m w.publisher)) (λ (made : PublisherTables × Ranged). post site (Replies (reply.Ranged made.1)) (with_publisher made.0 w)) h
+        (λ fine. post-after site (Replies (reply.Ranged (reply_to_ranges m (plans publication m w.publisher)))) (with_publisher q w) h h (keeps.answers_ranges w h site m b p))
     request-come number site (request.Download m) at fits =
         let judge : PublisherJudge = by_past h (pasts_with h number) in
-        let q : PublisherTables = asked m (here w) in
+        let q : PublisherTables = tables_after_download m (here w) in
         unless-after (download_refusal publication w.moment m w.publisher) (q, reply_to publication judge m q) (λ (made : PublisherTables × Downloaded). post site (Replies (reply.Downloaded made.1)) (with_publisher made.0 w)) h
         (λ fine. post-after site (Replies (reply.Downloaded (reply_to publication judge m q))) (with_publisher q w) h h (keeps.answers_ask w h number site m b p at fine))
 

@@ -5,7 +5,7 @@ use Rattle.std.specs.List.{flat_map, slice_get}
 use Rattle.std.proofs.lemmas.List.Concat.{length-flat_map}
 use Rattle.merge_batch.proofs.Values.{slice_get-append_past, slice_get-append_within}
 use Rattle.merge_model.specs.declared.event.Event.{Event}
-use Rattle.merge_make.specs.Events.{cancelled, cleared, credited, customer, deleted, moved, order}
+use Rattle.merge_make.specs.Events.{customer, event_of_cancel, event_of_clearing, event_of_credit, event_of_delete, event_of_move, order}
 use Rattle.merge_make.specs.Script.{events_in, parts, script}
 use Rattle.merge_make.specs.Steps.{event_of}
 use Rattle.merge_make.specs.declared.part.Part.{Part}
@@ -17,19 +17,19 @@ pub count-customers : (n : ℕ) → n ≡ length (events_in n Customers)
 count-customers n = sym (count-numbered customer n)
 
 pub count-credits : (n : ℕ) → n ≡ length (events_in n Credits)
-count-credits n = sym (count-numbered credited n)
+count-credits n = sym (count-numbered event_of_credit n)
 
 pub count-orders : (n : ℕ) → 2 * n ≡ length (events_in n Orders)
 count-orders n = sym (count-numbered order (2 * n))
 
 pub count-clearings : (n : ℕ) → n / 4 ≡ length (events_in n Clearings)
-count-clearings n = sym (count-multiples cleared 4 n (omega arith))
+count-clearings n = sym (count-multiples event_of_clearing 4 n (omega arith))
 
 pub count-cancellations : (n : ℕ) → n / 5 ≡ length (events_in n Cancellations)
-count-cancellations n = sym (count-multiples (cancelled n) 5 n (omega arith))
+count-cancellations n = sym (count-multiples (event_of_cancel n) 5 n (omega arith))
 
 pub count-moves : (n : ℕ) → n / 7 ≡ length (events_in n Moves)
-count-moves n = sym (count-multiples moved 7 n (omega arith))
+count-moves n = sym (count-multiples event_of_move 7 n (omega arith))
 
 -- The steps with a place.
 
@@ -40,18 +40,18 @@ pub order-at : (n place : ℕ) → place < length (events_in n Orders) → slice
 order-at n place less = numbered-at order (2 * n) place less
 
 pub credit-at : (n place : ℕ) → place < length (events_in n Credits) → slice_get (events_in n Credits) place ≡ Some (event_of (step.Credit place))
-credit-at n place less = numbered-at credited n place less
+credit-at n place less = numbered-at event_of_credit n place less
 
 pub clearing-at : (n place at : ℕ) → place < length (events_in n Clearings) → at ≡ 4 * place + 3 → slice_get (events_in n Clearings) place ≡ Some (event_of (step.Clear at))
-clearing-at n place at less is = multiple-at cleared 4 n place (at + 1) (omega arith) less (omega (arith, is))
+clearing-at n place at less is = multiple-at event_of_clearing 4 n place (at + 1) (omega arith) less (omega (arith, is))
 
 pub move-at : (n place at : ℕ) → place < length (events_in n Moves) → at ≡ 7 * place + 6 → slice_get (events_in n Moves) place ≡ Some (event_of (step.Move at))
-move-at n place at less is = multiple-at moved 7 n place (at + 1) (omega arith) less (omega (arith, is))
+move-at n place at less is = multiple-at event_of_move 7 n place (at + 1) (omega arith) less (omega (arith, is))
 
 pub cancellation-at : (n place at : ℕ) → place < length (events_in n Cancellations) → at ≡ n + 10 * place + 9 → slice_get (events_in n Cancellations) place ≡ Some (event_of (step.Cancel at))
 cancellation-at n place at less is =
-    multiple-at (cancelled n) 5 n place (5 * (place + 1)) (omega arith) less refl
-    ∙ ap (λ (m : ℕ). Some (deleted m)) (let same : n + 2 * (5 * (place + 1)) ≡ at + 1 = omega (arith, is) in same)
+    multiple-at (event_of_cancel n) 5 n place (5 * (place + 1)) (omega arith) less refl
+    ∙ ap (λ (m : ℕ). Some (event_of_delete m)) (let same : n + 2 * (5 * (place + 1)) ≡ at + 1 = omega (arith, is) in same)
 
 -- The same of a part that is known to be one of these.
 

@@ -18,7 +18,7 @@ use Rattle.merge_schema.specs.Partition.{joins_at}
 use Rattle.merge_schema.specs.Valid.{IsValid, IsValidArticle, IsValidJoin, IsValidSubscription}
 use Rattle.merge_schema.specs.declared.publication.JoinFilter.{JoinFilter}
 use Rattle.merge_schema.proofs.Orders.{evaluation_order_is}
-use Rattle.merge_make.specs.Publication.{client, customer, customer_columns, made, of_region, order_columns, orders, to_customer}
+use Rattle.merge_make.specs.Publication.{client, customer, customer_columns, made_publication, of_region, order_columns, orders, to_customer}
 
 -- Lists.
 
@@ -79,43 +79,43 @@ differ m n less is = omega (arith, less, is)
 abbrev Named : Column → Type 0
 Named c = is_name_text c.name ≡ true
 
-customer-valid : IsValidArticle 1 made.articles customer
+customer-valid : IsValidArticle 1 made_publication.articles customer
 customer-valid = record {
   named = refl;
   some_columns = (lit≤ tt, lit≤ tt);
   named_columns = all-three Named (record { name = codes "id"; ty = ty.Int }) (record { name = codes "region"; ty = ty.Text }) (record { name = codes "credit"; ty = ty.Int }) refl refl refl;
   distinct_columns = distinct-three (codes "id") (codes "region") (codes "credit") (apart _ _ (differ 105 114 (lit< tt))) (apart _ _ (λ is. differ 99 105 (lit< tt) (sym is))) (apart _ _ (λ is. differ 99 114 (lit< tt) (sym is)));
   few_joins = lit≤ tt;
-  valid_joins = all-none (IsValidJoin made.articles customer_columns);
+  valid_joins = all-none (IsValidJoin made_publication.articles customer_columns);
   valid_resolver = lit< tt;
   valid_decider = λ is. absurd (cc is);
   valid_identity = tt;
   filter_fits = lit≤ tt;
 }
 
-join-valid : IsValidJoin made.articles order_columns to_customer
+join-valid : IsValidJoin made_publication.articles order_columns to_customer
 join-valid = record { column = lit< tt; parent = lit< tt; parent_column = lit< tt; alike = refl }
 
-orders-valid : IsValidArticle 1 made.articles orders
+orders-valid : IsValidArticle 1 made_publication.articles orders
 orders-valid = record {
   named = refl;
   some_columns = (lit≤ tt, lit≤ tt);
   named_columns = all-two Named (record { name = codes "id"; ty = ty.Int }) (record { name = codes "cust"; ty = ty.Int }) refl refl;
   distinct_columns = distinct-two (codes "id") (codes "cust") (apart _ _ (λ is. differ 99 105 (lit< tt) (sym is)));
   few_joins = lit≤ tt;
-  valid_joins = all-one (IsValidJoin made.articles order_columns) to_customer join-valid;
+  valid_joins = all-one (IsValidJoin made_publication.articles order_columns) to_customer join-valid;
   valid_resolver = lit< tt;
   valid_decider = λ is. absurd (cc is);
   valid_identity = tt;
   filter_fits = tt;
 }
 
-none-own : (place : ℕ) → place < 2 → is_ancestor made.articles place place ≡ false
+none-own : (place : ℕ) → place < 2 → is_ancestor made_publication.articles place place ≡ false
 none-own zero less = refl
 none-own (suc zero) less = refl
 none-own (suc (suc place)) less = absurd (omega (arith, less))
 
-parents-inside : (place : ℕ) (join : JoinFilter) → Contains (joins_at made place) join → join.parent < 2
+parents-inside : (place : ℕ) (join : JoinFilter) → Contains (joins_at made_publication place) join → join.parent < 2
 parents-inside zero join (k, less, is) = absurd (omega (arith, less))
 parents-inside (suc zero) join (zero, less, is) = subst (λ (j : JoinFilter). j.parent < 2) is (lit< tt)
 parents-inside (suc zero) join (suc k, less, is) = absurd (omega (arith, less))
@@ -124,15 +124,15 @@ parents-inside (suc (suc place)) join (k, less, is) = absurd (omega (arith, less
 client-valid : (site : ℕ) (name : List ℕ) → 1 ≤ site → site ≤ 63 → length name ≤ 128 → IsValidSubscription (client site name)
 client-valid site name low high short = record { valid_site = (low, high); short_host = short; low_priority = lit≤ tt; no_client = λ is. refl }
 
-pub made-valid : IsValid 1 made
+pub made-valid : IsValid 1 made_publication
 made-valid = record {
   named = refl;
   valid_retention = (lit≤ tt, lit≤ tt);
   valid_conflict_retention = (lit≤ tt, lit≤ tt);
   some_articles = (lit≤ tt, lit≤ tt);
   distinct_articles = distinct-two (codes "customer") (codes "orders") (apart _ _ (differ 99 111 (lit< tt)));
-  valid_articles = all-two (IsValidArticle 1 made.articles) customer orders customer-valid orders-valid;
-  in_order = evaluation_order_is made none-own parents-inside;
+  valid_articles = all-two (IsValidArticle 1 made_publication.articles) customer orders customer-valid orders-valid;
+  in_order = evaluation_order_is made_publication none-own parents-inside;
   few_subscriptions = lit≤ tt;
   distinct_sites = distinct-three 1 2 3 (differ 1 2 (lit< tt)) (differ 1 3 (lit< tt)) (differ 2 3 (lit< tt));
   valid_subscriptions = all-three IsValidSubscription (client 1 (codes "r0")) (client 2 (codes "r1")) (client 3 (codes "r2")) (client-valid 1 (codes "r0") (lit≤ tt) (lit≤ tt) (lit≤ tt)) (client-valid 2 (codes "r1") (lit≤ tt) (lit≤ tt) (lit≤ tt)) (client-valid 3 (codes "r2") (lit≤ tt) (lit≤ tt) (lit≤ tt));

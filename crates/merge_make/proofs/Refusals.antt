@@ -7,10 +7,10 @@ use Rattle.std.proofs.lemmas.Bool.Decides.{nat_tests}
 use Rattle.merge_conflict.specs.declared.row.ConflictRow.{ConflictRow}
 use Rattle.merge_model.specs.declared.answer.Answer.{Answer}
 use Rattle.merge_model.specs.declared.answer.Answer.TheVariants as answer
-use Rattle.merge_make.specs.Summary.{begins, is_refusal, told}
+use Rattle.merge_make.specs.Summary.{answer_text, begins, is_refusal}
 
 -- A count begins with the name of the first article.
-counts : (counts : List ℕ) → is_refusal (told (answer.Counts counts)) ≡ false
+counts : (counts : List ℕ) → is_refusal (answer_text (answer.Counts counts)) ≡ false
 counts [] = refl
 counts (count ∷ more) = refl
 
@@ -59,13 +59,13 @@ behind-number n a b c d =
     let begun = decimal-begins n in
     ap (λ (l : List ℕ). is_refusal ((((l ++ a) ++ b) ++ c) ++ d)) begun.is ∙ by-digit begun.digit ((((begun.more ++ a) ++ b) ++ c) ++ d) begun.low
 
-conflicts : (rows : List ConflictRow) → is_refusal (told (answer.Conflicts rows)) ≡ false
+conflicts : (rows : List ConflictRow) → is_refusal (answer_text (answer.Conflicts rows)) ≡ false
 conflicts [] = refl
 conflicts (row ∷ rows) = behind-number row.number _ _ _ _
 
 -- the same of an answer that is known to be one of these
-pub counts-are-none : (a : Answer) (each : List ℕ) → a ≡ answer.Counts each → false ≡ is_refusal (told a)
-counts-are-none a each is = sym (ap (λ (x : Answer). is_refusal (told x)) is ∙ counts each)
+pub counts-are-none : (a : Answer) (each : List ℕ) → a ≡ answer.Counts each → false ≡ is_refusal (answer_text a)
+counts-are-none a each is = sym (ap (λ (x : Answer). is_refusal (answer_text x)) is ∙ counts each)
 
-pub conflicts-are-none : (a : Answer) (rows : List ConflictRow) → a ≡ answer.Conflicts rows → false ≡ is_refusal (told a)
-conflicts-are-none a rows is = sym (ap (λ (x : Answer). is_refusal (told x)) is ∙ conflicts rows)
+pub conflicts-are-none : (a : Answer) (rows : List ConflictRow) → a ≡ answer.Conflicts rows → false ≡ is_refusal (answer_text a)
+conflicts-are-none a rows is = sym (ap (λ (x : Answer). is_refusal (answer_text x)) is ∙ conflicts rows)

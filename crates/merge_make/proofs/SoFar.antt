@@ -12,12 +12,12 @@ use Rattle.merge_world.specs.Happenings.{Happened, seconds_of}
 use Rattle.merge_world.specs.Playing.{AllHappened}
 use Rattle.merge_world.specs.Views.{HandedView, IsOrdered, SitesView}
 use Rattle.merge_world.proofs.Playings.{and-then, nothing-yet, ordered-behind}
-use Rattle.merge_make.specs.Publication.{made}
+use Rattle.merge_make.specs.Publication.{made_publication}
 use Rattle.merge_make.specs.Rest.{rest}
 use Rattle.merge_make.specs.Runs.{MadeInPart, StepDone, StepInPart, Summed}
 use Rattle.merge_make.specs.Script.{script}
 use Rattle.merge_make.specs.Steps.{event_of}
-use Rattle.merge_make.specs.Summary.{is_refusal, made_line, shown, shown_of, told}
+use Rattle.merge_make.specs.Summary.{answer_text, is_refusal, made_line, shown_in_summary, shown_of}
 use Rattle.merge_make.specs.declared.script.Script.{Script}
 use Rattle.merge_make.specs.declared.step.Step.{Step}
 use Rattle.merge_make.specs.declared.step.Step.TheVariants as step
@@ -31,8 +31,8 @@ pub record SoFar (customers : ℕ) (left : List Event) (first now : SitesView) (
   pub paired : length events ≡ length answers
   pub happened : AllHappened events first now before after answers
   pub moment : now.moment.0 ≡ first.moment.0
-  pub refusals : tally.refusals ≡ count_by is_refusal (map told answers)
-  pub reports : tally.reports ≡ flat_map shown_of (zip events (map told answers))
+  pub refusals : tally.refusals ≡ count_by is_refusal (map answer_text answers)
+  pub reports : tally.reports ≡ flat_map shown_of (zip events (map answer_text answers))
 
 -- no step moves the moment
 still : (s : Step) → seconds_of (event_of s) ≡ 0
@@ -75,15 +75,15 @@ module _ (customers : ℕ) (step : Step) (left more : List Event) (first u v : S
     paired = length-append s.events (event_of step ∷ []) ∙ ap (λ (n : ℕ). n + 1) s.paired ∙ sym (length-append s.answers (done.answer ∷ []));
     happened = and-then s.events first u v k g h s.answers (event_of step) done.answer s.happened done.happened;
     moment = let here = s.moment in let on = done.happened.moment in let no = still step in omega (arith, here, on, no);
-    refusals = done.refusals ∙ ap (λ (n : ℕ). n + cond (is_refusal (told done.answer)) 1 0) s.refusals ∙ sym (sum_by_push (λ (text : List ℕ). cond (is_refusal text) 1 0) (map told s.answers) (told done.answer)) ∙ ap (λ (l : List (List ℕ)). count_by is_refusal l) (sym (map_push told s.answers done.answer));
-    reports = done.reports ∙ ap (λ (l : List ℕ). l ++ shown (event_of step) (told done.answer)) s.reports ∙ sym one ∙ ap (λ (l : List (List ℕ)). flat_map shown_of (zip (s.events ++ event_of step ∷ []) l)) (sym (map_push told s.answers done.answer));
+    refusals = done.refusals ∙ ap (λ (n : ℕ). n + cond (is_refusal (answer_text done.answer)) 1 0) s.refusals ∙ sym (sum_by_push (λ (text : List ℕ). cond (is_refusal text) 1 0) (map answer_text s.answers) (answer_text done.answer)) ∙ ap (λ (l : List (List ℕ)). count_by is_refusal l) (sym (map_push answer_text s.answers done.answer));
+    reports = done.reports ∙ ap (λ (l : List ℕ). l ++ shown_in_summary (event_of step) (answer_text done.answer)) s.reports ∙ sym one ∙ ap (λ (l : List (List ℕ)). flat_map shown_of (zip (s.events ++ event_of step ∷ []) l)) (sym (map_push answer_text s.answers done.answer));
   }
     where
-      one : flat_map shown_of (zip (s.events ++ event_of step ∷ []) (map told s.answers ++ told done.answer ∷ [])) ≡ flat_map shown_of (zip s.events (map told s.answers)) ++ shown (event_of step) (told done.answer)
+      one : flat_map shown_of (zip (s.events ++ event_of step ∷ []) (map answer_text s.answers ++ answer_text done.answer ∷ [])) ≡ flat_map shown_of (zip s.events (map answer_text s.answers)) ++ shown_in_summary (event_of step) (answer_text done.answer)
       one =
-          ap (λ (l : List (Event × List ℕ)). flat_map shown_of l) (zip-more s.events (map told s.answers) (event_of step) (told done.answer) (s.paired ∙ sym (length-map s.answers told)))
-          ∙ flat_map-append shown_of (zip s.events (map told s.answers)) ((event_of step, told done.answer) ∷ [])
-          ∙ ap (λ (l : List ℕ). flat_map shown_of (zip s.events (map told s.answers)) ++ l) (append-nil (shown (event_of step) (told done.answer)))
+          ap (λ (l : List (Event × List ℕ)). flat_map shown_of l) (zip-more s.events (map answer_text s.answers) (event_of step) (answer_text done.answer) (s.paired ∙ sym (length-map s.answers answer_text)))
+          ∙ flat_map-append shown_of (zip s.events (map answer_text s.answers)) ((event_of step, answer_text done.answer) ∷ [])
+          ∙ ap (λ (l : List ℕ). flat_map shown_of (zip s.events (map answer_text s.answers)) ++ l) (append-nil (shown_in_summary (event_of step) (answer_text done.answer)))
 
 -- of the next step nothing was done, or its event happened
 pub so-far-cut : (customers : ℕ) (step : Step) (left more : List Event) (first u v : SitesView) (k g h : HandedView) (tally : Tally) → left ≡ event_of step ∷ more → SoFar customers left first u k g tally
@@ -113,7 +113,7 @@ module _ (customers : ℕ) (left : List Event) (first u : SitesView) (k g : Hand
   pub so-far-ordered : IsOrdered first → IsOrdered u
   so-far-ordered ordered = ordered-behind s.events first u k g s.answers s.happened ordered
 
-  pub so-far-made : first.publication ≡ made → u.publication ≡ made
+  pub so-far-made : first.publication ≡ made_publication → u.publication ≡ made_publication
   so-far-made is = s.happened.publication ∙ is
 
   -- few events are refused
@@ -122,8 +122,8 @@ module _ (customers : ℕ) (left : List Event) (first u : SitesView) (k g : Hand
       let few = few-events customers small in
       let whole = ap (λ (l : List Event). length l) s.split ∙ length-append s.events left in
       let refusals = s.refusals in
-      let least = count_by-le-length is_refusal (map told s.answers) in
-      let texts = length-map s.answers told in
+      let least = count_by-le-length is_refusal (map answer_text s.answers) in
+      let texts = length-map s.answers answer_text in
       let paired = s.paired in
       omega (arith, few, whole, refusals, least, texts, paired)
 
@@ -135,17 +135,17 @@ module _ (customers : ℕ) (left : List Event) (first u : SitesView) (k g : Hand
         answers = s.answers;
         happened = subst (λ (l : List Event). AllHappened l first u k g s.answers) (sym all) s.happened;
         told = is ∙ ap (λ (n : ℕ). made_line customers (length (script customers)) n ++ tally.reports) s.refusals
-            ∙ ap (λ (l : List ℕ). made_line customers (length (script customers)) (count_by is_refusal (map told s.answers)) ++ l) (s.reports ∙ ap (λ (l : List Event). flat_map shown_of (zip l (map told s.answers))) (sym all));
+            ∙ ap (λ (l : List ℕ). made_line customers (length (script customers)) (count_by is_refusal (map answer_text s.answers)) ++ l) (s.reports ∙ ap (λ (l : List Event). flat_map shown_of (zip l (map answer_text s.answers))) (sym all));
       }
 
 -- an event that happened was done, where its answer was added
 pub step-done : {T E : Type 0} (r : Result T E) (s : Step) (e : Event) (u v : SitesView) (g h : HandedView) (was now : Tally) (answer : Answer) → e ≡ event_of s → Happened e u v g h answer
-    → OnOk r (now.refusals ≡ was.refusals + cond (is_refusal (told answer)) 1 0) → OnOk r (now.reports ≡ was.reports ++ shown e (told answer)) → OnOk r (StepDone s u v g h was now)
+    → OnOk r (now.refusals ≡ was.refusals + cond (is_refusal (answer_text answer)) 1 0) → OnOk r (now.reports ≡ was.reports ++ shown_in_summary e (answer_text answer)) → OnOk r (StepDone s u v g h was now)
 step-done (Ok done) s e u v g h was now answer is happened refusals reports = record {
   answer = answer;
   happened = subst (λ (x : Event). Happened x u v g h answer) is happened;
   refusals = refusals;
-  reports = reports ∙ ap (λ (x : Event). was.reports ++ shown x (told answer)) is;
+  reports = reports ∙ ap (λ (x : Event). was.reports ++ shown_in_summary x (answer_text answer)) is;
 }
 step-done (Err why) s e u v g h was now answer is happened refusals reports = tt
 

@@ -28,36 +28,36 @@ abbrev pub region : ℕ → Value
 region number = Text (codes "r" ++ decimal (number % 3))
 
 -- the publisher makes a row of two columns
-abbrev pub inserted : List ℕ → NamedValue → NamedValue → Event
-inserted article first second = event.Insert publisher article (first ∷ second ∷ [])
+abbrev pub event_of_insert : List ℕ → NamedValue → NamedValue → Event
+event_of_insert article first second = event.Insert publisher article (first ∷ second ∷ [])
 
 -- a customer, in the region of its number
 abbrev pub customer : ℕ → Event
-customer i = inserted (codes "customer") (set (codes "id") (Int (pos i))) (set (codes "region") (region i))
+customer i = event_of_insert (codes "customer") (set (codes "id") (Int (pos i))) (set (codes "region") (region i))
 
 -- an order, of which each customer has two: the first has the orders 1 and 2
 abbrev pub order : ℕ → Event
-order a = inserted (codes "orders") (set (codes "id") (Int (pos a))) (set (codes "cust") (Int (pos ((a + 1) / 2))))
+order a = event_of_insert (codes "orders") (set (codes "id") (Int (pos a))) (set (codes "cust") (Int (pos ((a + 1) / 2))))
 
 -- a site sets a column of a customer, whose row has the customer's number
-abbrev pub updated : SiteId → ℕ → List ℕ → Value → Event
-updated at i column value = event.Update at (codes "customer") (row i) (set column value ∷ [])
+abbrev pub event_of_update : SiteId → ℕ → List ℕ → Value → Event
+event_of_update at i column value = event.Update at (codes "customer") (row i) (set column value ∷ [])
 
 -- the site of a customer's region gives it credit
-abbrev pub credited : ℕ → Event
-credited i = updated (site (i % 3 + 1)) i (codes "credit") (Int (pos i))
+abbrev pub event_of_credit : ℕ → Event
+event_of_credit i = event_of_update (site (i % 3 + 1)) i (codes "credit") (Int (pos i))
 
 -- the publisher takes it back
-abbrev pub cleared : ℕ → Event
-cleared i = updated publisher i (codes "credit") (Int (pos 0))
+abbrev pub event_of_clearing : ℕ → Event
+event_of_clearing i = event_of_update publisher i (codes "credit") (Int (pos 0))
 
 -- the customer goes to the next region
-abbrev pub moved : ℕ → Event
-moved i = updated publisher i (codes "region") (region (i + 1))
+abbrev pub event_of_move : ℕ → Event
+event_of_move i = event_of_update publisher i (codes "region") (region (i + 1))
 
-abbrev pub deleted : ℕ → Event
-deleted number = event.Delete publisher (codes "orders") (row number)
+abbrev pub event_of_delete : ℕ → Event
+event_of_delete number = event.Delete publisher (codes "orders") (row number)
 
 -- The second order of a customer goes. Orders are made behind so many customers.
-abbrev pub cancelled : (customers i : ℕ) → Event
-cancelled customers i = deleted (customers + 2 * i)
+abbrev pub event_of_cancel : (customers i : ℕ) → Event
+event_of_cancel customers i = event_of_delete (customers + 2 * i)

@@ -54,8 +54,8 @@ orders = record {
 abbrev pub client : ℕ → List ℕ → Subscription
 client site host = record { site = record { 0 = site }; host = record { 0 = host }; kind = kind.Client; priority = 0 }
 
-abbrev pub made : Publication
-made = record {
+abbrev pub made_publication : Publication
+made_publication = record {
   name = codes "made";
   retention_days = 14;
   conflict_retention_days = 14;

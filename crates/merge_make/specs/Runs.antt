@@ -7,7 +7,7 @@ use Rattle.merge_world.specs.Playing.{AllHappened}
 use Rattle.merge_world.specs.Views.{HandedView, SitesView}
 use Rattle.merge_make.specs.Script.{script}
 use Rattle.merge_make.specs.Steps.{event_of}
-use Rattle.merge_make.specs.Summary.{is_refusal, shown, summary_of, told}
+use Rattle.merge_make.specs.Summary.{answer_text, is_refusal, shown_in_summary, summary_of}
 use Rattle.merge_make.specs.declared.step.Step.{Step}
 use Rattle.merge_make.specs.declared.tally.Tally.{Tally}
 
@@ -15,8 +15,8 @@ use Rattle.merge_make.specs.declared.tally.Tally.{Tally}
 pub record StepDone (step : Step) (old new : SitesView) (before after : HandedView) (was now : Tally) : Type 0 where
   pub answer : Answer
   pub happened : Happened (event_of step) old new before after answer
-  pub refusals : now.refusals ≡ was.refusals + cond (is_refusal (told answer)) 1 0
-  pub reports : now.reports ≡ was.reports ++ shown (event_of step) (told answer)
+  pub refusals : now.refusals ≡ was.refusals + cond (is_refusal (answer_text answer)) 1 0
+  pub reports : now.reports ≡ was.reports ++ shown_in_summary (event_of step) (answer_text answer)
 
 -- Nothing happened, or the event of a step did.
 abbrev pub StepInPart : Step → (old new : SitesView) → (before after : HandedView) → Type 0

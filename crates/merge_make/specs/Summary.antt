@@ -8,7 +8,7 @@ use Rattle.merge_model.specs.Script.Text.{line, text_of}
 use Rattle.merge_model.specs.declared.answer.Answer.{Answer}
 use Rattle.merge_model.specs.declared.event.Event.{Event}
 use Rattle.merge_model.specs.declared.event.Event.TheVariants as event
-use Rattle.merge_make.specs.Publication.{made}
+use Rattle.merge_make.specs.Publication.{made_publication}
 use Rattle.merge_make.specs.Script.{script}
 
 -- a text begins with another
@@ -29,13 +29,13 @@ abbrev pub last_line : List ℕ → List ℕ
 last_line text = last_from [] (lines_of text) ++ 10 ∷ []
 
 -- what the summary has of the answer to an event: the whole of a count, and of conflicts how many they are
-abbrev pub shown : Event → List ℕ → List ℕ
-shown (event.Count site) text = text
-shown (event.Conflicts site) text = last_line text
-shown other text = []
+abbrev pub shown_in_summary : Event → List ℕ → List ℕ
+shown_in_summary (event.Count site) text = text
+shown_in_summary (event.Conflicts site) text = last_line text
+shown_in_summary other text = []
 
 abbrev pub shown_of : Event × List ℕ → List ℕ
-shown_of told = shown told.0 told.1
+shown_of told = shown_in_summary told.0 told.1
 
 abbrev pub made_line : (customers events refusals : ℕ) → List ℕ
 made_line customers events refusals = line (codes "made" ∷ decimal customers ∷ codes "events" ∷ decimal events ∷ codes "refused" ∷ decimal refusals ∷ [])
@@ -45,9 +45,9 @@ abbrev pub summary : (customers : ℕ) → List (List ℕ) → List ℕ
 summary customers texts = made_line customers (length (script customers)) (count_by is_refusal texts) ++ flat_map shown_of (zip (script customers) texts)
 
 -- the text of an answer, by the names of the script's publication
-abbrev pub told : Answer → List ℕ
-told answer = text_of (names_of made) answer
+abbrev pub answer_text : Answer → List ℕ
+answer_text answer = text_of (names_of made_publication) answer
 
 -- the summary of answers
 abbrev pub summary_of : (customers : ℕ) → List Answer → List ℕ
-summary_of customers answers = summary customers (map told answers)
+summary_of customers answers = summary customers (map answer_text answers)

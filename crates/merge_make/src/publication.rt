@@ -1,7 +1,7 @@
 //! The publication of the script.
 ghost use Rattle.std.specs.Prelude.{◌≡◌, ◌∷◌, [], IfOk};
 ghost use Rattle.merge_schema.specs.Valid.{IsValid};
-ghost use Rattle.merge_make.specs.Publication.{client, customer, customer_columns, made, of_region, order_columns, orders};
+ghost use Rattle.merge_make.specs.Publication.{client, customer, customer_columns, made_publication, of_region, order_columns, orders};
 
 use merge_filter::{Filter, parse};
 use merge_schema::{Article, JoinFilter, Publication, Subscription, SubscriptionKind};
@@ -98,7 +98,7 @@ fn client(alloc: Global, site: u16, host: &str) -> Result<Subscription, NoMemory
 }
 
 fn built(alloc: Global) -> Result<Publication, NoMemory>
-    ensures { IfOk result (λ publication. publication ≡ made) }
+    ensures { IfOk result (λ publication. publication ≡ made_publication) }
 {
     let mut articles = Listing::empty(alloc);
     articles.push(customer(alloc)?)?;
@@ -119,7 +119,7 @@ fn built(alloc: Global) -> Result<Publication, NoMemory>
 /// The publication of the script: customers, of which each goes to the site of its region, and their
 /// orders, which follow them.
 pub fn made(alloc: Global) -> Result<Publication, NoMemory>
-    ensures made { IfOk result (λ publication. publication ≡ made) }
+    ensures made { IfOk result (λ publication. publication ≡ made_publication) }
     ensures valid { IfOk result (λ publication. IsValid 1 publication) }
 {
     built(alloc)

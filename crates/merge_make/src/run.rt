@@ -1,6 +1,6 @@
 //! A run over the script.
 ghost use Rattle.std.specs.Prelude.{◌≡◌, ◌≤◌, ◌<◌, ◌+◌, ◌^◌, IfOk, OnErr, OnOk};
-ghost use Rattle.merge_make.specs.Publication.{made};
+ghost use Rattle.merge_make.specs.Publication.{made_publication};
 ghost use Rattle.merge_make.specs.Runs.{MadeInPart, StepDone, StepInPart, Summed};
 ghost use Rattle.merge_world.specs.Views.{IsOrdered, handed_view};
 
@@ -22,7 +22,7 @@ fn play_step<P: PublisherSite, S: SubscriberSite>(
 ) -> Result<(), NoMemory>
     requires ordered { IsOrdered (⟦<Sites<P, S> as Seen>⟧.seen sites.old) }
     requires clock { sites.old.moment.0 + 2 ^ 32 ≤ 2 ^ 64 }
-    requires made { (⟦<Sites<P, S> as Seen>⟧.seen sites.old).publication ≡ made }
+    requires made { (⟦<Sites<P, S> as Seen>⟧.seen sites.old).publication ≡ made_publication }
     requires room { tally.old.refusals < 2 ^ 32 }
     ensures done { OnOk result (StepDone step (⟦<Sites<P, S> as Seen>⟧.seen sites.old) (⟦<Sites<P, S> as Seen>⟧.seen sites.new)
         (handed_view (λ r. says r) (λ r. tally_of r) resolvers.old.items) (handed_view (λ r. says r) (λ r. tally_of r) resolvers.new.items) tally.old tally.new) }
@@ -49,7 +49,7 @@ pub fn play_script<P: PublisherSite, S: SubscriberSite>(
 ) -> Result<Octets, NoMemory>
     requires ordered { IsOrdered (⟦<Sites<P, S> as Seen>⟧.seen sites.old) }
     requires clock { sites.old.moment.0 + 2 ^ 32 ≤ 2 ^ 64 }
-    requires made { (⟦<Sites<P, S> as Seen>⟧.seen sites.old).publication ≡ made }
+    requires made { (⟦<Sites<P, S> as Seen>⟧.seen sites.old).publication ≡ made_publication }
     ensures summed { IfOk result (Summed customers (⟦<Sites<P, S> as Seen>⟧.seen sites.old) (⟦<Sites<P, S> as Seen>⟧.seen sites.new)
         (handed_view (λ r. says r) (λ r. tally_of r) resolvers.old.items) (handed_view (λ r. says r) (λ r. tally_of r) resolvers.new.items)) }
     ensures part { OnErr result (MadeInPart customers (⟦<Sites<P, S> as Seen>⟧.seen sites.old) (⟦<Sites<P, S> as Seen>⟧.seen sites.new)

@@ -1,7 +1,7 @@
 //! The events of the script, one by one.
 ghost use Rattle.std.specs.Prelude.{◌≡◌, ◌+◌, IfOk, pos};
 ghost use Rattle.merge_types.specs.declared.values.Value.TheVariants.{Int as int};
-ghost use Rattle.merge_make.specs.Events.{cleared, credited, customer, deleted, inserted, moved, order, region, row, set, updated};
+ghost use Rattle.merge_make.specs.Events.{customer, event_of_clearing, event_of_credit, event_of_delete, event_of_insert, event_of_move, event_of_update, order, region, row, set};
 ghost use Rattle.merge_make.specs.Steps.{event_of};
 
 use merge_model::{Event, NamedValue};
@@ -98,7 +98,7 @@ fn inserted(
     first: NamedValue,
     second: NamedValue,
 ) -> Result<Event, NoMemory>
-    ensures { IfOk result (λ event. event ≡ inserted article.now first second) }
+    ensures { IfOk result (λ event. event ≡ event_of_insert article.now first second) }
 {
     let mut values = Listing::empty(alloc);
     values.push(first)?;
@@ -118,7 +118,7 @@ fn updated(
     column: &str,
     value: Value,
 ) -> Result<Event, NoMemory>
-    ensures { IfOk result (λ event. event ≡ updated site (place + 1) column.now value) }
+    ensures { IfOk result (λ event. event ≡ event_of_update site (place + 1) column.now value) }
 {
     let mut values = Listing::empty(alloc);
     values.push(set(alloc, column, value)?)?;
@@ -148,27 +148,27 @@ fn order(alloc: Global, place: u32) -> Result<Event, NoMemory>
 }
 
 fn credited(alloc: Global, place: u32) -> Result<Event, NoMemory>
-    ensures { IfOk result (λ event. event ≡ credited (place + 1)) }
+    ensures { IfOk result (λ event. event ≡ event_of_credit (place + 1)) }
 {
     let site = SiteId(((place as u64 + 1) % 3 + 1) as u16);
     updated(alloc, site, place, "credit", number(place))
 }
 
 fn cleared(alloc: Global, place: u32) -> Result<Event, NoMemory>
-    ensures { IfOk result (λ event. event ≡ cleared (place + 1)) }
+    ensures { IfOk result (λ event. event ≡ event_of_clearing (place + 1)) }
 {
     updated(alloc, PUBLISHER, place, "credit", Value::Int(0))
 }
 
 fn moved(alloc: Global, place: u32) -> Result<Event, NoMemory>
-    ensures { IfOk result (λ event. event ≡ moved (place + 1)) }
+    ensures { IfOk result (λ event. event ≡ event_of_move (place + 1)) }
 {
     let region = region(alloc, place as u64 + 1 + 1)?;
     updated(alloc, PUBLISHER, place, "region", region)
 }
 
 fn deleted(alloc: Global, place: u32) -> Result<Event, NoMemory>
-    ensures { IfOk result (λ event. event ≡ deleted (place + 1)) }
+    ensures { IfOk result (λ event. event ≡ event_of_delete (place + 1)) }
 {
     Ok(Event::Delete {
         site: PUBLISHER,

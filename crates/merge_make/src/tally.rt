@@ -4,9 +4,9 @@ ghost use Rattle.std.specs.List.{flat_map};
 ghost use Rattle.merge_model.specs.Script.Play.{names_of};
 ghost use Rattle.merge_model.specs.Script.Proper.{IsProperAnswer};
 ghost use Rattle.merge_model.specs.Script.Text.{text_of};
-ghost use Rattle.merge_make.specs.Publication.{made};
+ghost use Rattle.merge_make.specs.Publication.{made_publication};
 ghost use Rattle.merge_make.specs.Script.{script};
-ghost use Rattle.merge_make.specs.Summary.{is_refusal, last_line, made_line, shown, told};
+ghost use Rattle.merge_make.specs.Summary.{answer_text, is_refusal, last_line, made_line, shown_in_summary};
 
 use crate::script::event_count;
 use merge_model::{Answer, Event};
@@ -43,11 +43,11 @@ impl Tally {
         event: &Event,
         answer: &Answer,
     ) -> Result<(), NoMemory>
-        requires made { publication.now ≡ made }
+        requires made { publication.now ≡ made_publication }
         requires printable { IsProperAnswer answer.now }
         requires room { self.old.refusals < 2 ^ 32 }
-        ensures refusals { OnOk result (self.new.refusals ≡ self.old.refusals + cond (is_refusal (told answer.now)) 1 0) }
-        ensures reports { OnOk result (self.new.reports ≡ self.old.reports ++ shown event.now (told answer.now)) }
+        ensures refusals { OnOk result (self.new.refusals ≡ self.old.refusals + cond (is_refusal (answer_text answer.now)) 1 0) }
+        ensures reports { OnOk result (self.new.reports ≡ self.old.reports ++ shown_in_summary event.now (answer_text answer.now)) }
     {
         if is_refusal(alloc, publication, answer)? {
             self.refusals += 1;
@@ -88,9 +88,9 @@ fn is_refused_text(text: &[u8]) -> bool
 
 // Whether an answer tells that its event was not done. The texts of most need not be made for that.
 fn is_refusal(alloc: Global, publication: &Publication, answer: &Answer) -> Result<bool, NoMemory>
-    requires made { publication.now ≡ made }
+    requires made { publication.now ≡ made_publication }
     requires printable { IsProperAnswer answer.now }
-    ensures { IfOk result (λ is. is ≡ is_refusal (told answer.now)) }
+    ensures { IfOk result (λ is. is ≡ is_refusal (answer_text answer.now)) }
 {
     match answer {
         Answer::Refused(_) | Answer::RefusedIn { .. } | Answer::Stopped { .. } => Ok(true),
@@ -129,9 +129,9 @@ fn shown(
     event: &Event,
     answer: &Answer,
 ) -> Result<Octets, NoMemory>
-    requires made { publication.now ≡ made }
+    requires made { publication.now ≡ made_publication }
     requires printable { IsProperAnswer answer.now }
-    ensures { IfOk result (λ text. text ≡ shown event.now (told answer.now)) }
+    ensures { IfOk result (λ text. text ≡ shown_in_summary event.now (answer_text answer.now)) }
 {
     match event {
         Event::Count(_) => {

@@ -34,12 +34,12 @@ use Rattle.merge_batch.specs.declared.reply.Downloaded.{Downloaded}
 use Rattle.merge_model.specs.Tables.Keys.{at_number}
 use Rattle.merge_model.specs.Judge.{PublisherJudge}
 use Rattle.merge_model.specs.Publisher.Acts.{acts_of}
-use Rattle.merge_model.specs.Publisher.{close_generation, at_moment, closed, last_closed, counters}
-use Rattle.merge_model.specs.Publisher.PublisherLocal.{local, local_refusal, drawn, Drawn, drawn_from, taken_from, no_draw, after_answer, own_ask, made_locally}
-use Rattle.merge_model.specs.Publisher.PublisherJoin.{join, join_refusal, join_taken, join_acts, joined}
-use Rattle.merge_model.specs.Publisher.PublisherUpload.{upload, uploaded, taken_in, brings_news, upload_refusal}
-use Rattle.merge_model.specs.Publisher.PublisherRanges.{ranges, ranges_refusal, ranged, plans, with_grants, ask_by}
-use Rattle.merge_model.specs.Publisher.PublisherDownload.{download, download_refusal, asked, reply_to}
+use Rattle.merge_model.specs.Publisher.{close_generation, at_moment, tables_after_close, last_closed, counters}
+use Rattle.merge_model.specs.Publisher.PublisherLocal.{local, local_refusal, draw_for_change, Drawn, drawn_from, taken_from, no_draw, after_answer, own_ask, made_locally}
+use Rattle.merge_model.specs.Publisher.PublisherJoin.{join, join_refusal, join_taken, join_acts, tables_after_join}
+use Rattle.merge_model.specs.Publisher.PublisherUpload.{upload, tables_after_upload, taken_in, brings_news, upload_refusal}
+use Rattle.merge_model.specs.Publisher.PublisherRanges.{ranges, ranges_refusal, reply_to_ranges, plans, with_grants, ask_by}
+use Rattle.merge_model.specs.Publisher.PublisherDownload.{download, download_refusal, tables_after_download, reply_to}
 use Rattle.merge_model.specs.World.{World, Judges, Saying}
 use Rattle.merge_model.specs.World.Steps.{Action, step_by}
 use Rattle.merge_model.proofs.Publishers.PublisherSteps.{step-holds}
@@ -61,38 +61,38 @@ drawn-ok Q publication judge change p (Err refusal) h = tt
 drawn-ok Q publication judge change p (Ok d) h = h
 
 pub local-ok : (Q : PublisherTables → Type 0) (publication : Publication) (judge : PublisherJudge) (now : Moment) (change : Change) (p : PublisherTables)
-    → IfOk (drawn publication p change) (λ d. Q (made_locally publication judge change d (at_moment now p)).0) → IfOk (local publication judge now change p) (λ done. Q done.0)
+    → IfOk (draw_for_change publication p change) (λ d. Q (made_locally publication judge change d (at_moment now p)).0) → IfOk (local publication judge now change p) (λ done. Q done.0)
 local-ok Q publication judge now change p h = elim (local_refusal publication change p)
     as (λ (refusal : Option Refusal). (let done : Result (PublisherTables × RowId) Refusal = elim refusal [
       | Some why ↦ Err why
-      | None ↦ elim (drawn publication p change) [ Err why ↦ Err why | Ok d ↦ Ok (made_locally publication judge change d (at_moment now p)) ]
+      | None ↦ elim (draw_for_change publication p change) [ Err why ↦ Err why | Ok d ↦ Ok (made_locally publication judge change d (at_moment now p)) ]
     ] in IfOk done (λ a. Q a.0))) [
       | Some why ↦ tt
-      | None ↦ drawn-ok Q publication judge change (at_moment now p) (drawn publication p change) h
+      | None ↦ drawn-ok Q publication judge change (at_moment now p) (draw_for_change publication p change) h
     ]
 
 pub upload-ok : (Q : PublisherTables → Type 0) (publication : Publication) (judge : PublisherJudge) (now : Moment) (m : Upload) (decisions : List Decision) (p : PublisherTables)
     → Q (taken_in publication judge m (acts_of judge m decisions (at_moment now p)) (at_moment now p)) → Q (at_moment now p) → IfOk (upload publication judge now m decisions p) (λ done. Q done.0)
-upload-ok Q publication judge now m decisions p news none = unless-ok (λ (done : PublisherTables × Uploaded). Q done.0) (upload_refusal publication judge now m p) (uploaded publication judge m decisions (at_moment now p), record { seq = m.seq; received = max m.to (judge.received m.site.0) })
+upload-ok Q publication judge now m decisions p news none = unless-ok (λ (done : PublisherTables × Uploaded). Q done.0) (upload_refusal publication judge now m p) (tables_after_upload publication judge m decisions (at_moment now p), record { seq = m.seq; received = max m.to (judge.received m.site.0) })
     (if-ok Q (brings_news judge m) (taken_in publication judge m (acts_of judge m decisions (at_moment now p)) (at_moment now p)) (at_moment now p) news none)
 
-pub close-ok : (Q : PublisherTables → Type 0) (now : Moment) (p : PublisherTables) → Q (closed (at_moment now p)) → IfOk (close_generation now p) (λ done. Q done.0)
-close-ok Q now p h = unless-ok (λ (done : PublisherTables × ℕ). Q done.0) (counter_end (counters p)) (closed (at_moment now p), last_closed (closed (at_moment now p))) h
+pub close-ok : (Q : PublisherTables → Type 0) (now : Moment) (p : PublisherTables) → Q (tables_after_close (at_moment now p)) → IfOk (close_generation now p) (λ done. Q done.0)
+close-ok Q now p h = unless-ok (λ (done : PublisherTables × ℕ). Q done.0) (counter_end (counters p)) (tables_after_close (at_moment now p), last_closed (tables_after_close (at_moment now p))) h
 
 pub join-ok : (Q : PublisherTables → Type 0) (publication : Publication) (now : Moment) (m : Join) (p : PublisherTables)
     → Q (join_taken m (at_moment now p)) → Q (at_moment now p) → IfOk (join publication now m p) (λ done. Q done.0)
-join-ok Q publication now m p news none = unless-ok (λ (done : PublisherTables × Joined). Q done.0) (join_refusal publication m p) (joined m (at_moment now p), record { seq = m.seq })
+join-ok Q publication now m p news none = unless-ok (λ (done : PublisherTables × Joined). Q done.0) (join_refusal publication m p) (tables_after_join m (at_moment now p), record { seq = m.seq })
     (if-ok Q (join_acts m (at_moment now p)) (join_taken m (at_moment now p)) (at_moment now p) news none)
 
 pub ranges-ok : (Q : PublisherTables → Type 0) (publication : Publication) (judge : PublisherJudge) (now : Moment) (m : RangeAsk) (p : PublisherTables)
     → Q (with_grants (plans publication m p) (at_moment now p)) → IfOk (ranges publication judge now m p) (λ done. Q done.0)
 ranges-ok Q publication judge now m p h = unless-ok (λ (done : PublisherTables × Ranged). Q done.0) (ranges_refusal publication judge now m p)
-    (with_grants (plans publication m p) (at_moment now p), ranged m (plans publication m p)) h
+    (with_grants (plans publication m p) (at_moment now p), reply_to_ranges m (plans publication m p)) h
 
 pub download-ok : (Q : PublisherTables → Type 0) (publication : Publication) (judge : PublisherJudge) (now : Moment) (m : Download) (p : PublisherTables)
-    → Q (asked m (at_moment now p)) → IfOk (download publication judge now m p) (λ done. Q done.0)
+    → Q (tables_after_download m (at_moment now p)) → IfOk (download publication judge now m p) (λ done. Q done.0)
 download-ok Q publication judge now m p h = unless-ok (λ (done : PublisherTables × Downloaded). Q done.0) (download_refusal publication now m p)
-    (asked m (at_moment now p), reply_to publication judge m (asked m (at_moment now p))) h
+    (tables_after_download m (at_moment now p), reply_to publication judge m (tables_after_download m (at_moment now p))) h
 
 -- Ranges: the grants are a book.
 
@@ -120,7 +120,7 @@ module _ (publication : Publication) where
   found-book p article None h = h
   found-book p article (Some holder) h = from-book p article holder (answer_to_take holder) h
 
-  drawn-book : (p : PublisherTables) (change : Change) → IsGranting p.grants → IfOk (drawn publication p change) (λ d. IsGranting d.grants)
+  drawn-book : (p : PublisherTables) (change : Change) → IsGranting p.grants → IfOk (draw_for_change publication p change) (λ d. IsGranting d.grants)
   drawn-book p (Insert article values) h = found-book p article (at_number p.held article) h
   drawn-book p (Update article row values) h = h
   drawn-book p (Delete article row) h = h

@@ -32,10 +32,10 @@ use Rattle.merge_model.specs.World.Faults.{reply_fault}
 use Rattle.merge_model.specs.Subscriber.{subscriber_local, subscriber_local_refusal, subscriber_drawn, subscriber_made_locally, subscriber_version_at, subscriber_next_dot, with_version_if, close_subscriber_generation, subscriber_closed, subscriber_at_moment, subscriber_counters, subscriber_last_closed}
 use Rattle.merge_model.specs.Subscriber.Sending.{with_message}
 use Rattle.merge_gens.proofs.ClosedGenerations.{sound_kept}
-use Rattle.merge_model.specs.Subscriber.Taking.{taken, take_reply, met_by, seq_of, row_above, with_received, with_item, with_order, key_of_download}
+use Rattle.merge_model.specs.Subscriber.Taking.{tables_after_reply, take_reply, met_by, seq_of, row_above, with_received, with_item, with_order, key_of_download}
 use Rattle.merge_model.specs.declared.outcome.Taken.{Taken}
 use Rattle.merge_model.specs.declared.outcome.Taken.TheVariants.{Acted, Missed}
-use Rattle.merge_model.specs.Subscriber.Reinit.{reinitialise, reinitialised}
+use Rattle.merge_model.specs.Subscriber.Reinit.{reinitialise, result_of_reinit}
 use Rattle.merge_model.specs.World.{World, Judges, Saying}
 use Rattle.merge_model.specs.World.Steps.{Action, step_by}
 use Rattle.merge_model.specs.Laws.{SubscriberRises, SubscriberNumbersRise, SubscriberIsSorted}
@@ -74,22 +74,22 @@ if-ok S true x y first second = first
 if-ok S false x y first second = second
 
 met-ok : (S : SubscriberTables → Type 0) (publication : Publication) (judge : SubscriberJudge) (now : Moment) (m : Reply) (s : SubscriberTables) (found : Option (ℕ × Outstanding))
-    → S s → S (taken judge now m s) → IfOk (met_by publication judge now m s found) (λ done. S done.0)
+    → S s → S (tables_after_reply judge now m s) → IfOk (met_by publication judge now m s found) (λ done. S done.0)
 met-ok S publication judge now m s None same news = same
 met-ok S publication judge now m s (Some sent) same news =
-    if-ok S (sent.0 == seq_of m) (unless (reply_fault publication sent.1 m s) (taken judge now m s, Acted)) (Ok (s, Missed (seq_of m) sent.0))
-    (unless-ok (λ (done : SubscriberTables × Taken). S done.0) (reply_fault publication sent.1 m s) (taken judge now m s, Acted) news) same
+    if-ok S (sent.0 == seq_of m) (unless (reply_fault publication sent.1 m s) (tables_after_reply judge now m s, Acted)) (Ok (s, Missed (seq_of m) sent.0))
+    (unless-ok (λ (done : SubscriberTables × Taken). S done.0) (reply_fault publication sent.1 m s) (tables_after_reply judge now m s, Acted) news) same
 
 reply-ok : (S : SubscriberTables → Type 0) (publication : Publication) (judge : SubscriberJudge) (now : Moment) (m : Reply) (s : SubscriberTables)
-    → S s → S (taken judge now m s) → IfOk (take_reply publication judge now m s) (λ done. S done.0)
+    → S s → S (tables_after_reply judge now m s) → IfOk (take_reply publication judge now m s) (λ done. S done.0)
 reply-ok S publication judge now (reply.Joined m) s same news = met-ok S publication judge now (reply.Joined m) s s.outstanding same news
 reply-ok S publication judge now (reply.Uploaded m) s same news = met-ok S publication judge now (reply.Uploaded m) s s.outstanding same news
 reply-ok S publication judge now (reply.Ranged m) s same news = met-ok S publication judge now (reply.Ranged m) s s.outstanding same news
 reply-ok S publication judge now (reply.Downloaded m) s same news = met-ok S publication judge now (reply.Downloaded m) s s.outstanding same news
 reply-ok S publication judge now (reply.Refused number values) s same news = same
 
-anew-ok : (S : SubscriberTables → Type 0) (judge : SubscriberJudge) (now : Moment) (s : SubscriberTables) → S (reinitialised judge (subscriber_at_moment now s)).0 → IfOk (reinitialise judge now s) (λ done. S done.0)
-anew-ok S judge now s h = unless-ok (λ (done : SubscriberTables × ℕ). S done.0) (counter_end (subscriber_counters s)) (reinitialised judge (subscriber_at_moment now s)) h
+anew-ok : (S : SubscriberTables → Type 0) (judge : SubscriberJudge) (now : Moment) (s : SubscriberTables) → S (result_of_reinit judge (subscriber_at_moment now s)).0 → IfOk (reinitialise judge now s) (λ done. S done.0)
+anew-ok S judge now s h = unless-ok (λ (done : SubscriberTables × ℕ). S done.0) (counter_end (subscriber_counters s)) (result_of_reinit judge (subscriber_at_moment now s)) h
 
 -- Numbers rise.
 
@@ -125,14 +125,14 @@ message-rises sent s = record { changes_rise = omega arith; closed_rises = omega
 same-rises : (s : SubscriberTables) → SubscriberRises s s
 same-rises s = record { changes_rise = omega arith; closed_rises = omega arith; seq_rises = omega arith; conflicts_rise = omega arith; latest_rises = omega arith }
 
-taken-rises : (judge : SubscriberJudge) (now : Moment) (m : Reply) (s : SubscriberTables) → SubscriberRises s (taken judge now m s)
+taken-rises : (judge : SubscriberJudge) (now : Moment) (m : Reply) (s : SubscriberTables) → SubscriberRises s (tables_after_reply judge now m s)
 taken-rises judge now (reply.Joined m) s = record { changes_rise = omega arith; closed_rises = omega arith; seq_rises = omega arith; conflicts_rise = omega arith; latest_rises = omega arith }
 taken-rises judge now (reply.Uploaded m) s = record { changes_rise = omega arith; closed_rises = omega arith; seq_rises = omega arith; conflicts_rise = omega arith; latest_rises = omega arith }
 taken-rises judge now (reply.Ranged m) s = record { changes_rise = omega arith; closed_rises = omega arith; seq_rises = omega arith; conflicts_rise = omega arith; latest_rises = omega arith }
 taken-rises judge now (reply.Downloaded m) s = record { changes_rise = omega arith; closed_rises = omega arith; seq_rises = omega arith; conflicts_rise = omega arith; latest_rises = omega arith }
 taken-rises judge now (reply.Refused number values) s = record { changes_rise = omega arith; closed_rises = omega arith; seq_rises = omega arith; conflicts_rise = omega arith; latest_rises = omega arith }
 
-anew-rises : (judge : SubscriberJudge) (now : Moment) (s : SubscriberTables) → SubscriberRises s (reinitialised judge (subscriber_at_moment now s)).0
+anew-rises : (judge : SubscriberJudge) (now : Moment) (s : SubscriberTables) → SubscriberRises s (result_of_reinit judge (subscriber_at_moment now s)).0
 anew-rises judge now s = record {
   changes_rise = omega arith;
   closed_rises = closed_filling-rises s.gens.filling;
@@ -199,7 +199,7 @@ closing-sorted now s k = record { rows_ascend = k.rows_ascend; generations_ascen
 message-sorted : (sent : Outstanding) (s : SubscriberTables) → SubscriberIsSorted s → SubscriberIsSorted (with_message sent s)
 message-sorted sent s k = record { rows_ascend = k.rows_ascend; generations_ascend = k.generations_ascend }
 
-taken-sorted : (judge : SubscriberJudge) (now : Moment) (m : Reply) (s : SubscriberTables) → SubscriberIsSorted s → SubscriberIsSorted (taken judge now m s)
+taken-sorted : (judge : SubscriberJudge) (now : Moment) (m : Reply) (s : SubscriberTables) → SubscriberIsSorted s → SubscriberIsSorted (tables_after_reply judge now m s)
 taken-sorted judge now (reply.Joined m) s k = record { rows_ascend = k.rows_ascend; generations_ascend = k.generations_ascend }
 taken-sorted judge now (reply.Uploaded m) s k =
     let t : SubscriberTables = record (subscriber_at_moment now s) { outstanding = None } in
@@ -211,7 +211,7 @@ taken-sorted judge now (reply.Downloaded m) s k =
     record { rows_ascend = items-sorted judge m.received m.items (with_received m.received t).rows r.rows_ascend; generations_ascend = r.generations_ascend }
 taken-sorted judge now (reply.Refused number values) s k = record { rows_ascend = k.rows_ascend; generations_ascend = k.generations_ascend }
 
-anew-sorted : (judge : SubscriberJudge) (now : Moment) (s : SubscriberTables) → SubscriberIsSorted s → SubscriberIsSorted (reinitialised judge (subscriber_at_moment now s)).0
+anew-sorted : (judge : SubscriberJudge) (now : Moment) (s : SubscriberTables) → SubscriberIsSorted s → SubscriberIsSorted (result_of_reinit judge (subscriber_at_moment now s)).0
 unfolding IsStrictlySortedBy
 anew-sorted judge now s k = record {
   rows_ascend = tt;

@@ -58,14 +58,14 @@ posting_by publication w (Some letter) number = elim letter.message [
 ]
 
 -- a message that a subscriber makes, or a reply that the publisher makes
-abbrev pub posting : Publication → World → Action → ℕ → Bool
-posting publication w (Deliver number) posted = posting_by publication w (letter_at w number) posted
-posting publication w action posted = true
+abbrev pub posting_commits : Publication → World → Action → ℕ → Bool
+posting_commits publication w (Deliver number) posted = posting_by publication w (letter_at w number) posted
+posting_commits publication w action posted = true
 
 abbrev pub commits : Publication → World → Action → Outcome → Bool
 commits publication w action (Made row) = true
 commits publication w action (Closes generation) = closing_at w action generation
-commits publication w action (Posted number) = posting publication w action number
+commits publication w action (Posted number) = posting_commits publication w action number
 commits publication w action (Took taken) = taken_commits taken
 commits publication w action (Discards rows) = true
 commits publication w action (Forgot forgotten) = true
@@ -94,8 +94,8 @@ questions_by publication w action outcome = []
 
 module _ {W : Type 0} (publication : Publication) (stepping : Stepping W) where
   -- a step that fails leaves all but tallies as it was
-  abbrev pub slipped : Slip → Action → W → Outcome → W × Outcome
-  slipped slip action w outcome = (
+  abbrev pub outcome_of_slip : Slip → Action → W → Outcome → W × Outcome
+  outcome_of_slip slip action w outcome = (
     stepping.retally (tallies_after (stepping.look w).tallies (take slip.asked (questions_by publication (stepping.look w) action outcome))) w,
     Refuses (slip_refusal slip),
   )
@@ -105,7 +105,7 @@ module _ {W : Type 0} (publication : Publication) (stepping : Stepping W) where
 
   -- a slip that is not allowed where it comes is none: so each list of slips is one of allowed ones
   abbrev pub slip_if : Bool → Slips → Slip → Action → W → W × Outcome → Faulty W × Outcome
-  slip_if true slips slip action w done = made_with slips (slipped slip action w done.1)
+  slip_if true slips slip action w done = made_with slips (outcome_of_slip slip action w done.1)
   slip_if false slips slip action w done = made_with slips done
 
   abbrev pub acting_with : Slips → Action → W → W × Outcome → Faulty W × Outcome
@@ -118,8 +118,8 @@ module _ {W : Type 0} (publication : Publication) (stepping : Stepping W) where
   fails f (Pass seconds) = made_with f.slips (stepping.act f.world (Pass seconds))
   fails f action = acting_with f.slips action f.world (stepping.act f.world action)
 
-  abbrev pub failing : Stepping (Faulty W)
-  failing = record {
+  abbrev pub faulty_stepping : Stepping (Faulty W)
+  faulty_stepping = record {
     act = fails;
     look = λ (f : Faulty W). stepping.look f.world;
     retally = λ (tallies : List ℕ) (f : Faulty W). record f { world = stepping.retally tallies f.world };

@@ -21,7 +21,7 @@ use Rattle.merge_batch.specs.declared.reply.Reply.{Reply}
 use Rattle.merge_batch.specs.declared.request.Outstanding.{Outstanding}
 use Rattle.merge_batch.specs.declared.request.Upload.{Upload}
 use Rattle.merge_model.specs.World.Events.{after, happens, machine}
-use Rattle.merge_model.specs.Failing.{Slips, failing, faulty}
+use Rattle.merge_model.specs.Failing.{Slips, faulty, faulty_stepping}
 use Rattle.merge_model.specs.History.{History, is_done}
 use Rattle.merge_model.specs.Judge.{PublisherJudge, SubscriberJudge}
 use Rattle.merge_types.specs.RowKeys.{key_cmp}
@@ -88,7 +88,7 @@ KeptByTallies keeps = (publication : Publication) (says : Saying) (w : World) (t
 
 abbrev pub FailingEventsKeepWhatStepsKeep : Type 0
 FailingEventsKeepWhatStepsKeep = (keeps : Publication → Saying → World → Bool) → KeptBySteps keeps → KeptByTallies keeps → (publication : Publication) (says : Saying) (slips : Slips) (events : List Event) (w : World)
-    → keeps publication says w ≡ true → keeps publication says (after publication (failing publication (machine publication says)) (faulty w slips) events).world ≡ true
+    → keeps publication says w ≡ true → keeps publication says (after publication (faulty_stepping publication (machine publication says)) (faulty w slips) events).world ≡ true
 
 -- Numbers of the publisher only rise: its changes, its closed generations, its conflict rows and its moment.
 pub record PublisherRises (before after : PublisherTables) : Type 0 where

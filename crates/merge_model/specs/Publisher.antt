@@ -56,8 +56,8 @@ later a b = record { 0 = max a.0 b.0 }
 abbrev pub at_moment : Moment → PublisherTables → PublisherTables
 at_moment now p = record p { latest = later now p.latest }
 
-abbrev pub closed : PublisherTables → PublisherTables
-closed p = record p { gens = closed_now p.gens p.latest }
+abbrev pub tables_after_close : PublisherTables → PublisherTables
+tables_after_close p = record p { gens = closed_now p.gens p.latest }
 
 abbrev pub last_closed : PublisherTables → ℕ
 last_closed p = p.gens.filling.last_closed
@@ -67,7 +67,7 @@ counters p = p.changes ∷ last_closed p ∷ p.conflict_count ∷ []
 
 -- Closing.
 abbrev pub close_generation : Moment → PublisherTables → Result (PublisherTables × ℕ) Refusal
-close_generation now p = let after = closed (at_moment now p) in unless (counter_end (counters p)) (after, last_closed after)
+close_generation now p = let after = tables_after_close (at_moment now p) in unless (counter_end (counters p)) (after, last_closed after)
 
 -- What every request of a site is refused for.
 

@@ -13,7 +13,7 @@ use Rattle.merge_types.specs.declared.identifiers.SiteId.{SiteId}
 use Rattle.merge_types.specs.declared.values.Value.{Value}
 use Rattle.merge_types.specs.declared.values.Value.TheVariants.{Int, Null}
 use Rattle.merge_units.specs.declared.version.Version.{Version}
-use Rattle.merge_gens.specs.Book.{closed_now, entered}
+use Rattle.merge_gens.specs.Book.{book_after_entries, closed_now}
 use Rattle.merge_ident.specs.Holders.{Holder, after_take, answer_to_take}
 use Rattle.merge_ident.specs.declared.ranges.IdentityUsedUp.{IdentityUsedUp as IdentityEnd}
 use Rattle.merge_schema.specs.declared.publication.Publication.{Publication}
@@ -101,7 +101,7 @@ with_open current generations = filter (λ (generation : ℕ). nat_lt generation
 abbrev pub with_version : Key → Version → SubscriberTables → SubscriberTables
 with_version key version s = record s {
   rows = put_row s.rows key (record { version = version; generations = with_open (subscriber_last_closed s + 1) (generations_at s key) });
-  gens = entered s.gens 1 (record { 0 = s.changes });
+  gens = book_after_entries s.gens 1 (record { 0 = s.changes });
 }
 
 abbrev pub with_version_if : Key → Option Version → SubscriberTables → SubscriberTables

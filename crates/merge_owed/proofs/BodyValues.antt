@@ -24,7 +24,7 @@ use Rattle.merge_units.specs.declared.result.Decision.TheVariants.{Custom, KeepP
 use Rattle.merge_units.specs.declared.version.Body.{Body}
 use Rattle.merge_units.specs.declared.version.Body.TheVariants.{Dead, Live}
 use Rattle.merge_units.specs.declared.version.Cell.{Cell}
-use Rattle.merge_resolve.specs.Questions.{Asked, counted, question_asked}
+use Rattle.merge_resolve.specs.Questions.{Asked, decision_for_question, question_asked}
 use Rattle.merge_resolve.specs.declared.question.Meeting.{Meeting}
 use Rattle.merge_batch.specs.Articles.{row_values}
 use Rattle.merge_batch.specs.LocalChanges.{new_value}
@@ -32,7 +32,7 @@ use Rattle.merge_owed.proofs.CellValues.{HasColumns, HaveOne, IsEither, KeepsOwn
 
 -- a decision of a conflict that counts: some decision on its question does as this one
 abbrev pub IsCounted : Meeting → Asked → Case → Body → Body → Decision → Type 0
-IsCounted meeting asked case ours theirs decision = (decision ≡ KeepPublisher) ⊎ ((other : Decision) × (decision ≡ counted (question_asked meeting asked ours theirs case) other))
+IsCounted meeting asked case ours theirs decision = (decision ≡ KeepPublisher) ⊎ ((other : Decision) × (decision ≡ decision_for_question (question_asked meeting asked ours theirs case) other))
 
 -- A fact of the value at the identity column.
 module _ (V : Option Value → Type 0) where

@@ -23,7 +23,7 @@ use Rattle.merge_units.specs.declared.version.Body.TheVariants.{Live}
 use Rattle.merge_units.specs.declared.version.Cell.{Cell}
 use Rattle.merge_resolve.specs.Columns.{body_value, cell_value, value_in}
 use Rattle.merge_resolve.specs.Counted.{fit_all, fit_columns, fits_place, is_within, own_placed, with_own, with_own_value, within_or_kept}
-use Rattle.merge_resolve.specs.Questions.{Asked, both_place, case_asked, counted, question_asked, tracking_kind}
+use Rattle.merge_resolve.specs.Questions.{Asked, both_place, case_asked, decision_for_question, question_asked, tracking_kind}
 use Rattle.merge_resolve.specs.declared.case.CaseKind.{CaseKind}
 use Rattle.merge_resolve.specs.declared.case.CaseKind.TheVariants as kind
 use Rattle.merge_resolve.specs.declared.case.ConflictCase.{ConflictCase}
@@ -293,7 +293,7 @@ module _ (meeting : Meeting) (resolver : ℕ) (decides : Option ℕ) (types : Li
   own-within column cell None kept at is = absurd cc
   own-within column cell (Some place) kept at is = (let same : place ≡ column = some-same place column at in subst (λ (k : ℕ). k < length cell.values) same (slice_get_within cell.values place kept is))
 
-  list-own : (tr : Tracking) (ours theirs : List Cell) (ss : List Side) (values : List Value) → HasColumns tr (length types) ours → KeepsOwn tr ours ss (counted (question_asked meeting (asked_by tr) (Live ours) (Live theirs) (case.Conflict ss)) (Custom values))
+  list-own : (tr : Tracking) (ours theirs : List Cell) (ss : List Side) (values : List Value) → HasColumns tr (length types) ours → KeepsOwn tr ours ss (decision_for_question (question_asked meeting (asked_by tr) (Live ours) (Live theirs) (case.Conflict ss)) (Custom values))
   list-own tracking.Row (p ∷ []) theirs ss values columns =
       let c : ConflictCase = case_asked meeting (asked_by tracking.Row) (Live (p ∷ [])) (Live theirs) (case.Conflict ss) in
       let kept : List Value = with_own c identity (own_of tracking.Row (p ∷ [])) values in
@@ -309,7 +309,7 @@ module _ (meeting : Meeting) (resolver : ℕ) (decides : Option ℕ) (types : Li
       by-tests (KeepsOwn tracking.ByColumn ours ss) (fit_columns kind.ByColumn types c.cells values) (is_within ss ours theirs kept) kept tt
       (λ fit. placed-columns identity (own_of tracking.ByColumn ours) c values refl (fit-length (fits_place types) c.cells values fit))
 
-  pub counted-own : (tr : Tracking) (ours theirs : List Cell) (ss : List Side) (decision : Decision) → HasColumns tr (length types) ours → KeepsOwn tr ours ss (counted (question_asked meeting (asked_by tr) (Live ours) (Live theirs) (case.Conflict ss)) decision)
+  pub counted-own : (tr : Tracking) (ours theirs : List Cell) (ss : List Side) (decision : Decision) → HasColumns tr (length types) ours → KeepsOwn tr ours ss (decision_for_question (question_asked meeting (asked_by tr) (Live ours) (Live theirs) (case.Conflict ss)) decision)
   counted-own tr ours theirs ss KeepPublisher columns = keep-own tr ours ss
   counted-own tr ours theirs ss TakeSubscriber columns = take-own tr ours ss
   counted-own tr ours theirs ss (Custom values) columns = list-own tr ours theirs ss values columns

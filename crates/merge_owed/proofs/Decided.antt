@@ -11,7 +11,7 @@ use Rattle.merge_units.specs.declared.result.Decision.TheVariants.{KeepPublisher
 use Rattle.merge_units.specs.declared.site_row.PublisherRow.{PublisherRow}
 use Rattle.merge_units.specs.declared.version.Version.{Version}
 use Rattle.merge_resolve.specs.Asked.{decisions_of}
-use Rattle.merge_resolve.specs.Questions.{counted, question_asked, question_of as asked_of}
+use Rattle.merge_resolve.specs.Questions.{decision_for_question, question_asked, question_of as asked_of}
 use Rattle.merge_resolve.specs.declared.asking.Question.{Question}
 use Rattle.merge_schema.specs.declared.publication.Publication.{Publication}
 use Rattle.merge_batch.specs.declared.request.Upload.{Upload}
@@ -28,7 +28,7 @@ use Rattle.merge_owed.proofs.BodyValues.{IsCounted}
 abbrev Count : List Decision → List Question → Type 0
 Count [] questions = Unit {0}
 Count (decision ∷ decisions) [] = ⊥
-Count (decision ∷ decisions) (question ∷ questions) = ((other : Decision) × (decision ≡ counted question other)) × Count decisions questions
+Count (decision ∷ decisions) (question ∷ questions) = ((other : Decision) × (decision ≡ decision_for_question question other)) × Count decisions questions
 
 zipped-count : (questions : List Question) (answers : List (Option Decision)) → Count (map kept_decision (zip questions answers)) questions
 zipped-count [] answers = tt

@@ -28,13 +28,13 @@ use Rattle.merge_model.specs.Judge.{SubscriberJudge}
 use Rattle.merge_model.specs.Tables.Keys.{at_number, put_number}
 use Rattle.merge_model.specs.Tables.Publications.{identity_of}
 use Rattle.merge_model.specs.Publisher.{holder_for}
-use Rattle.merge_model.specs.Subscriber.Reinit.{reinitialised}
+use Rattle.merge_model.specs.Subscriber.Reinit.{result_of_reinit}
 use Rattle.merge_model.specs.History.Model.{Model}
 use Rattle.merge_model.specs.Failing.Runs.{model_behind, model_behind_actions}
 use Rattle.merge_model.specs.Subscriber.Sending.{upload_sent, with_message}
 use Rattle.merge_model.specs.Subscriber.{subscriber_at_moment, subscriber_closed, subscriber_drawn, subscriber_made_locally, taken_value, with_version_if}
 use Rattle.merge_model.specs.Tables.{SubscriberTables}
-use Rattle.merge_model.specs.Subscriber.Taking.{taken, with_grant}
+use Rattle.merge_model.specs.Subscriber.Taking.{tables_after_reply, with_grant}
 use Rattle.merge_model.specs.World.{Saying, World, empty_world, with_subscriber}
 use Rattle.merge_model.specs.declared.event.Event.{Event}
 use Rattle.merge_batch.specs.declared.reply.Reply.{Reply}
@@ -92,7 +92,7 @@ granted : (grants : List RangeGrant) (held : List (ℕ × Holder)) → AreThresh
 granted [] held all = all
 granted (grant ∷ grants) held all = granted grants (with_grant held grant) (found-granted held grant (at_number held grant.article) refl all)
 
-reply-held : (judge : SubscriberJudge) (w : World) (m : Reply) (s : SubscriberTables) → AreThresholds s.held → AreThresholds (taken judge w.moment m s).held
+reply-held : (judge : SubscriberJudge) (w : World) (m : Reply) (s : SubscriberTables) → AreThresholds s.held → AreThresholds (tables_after_reply judge w.moment m s).held
 reply-held judge w (reply.Joined m) s all = all
 reply-held judge w (reply.Uploaded m) s all = all
 reply-held judge w (reply.Ranged m) s all = granted m.grants s.held all
@@ -116,7 +116,7 @@ thresholds-keep publication says = record {
   subscriber_change = λ w h s change d g p at named fine is. on-subscriber w h (subscriber_made_locally publication change d (subscriber_at_moment w.moment s)).0 p
       (subst AreThresholds (sym (version-held _ _ _)) (subst (λ (draw : Result (Value × List (ℕ × Holder)) Refusal). IfOk draw (λ x. AreThresholds x.1)) is (draw-keeps s change (p s.site.0 s at))));
   subscriber_closing = λ w h s g p at. on-subscriber w h (subscriber_closed (subscriber_at_moment w.moment s)) p (p s.site.0 s at);
-  anew = λ w h s g p at. on-subscriber w h (reinitialised (by_made h s.site) (subscriber_at_moment w.moment s)).0 p (p s.site.0 s at);
+  anew = λ w h s g p at. on-subscriber w h (result_of_reinit (by_made h s.site) (subscriber_at_moment w.moment s)).0 p (p s.site.0 s at);
   sends_join = λ w h s g p at joining. on-subscriber w h (with_message ask.Join s) p (p s.site.0 s at);
   sends_upload = λ w h s g p at fine. on-subscriber w h (upload_sent (by_made h s.site) (subscriber_closed (subscriber_at_moment w.moment s))).0 p (p s.site.0 s at);
   sends_ranges = λ w h s g p at fine. on-subscriber w h (with_message ask.Ranges s) p (p s.site.0 s at);
@@ -127,7 +127,7 @@ thresholds-keep publication says = record {
   uploads_again = λ w h number m g p at none. p;
   answers_ranges = λ w h site m g p. p;
   answers_ask = λ w h number site m g p at fine. p;
-  replies = λ w h s number m sent g p at there out none. on-subscriber w h (taken (by_made h s.site) w.moment m s) p (reply-held (by_made h s.site) w m s (p s.site.0 s at));
+  replies = λ w h s number m sent g p at there out none. on-subscriber w h (tables_after_reply (by_made h s.site) w.moment m s) p (reply-held (by_made h s.site) w m s (p s.site.0 s at));
 }
 
 -- How it begins: with the thresholds of the publication.

@@ -38,7 +38,7 @@ use Rattle.merge_laws.proofs.LastLines.LastLineSteps.{LinesBase}
 use Rattle.merge_laws.proofs.Walking.{StepsKeep, acts_in, here, join_noted, own_noted, step-keeps}
 use Rattle.merge_owed.specs.Mappings.{IsKeptOrGone, OfEveryGoingActions, OfEveryGoingRun, ToldAreKeptOrGone, Went, WentByActions, kept_at}
 use Rattle.merge_laws.specs.Laws.Effects.{behind_actions}
-use Rattle.merge_owed.specs.Purged.{behind}
+use Rattle.merge_owed.specs.Purged.{model_behind_events}
 use Rattle.merge_owed.proofs.MappingRuns.{Based, Parted, based-begins, based-event, based-fails, parted, later-gone, later-went, stepping}
 use Rattle.merge_owed.proofs.MappingSteps.{Ends, fails-end}
 use Rattle.merge_owed.proofs.MappingTold.{IsTold, entries-told, gone-told}
@@ -229,21 +229,21 @@ module _ (publication : Publication) (valid : CanBeSaid publication) (says : Say
     went = went;
   })
 
-  one-event : (Gone : RowSite → Mapping → Type 0) (f : Faulty Model) (e : Event) (events : List Event) → Based publication f.world → ToldAreKeptOrGone Gone f.world → ToldAreKeptOrGone (GoneIn Gone f (e ∷ events)) (behind publication says f (e ∷ [])).world
+  one-event : (Gone : RowSite → Mapping → Type 0) (f : Faulty Model) (e : Event) (events : List Event) → Based publication f.world → ToldAreKeptOrGone Gone f.world → ToldAreKeptOrGone (GoneIn Gone f (e ∷ events)) (model_behind_events publication says f (e ∷ [])).world
   one-event Gone f e events based all =
       let parts : Parted publication says f e = parted publication says f e in
       subst (λ (g : Faulty Model). ToldAreKeptOrGone (GoneIn Gone f (e ∷ events)) g.world) parts.are
       (more-gone (GoneOr Gone f parts.steps) (GoneIn Gone f (e ∷ events)) (behind_actions publication says f parts.steps).world (in-event Gone f e events parts) (told-actions parts.steps Gone f based all))
 
   or-later-event : (Gone : RowSite → Mapping → Type 0) (f : Faulty Model) (e : Event) (events : List Event) (place : RowSite) (move : Mapping)
-      → GoneIn (GoneIn Gone f (e ∷ events)) (behind publication says f (e ∷ [])) events place move → GoneIn Gone f (e ∷ events) place move
+      → GoneIn (GoneIn Gone f (e ∷ events)) (model_behind_events publication says f (e ∷ [])) events place move → GoneIn Gone f (e ∷ events) place move
   or-later-event Gone f e events place move (inl gone) = gone
   or-later-event Gone f e events place move (inr went) = inr (later-gone publication says place move f e events went)
 
-  told-events : (events : List Event) (Gone : RowSite → Mapping → Type 0) (f : Faulty Model) → Based publication f.world → ToldAreKeptOrGone Gone f.world → ToldAreKeptOrGone (GoneIn Gone f events) (behind publication says f events).world
+  told-events : (events : List Event) (Gone : RowSite → Mapping → Type 0) (f : Faulty Model) → Based publication f.world → ToldAreKeptOrGone Gone f.world → ToldAreKeptOrGone (GoneIn Gone f events) (model_behind_events publication says f events).world
   told-events [] Gone f based all = more-gone Gone (GoneIn Gone f []) f.world (λ place move gone. inl gone) all
-  told-events (e ∷ events) Gone f based all = more-gone (GoneIn (GoneIn Gone f (e ∷ events)) (behind publication says f (e ∷ [])) events) (GoneIn Gone f (e ∷ events)) (behind publication says (behind publication says f (e ∷ [])) events).world
-      (or-later-event Gone f e events) (told-events events (GoneIn Gone f (e ∷ events)) (behind publication says f (e ∷ [])) (based-event publication says f e based) (one-event Gone f e events based all))
+  told-events (e ∷ events) Gone f based all = more-gone (GoneIn (GoneIn Gone f (e ∷ events)) (model_behind_events publication says f (e ∷ [])) events) (GoneIn Gone f (e ∷ events)) (model_behind_events publication says (model_behind_events publication says f (e ∷ [])) events).world
+      (or-later-event Gone f e events) (told-events events (GoneIn Gone f (e ∷ events)) (model_behind_events publication says f (e ∷ [])) (based-event publication says f e based) (one-event Gone f e events based all))
 
 -- The laws.
 
@@ -263,5 +263,5 @@ told-by-actions resolvers publication valid says tallies slips actions =
 pub told-always : OfEveryGoingRun ToldAreKeptOrGone
 told-always resolvers publication valid says tallies slips events =
     let start : Faulty Model = faulty (empty_model publication tallies) slips in
-    more-gone (GoneIn publication (resolvers, valid) says Nothing start events) (Went publication says start events) (behind publication says start events).world (λ place move gone. never-or gone)
+    more-gone (GoneIn publication (resolvers, valid) says Nothing start events) (Went publication says start events) (model_behind_events publication says start events).world (λ place move gone. never-or gone)
     (told-events publication (resolvers, valid) says events Nothing start (based-begins publication says tallies) tt)

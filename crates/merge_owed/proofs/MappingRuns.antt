@@ -7,7 +7,7 @@ use Rattle.merge_gens.specs.declared.moves.Mapping.{Mapping}
 use Rattle.merge_gens.specs.declared.moves.RowSite.{RowSite}
 use Rattle.merge_schema.specs.declared.publication.Publication.{Publication}
 use Rattle.merge_model.specs.Judge.ByHistory.{by_history}
-use Rattle.merge_model.specs.Failing.{Faulty, Slip, Slips, failing, faulty, is_allowed, slip_if}
+use Rattle.merge_model.specs.Failing.{Faulty, Slip, Slips, faulty, faulty_stepping, is_allowed, slip_if}
 use Rattle.merge_model.specs.History.Model.{Model, empty_model, model, model_step}
 use Rattle.merge_model.specs.Failing.Runs.{model_behind, model_behind_actions}
 use Rattle.merge_model.specs.World.Session.{Stepping}
@@ -30,7 +30,7 @@ use Rattle.merge_laws.proofs.Runs.Tallied.{received-tallied}
 use Rattle.merge_laws.proofs.Walking.{step-keeps}
 use Rattle.merge_owed.specs.Mappings.{KeptOrWent, KeptOrWentByActions, Went, WentByActions, is_forget, kept_at}
 use Rattle.merge_laws.specs.Laws.Effects.{behind_actions}
-use Rattle.merge_owed.specs.Purged.{behind}
+use Rattle.merge_owed.specs.Purged.{model_behind_events}
 use Rattle.merge_owed.proofs.MappingSteps.{fails-end, Ends}
 use Rattle.merge_owed.proofs.PurgeEvents.{IsOther, other-same, without_purges}
 
@@ -41,10 +41,10 @@ Based publication m = LinesBase m.world m.history × Fits publication m.world.pu
 
 module _ (publication : Publication) (says : Saying) where
   abbrev pub stepping : Stepping (Faulty Model)
-  stepping = failing publication (model publication says)
+  stepping = faulty_stepping publication (model publication says)
 
   abbrev pub steps_without : Stepping (Faulty Model)
-  steps_without = failing publication (without_purges (model publication says))
+  steps_without = faulty_stepping publication (without_purges (model publication says))
 
   pub based-step : (m : Model) (action : Action) → Based publication m → Based publication (model_step publication says m action).0
   based-step m action both = (
@@ -111,7 +111,7 @@ module _ (publication : Publication) (says : Saying) where
 
 pub record Parted (publication : Publication) (says : Saying) (f : Faulty Model) (e : Event) : Type 0 where
   pub steps : List Action
-  pub are : behind_actions publication says f steps ≡ behind publication says f (e ∷ [])
+  pub are : behind_actions publication says f steps ≡ model_behind_events publication says f (e ∷ [])
   pub purge : list_any is_forget steps ≡ true → e ≡ event.Purge
 
 -- steps without a purge, up to a world
@@ -154,7 +154,7 @@ module _ (publication : Publication) (says : Saying) where
 
   other-parted : (f : Faulty Model) (e : Event) → IsOther e → Parted publication says f e
   other-parted f e other =
-      let made : Without publication says f (behind publication says f (e ∷ [])) = subst (λ (v : Faulty Model). Without publication says f v) (other-same publication says f e other)
+      let made : Without publication says f (model_behind_events publication says f (e ∷ [])) = subst (λ (v : Faulty Model). Without publication says f v) (other-same publication says f e other)
       (event-keeps publication (steps_without publication says) (λ (v : Faulty Model). Without publication says f v) (λ v action so. next-without f v action so) f e (record { steps = []; are = refl; none = refl })) in
       record {
         steps = made.steps;
@@ -175,14 +175,14 @@ module _ (publication : Publication) (says : Saying) where
 
   -- Behind a list of events.
 
-  pub based-event : (f : Faulty Model) (e : Event) → Based publication f.world → Based publication (behind publication says f (e ∷ [])).world
+  pub based-event : (f : Faulty Model) (e : Event) → Based publication f.world → Based publication (model_behind_events publication says f (e ∷ [])).world
   based-event f e based = runs-keep publication (model publication says) (Based publication) (based-step publication says) (based-tallied publication says) (e ∷ []) f based
 
   module _ (place : RowSite) (move : Mapping) where
     abbrev KeptOrGone : Faulty Model → List Event → Type 0
-    KeptOrGone f events = (kept_at (behind publication says f events).world.world.publisher place ≡ Some move) ⊎ Went publication says f events place move
+    KeptOrGone f events = (kept_at (model_behind_events publication says f events).world.world.publisher place ≡ Some move) ⊎ Went publication says f events place move
 
-    pub later-gone : (f : Faulty Model) (e : Event) (events : List Event) → Went publication says (behind publication says f (e ∷ [])) events place move → Went publication says f (e ∷ events) place move
+    pub later-gone : (f : Faulty Model) (e : Event) (events : List Event) → Went publication says (model_behind_events publication says f (e ∷ [])) events place move → Went publication says f (e ∷ events) place move
     later-gone f e events went = record {
       before = e ∷ went.before;
       one = went.one;
@@ -194,11 +194,11 @@ module _ (publication : Publication) (says : Saying) where
       went = went.went;
     }
 
-    or-later : (f : Faulty Model) (e : Event) (events : List Event) → KeptOrGone (behind publication says f (e ∷ [])) events → KeptOrGone f (e ∷ events)
+    or-later : (f : Faulty Model) (e : Event) (events : List Event) → KeptOrGone (model_behind_events publication says f (e ∷ [])) events → KeptOrGone f (e ∷ events)
     or-later f e events (inl is) = inl is
     or-later f e events (inr went) = inr (later-gone f e events went)
 
-    event-or : (f : Faulty Model) (e : Event) (events : List Event) (parted : Parted publication says f e) → (kept_at (behind publication says f (e ∷ [])).world.world.publisher place ≡ Some move → KeptOrGone (behind publication says f (e ∷ [])) events)
+    event-or : (f : Faulty Model) (e : Event) (events : List Event) (parted : Parted publication says f e) → (kept_at (model_behind_events publication says f (e ∷ [])).world.world.publisher place ≡ Some move → KeptOrGone (model_behind_events publication says f (e ∷ [])) events)
         → KeptOr publication says place move f parted.steps → KeptOrGone f (e ∷ events)
     event-or f e events parted rest (inl is) = or-later f e events (rest (ap (λ (v : Faulty Model). kept_at v.world.world.publisher place) (sym parted.are) ∙ is))
     event-or f e events parted rest (inr went) = inr (record {
@@ -216,7 +216,7 @@ module _ (publication : Publication) (says : Saying) where
     kept-or-gone valid [] f based held = inl held
     kept-or-gone valid (e ∷ events) f based held =
         let parts = parted f e in
-        event-or f e events parts (λ is. kept-or-gone valid events (behind publication says f (e ∷ [])) (based-event f e based) is) (kept-or-went publication says place move valid parts.steps f based held)
+        event-or f e events parts (λ is. kept-or-gone valid events (model_behind_events publication says f (e ∷ [])) (based-event f e based) is) (kept-or-went publication says place move valid parts.steps f based held)
 
 -- The laws.
 

@@ -31,17 +31,17 @@ use Rattle.merge_model.specs.Judge.{PublisherJudge}
 use Rattle.merge_model.specs.Tables.Keys.{at_row_site}
 use Rattle.merge_model.specs.Laws.{AreSorted}
 use Rattle.merge_model.specs.History.Model.{Model, model, model_step}
-use Rattle.merge_model.specs.Publisher.{at_moment, close_generation, closed, counters, last_closed}
-use Rattle.merge_model.specs.Publisher.PublisherDownload.{asked, download_refusal, reply_to}
-use Rattle.merge_model.specs.Publisher.PublisherJoin.{is_left_of, join_acts, join_refusal, joined, join_taken}
-use Rattle.merge_model.specs.Publisher.PublisherLocal.{Drawn, changing_locally, drawn, local_refusal, made_locally, with_draw}
+use Rattle.merge_model.specs.Publisher.{at_moment, close_generation, counters, last_closed, tables_after_close}
+use Rattle.merge_model.specs.Publisher.PublisherDownload.{download_refusal, reply_to, tables_after_download}
+use Rattle.merge_model.specs.Publisher.PublisherJoin.{is_left_of, join_acts, join_refusal, tables_after_join, join_taken}
+use Rattle.merge_model.specs.Publisher.PublisherLocal.{Drawn, changing_locally, draw_for_change, local_refusal, made_locally, with_draw}
 use Rattle.merge_model.specs.Publisher.PublisherPurge.{is_old_left}
-use Rattle.merge_model.specs.Publisher.PublisherRanges.{plans, ranged, ranges_refusal, with_grants}
-use Rattle.merge_model.specs.Publisher.PublisherUpload.{brings_news, changing_by, taken_in, upload_refusal, uploaded, with_acts}
+use Rattle.merge_model.specs.Publisher.PublisherRanges.{plans, ranges_refusal, reply_to_ranges, with_grants}
+use Rattle.merge_model.specs.Publisher.PublisherUpload.{brings_news, changing_by, tables_after_upload, taken_in, upload_refusal, with_acts}
 use Rattle.merge_model.specs.Tables.Refusals.{counter_end, unless}
 use Rattle.merge_model.specs.Subscriber.Reinit.{reinitialise}
 use Rattle.merge_model.specs.Subscriber.Sending.{make_ask, make_join, make_ranges, make_upload}
-use Rattle.merge_model.specs.World.Steps.{Action, CloseAt, Deliver, Forget, Look, Make, MakeAnew, Pass, Send, SendDownload, SendJoin, SendRanges, SendUpload, Sending, after_upload, answered, at_subscriber, close_publisher, close_subscriber, deliver_letter, deliver_reply, deliver_request, kept_decisions, make_anew, make_at_publisher, make_at_subscriber, post, posted, send_from, step_by, unless_refused, upload_questions}
+use Rattle.merge_model.specs.World.Steps.{Action, CloseAt, Deliver, Forget, Look, Make, MakeAnew, Pass, Send, SendDownload, SendJoin, SendRanges, SendUpload, Sending, after_upload, at_subscriber, close_publisher, close_subscriber, deliver_letter, deliver_reply, deliver_request, kept_decisions, make_anew, make_at_publisher, make_at_subscriber, post, post_if_made, post_reply, send_from, step_by, unless_refused, upload_questions}
 use Rattle.merge_model.specs.Subscriber.{close_subscriber_generation, subscriber_local}
 use Rattle.merge_model.specs.Tables.{PublisherTables, SubscriberTables}
 use Rattle.merge_model.specs.Subscriber.Taking.{take_reply}
@@ -115,7 +115,7 @@ module _ (publication : Publication) (valid : CanBeSaid publication) (says : Say
   if-ends action true x y one other = one
   if-ends action false x y one other = other
 
-  posted-ends : {A : Type 0} (action : Action) (site : SiteId) (message : A → Request) (made : Option (SubscriberTables × A)) → Ends action (posted site message w made).0.publisher
+  posted-ends : {A : Type 0} (action : Action) (site : SiteId) (message : A → Request) (made : Option (SubscriberTables × A)) → Ends action (post_if_made site message w made).0.publisher
   posted-ends action site message None = stays action
   posted-ends action site message (Some made) = stays action
 
@@ -125,7 +125,7 @@ module _ (publication : Publication) (valid : CanBeSaid publication) (says : Say
   send-ends action SendRanges s = unless-ends action (make_ranges s) _ (λ a. posted-ends action s.site (λ (r : RangeAsk). request.Ranges r) a)
   send-ends action SendDownload s = unless-ends action (make_ask s) _ (λ a. stays action)
 
-  closing-ends : (action : Action) (refusal : Option Refusal) → (let done : Result (PublisherTables × ℕ) Refusal = unless refusal (closed here, last_closed (closed here)) in
+  closing-ends : (action : Action) (refusal : Option Refusal) → (let done : Result (PublisherTables × ℕ) Refusal = unless refusal (tables_after_close here, last_closed (tables_after_close here)) in
       Ends action (unless_refused w done (λ (made : PublisherTables × ℕ). (with_publisher made.0 w, Closes made.1))).0.publisher)
   closing-ends action (Some why) = stays action
   closing-ends action None = inl held
@@ -146,15 +146,15 @@ module _ (publication : Publication) (valid : CanBeSaid publication) (says : Say
   own-refused : (action : Action) (judge : PublisherJudge) (change : Change) (refusal : Option Refusal) → judge.has_left place.key place.site ≡ is_left move.kind
       → (let done : Result (PublisherTables × RowId) Refusal = elim refusal [
         | Some why ↦ Err why
-        | None ↦ elim (drawn publication p change) [ Err why ↦ Err why | Ok d ↦ Ok (made_locally publication judge change d here) ]
+        | None ↦ elim (draw_for_change publication p change) [ Err why ↦ Err why | Ok d ↦ Ok (made_locally publication judge change d here) ]
       ] in
       Ends action (unless_refused w done (λ (made : PublisherTables × RowId). (with_publisher made.0 w, Made made.1))).0.publisher)
   own-refused action judge change (Some why) so = stays action
-  own-refused action judge change None so = own-drawn action judge change (drawn publication p change) so
+  own-refused action judge change None so = own-drawn action judge change (draw_for_change publication p change) so
 
   -- Messages that come to the publisher.
 
-  answer-ends : {A : Type 0} (action : Action) (refusal : Option Refusal) (made : PublisherTables × A) (site : SiteId) (message : A → Reply) → Ends action made.0 → Ends action (answered site message w (unless refusal made)).0.publisher
+  answer-ends : {A : Type 0} (action : Action) (refusal : Option Refusal) (made : PublisherTables × A) (site : SiteId) (message : A → Reply) → Ends action made.0 → Ends action (post_reply site message w (unless refusal made)).0.publisher
   answer-ends action (Some why) made site message ends = stays action
   answer-ends action None made site message ends = ends
 
@@ -191,16 +191,16 @@ module _ (publication : Publication) (valid : CanBeSaid publication) (says : Say
 
   request-ends : (number : ℕ) (site : SiteId) (r : Request) → letter_at w number ≡ Some (record { site = site; message = Asks r }) → Ends (Deliver number) (deliver_request publication says (judges.publisher number) site r w).0.publisher
   request-ends number site (request.Join j) at =
-      answer-ends (Deliver number) (join_refusal publication j p) (joined j here, record { seq = j.seq }) site (λ (made : Joined). reply.Joined made) (join-acting number site j (join_acts j p) at refl)
+      answer-ends (Deliver number) (join_refusal publication j p) (tables_after_join j here, record { seq = j.seq }) site (λ (made : Joined). reply.Joined made) (join-acting number site j (join_acts j p) at refl)
   request-ends number site (request.Upload u) at =
       let judge : PublisherJudge = judges.publisher number in
       let decisions = kept_decisions says w.tallies (upload_questions publication judge w.moment u p) in
-      upload-ends (Deliver number) judge site u (upload_refusal publication judge w.moment u p) (uploaded publication judge u decisions here, record { seq = u.seq; received = max u.to (judge.received u.site.0) })
+      upload-ends (Deliver number) judge site u (upload_refusal publication judge w.moment u p) (tables_after_upload publication judge u decisions here, record { seq = u.seq; received = max u.to (judge.received u.site.0) })
       (news-ends (Deliver number) judge u (acts_of judge u decisions here) (brings_news judge u) left-so)
   request-ends number site (request.Ranges r) at =
-      answer-ends (Deliver number) (ranges_refusal publication (judges.publisher number) w.moment r p) (with_grants (plans publication r p) here, ranged r (plans publication r p)) site (λ (made : Ranged). reply.Ranged made) (inl held)
+      answer-ends (Deliver number) (ranges_refusal publication (judges.publisher number) w.moment r p) (with_grants (plans publication r p) here, reply_to_ranges r (plans publication r p)) site (λ (made : Ranged). reply.Ranged made) (inl held)
   request-ends number site (request.Download r) at =
-      answer-ends (Deliver number) (download_refusal publication w.moment r p) (asked r here, reply_to publication (judges.publisher number) r (asked r here)) site (λ (made : Downloaded). reply.Downloaded made) (inl held)
+      answer-ends (Deliver number) (download_refusal publication w.moment r p) (tables_after_download r here, reply_to publication (judges.publisher number) r (tables_after_download r here)) site (λ (made : Downloaded). reply.Downloaded made) (inl held)
 
   message-ends : (number : ℕ) (site : SiteId) (message : Message) → (let letter : Letter = record { site = site; message = message } in letter_at w number ≡ Some letter → Ends (Deliver number) (deliver_letter publication says judges number w letter).0.publisher)
   message-ends number site (Asks r) at = request-ends number site r at

@@ -4,7 +4,7 @@ use Rattle.std.proofs.Common.{ap, arith, inl, inr, sym, ◌∙◌}
 use Rattle.merge_types.specs.declared.row_key.RowKey.{RowKey as Key}
 use Rattle.merge_schema.specs.declared.publication.Publication.{Publication}
 use Rattle.merge_model.specs.Judge.ByHistory.{by_history}
-use Rattle.merge_model.specs.Failing.{Faulty, Slips, failing, faulty, is_allowed}
+use Rattle.merge_model.specs.Failing.{Faulty, Slips, faulty, faulty_stepping, is_allowed}
 use Rattle.merge_model.specs.Tables.Keys.{has_key, row_at}
 use Rattle.merge_model.specs.Laws.{AreSorted}
 use Rattle.merge_model.specs.History.Model.{Model, model, model_step}
@@ -25,10 +25,10 @@ IsOther action = Unit {0}
 
 module _ (publication : Publication) (says : Saying) where
   abbrev stepping : Stepping (Faulty Model)
-  stepping = failing publication (model publication says)
+  stepping = faulty_stepping publication (model publication says)
 
   abbrev steps_without : Stepping (Faulty Model)
-  steps_without = failing publication (without_purges (model publication says))
+  steps_without = faulty_stepping publication (without_purges (model publication says))
 
   abbrev behind_action : Stepping (Faulty Model) → Faulty Model → Action → Faulty Model
   behind_action steps f action = (steps.act f action).0

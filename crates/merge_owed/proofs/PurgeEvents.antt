@@ -16,7 +16,7 @@ use Rattle.merge_model.specs.Publisher.Acts.{Act, acts_of}
 use Rattle.merge_model.specs.Judge.ByHistory.{by_history}
 use Rattle.merge_model.specs.Publisher.Entries.{Entries}
 use Rattle.merge_model.specs.World.Events.{happens}
-use Rattle.merge_model.specs.Failing.{Faulty, Slip, Slips, failing, faulty, is_allowed, slip_if}
+use Rattle.merge_model.specs.Failing.{Faulty, Slip, Slips, faulty, faulty_stepping, is_allowed, slip_if}
 use Rattle.merge_model.specs.History.{History, Line, Past, pasts_with}
 use Rattle.merge_model.specs.Judge.{PublisherJudge}
 use Rattle.merge_model.specs.Tables.Keys.{has_key, row_at}
@@ -26,7 +26,7 @@ use Rattle.merge_model.specs.History.Noting
 use Rattle.merge_model.specs.Tables.Publications.{by_site}
 use Rattle.merge_model.specs.Publisher.{at_moment, last_closed}
 use Rattle.merge_model.specs.Publisher.PublisherJoin.{join_acts}
-use Rattle.merge_model.specs.Publisher.PublisherLocal.{Drawn, drawn, next_dot}
+use Rattle.merge_model.specs.Publisher.PublisherLocal.{Drawn, draw_for_change, next_dot}
 use Rattle.merge_model.specs.Publisher.PublisherPurge.{is_old_tombstone}
 use Rattle.merge_model.specs.Publisher.PublisherUpload.{brings_news}
 use Rattle.merge_model.specs.World.Session.{Stepping}
@@ -46,7 +46,7 @@ use Rattle.merge_model.proofs.Runs.Events.{event-keeps}
 use Rattle.merge_model.proofs.Publishers.Sorted.{step-sorted}
 use Rattle.merge_laws.proofs.Walking.NotesLeave.{acts-leave, anew-leave, fold-leave, if-leave, taker-leave}
 use Rattle.merge_owed.specs.Forgotten.{going_over}
-use Rattle.merge_owed.specs.Purged.{WasPurged, behind}
+use Rattle.merge_owed.specs.Purged.{WasPurged, model_behind_events}
 use Rattle.merge_owed.proofs.PurgedRows.{Dropped, is-among, keys_old, purged-has, was-dropped}
 
 -- What a step notes that is no purge leaves the rows that were purged.
@@ -81,7 +81,7 @@ make-leaves : (publication : Publication) (judges : Judges) (site : SiteId) (cha
 make-leaves publication judges site change w h =
     if-leave purged_of (site.0 == 0) (Noting.noted_at_publisher publication (judges.publisher 0) change (at_moment w.moment w.publisher) h)
     (let k : History = elim (subscriber_at w site) [ None ↦ h | Some s ↦ Noting.noted_at_subscriber publication change s h ] in k) h
-    (own-leaves publication (judges.publisher 0) change (at_moment w.moment w.publisher) (drawn publication (at_moment w.moment w.publisher) change) h)
+    (own-leaves publication (judges.publisher 0) change (at_moment w.moment w.publisher) (draw_for_change publication (at_moment w.moment w.publisher) change) h)
     (found-leaves publication change (subscriber_at w site) h)
 
 request-leaves : (publication : Publication) (says : Saying) (judge : PublisherJudge) (incoming : List (Key × Past)) (w : World) (m : Request) (h : History) → (noted_request publication says judge incoming w m h).purged ≡ h.purged
@@ -137,10 +137,10 @@ IsOther e = Unit {0}
 
 module _ (publication : Publication) (says : Saying) where
   abbrev pub stepping : Stepping (Faulty Model)
-  stepping = failing publication (model publication says)
+  stepping = faulty_stepping publication (model publication says)
 
   abbrev pub steps_without : Stepping (Faulty Model)
-  steps_without = failing publication (without_purges (model publication says))
+  steps_without = faulty_stepping publication (without_purges (model publication says))
 
   step-leaves : (m : Model) (action : Action) → (let judges : Judges = by_history m.history in (noted_action publication says judges m.world action m.history).purged ≡ m.history.purged) → (model_step publication says m action).0.history.purged ≡ m.history.purged
   step-leaves m action same =
@@ -268,7 +268,7 @@ module _ (publication : Publication) (says : Saying) where
   or-later f e events key sorted (inl is) = event-took f e events key sorted is
   or-later f e events key sorted (inr p) = inr (later-purged f e events key p)
 
-  pub purged-by : (events : List Event) (f : Faulty Model) (key : Key) → AreSorted f.world.world.publisher → has_key (behind publication says f events).world.history.purged key ≡ true → (has_key f.world.history.purged key ≡ true) ⊎ Purged f events key
+  pub purged-by : (events : List Event) (f : Faulty Model) (key : Key) → AreSorted f.world.world.publisher → has_key (model_behind_events publication says f events).world.history.purged key ≡ true → (has_key f.world.history.purged key ≡ true) ⊎ Purged f events key
   purged-by [] f key sorted is = inl is
   purged-by (e ∷ events) f key sorted is = or-later f e events key sorted (purged-by events (behind_event stepping f e) key (sorted-behind f e sorted) is)
 
@@ -278,7 +278,7 @@ module _ (publication : Publication) (says : Saying) where
   step-has key m Forget is = (let now = made-purged m key in grind (arith, now, is))
   step-has key m action is = ap (λ (purged : List Key). has_key purged key) (act-leaves m action) ∙ is
 
-  behind-parts : (before later : List Event) (f : Faulty Model) → behind publication says f (before ++ event.Purge ∷ later) ≡ behind publication says (behind_event stepping (behind publication says f before) event.Purge) later
+  behind-parts : (before later : List Event) (f : Faulty Model) → model_behind_events publication says f (before ++ event.Purge ∷ later) ≡ model_behind_events publication says (behind_event stepping (model_behind_events publication says f before) event.Purge) later
   behind-parts [] later f = refl
   behind-parts (e ∷ before) later f = behind-parts before later (behind_event stepping f e)
 
@@ -290,11 +290,11 @@ module _ (publication : Publication) (says : Saying) where
       let now = made-purged m key in
       ap (λ (k : Model). has_key k.history.purged key) made ∙ grind (arith, now, among)
 
-  pub purged-stays : (events : List Event) (f : Faulty Model) (key : Key) → AreSorted f.world.world.publisher → Purged f events key → has_key (behind publication says f events).world.history.purged key ≡ true
+  pub purged-stays : (events : List Event) (f : Faulty Model) (key : Key) → AreSorted f.world.world.publisher → Purged f events key → has_key (model_behind_events publication says f events).world.history.purged key ≡ true
   purged-stays events f key sorted p =
-      let g : Faulty Model = behind publication says f p.before in
+      let g : Faulty Model = model_behind_events publication says f p.before in
       let n : Faulty Model = behind_event stepping g event.Purge in
       let before : AreSorted g.world.world.publisher = runs-keep publication (model publication says) (λ (m : Model). AreSorted m.world.publisher) (λ m action s. step-sorted publication says (by_history m.history) m.world action s) (λ m others s. s) p.before f sorted in
       let here : has_key n.world.history.purged key ≡ true = purge-has g.world n.world key p.row before p.held p.old p.gone (purge-either g.slips g.world) in
-      let later : has_key (behind publication says n p.later).world.history.purged key ≡ true = runs-keep publication (model publication says) (λ (m : Model). has_key m.history.purged key ≡ true) (λ m action is. step-has key m action is) (λ m others is. is) p.later n here in
-      ap (λ (k : Faulty Model). has_key k.world.history.purged key) (ap (λ (es : List Event). behind publication says f es) p.parts ∙ behind-parts p.before p.later f) ∙ later
+      let later : has_key (model_behind_events publication says n p.later).world.history.purged key ≡ true = runs-keep publication (model publication says) (λ (m : Model). has_key m.history.purged key ≡ true) (λ m action is. step-has key m action is) (λ m others is. is) p.later n here in
+      ap (λ (k : Faulty Model). has_key k.world.history.purged key) (ap (λ (es : List Event). model_behind_events publication says f es) p.parts ∙ behind-parts p.before p.later f) ∙ later

@@ -10,7 +10,7 @@ use Rattle.merge_schema.specs.declared.publication.Publication.{Publication}
 use Rattle.merge_batch.specs.declared.refusal.Refusal.{Refusal}
 use Rattle.merge_batch.specs.declared.refusal.Refusal.TheVariants as refusal
 use Rattle.merge_model.specs.World.Events.{happens, outcome_answer}
-use Rattle.merge_model.specs.Failing.{Slip, Slips, failing, fails, faulty, is_allowed, slip_if}
+use Rattle.merge_model.specs.Failing.{Slip, Slips, fails, faulty, faulty_stepping, is_allowed, slip_if}
 use Rattle.merge_model.specs.Tables.Keys.{row_at}
 use Rattle.merge_model.specs.History.Model.{Model, model, model_step}
 use Rattle.merge_model.specs.Publisher.PublisherPurge.{counts_of_purge, cutoff, is_old, is_old_left, is_old_tombstone}
@@ -79,7 +79,7 @@ module _ (publication : Publication) (says : Saying) (m : Model) (counts : Forgo
   slip-answers true slips slip none = absurd (let shows = slip-shows slip.is_fault in grind (arith, shows, none))
   slip-answers false slips slip none = ap answer_of_counts same
 
-  purge-answers : (slips : Slips) → (let answer : Answer = (happens publication (failing publication (model publication says)) (faulty m slips) event.Purge).1 in shows_refusal is_slip answer ≡ false → answer ≡ answer_of_counts counts)
+  purge-answers : (slips : Slips) → (let answer : Answer = (happens publication (faulty_stepping publication (model publication says)) (faulty m slips) event.Purge).1 in shows_refusal is_slip answer ≡ false → answer ≡ answer_of_counts counts)
   purge-answers [] none = ap answer_of_counts same
   purge-answers (None ∷ slips) none = ap answer_of_counts same
   purge-answers (Some slip ∷ slips) none = slip-answers (is_allowed publication m.world Forget slip (model_step publication says m Forget).1) slips slip none

@@ -23,7 +23,7 @@ use Rattle.merge_model.specs.History.Model.{Model, model, model_step}
 use Rattle.merge_model.specs.Tables.Publications.{rules_of}
 use Rattle.merge_model.specs.Publisher.PublisherRanges.{granted_by}
 use Rattle.merge_model.specs.Failing.Runs.{model_behind_actions}
-use Rattle.merge_model.specs.World.Session.{Session, answered_as, arrived, as_it_is, ask, asking_ranges, exchange, has_grant, last_message}
+use Rattle.merge_model.specs.World.Session.{Session, answered_as, as_it_is, ask, exchange, has_grant, last_message, range_requests_up_to, session_after_reply}
 use Rattle.merge_model.specs.World.Steps.{Deliver, Send, SendRanges, Sending}
 use Rattle.merge_model.specs.Tables.{SubscriberTables}
 use Rattle.merge_model.specs.Subscriber.Taking.{with_grant as receives}
@@ -46,7 +46,7 @@ use Rattle.merge_owed.proofs.RangesGo.{RangesGo, ranges-go}
 -- Two ways to go on that are the same where an exchange acts.
 module _ (publication : Publication) (says : Saying) (site : SiteId) where
   arrived-same : (Acts Rests : Model → Type 0) (v : Session Model) (done : Model × Outcome) (next other : Session Model → Session Model) → Ends Acts Rests done → Known publication says site done.0
-      → ((x : Session Model) → Known publication says site x.world → Acts x.world → next x ≡ other x) → arrived (model publication says) site next v done ≡ arrived (model publication says) site other v done
+      → ((x : Session Model) → Known publication says site x.world → Acts x.world → next x ≡ other x) → session_after_reply (model publication says) site next v done ≡ session_after_reply (model publication says) site other v done
   arrived-same Acts Rests v (k, Took taken) next other ends g same = same (record v { world = k }) g ends
   arrived-same Acts Rests v (k, Refuses refusal) next other ends g same = refl
   arrived-same Acts Rests v (k, NoPost) next other ends g same = refl
@@ -129,8 +129,8 @@ module _ (publication : Publication) (says : Saying) (site : SiteId) where
   -- one turn, where the later ones are the same
   asking-turn : (count more n : ℕ) (k : Model) (v : Session Model) (a : At publication says site k) → AllGo publication n site k.world.publisher.grants a.tables.held → n ≤ count → Known publication says site v.world
       → (l : RangesGo publication k a.tables v.world) → nat_lt 0 (length l.told.grants) ≡ true
-      → ((next : ℕ) (e : At publication says site v.world) → AllGo publication next site v.world.world.publisher.grants e.tables.held → next + 1 ≤ count → asking_ranges (model publication says) site (count + more) v ≡ asking_ranges (model publication says) site count v)
-      → asking_ranges (model publication says) site (count + more) v ≡ asking_ranges (model publication says) site count v
+      → ((next : ℕ) (e : At publication says site v.world) → AllGo publication next site v.world.world.publisher.grants e.tables.held → next + 1 ≤ count → range_requests_up_to (model publication says) site (count + more) v ≡ range_requests_up_to (model publication says) site count v)
+      → range_requests_up_to (model publication says) site (count + more) v ≡ range_requests_up_to (model publication says) site count v
   asking-turn count more zero k v a all enough g l some later =
       absurd (none-left publication k a.tables v.world l (subst (λ (x : SiteId). AllGo publication zero x k.world.publisher.grants a.tables.held) (sym (same-site publication says site k a)) all) some)
   asking-turn count more (suc n) k v a all enough g l some later =
@@ -141,20 +141,20 @@ module _ (publication : Publication) (says : Saying) (site : SiteId) where
       (omega (arith, enough))
 
   asking-same : (count more n : ℕ) (u : Session Model) (a : At publication says site u.world) → AllGo publication n site u.world.world.publisher.grants a.tables.held → n + 1 ≤ count
-      → asking_ranges (model publication says) site (count + more) u ≡ asking_ranges (model publication says) site count u
+      → range_requests_up_to (model publication says) site (count + more) u ≡ range_requests_up_to (model publication says) site count u
   asking-same zero more n u a all enough = absurd (omega (arith, enough))
   asking-same (suc count) more n u a all enough =
       let k : Model = u.world in
       let s : SubscriberTables = a.tables in
       let last : Model → Option Message = λ (x : Model). last_message (model publication says) site x in
       let some : Option Message → Bool = λ (message : Option Message). has_grant (model publication says) site message in
-      let more_asks : Session Model → Session Model = λ (t : Session Model). if some (last t.world) then asking_ranges (model publication says) site (count + more) t else t in
-      let asks : Session Model → Session Model = λ (t : Session Model). if some (last t.world) then asking_ranges (model publication says) site count t else t in
-      ap (λ (j : ℕ). asking_ranges (model publication says) site j u) (one-more count more)
+      let more_asks : Session Model → Session Model = λ (t : Session Model). if some (last t.world) then range_requests_up_to (model publication says) site (count + more) t else t in
+      let asks : Session Model → Session Model = λ (t : Session Model). if some (last t.world) then range_requests_up_to (model publication says) site count t else t in
+      ap (λ (j : ℕ). range_requests_up_to (model publication says) site j u) (one-more count more)
       ∙ exchange-same publication says site (RangesGo publication k s) (λ x. Unit {0}) SendRanges u (as_it_is (model publication says) site) more_asks asks
       (ends-here publication says site (RangesGo publication k s) (λ x. Unit {0}) SendRanges k a (ranges-go publication says k s (own publication says site k a)))
       a.known
-      (λ v g l. if-true-same (some (last v.world)) (asking_ranges (model publication says) site (count + more) v) (asking_ranges (model publication says) site count v) v
+      (λ v g l. if-true-same (some (last v.world)) (range_requests_up_to (model publication says) site (count + more) v) (range_requests_up_to (model publication says) site count v) v
       (λ is. asking-turn count more n k v a all (omega (arith, enough)) g l (sym (ap some l.posted) ∙ is) (λ next e go left. asking-same count more next v e go left)))
 
 -- At the beginning there are as many as were granted, and two more.

@@ -20,12 +20,12 @@ use Rattle.merge_model.specs.Judge.{PublisherJudge, SubscriberJudge}
 use Rattle.merge_model.specs.History.Model.{Model, model}
 use Rattle.merge_model.specs.Tables.Publications.{rules_of}
 use Rattle.merge_model.specs.Publisher.{site_refusal}
-use Rattle.merge_model.specs.Publisher.PublisherRanges.{plans, ranged, ranges_refusal, with_grants}
+use Rattle.merge_model.specs.Publisher.PublisherRanges.{plans, ranges_refusal, reply_to_ranges, with_grants}
 use Rattle.merge_model.specs.Subscriber.Sending.{ranges_made, sending_refusal, want_of, with_message}
 use Rattle.merge_model.specs.World.Session.{ask as asking}
-use Rattle.merge_model.specs.World.Steps.{SendRanges, post, posted}
+use Rattle.merge_model.specs.World.Steps.{SendRanges, post, post_if_made}
 use Rattle.merge_model.specs.Tables.{PublisherTables, SubscriberTables}
-use Rattle.merge_model.specs.Subscriber.Taking.{taken, with_grant as receives}
+use Rattle.merge_model.specs.Subscriber.Taking.{tables_after_reply, with_grant as receives}
 use Rattle.merge_model.specs.World.{Saying, World, subscriber_at, with_publisher, with_subscriber}
 use Rattle.merge_model.specs.declared.letter.Letter.{Letter}
 use Rattle.merge_model.specs.declared.letter.Message.{Message}
@@ -87,12 +87,12 @@ module _ (publication : Publication) (says : Saying) (m : Model) (s : Subscriber
       let k : Model = posted_model s.site (Asks (request.Ranges a)) v h in
       let judge : PublisherJudge = by_past k.history (pasts_with k.history (length v.pool + 1)) in
       let q : PublisherTables = with_grants (plans publication a w.publisher) (here k.world) in
-      let d : Ranged = ranged a (plans publication a w.publisher) in
+      let d : Ranged = reply_to_ranges a (plans publication a w.publisher) in
       let x : World = with_publisher q k.world in
       let n : Model = posted_model s.site (Replies (reply.Ranged d)) x k.history in
       let own : SubscriberJudge = by_made n.history s.site in
       let there : subscriber_at v s.site ≡ Some u = at_put_same s.site.0 u w.subscribers in
-      let act : Option (SubscriberTables × RangeAsk) → World × Outcome = posted s.site (λ (y : RangeAsk). request.Ranges y) w in
+      let act : Option (SubscriberTables × RangeAsk) → World × Outcome = post_if_made s.site (λ (y : RangeAsk). request.Ranges y) w in
       send-step publication says Acts Rests s.site m s SendRanges at
       (unless-step (Sent publication says Acts Rests s.site) w h (λ why. tt) (sending_refusal s) (ranges_made s) act h (λ fine.
       elim s.held as (λ (held : List (ℕ × Holder)). (let made : Option (SubscriberTables × RangeAsk) = elim held [ [] ↦ None | entry ∷ entries ↦ Some (u, a) ] in After (Sent publication says Acts Rests s.site) (act made) h h)) [
@@ -104,9 +104,9 @@ module _ (publication : Publication) (says : Saying) (m : Model) (s : Subscriber
             post-step (Answered publication says Acts Rests s.site) s.site (Replies (reply.Ranged d)) x k.history k.history
             (back-step publication says Acts Rests s.site x k.history u (reply.Ranged d) there
             (reply-step publication says Acts Rests s.site n.world n.history own u (reply.Ranged d) ask.Ranges n.history (λ none. record {
-              tables = taken own w.moment (reply.Ranged d) u;
+              tables = tables_after_reply own w.moment (reply.Ranged d) u;
               told = d;
-              here = at_put_same s.site.0 (taken own w.moment (reply.Ranged d) u) n.world.subscribers;
+              here = at_put_same s.site.0 (tables_after_reply own w.moment (reply.Ranged d) u) n.world.subscribers;
               posted = last-posted None x.pool (record { site = s.site; message = Replies (reply.Ranged d) });
               brings = refl;
               held = refl;

@@ -21,7 +21,7 @@ use Rattle.merge_model.specs.Tables.Publications.{by_site}
 use Rattle.merge_model.specs.Publisher.{last_closed}
 use Rattle.merge_model.specs.Publisher.PublisherLocal.{Drawn, changing_locally, local_refusal, made_locally, next_dot, with_draw}
 use Rattle.merge_model.specs.Publisher.PublisherPurge.{is_old_tombstone, purge}
-use Rattle.merge_model.specs.Subscriber.Reinit.{discarded}
+use Rattle.merge_model.specs.Subscriber.Reinit.{discarded_versions}
 use Rattle.merge_model.specs.Subscriber.{subscriber_last_closed, subscriber_next_dot}
 use Rattle.merge_model.specs.Tables.{PublisherTables, SubscriberTables}
 use Rattle.merge_model.specs.World.{Saying, World, subscriber_at, with_publisher}
@@ -116,7 +116,7 @@ there-keeps publication says = record {
   same = λ w h s b t at. t;
   subscriber_change = λ w h s change d b t at named fine is. sub-there publication w h s change d.0 b t at named;
   subscriber_closing = λ w h s b t at. t;
-  anew = λ w h s b t at. lost-on (λ (x : History). AllThere w.publisher.rows x.accepted x.purged x.made) s.site (discarded (by_made h s.site) s) h (λ lost. t);
+  anew = λ w h s b t at. lost-on (λ (x : History). AllThere w.publisher.rows x.accepted x.purged x.made) s.site (discarded_versions (by_made h s.site) s) h (λ lost. t);
   sends_join = λ w h s b t at joining. t;
   sends_upload = λ w h s b t at fine. t;
   sends_ranges = λ w h s b t at fine. t;

@@ -35,10 +35,10 @@ use Rattle.merge_model.specs.Tables.Keys.{same_key}
 use Rattle.merge_model.specs.History.Model.{Model, empty_model, model}
 use Rattle.merge_model.specs.History.Noting
 use Rattle.merge_model.specs.History.Pasts.{past_after}
-use Rattle.merge_model.specs.Publisher.{closed}
+use Rattle.merge_model.specs.Publisher.{tables_after_close}
 use Rattle.merge_model.specs.Publisher.PublisherJoin.{join_taken}
 use Rattle.merge_model.specs.Publisher.PublisherLocal.{Drawn, made_locally, next_dot, version_at}
-use Rattle.merge_model.specs.Publisher.PublisherRanges.{plans, ranged, with_grants}
+use Rattle.merge_model.specs.Publisher.PublisherRanges.{plans, reply_to_ranges, with_grants}
 use Rattle.merge_model.specs.Publisher.PublisherUpload.{taken_in, upload_refusal}
 use Rattle.merge_model.specs.Failing.Runs.{model_after_actions, model_behind_actions}
 use Rattle.merge_model.specs.Subscriber.Sending.{join_of, want_of, with_message}
@@ -252,7 +252,7 @@ module _ (publication : Publication) (known : List MadeChange) (before : Registe
     holds-keep = record {
       moment = λ w h now b r. on (record w { moment = now }) h h w r (λ x is. is) (world-stays (Has r.register) w (record w { moment = now }) h refl refl refl r.every);
       own_change = λ w h change d b r fine is. own-holds w h change d b r;
-      own_closing = λ w h b r. on _ h h w r (λ x is. is) (publisher-stays (Has r.register) w h (closed (here w)) refl refl r.every);
+      own_closing = λ w h b r. on _ h h w r (λ x is. is) (publisher-stays (Has r.register) w h (tables_after_close (here w)) refl refl r.every);
       forgetting = λ w h b r. on _ h (Noting.noted_purge publication (by_past h (pasts_with h 0)) (here w) h) w r (purge-keep (λ (k : History). AreAmong h.made k.made) (notes-stay h.made) publication (by_past h (pasts_with h 0)) (here w) h (λ x is. is))
           (forgets publication says (Has r.register) w h (ground publication (record { world = w; history = h }) b) r.every);
       same = λ w h s b r at. on _ h h w r (λ x is. is) (stays publication says (Has r.register) w h (ground publication (record { world = w; history = h }) b) r.every s at s refl refl refl);
@@ -282,7 +282,7 @@ module _ (publication : Publication) (known : List MadeChange) (before : Registe
           let v : World = uploaded_world publication says judge m (here w) w in
           on _ h _ w r (λ x is. is) (letter-goes (Has r.register) v h m.site (Replies (reply.Uploaded (told_by judge m))) tt (world-stays (Has r.register) (with_publisher (here w) w) v h refl refl refl (publisher-stays (Has r.register) w h (here w) refl refl r.every))));
       answers_ranges = λ w h site m b r. (let q : PublisherTables = with_grants (plans publication m w.publisher) (here w) in
-          on _ h _ w r (λ x is. is) (letter-goes (Has r.register) (with_publisher q w) h site (Replies (reply.Ranged (ranged m (plans publication m w.publisher)))) tt (publisher-stays (Has r.register) w h q refl refl r.every)));
+          on _ h _ w r (λ x is. is) (letter-goes (Has r.register) (with_publisher q w) h site (Replies (reply.Ranged (reply_to_ranges m (plans publication m w.publisher)))) tt (publisher-stays (Has r.register) w h q refl refl r.every)));
       answers_ask = λ w h number site m b r at fine. on _ h _ w r (λ x is. is) (answers-ask publication says (Has r.register) w h (ground publication (record { world = w; history = h }) b) r.every number site m);
       replies = λ w h s number m sent b r at there out none. on _ h (Noting.noted_reply (by_made h s.site) s.site (pasts_with h number) m h) w r
           (reply-keep (λ (k : History). AreAmong h.made k.made) (notes-stay h.made) (by_made h s.site) s.site (pasts_with h number) m h (λ x is. is))

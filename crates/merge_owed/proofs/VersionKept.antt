@@ -30,10 +30,10 @@ use Rattle.merge_model.specs.Judge.{PublisherJudge}
 use Rattle.merge_model.specs.History.Model.{Model, empty_model, model}
 use Rattle.merge_model.specs.History.Noting
 use Rattle.merge_model.specs.History.Pasts.{past_after, past_by}
-use Rattle.merge_model.specs.Publisher.{closed, counters, last_closed}
+use Rattle.merge_model.specs.Publisher.{counters, last_closed, tables_after_close}
 use Rattle.merge_model.specs.Publisher.PublisherJoin.{join_taken}
 use Rattle.merge_model.specs.Publisher.PublisherLocal.{Drawn, local_refusal, made_locally, next_dot, version_at}
-use Rattle.merge_model.specs.Publisher.PublisherRanges.{plans, ranged, with_grants}
+use Rattle.merge_model.specs.Publisher.PublisherRanges.{plans, reply_to_ranges, with_grants}
 use Rattle.merge_model.specs.Publisher.PublisherUpload.{taken_in, upload_refusal}
 use Rattle.merge_model.specs.Tables.Refusals.{counter_end}
 use Rattle.merge_model.specs.Failing.Runs.{model_after_actions, model_behind, model_behind_actions}
@@ -156,7 +156,7 @@ module _ (publication : Publication) (P : List MadeChange → Key → Version �
       holds-keep = record {
         moment = λ w h now b t. (world-stays (P h.made) w (record w { moment = now }) h refl refl refl t.0, t.1);
         own_change = λ w h change d b t fine is. own-holds w h change d b t fine;
-        own_closing = λ w h b t. (publisher-stays (P h.made) w h (closed (here w)) refl refl t.0, t.1);
+        own_closing = λ w h b t. (publisher-stays (P h.made) w h (tables_after_close (here w)) refl refl t.0, t.1);
         forgetting = λ w h b t. goes-over h.made _ (Noting.noted_purge publication (by_past h (pasts_with h 0)) (here w) h)
             (purge-keep (λ (k : History). AreAmong h.made k.made) (notes-stay h.made) publication (by_past h (pasts_with h 0)) (here w) h (λ x is. is)) t.1 (forgets publication says (P h.made) w h b.0 t.0);
         same = λ w h s b t at. (stays publication says (P h.made) w h b.0 t.0 s at s refl refl refl, t.1);
@@ -188,7 +188,7 @@ module _ (publication : Publication) (P : List MadeChange → Key → Version �
             let v : World = uploaded_world publication says judge m (here w) w in
             (letter-goes (P h.made) v h m.site (Replies (reply.Uploaded (told_by judge m))) tt (world-stays (P h.made) (with_publisher (here w) w) v h refl refl refl (publisher-stays (P h.made) w h (here w) refl refl t.0)), t.1));
         answers_ranges = λ w h site m b t. (let q : PublisherTables = with_grants (plans publication m w.publisher) (here w) in
-            (letter-goes (P h.made) (with_publisher q w) h site (Replies (reply.Ranged (ranged m (plans publication m w.publisher)))) tt (publisher-stays (P h.made) w h q refl refl t.0), t.1));
+            (letter-goes (P h.made) (with_publisher q w) h site (Replies (reply.Ranged (reply_to_ranges m (plans publication m w.publisher)))) tt (publisher-stays (P h.made) w h q refl refl t.0), t.1));
         answers_ask = λ w h number site m b t at fine. (answers-ask publication says (P h.made) w h b.0 t.0 number site m, t.1);
         replies = λ w h s number m sent b t at there out none. goes-over h.made _ (Noting.noted_reply (by_made h s.site) s.site (pasts_with h number) m h)
             (reply-keep (λ (k : History). AreAmong h.made k.made) (notes-stay h.made) (by_made h s.site) s.site (pasts_with h number) m h (λ x is. is)) t.1

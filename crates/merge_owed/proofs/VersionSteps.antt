@@ -36,7 +36,7 @@ use Rattle.merge_model.specs.History.Noting
 use Rattle.merge_model.specs.History.Pasts.{past_after}
 use Rattle.merge_model.specs.Tables.Publications.{by_site}
 use Rattle.merge_model.specs.Publisher.{last_closed}
-use Rattle.merge_model.specs.Publisher.PublisherDownload.{TouchedRow, asked, inside_keys, item_of, reply_to, touched_row}
+use Rattle.merge_model.specs.Publisher.PublisherDownload.{TouchedRow, inside_keys, item_of, reply_to, tables_after_download, touched_row}
 use Rattle.merge_batch.specs.Orders.{order_by}
 use Rattle.merge_batch.specs.declared.reply.DownloadItem.{DownloadItem}
 use Rattle.merge_resolve.specs.Priorities.{subscription_at}
@@ -50,14 +50,14 @@ use Rattle.merge_model.specs.Publisher.PublisherJoin.{join_taken}
 use Rattle.merge_model.specs.Publisher.PublisherLocal.{Drawn, changing_locally, made_locally, next_dot, version_at, with_draw}
 use Rattle.merge_model.specs.Publisher.PublisherPurge.{is_old_tombstone, purge}
 use Rattle.merge_model.specs.Publisher.PublisherUpload.{changing_by, taken_in, upload_refusal, with_acts}
-use Rattle.merge_model.specs.Subscriber.Reinit.{reinitialised}
+use Rattle.merge_model.specs.Subscriber.Reinit.{result_of_reinit}
 use Rattle.merge_model.specs.Subscriber.Sending.{upload_sent}
 use Rattle.merge_model.specs.World.Steps.{Forget, kept_decisions, upload_questions}
 use Rattle.merge_model.specs.Subscriber.{subscriber_at_moment, subscriber_closed, subscriber_last_closed, subscriber_made_locally, subscriber_next_dot, subscriber_version_at, with_version_if}
 use Rattle.merge_types.specs.declared.row_key.RowKey.{RowKey as Key}
 use Rattle.merge_units.specs.declared.site_row.SubscriberRow.{SubscriberRow}
 use Rattle.merge_model.specs.Tables.{PublisherTables, SubscriberTables}
-use Rattle.merge_model.specs.Subscriber.Taking.{key_of_download, row_above, taken}
+use Rattle.merge_model.specs.Subscriber.Taking.{key_of_download, row_above, tables_after_reply}
 use Rattle.merge_model.specs.World.{Saying, World, subscriber_at, with_publisher, with_subscriber}
 use Rattle.merge_model.specs.declared.letter.Message.TheVariants.{Asks, Replies}
 use Rattle.merge_model.proofs.Publishers.Sorted.{key_total, step-sorted}
@@ -238,24 +238,24 @@ module _ (publication : Publication) (says : Saying) (P : Key → Version → Pa
         (none-held publication dot d.0 change (subscriber_version_at s key)) (makes (own.held key)) in
         on-subscriber (with_version_if key version u) (Noting.with_past s.site.0 key past made) (version-site key version u) (changed-sorted key version u ordered) (changed-goes P s.site.0 h (Noting.with_past s.site.0 key past made) key version u put)
 
-    pub anew : (let judge : SubscriberJudge = by_made h s.site in Every P (with_subscriber (reinitialised judge (subscriber_at_moment w.moment s)).0 w) (Noting.noted_anew judge s h))
+    pub anew : (let judge : SubscriberJudge = by_made h s.site in Every P (with_subscriber (result_of_reinit judge (subscriber_at_moment w.moment s)).0 w) (Noting.noted_anew judge s h))
     anew =
         let judge : SubscriberJudge = by_made h s.site in
         let c : SubscriberTables = subscriber_at_moment w.moment s in
-        on-subscriber (reinitialised judge c).0 (Noting.noted_anew judge s h) refl none-ascends (anew-goes P s h c judge (c.conflict_count + 1) (subscriber_version_at s) (e.subscribers s.site.0 s at) own)
+        on-subscriber (result_of_reinit judge c).0 (Noting.noted_anew judge s h) refl none-ascends (anew-goes P s h c judge (c.conflict_count + 1) (subscriber_version_at s) (e.subscribers s.site.0 s at) own)
 
-    pub replies : (judge : SubscriberJudge) (number : ℕ) (m : Reply) → comes w number s.site (Replies m) → Every P (with_subscriber (taken judge w.moment m s) w) (Noting.noted_reply judge s.site (pasts_with h number) m h)
-    replies judge number (reply.Joined m) there = stays (taken judge w.moment (reply.Joined m) s) refl refl refl
-    replies judge number (reply.Uploaded m) there = on-subscriber (taken judge w.moment (reply.Uploaded m) s) h refl (received-sorted m.received s.rows ordered)
-        (goes-same P s.site.0 h s.conflicts (subscriber_version_at s) (subscriber_version_at (taken judge w.moment (reply.Uploaded m) s)) h (λ q. versions-above m.received s.rows q) own)
-    replies judge number (reply.Ranged m) there = stays (taken judge w.moment (reply.Ranged m) s) refl refl refl
+    pub replies : (judge : SubscriberJudge) (number : ℕ) (m : Reply) → comes w number s.site (Replies m) → Every P (with_subscriber (tables_after_reply judge w.moment m s) w) (Noting.noted_reply judge s.site (pasts_with h number) m h)
+    replies judge number (reply.Joined m) there = stays (tables_after_reply judge w.moment (reply.Joined m) s) refl refl refl
+    replies judge number (reply.Uploaded m) there = on-subscriber (tables_after_reply judge w.moment (reply.Uploaded m) s) h refl (received-sorted m.received s.rows ordered)
+        (goes-same P s.site.0 h s.conflicts (subscriber_version_at s) (subscriber_version_at (tables_after_reply judge w.moment (reply.Uploaded m) s)) h (λ q. versions-above m.received s.rows q) own)
+    replies judge number (reply.Ranged m) there = stays (tables_after_reply judge w.moment (reply.Ranged m) s) refl refl refl
     replies judge number (reply.Downloaded m) there =
         let incoming : List (Key × Past) = pasts_with h number in
         let rows : List (Key × SubscriberRow) = map (row_above m.received) s.rows in
         let gone = items-go P s.site.0 h s.conflicts incoming judge m.received m.items rows h (letter-fits P w h number (record { site = s.site; message = Replies (reply.Downloaded m) }) there e.letters)
         (received-sorted m.received s.rows ordered, goes-same P s.site.0 h s.conflicts (subscriber_version_at s) (found_in own_version rows) h (λ q. versions-above m.received s.rows q) own) in
-        on-subscriber (taken judge w.moment (reply.Downloaded m) s) (Noting.noted_reply judge s.site incoming (reply.Downloaded m) h) refl gone.0 gone.1
-    replies judge number (reply.Refused code values) there = stays (taken judge w.moment (reply.Refused code values) s) refl refl refl
+        on-subscriber (tables_after_reply judge w.moment (reply.Downloaded m) s) (Noting.noted_reply judge s.site incoming (reply.Downloaded m) h) refl gone.0 gone.1
+    replies judge number (reply.Refused code values) there = stays (tables_after_reply judge w.moment (reply.Refused code values) s) refl refl refl
 
     pub sends-upload : (let made : SubscriberTables × Upload = upload_sent (by_made h s.site) (subscriber_closed (subscriber_at_moment w.moment s)) in Sends (Every P) s.site (Asks (request.Upload made.1)) (with_subscriber made.0 w) h)
     sends-upload =
@@ -269,7 +269,7 @@ module _ (publication : Publication) (says : Saying) (P : Key → Version → Pa
     asker = by_past h (pasts_with h number)
 
     abbrev told : PublisherTables
-    told = asked m (here w)
+    told = tables_after_download m (here w)
 
     row-order : (key : Key) (is_in : Bool) (row : Option PublisherRow) → row_at told.rows key ≡ row → (is_in ≡ true → has_key (inside_keys publication m.site told) key ≡ true)
         → HeldFits P key (option_map row_version row) (past_at h 0 key) → OfOrder P key (past_at h 0 key) (order_by is_in (option_map row_version row))

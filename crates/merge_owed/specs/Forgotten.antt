@@ -14,7 +14,7 @@ use Rattle.merge_gens.specs.declared.sites.SiteState.{SiteState}
 use Rattle.merge_schema.specs.declared.publication.Publication.{Publication}
 use Rattle.merge_model.specs.Judge.ByHistory.{by_made, by_past, last_change, received_by_done, received_number_by_done, seen_by_accepted}
 use Rattle.merge_model.specs.World.Events.{happens}
-use Rattle.merge_model.specs.Failing.{Slips, failing, fails, faulty}
+use Rattle.merge_model.specs.Failing.{Slips, fails, faulty, faulty_stepping}
 use Rattle.merge_model.specs.History.{History}
 use Rattle.merge_model.specs.Tables.Keys.{at_number, at_row_site, row_at, same_key}
 use Rattle.merge_model.specs.History.Model.{Model, model}
@@ -84,7 +84,7 @@ answer_of_counts counts = Purged counts.tombstones counts.mappings counts.genera
 
 abbrev pub PurgesAnswerByLines : Publication → Saying → Model → Type 0
 PurgesAnswerByLines publication says m = (slips : Slips)
-    → (let answer : Answer = (happens publication (failing publication (model publication says)) (faulty m slips) event.Purge).1 in shows_refusal is_slip answer ≡ false → answer ≡ answer_of_counts (forgotten_by_lines publication m))
+    → (let answer : Answer = (happens publication (faulty_stepping publication (model publication says)) (faulty m slips) event.Purge).1 in shows_refusal is_slip answer ≡ false → answer ≡ answer_of_counts (forgotten_by_lines publication m))
 
 -- What the publisher tells of a site: how far its generations have acted, the last of its changes that did, and the last that was met.
 pub record TellsOfSite (h : History) (site : ℕ) (state : SiteState) : Type 0 where

@@ -27,7 +27,7 @@ use Rattle.merge_model.specs.declared.letter.Message.TheVariants.{Asks}
 use Rattle.merge_laws.specs.Laws.LastLines.{move_told}
 use Rattle.merge_owed.specs.Forgotten.{going_over}
 use Rattle.merge_laws.specs.Laws.Effects.{behind_actions}
-use Rattle.merge_owed.specs.Purged.{behind}
+use Rattle.merge_owed.specs.Purged.{model_behind_events}
 
 -- the mapping that the publisher keeps of a row and a site
 abbrev pub kept_at : PublisherTables → RowSite → Option Mapping
@@ -94,9 +94,9 @@ pub record Went (publication : Publication) (says : Saying) (f : Faulty Model) (
   pub later : List Event
   pub parts : events ≡ before ++ one ∷ later
   pub steps : List Action
-  pub are : behind_actions publication says (behind publication says f before) steps ≡ behind publication says (behind publication says f before) (one ∷ [])
+  pub are : behind_actions publication says (model_behind_events publication says f before) steps ≡ model_behind_events publication says (model_behind_events publication says f before) (one ∷ [])
   pub purge : list_any is_forget steps ≡ true → one ≡ event.Purge
-  pub went : WentByActions publication says (behind publication says f before) steps place move
+  pub went : WentByActions publication says (model_behind_events publication says f before) steps place move
 
 -- A mapping that is kept stays so, whatever comes afterwards, or it went by something that came.
 abbrev pub KeptOrWentByActions : Publication → Saying → Model → Type 0
@@ -105,12 +105,12 @@ KeptOrWentByActions publication says m = (slips : Slips) (actions : List Action)
 
 abbrev pub KeptOrWent : Publication → Saying → Model → Type 0
 KeptOrWent publication says m = (slips : Slips) (events : List Event) (place : RowSite) (move : Mapping) → kept_at m.world.publisher place ≡ Some move
-    → (kept_at (behind publication says (faulty m slips) events).world.world.publisher place ≡ Some move) ⊎ Went publication says (faulty m slips) events place move
+    → (kept_at (model_behind_events publication says (faulty m slips) events).world.world.publisher place ≡ Some move) ⊎ Went publication says (faulty m slips) events place move
 
 -- Of a valid publication, with the model behind a run, and whether a mapping went by something in the run.
 abbrev pub OfEveryGoingRun : ((RowSite → Mapping → Type 0) → Model → Type 0) → Type 0
 OfEveryGoingRun Holds = (resolvers : ℕ) (publication : Publication) → IsValid resolvers publication → (says : Saying) (tallies : List ℕ) (slips : Slips) (events : List Event)
-    → (let start : Faulty Model = faulty (empty_model publication tallies) slips in Holds (Went publication says start events) (behind publication says start events).world)
+    → (let start : Faulty Model = faulty (empty_model publication tallies) slips in Holds (Went publication says start events) (model_behind_events publication says start events).world)
 
 abbrev pub OfEveryGoingActions : ((RowSite → Mapping → Type 0) → Model → Type 0) → Type 0
 OfEveryGoingActions Holds = (resolvers : ℕ) (publication : Publication) → IsValid resolvers publication → (says : Saying) (tallies : List ℕ) (slips : Slips) (actions : List Action)

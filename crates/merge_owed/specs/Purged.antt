@@ -6,7 +6,7 @@ use Rattle.merge_units.specs.declared.site_row.PublisherRow.{PublisherRow}
 use Rattle.merge_schema.specs.Valid.{IsValid}
 use Rattle.merge_schema.specs.declared.publication.Publication.{Publication}
 use Rattle.merge_model.specs.World.Events.{after}
-use Rattle.merge_model.specs.Failing.{Faulty, Slips, failing, faulty}
+use Rattle.merge_model.specs.Failing.{Faulty, Slips, faulty, faulty_stepping}
 use Rattle.merge_model.specs.History.{has, is_accepted, past_at}
 use Rattle.merge_model.specs.Tables.Keys.{has_key, row_at}
 use Rattle.merge_model.specs.History.Model.{Model, empty_model, model}
@@ -20,8 +20,8 @@ use Rattle.merge_laws.specs.Laws.Effects.{behind_actions}
 use Rattle.merge_owed.specs.Forgotten.{going_over}
 
 -- behind some events, with the slips that are left
-abbrev pub behind : Publication → Saying → Faulty Model → List Event → Faulty Model
-behind publication says f events = after publication (failing publication (model publication says)) f events
+abbrev pub model_behind_events : Publication → Saying → Faulty Model → List Event → Faulty Model
+model_behind_events publication says f events = after publication (faulty_stepping publication (model publication says)) f events
 
 -- One of the events is a purge. As it comes the row is deleted, and its last change stands in a generation that closed longer ago
 -- than the retention and one day more; behind it the row is gone.
@@ -30,14 +30,14 @@ pub record WasPurged (publication : Publication) (says : Saying) (f : Faulty Mod
   pub later : List Event
   pub parts : events ≡ before ++ event.Purge ∷ later
   pub row : PublisherRow
-  pub held : row_at (behind publication says f before).world.world.publisher.rows key ≡ Some row
-  pub old : is_old_tombstone publication (going_over (behind publication says f before).world) (key, row) ≡ true
-  pub gone : row_at (behind publication says (behind publication says f before) (event.Purge ∷ [])).world.world.publisher.rows key ≡ None
+  pub held : row_at (model_behind_events publication says f before).world.world.publisher.rows key ≡ Some row
+  pub old : is_old_tombstone publication (going_over (model_behind_events publication says f before).world) (key, row) ≡ true
+  pub gone : row_at (model_behind_events publication says (model_behind_events publication says f before) (event.Purge ∷ [])).world.world.publisher.rows key ≡ None
 
 -- of a valid publication, with the model behind a run, and whether a purge of the run took a row
 abbrev pub OfEveryPurgingRun : ((Key → Type 0) → Model → Type 0) → Type 0
 OfEveryPurgingRun Holds = (resolvers : ℕ) (publication : Publication) → IsValid resolvers publication → (says : Saying) (tallies : List ℕ) (slips : Slips) (events : List Event)
-    → (let start : Faulty Model = faulty (empty_model publication tallies) slips in Holds (WasPurged publication says start events) (behind publication says start events).world)
+    → (let start : Faulty Model = faulty (empty_model publication tallies) slips in Holds (WasPurged publication says start events) (model_behind_events publication says start events).world)
 
 -- The same of lists of actions, in any order.
 pub record WasPurgedByActions (publication : Publication) (says : Saying) (f : Faulty Model) (actions : List Action) (key : Key) : Type 0 where

@@ -17,7 +17,7 @@ use Rattle.merge_script.proofs.Cuts.{IsCut-input}
 use Rattle.merge_world.specs.Views.{HandedView}
 use Rattle.merge_program.specs.declared.ending.Ending.{Ending}
 use Rattle.merge_program.specs.declared.ending.Ending.TheVariants.{BadReply, Damaged, Declined, Done, Expired, LinkFault, NoEvent, NoMemory, NotTaken, ReadFault, Refused, StoreFault, TooLong, UnknownArticle, UnknownSite, Usage, WriteFault}
-use Rattle.merge_program.specs.Endings.{refused_for, unread}
+use Rattle.merge_program.specs.Endings.{ending_of_reading, refused_for}
 use Rattle.merge_program.specs.Headline.{AnsweredInPart, InputEnds, IsStopped, IsTaken, IsTakenInput, PlayEnds, PlayRunEnds, Sides, WrittenInPart, lines_of_input}
 
 module _ (handed : HandedView) (input : List ℕ) (sides : Sides) (stored kept : SiteId → Option Map) (writes refused : ℕ) where
@@ -128,12 +128,12 @@ module _ (left : Option (List ℕ)) (handed : HandedView) (sides : Sides) (store
   pub ends-by-slice : (input slice : List ℕ) → slice ≡ input → IfSome left (λ (l : List ℕ). input ≡ l) → (ending : Ending) → InputEnds ending handed slice sides stored kept writes refused → Ends ending
   ends-by-slice input slice is same ending p = read-ends input same ending (subst (λ (l : List ℕ). InputEnds ending handed l sides stored kept writes refused) is p)
 
-  unread-ends : (fault : Unread) → (fault ≡ reading.TooLong → IfSome left (λ (l : List ℕ). 67108864 < length l)) → (fault ≡ reading.Failed → Rose reads failed) → Ends (unread fault)
+  unread-ends : (fault : Unread) → (fault ≡ reading.TooLong → IfSome left (λ (l : List ℕ). 67108864 < length l)) → (fault ≡ reading.Failed → Rose reads failed) → Ends (ending_of_reading fault)
   unread-ends reading.Failed long rose = rose refl
   unread-ends reading.TooLong long rose = long refl
   unread-ends reading.NoMemory long rose = any-of left
 
-  pub ends-unread : (fault : Unread) (ending : Ending) → ending ≡ unread fault → (fault ≡ reading.TooLong → IfSome left (λ (l : List ℕ). 67108864 < length l)) → (fault ≡ reading.Failed → Rose reads failed) → Ends ending
+  pub ends-unread : (fault : Unread) (ending : Ending) → ending ≡ ending_of_reading fault → (fault ≡ reading.TooLong → IfSome left (λ (l : List ℕ). 67108864 < length l)) → (fault ≡ reading.Failed → Rose reads failed) → Ends ending
   ends-unread fault ending is long rose = subst Ends (sym is) (unread-ends fault long rose)
 
 -- where nothing is written, that is a front of what could be

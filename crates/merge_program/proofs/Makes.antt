@@ -5,7 +5,7 @@ use Rattle.merge_ports.specs.Entries.{Map}
 use Rattle.merge_model.specs.Laws.SlipLaws.{FailuresShow}
 use Rattle.merge_model.specs.World.Events.{is_site}
 use Rattle.merge_world.specs.Views.{HandedView, SitesView}
-use Rattle.merge_make.specs.Publication.{made}
+use Rattle.merge_make.specs.Publication.{made_publication}
 use Rattle.merge_make.specs.Runs.{Summed}
 use Rattle.merge_make.specs.Script.{script}
 use Rattle.merge_make.proofs.Published.{made-valid}
@@ -20,17 +20,17 @@ use Rattle.merge_program.proofs.Plays.{run-of}
 
 -- the summary is one of a run from nothing
 pub summary-of : OfEveryRunPromised → FailuresShow
-    → (customers : ℕ) (old new : SitesView) (handed behind : HandedView) (text : List ℕ) → old ≡ fresh_view made → Summed customers old new handed behind text
+    → (customers : ℕ) (old new : SitesView) (handed behind : HandedView) (text : List ℕ) → old ≡ fresh_view made_publication → Summed customers old new handed behind text
     → (before after : ℕ) → RoseBy new.faults before after → IsSummary customers handed before after text
 summary-of promises shows customers old new handed behind text fresh summed before after rose =
-    let s : Summed customers (fresh_view made) new handed behind text = subst (λ (v : SitesView). Summed customers v new handed behind text) fresh summed in record {
+    let s : Summed customers (fresh_view made_publication) new handed behind text = subst (λ (v : SitesView). Summed customers v new handed behind text) fresh summed in record {
       answers = s.answers;
-      run = run-of promises shows made (1, made-valid) handed new.faults before after rose (script customers) new behind s.answers s.happened (omega arith);
+      run = run-of promises shows made_publication (1, made-valid) handed new.faults before after rose (script customers) new behind s.answers s.happened (omega arith);
       told = s.told;
     }
 
 -- sites that did not start give no summary
-pub unmade : (stored : SiteId → Option Map) (ending : Ending) (before after : ℕ) → IsUnstarted (is_site made) stored ending before after → IsUnmade ending stored before after
+pub unmade : (stored : SiteId → Option Map) (ending : Ending) (before after : ℕ) → IsUnstarted (is_site made_publication) stored ending before after → IsUnmade ending stored before after
 unmade stored StoreFault before after p = p
 unmade stored (Damaged table key) before after p = p
 unmade stored NoMemory before after p = tt
@@ -53,7 +53,7 @@ module _ (customers : ℕ) (handed : HandedView) (sides : Sides) (stored : SiteI
   abbrev Ends : Ending → Type 0
   Ends ending = MakeEnds ending customers handed sides stored writes refused
 
-  written-ends : (text : List ℕ) → IsSummary customers handed sides.before sides.after text → AreEmptyStores (is_site made) stored → (ending : Ending) → WriteEnds ending text sides.was sides.written writes refused → Ends ending
+  written-ends : (text : List ℕ) → IsSummary customers handed sides.before sides.after text → AreEmptyStores (is_site made_publication) stored → (ending : Ending) → WriteEnds ending text sides.was sides.written writes refused → Ends ending
   written-ends text summary empty Done p = (record { text = text; summary = summary; bytes = p }, empty)
   written-ends text summary empty WriteFault p = (record { text = text; summary = summary; count = p.0.0; bytes = p.0.1 }, p.1, empty)
   written-ends text summary empty StoreFault p = absurd p
@@ -73,7 +73,7 @@ module _ (customers : ℕ) (handed : HandedView) (sides : Sides) (stored : SiteI
   written-ends text summary empty (Declined number) p = absurd p
 
   -- the text that was written is a slice of it
-  pub written-by-slice : (text slice : List ℕ) → slice ≡ text → IsSummary customers handed sides.before sides.after text → AreEmptyStores (is_site made) stored → (ending : Ending) → WriteEnds ending slice sides.was sides.written writes refused → Ends ending
+  pub written-by-slice : (text slice : List ℕ) → slice ≡ text → IsSummary customers handed sides.before sides.after text → AreEmptyStores (is_site made_publication) stored → (ending : Ending) → WriteEnds ending slice sides.was sides.written writes refused → Ends ending
   written-by-slice text slice is summary empty ending p = written-ends text summary empty ending (subst (λ (l : List ℕ). WriteEnds ending l sides.was sides.written writes refused) is p)
 
   pub unmade-ends : (ending : Ending) → IsUnmade ending stored sides.before sides.after → sides.written ≡ sides.was → Ends ending

@@ -11,16 +11,16 @@ use Rattle.merge_ports.specs.declared.outside.OpenFault.{OpenFault}
 use Rattle.merge_ports.specs.declared.outside.OpenFault.TheVariants as opening
 use Rattle.merge_site.specs.Loading.{LoadsNot}
 use Rattle.merge_program.specs.declared.ending.Ending.{Ending}
-use Rattle.merge_program.specs.Endings.{stopped_by, unopened}
+use Rattle.merge_program.specs.Endings.{ending_of_opening, stopped_by}
 use Rattle.merge_program.specs.Opening.{IsUnopened, IsUnopenedFor}
 
 module _ {T : Type 0} (load : Map → Loaded T) (stored : Option Map) where
   -- the store was not opened
-  unopened-by : {K : Type 0} (old new : Counts) (fault : OpenFault) (r : Result K OpenFault) → r ≡ Err fault → HasStoreCause old new r → IsUnopenedFor load (unopened fault) stored old.stores new.stores
+  unopened-by : {K : Type 0} (old new : Counts) (fault : OpenFault) (r : Result K OpenFault) → r ≡ Err fault → HasStoreCause old new r → IsUnopenedFor load (ending_of_opening fault) stored old.stores new.stores
   unopened-by old new opening.Failed r is cause = cause.failed is
   unopened-by old new opening.NoMemory r is cause = tt
 
-  pub unopened-so : {K : Type 0} (map : Option Map) (old new : Counts) (fault : OpenFault) (ending : Ending) → ending ≡ unopened fault → (r : Result K OpenFault) → r ≡ Err fault → HasStoreCause old new r → map ≡ stored
+  pub unopened-so : {K : Type 0} (map : Option Map) (old new : Counts) (fault : OpenFault) (ending : Ending) → ending ≡ ending_of_opening fault → (r : Result K OpenFault) → r ≡ Err fault → HasStoreCause old new r → map ≡ stored
       → IsUnopened load ending stored map old.stores new.stores
   unopened-so map old new fault ending is r was cause same = record {
     cause = subst (λ (e : Ending). IsUnopenedFor load e stored old.stores new.stores) (sym is) (unopened-by old new fault r was cause);

@@ -33,7 +33,7 @@ use Rattle.merge_program.specs.declared.ending.Ending.TheVariants.{BadReply, Dam
 use Rattle.merge_program.specs.Endings.{stopped_by}
 use Rattle.merge_program.specs.Stopping.{played_by}
 use Rattle.merge_program.specs.Fresh.{fresh_view}
-use Rattle.merge_program.specs.Headline.{Answered, AnsweredInPart, AnsweredToRestart, IsRun, PlayEnds, Sides}
+use Rattle.merge_program.specs.Headline.{AnsweredInPart, AnsweredToRestart, IsRun, PlayEnds, RunIsWritten, Sides}
 use Rattle.merge_program.specs.Sited.{IsDamageAt, LoadsAt}
 use Rattle.merge_program.specs.Stores.{AreEmptyStores, IsUnstarted, RoseBy, at_no_path}
 use Rattle.merge_program.proofs.Fresh.{fresh-world}
@@ -66,7 +66,7 @@ module _ (promises : OfEveryRunPromised) (shows : FailuresShow)
     abbrev sides : Sides
     sides = record { was = was; written = written; before = before; after = after }
 
-    answered : (new : SitesView) (behind : HandedView) → new.faults ≤ n → Played lines (fresh_view publication) new handed behind was written → Answered publication handed lines sides
+    answered : (new : SitesView) (behind : HandedView) → new.faults ≤ n → Played lines (fresh_view publication) new handed behind was written → RunIsWritten publication handed lines sides
     answered new behind le p = record { answers = p.answers; run = run-of (events_of lines) new behind p.answers p.happened le; bytes = p.bytes }
 
     pub in-part : (old new : SitesView) (behind : HandedView) → old ≡ fresh_view publication → new.faults ≤ n → PlayedInPart lines old new handed behind was written → AnsweredInPart publication handed lines sides
@@ -135,7 +135,7 @@ module _ (promises : OfEveryRunPromised) (shows : FailuresShow)
           ))
 
       module _ (old : SitesView) (behind : HandedView) (fresh : old ≡ fresh_view publication) (le : new.faults ≤ n) (ge : n ≤ new.faults) where
-        whole : Played lines old new handed behind was written → Answered publication handed lines sides
+        whole : Played lines old new handed behind was written → RunIsWritten publication handed lines sides
         whole p = answered new behind le (subst (λ (v : SitesView). Played lines v new handed behind was written) fresh p)
 
         ends-by : (r : Result Unit Stop) → OnOk r (fault_of lines ≡ None) → OnOk r (Played lines old new handed behind was written)

@@ -16,21 +16,21 @@ use Rattle.merge_schema.specs.declared.publication.Publication.{Publication}
 use Rattle.merge_model.specs.World.Naming.{article_by, article_place}
 use Rattle.merge_program.specs.declared.ending.Ending.{Ending}
 use Rattle.merge_program.specs.declared.ending.Ending.TheVariants.{NoMemory, ReadFault, TooLong}
-use Rattle.merge_program.specs.Endings.{refused_for, unopened_text, unread}
+use Rattle.merge_program.specs.Endings.{ending_of_reading, refused_for, unopened_text}
 use Rattle.merge_program.specs.Files.{IsLong, IsUnpublished, IsUnread}
 
 module _ (told : Option (List ℕ)) (reads failed : ℕ) where
-  unread-by : (fault : Unread) → (fault ≡ reading.TooLong → IsLong told) → (fault ≡ reading.Failed → Rose reads failed) → IsUnread (unread fault) told reads failed
+  unread-by : (fault : Unread) → (fault ≡ reading.TooLong → IsLong told) → (fault ≡ reading.Failed → Rose reads failed) → IsUnread (ending_of_reading fault) told reads failed
   unread-by reading.Failed long rose = rose refl
   unread-by reading.TooLong long rose = long refl
   unread-by reading.NoMemory long rose = tt
 
-  pub unread-so : (fault : Unread) (ending : Ending) → ending ≡ unread fault → (fault ≡ reading.TooLong → IsLong told) → (fault ≡ reading.Failed → Rose reads failed) → IsUnread ending told reads failed
+  pub unread-so : (fault : Unread) (ending : Ending) → ending ≡ ending_of_reading fault → (fault ≡ reading.TooLong → IsLong told) → (fault ≡ reading.Failed → Rose reads failed) → IsUnread ending told reads failed
   unread-so fault ending is long rose = subst (λ (e : Ending). IsUnread e told reads failed) (sym is) (unread-by fault long rose)
 
 -- what holds unless a fault of the input was counted holds unless the run ends by it
-pub counted-by : (fault : Unread) (ending : Ending) → ending ≡ unread fault → (kept : Type 0) → (fault ≢ reading.Failed → kept) → ending ≢ ReadFault → kept
-counted-by fault ending is kept by other = by (λ failed. other (is ∙ ap unread failed))
+pub counted-by : (fault : Unread) (ending : Ending) → ending ≡ ending_of_reading fault → (kept : Type 0) → (fault ≢ reading.Failed → kept) → ending ≢ ReadFault → kept
+counted-by fault ending is kept by other = by (λ failed. other (is ∙ ap ending_of_reading failed))
 
 -- and by each call through which its ending is passed
 pub counted-through : {T U : Type 0} (kept : Type 0) (ending : Ending) (r : Result T Ending) (s : Result U Ending) → r ≡ Err ending → s ≡ Err ending → (r ≢ Err ReadFault → kept) → s ≢ Err ReadFault → kept

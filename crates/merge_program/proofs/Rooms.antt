@@ -10,7 +10,7 @@ use Rattle.merge_schema.specs.declared.publication.Subscription.{Subscription}
 use Rattle.merge_types.specs.declared.identifiers.SiteId.{SiteId}
 use Rattle.merge_world.specs.Views.{SubscriberView, faults_of, site_of}
 use Rattle.merge_program.specs.Elsewhere.{SameAtOthers}
-use Rattle.merge_program.specs.Stores.{AreRooms, RoseBy, fresh_at, fresh_subscribers, untold}
+use Rattle.merge_program.specs.Stores.{AreRooms, RoseBy, fresh_at, fresh_subscribers, untold_subscriber}
 use Rattle.merge_program.proofs.Rises.{rose-on}
 
 pub rooms-still : (old new : SiteId → List ℕ → Type 0) (path : List ℕ) → ((s : SiteId) (p : List ℕ) → old s p → new s p) → (sites : List ℕ) → AreRooms old path sites → AreRooms new path sites
@@ -83,14 +83,14 @@ pub rose-all : (first : ℕ) (ss : List SubscriberView) (a b : ℕ) → RoseBy (
 rose-all first ss a b rose = subst (λ (l : List SubscriberView). RoseBy (first + sum_by faults_of l) a b) (sym (map-id ss)) rose
 
 -- One subscriber more is started.
-module _ (publication : Publication) (ss held now : List SubscriberView) (s : SubscriberView) (e : ℕ × Subscription) (same : held ≡ ss) (put : now ≡ held ++ s ∷ []) (fresh : untold s ≡ fresh_at publication e) where
-  pub more-started : (left rest : List (ℕ × Subscription)) → left ≡ e ∷ rest → map untold ss ++ map (fresh_at publication) left ≡ fresh_subscribers publication → map untold now ++ map (fresh_at publication) rest ≡ fresh_subscribers publication
+module _ (publication : Publication) (ss held now : List SubscriberView) (s : SubscriberView) (e : ℕ × Subscription) (same : held ≡ ss) (put : now ≡ held ++ s ∷ []) (fresh : untold_subscriber s ≡ fresh_at publication e) where
+  pub more-started : (left rest : List (ℕ × Subscription)) → left ≡ e ∷ rest → map untold_subscriber ss ++ map (fresh_at publication) left ≡ fresh_subscribers publication → map untold_subscriber now ++ map (fresh_at publication) rest ≡ fresh_subscribers publication
   more-started left rest is so_far =
-      let all : map untold ss ++ fresh_at publication e ∷ map (fresh_at publication) rest ≡ fresh_subscribers publication =
-      subst (λ (l : List (ℕ × Subscription)). map untold ss ++ map (fresh_at publication) l ≡ fresh_subscribers publication) is so_far in
-      let more : map untold now ≡ map untold ss ++ fresh_at publication e ∷ [] =
-      ap (map untold) (put ∙ ap (λ (l : List SubscriberView). l ++ s ∷ []) same) ∙ (map-append untold ss (s ∷ []) ∙ ap (λ (x : SubscriberView). map untold ss ++ x ∷ []) fresh) in
-      ap (λ (l : List SubscriberView). l ++ map (fresh_at publication) rest) more ∙ (append_assoc (map untold ss) (fresh_at publication e ∷ []) (map (fresh_at publication) rest) ∙ all)
+      let all : map untold_subscriber ss ++ fresh_at publication e ∷ map (fresh_at publication) rest ≡ fresh_subscribers publication =
+      subst (λ (l : List (ℕ × Subscription)). map untold_subscriber ss ++ map (fresh_at publication) l ≡ fresh_subscribers publication) is so_far in
+      let more : map untold_subscriber now ≡ map untold_subscriber ss ++ fresh_at publication e ∷ [] =
+      ap (map untold_subscriber) (put ∙ ap (λ (l : List SubscriberView). l ++ s ∷ []) same) ∙ (map-append untold_subscriber ss (s ∷ []) ∙ ap (λ (x : SubscriberView). map untold_subscriber ss ++ x ∷ []) fresh) in
+      ap (λ (l : List SubscriberView). l ++ map (fresh_at publication) rest) more ∙ (append_assoc (map untold_subscriber ss) (fresh_at publication e ∷ []) (map (fresh_at publication) rest) ∙ all)
 
   pub more-rooms : (old next : SiteId → List ℕ → Type 0) (path : List ℕ) → ((t : SiteId) (p : List ℕ) → old t p → next t p) → next e.1.site path → AreRooms old path (map site_of ss) → AreRooms next path (map site_of now)
   more-rooms old next path still there rooms = rw (put, same) (rooms-more next path s (subst (λ (v : SubscriberView). next v.tables.site path) (sym fresh) there) ss (rooms-still old next path still (map site_of ss) rooms))

@@ -19,7 +19,7 @@ use Rattle.merge_program.specs.declared.order.Order.{Order}
 use Rattle.merge_program.specs.Endings.{status_of}
 use Rattle.merge_program.specs.Files.{IsAccepted, IsUnpublished, IsUnread}
 use Rattle.merge_program.specs.Notes.{IsTold}
-use Rattle.merge_program.specs.Serving.{Doorway, Finished, IsServed, IsUnordered, ServeEnds, TellsServed, around_order, finish_of, finish_status, publisher_site}
+use Rattle.merge_program.specs.Serving.{Doorway, FinishIsTold, IsServed, IsUnordered, ServeEnds, TellsServed, around_order, finish_of, finish_status, publisher_site}
 use Rattle.merge_program.specs.Sited.{IsUntouched}
 use Rattle.merge_program.specs.Visits.{Visit, sides_of}
 use Rattle.merge_program.proofs.Changes.{accepted, refused-file}
@@ -124,7 +124,7 @@ module _ (order : Order) (resolvers : ℕ) (says : Saying) (v : Visit) (d : Door
   torn-in finish (inl u) is = absurd (not-torn u.ending (sym (ap finish_status u.is) ∙ is))
   torn-in finish (inr o) is = torn-by o.publication o.served o.ends (sym (ap finish_status o.is) ∙ is)
 
-  tells-served : (status : ℕ) (finish : Finish) → status ≡ finish_status finish → Serve finish → (old new : Option (List ℕ)) (before after : ℕ) → Finished finish old new before after
+  tells-served : (status : ℕ) (finish : Finish) → status ≡ finish_status finish → Serve finish → (old new : Option (List ℕ)) (before after : ℕ) → FinishIsTold finish old new before after
       → TellsServed status order resolvers says v d old new before after
   tells-served status finish is ends old new before after told = record {
     finish = finish;
@@ -136,14 +136,14 @@ module _ (order : Order) (resolvers : ℕ) (says : Saying) (v : Visit) (d : Door
   }
 
   -- the same, of the order that the words said
-  pub tells-of : (status : ℕ) (finish : Finish) → status ≡ finish_status finish → Serve finish → (old new : Option (List ℕ)) (before after : ℕ) → Finished finish old new before after
+  pub tells-of : (status : ℕ) (finish : Finish) → status ≡ finish_status finish → Serve finish → (old new : Option (List ℕ)) (before after : ℕ) → FinishIsTold finish old new before after
       → (other : Order) → order ≡ other → TellsServed status other resolvers says v d old new before after
   tells-of status finish is ends old new before after told other same =
       subst (λ (o : Order). TellsServed status o resolvers says v d old new before after) same (tells-served status finish is ends old new before after told)
 
   -- memory was wanting for the words
   pub wanting : (finish : Finish) → finish ≡ Ended NoMemory → v.written ≡ v.was → v.kept ≡ v.stored → d.after ≡ d.before → (status : ℕ) → status ≡ finish_status finish
-      → (old new : Option (List ℕ)) (before after : ℕ) → Finished finish old new before after → TellsServed status order resolvers says v d old new before after
+      → (old new : Option (List ℕ)) (before after : ℕ) → FinishIsTold finish old new before after → TellsServed status order resolvers says v d old new before after
   wanting finish is silent same closed status as_told old new before after told = tells-served status finish as_told (unordered-ends finish NoMemory is tt silent same closed) old new before after told
 
 -- A run with status 0 was served.
@@ -181,5 +181,5 @@ pub told-note : {T E : Type 0} (text : T → List ℕ) (want : List ℕ) (old ne
 told-note text want old new before after (Ok note) made t err = inl (subst (λ (l : List ℕ). IsTold l old new before after) made t)
 told-note text want old new before after (Err e) made t err = inr err
 
-pub finished : (finish other : Finish) (old new : Option (List ℕ)) (before after : ℕ) → finish ≡ other → Finished other old new before after → Finished finish old new before after
-finished finish other old new before after is p = subst (λ (f : Finish). Finished f old new before after) (sym is) p
+pub finished : (finish other : Finish) (old new : Option (List ℕ)) (before after : ℕ) → finish ≡ other → FinishIsTold other old new before after → FinishIsTold finish old new before after
+finished finish other old new before after is p = subst (λ (f : Finish). FinishIsTold f old new before after) (sym is) p

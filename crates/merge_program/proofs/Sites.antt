@@ -18,7 +18,7 @@ use Rattle.merge_site.specs.Kept.{IsKept}
 use Rattle.merge_site.specs.Loading.{IsRead}
 use Rattle.merge_site.specs.Publishers.{publisher_stored, records_of as publisher_records}
 use Rattle.merge_site.specs.Subscribers.{records_of, subscriber_stored}
-use Rattle.merge_command.specs.Alone.{alone, idle}
+use Rattle.merge_command.specs.Alone.{idle, subscriber_view_alone}
 use Rattle.merge_world.specs.Views.{IsOrdered, PublisherView, SitesView, SubscriberView, entry_of, faults_of, site_of, sites_view}
 use Rattle.merge_program.specs.Sited.{IsDamageAs, IsDamageAt, IsKeptAs, IsKeptAt, IsReadAs, IsReadAt, PublisherRead, SubscriberKept, SubscriberRead, begin, publisher_alone}
 use Rattle.merge_program.specs.Stores.{RoseBy}
@@ -44,7 +44,7 @@ publisher-read publication told p ss pool none empty read same unfailed =
     (subst (λ (l : List SubscriberView). PublisherRead publication told (sites_view p (these l) [] begin)) (sym none)
     (record { tables = p.tables; read = read; seen = same-publisher publication p same unfailed }))
 
-same-subscriber : (publication : Publication) (s : SubscriberView) → s.publication ≡ publication → s.faults ≡ 0 → sites_view (idle publication) (s ∷ []) [] begin ≡ alone publication s.tables 0 begin
+same-subscriber : (publication : Publication) (s : SubscriberView) → s.publication ≡ publication → s.faults ≡ 0 → sites_view (idle publication) (s ∷ []) [] begin ≡ subscriber_view_alone publication s.tables 0 begin
 same-subscriber publication s same none = ap (λ (t : SubscriberView). sites_view (idle publication) (t ∷ []) [] begin) (is-published ∙ is-unfailed)
   where
     is-published : s ≡ record s { publication = publication }

@@ -32,8 +32,8 @@ use Rattle.merge_site.specs.Beginning.{IsEmptyStore, IsFirstKey, StartsNot}
 use Rattle.merge_world.specs.Views.{SubscriberView, site_of}
 use Rattle.merge_program.specs.declared.ending.Ending.{Ending}
 use Rattle.merge_program.specs.declared.ending.Ending.TheVariants.{Damaged, NoMemory, StoreFault}
-use Rattle.merge_program.specs.Endings.{stopped_by, unopened}
-use Rattle.merge_program.specs.Stores.{AreEmptyStores, AreRooms, IsUnstarted, IsUnstartedAt, RoseBy, fresh_at, fresh_subscribers, untold}
+use Rattle.merge_program.specs.Endings.{ending_of_opening, stopped_by}
+use Rattle.merge_program.specs.Stores.{AreEmptyStores, AreRooms, IsUnstarted, IsUnstartedAt, RoseBy, fresh_at, fresh_subscribers, untold_subscriber}
 use Rattle.merge_program.proofs.Fresh.{fresh-sites}
 use Rattle.merge_program.proofs.Rises.{rose-less, rose-one}
 use Rattle.merge_program.proofs.Untold.{map-untold}
@@ -42,11 +42,11 @@ use Rattle.merge_program.proofs.Untold.{map-untold}
 
 module _ (told : Option Map) where
   -- its store was not opened
-  unopened-by : {K : Type 0} (old new : Counts) (fault : OpenFault) (r : Result K OpenFault) → r ≡ Err fault → HasStoreCause old new r → IsUnstartedAt (unopened fault) told old.stores new.stores
+  unopened-by : {K : Type 0} (old new : Counts) (fault : OpenFault) (r : Result K OpenFault) → r ≡ Err fault → HasStoreCause old new r → IsUnstartedAt (ending_of_opening fault) told old.stores new.stores
   unopened-by old new opening.Failed r is cause = cause.failed is
   unopened-by old new opening.NoMemory r is cause = let kept = cause.starved is in omega (arith, kept)
 
-  pub unopened-at : {K : Type 0} (old new : Counts) (fault : OpenFault) (ending : Ending) → ending ≡ unopened fault → (r : Result K OpenFault) → r ≡ Err fault → HasStoreCause old new r → IsUnstartedAt ending told old.stores new.stores
+  pub unopened-at : {K : Type 0} (old new : Counts) (fault : OpenFault) (ending : Ending) → ending ≡ ending_of_opening fault → (r : Result K OpenFault) → r ≡ Err fault → HasStoreCause old new r → IsUnstartedAt ending told old.stores new.stores
   unopened-at old new fault ending is r was cause = subst (λ (e : Ending). IsUnstartedAt e told old.stores new.stores) (sym is) (unopened-by old new fault r was cause)
 
   -- it was opened, and could not be read or has an entry; or memory was wanting
@@ -153,8 +153,8 @@ pub record Starting (publication : Publication) (path : List ℕ) (were told : S
 
 module _ (publication : Publication) (path : List ℕ) where
   -- before the first
-  pub none-fresh : (views : List SubscriberView) → views ≡ [] → (rest : List (ℕ × Subscription)) → rest ≡ by_site publication → map untold views ++ map (fresh_at publication) rest ≡ fresh_subscribers publication
-  none-fresh views none rest is = ap (λ (l : List SubscriberView). map untold l ++ map (fresh_at publication) rest) none ∙ ap (λ (es : List (ℕ × Subscription)). map (fresh_at publication) es) is
+  pub none-fresh : (views : List SubscriberView) → views ≡ [] → (rest : List (ℕ × Subscription)) → rest ≡ by_site publication → map untold_subscriber views ++ map (fresh_at publication) rest ≡ fresh_subscribers publication
+  none-fresh views none rest is = ap (λ (l : List SubscriberView). map untold_subscriber l ++ map (fresh_at publication) rest) none ∙ ap (λ (es : List (ℕ × Subscription)). map (fresh_at publication) es) is
 
   pub no-rooms : (room : SiteId → List ℕ → Type 0) (views : List SubscriberView) → views ≡ [] → AreRooms room path (map site_of views)
   no-rooms room views none = subst (λ (l : List SubscriberView). AreRooms room path (map site_of l)) (sym none) tt
@@ -194,7 +194,7 @@ module _ (publication : Publication) (path : List ℕ) where
     sites-more [] s = refl
     sites-more (v ∷ views) s = ap (λ (l : List ℕ). site_of v ∷ l) (sites-more views s)
 
-    pub one-started : (views held now : List SubscriberView) (s : SubscriberView) → held ≡ views → now ≡ held ++ s ∷ [] → untold s ≡ fresh_at publication e → (left rest : List (ℕ × Subscription)) → left ≡ e ∷ rest → IsEmptyStore (old e.1.site path)
+    pub one-started : (views held now : List SubscriberView) (s : SubscriberView) → held ≡ views → now ≡ held ++ s ∷ [] → untold_subscriber s ≡ fresh_at publication e → (left rest : List (ℕ × Subscription)) → left ≡ e ∷ rest → IsEmptyStore (old e.1.site path)
         → Starting publication path were old (map site_of views) left → Starting publication path were next (map site_of now) rest
     one-started views held now s same put fresh left rest is here so_far =
         let one : map site_of now ≡ map site_of views ++ site_of s ∷ [] = rw (put, same) (sites-more views s) in
@@ -216,14 +216,14 @@ module _ (publication : Publication) (path : List ℕ) where
   each-empty were site [] all = tt
   each-empty were site (e ∷ es) all = ((λ is. subst (λ (n : ℕ). IsEmptyStore (were (record { 0 = n }) path)) (numbers-same e.0 site.0 is) all.0), each-empty were site es all.1)
 
-  pub all-fresh : (views : List SubscriberView) (rest : List (ℕ × Subscription)) → rest ≡ [] → map untold views ++ map (fresh_at publication) rest ≡ fresh_subscribers publication → map untold views ≡ fresh_subscribers publication
+  pub all-fresh : (views : List SubscriberView) (rest : List (ℕ × Subscription)) → rest ≡ [] → map untold_subscriber views ++ map (fresh_at publication) rest ≡ fresh_subscribers publication → map untold_subscriber views ≡ fresh_subscribers publication
   all-fresh views rest none so_far =
-      sym (append-nil (map untold views)) ∙ subst (λ (l : List (ℕ × Subscription)). map untold views ++ map (fresh_at publication) l ≡ fresh_subscribers publication) none so_far
+      sym (append-nil (map untold_subscriber views)) ∙ subst (λ (l : List (ℕ × Subscription)). map untold_subscriber views ++ map (fresh_at publication) l ≡ fresh_subscribers publication) none so_far
 
-  pub all-started : (were told : SiteId → List ℕ → Option Map) (views : List SubscriberView) (rest : List (ℕ × Subscription)) → rest ≡ [] → map untold views ++ map (fresh_at publication) rest ≡ fresh_subscribers publication
+  pub all-started : (were told : SiteId → List ℕ → Option Map) (views : List SubscriberView) (rest : List (ℕ × Subscription)) → rest ≡ [] → map untold_subscriber views ++ map (fresh_at publication) rest ≡ fresh_subscribers publication
       → Starting publication path were told (map site_of views) rest → AreEmptyStores (λ (s : SiteId). is_subscription publication s.0) (λ (s : SiteId). were s path)
   all-started were told views rest none so_far s = λ site subscribes.
-      let fresh : map untold views ≡ fresh_subscribers publication = all-fresh views rest none so_far in
+      let fresh : map untold_subscriber views ≡ fresh_subscribers publication = all-fresh views rest none so_far in
       let sites : map site_of views ≡ keys_of (by_site publication) = sym (map-untold site_of (λ s. refl) views) ∙ (ap (λ (l : List SubscriberView). map site_of l) fresh ∙ fresh-sites publication) in
       any-leads (λ (e : ℕ × Subscription). e.0 == site.0) (IsEmptyStore (were site path)) (by_site publication)
       (each-empty were site (by_site publication) (subst (λ (l : List ℕ). AllByRecursion (λ (n : ℕ). IsEmptyStore (were (record { 0 = n }) path)) l) sites s.empty))

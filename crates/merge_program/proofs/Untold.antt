@@ -18,18 +18,18 @@ use Rattle.merge_model.proofs.Entries.EntryLists.{all-put}
 use Rattle.merge_world.specs.Views.{PublisherView, SitesView, SubscriberView, entry_of, faults_of, publication_of, site_of, sites_view}
 use Rattle.merge_program.specs.Fresh.{fresh_view}
 use Rattle.merge_program.specs.GivenBack.{AscendAbove}
-use Rattle.merge_program.specs.Stores.{fresh_at, fresh_publisher, fresh_subscribers, untold, untold_publisher}
+use Rattle.merge_program.specs.Stores.{fresh_at, fresh_publisher, fresh_subscribers, untold_publisher, untold_subscriber}
 use Rattle.merge_program.proofs.Fresh.{fresh-ordered}
 
 -- What does not read it is the same.
 
-pub map-untold : {Y : Type 0} (f : SubscriberView → Y) → ((s : SubscriberView) → f (untold s) ≡ f s) → (ss : List SubscriberView) → map f (map untold ss) ≡ map f ss
+pub map-untold : {Y : Type 0} (f : SubscriberView → Y) → ((s : SubscriberView) → f (untold_subscriber s) ≡ f s) → (ss : List SubscriberView) → map f (map untold_subscriber ss) ≡ map f ss
 map-untold {Y} f same [] = refl
-map-untold {Y} f same (s ∷ ss) = ap (λ (y : Y). y ∷ map f (map untold ss)) (same s) ∙ ap (λ (l : List Y). f s ∷ l) (map-untold f same ss)
+map-untold {Y} f same (s ∷ ss) = ap (λ (y : Y). y ∷ map f (map untold_subscriber ss)) (same s) ∙ ap (λ (l : List Y). f s ∷ l) (map-untold f same ss)
 
-sum-untold : (ss : List SubscriberView) → sum_by faults_of (map untold ss) ≡ sum_by faults_of ss
+sum-untold : (ss : List SubscriberView) → sum_by faults_of (map untold_subscriber ss) ≡ sum_by faults_of ss
 sum-untold [] = refl
-sum-untold (s ∷ ss) = sum_by-cons faults_of (untold s) (map untold ss) ∙ (ap (λ (n : ℕ). s.faults + n) (sum-untold ss) ∙ sym (sum_by-cons faults_of s ss))
+sum-untold (s ∷ ss) = sum_by-cons faults_of (untold_subscriber s) (map untold_subscriber ss) ∙ (ap (λ (n : ℕ). s.faults + n) (sum-untold ss) ∙ sym (sum_by-cons faults_of s ss))
 
 module _ (p : PublisherView) (moment : Moment) where
   abbrev seen : List (ℕ × SubscriberTables) → ℕ → List ℕ → List Publication → SitesView
@@ -44,22 +44,22 @@ module _ (p : PublisherView) (moment : Moment) where
     publications = publications;
   }
 
-  same-view : (ss : List SubscriberView) → sites_view (untold_publisher p) (map untold ss) [] moment ≡ sites_view p ss [] moment
+  same-view : (ss : List SubscriberView) → sites_view (untold_publisher p) (map untold_subscriber ss) [] moment ≡ sites_view p ss [] moment
   same-view ss =
-      let us : List SubscriberView = map untold ss in
+      let us : List SubscriberView = map untold_subscriber ss in
       ap (λ (l : List (ℕ × SubscriberTables)). seen l (sum_by faults_of us) (map site_of us) (map publication_of us)) (map-untold entry_of (λ s. refl) ss)
       ∙ (ap (λ (n : ℕ). seen (map entry_of ss) n (map site_of us) (map publication_of us)) (sum-untold ss)
       ∙ (ap (λ (l : List ℕ). seen (map entry_of ss) (sum_by faults_of ss) l (map publication_of us)) (map-untold site_of (λ s. refl) ss)
       ∙ ap (λ (l : List Publication). seen (map entry_of ss) (sum_by faults_of ss) (map site_of ss) l) (map-untold publication_of (λ s. refl) ss)))
 
 -- seen together they are those that have done nothing
-pub untold-view : (publication : Publication) (p : PublisherView) (ss : List SubscriberView) (pool : List Letter) → untold_publisher p ≡ fresh_publisher publication → map untold ss ≡ fresh_subscribers publication → pool ≡ []
+pub untold-view : (publication : Publication) (p : PublisherView) (ss : List SubscriberView) (pool : List Letter) → untold_publisher p ≡ fresh_publisher publication → map untold_subscriber ss ≡ fresh_subscribers publication → pool ≡ []
     → sites_view p (map (λ (s : SubscriberView). s) ss) pool (record { 0 = 0 }) ≡ fresh_view publication
 untold-view publication p ss pool publisher subscribers none =
     ap (λ (l : List SubscriberView). sites_view p l pool (record { 0 = 0 })) (map-id ss)
     ∙ (ap (λ (l : List Letter). sites_view p ss l (record { 0 = 0 })) none
     ∙ (sym (same-view p (record { 0 = 0 }) ss)
-    ∙ (ap (λ (q : PublisherView). sites_view q (map untold ss) [] (record { 0 = 0 })) publisher
+    ∙ (ap (λ (q : PublisherView). sites_view q (map untold_subscriber ss) [] (record { 0 = 0 })) publisher
     ∙ ap (λ (l : List SubscriberView). sites_view (fresh_publisher publication) l [] (record { 0 = 0 })) subscribers)))
 
 -- of their own publication
@@ -70,8 +70,8 @@ module _ (publication : Publication) (p : PublisherView) (publisher : untold_pub
   pub own-publisher : untold_publisher p ≡ fresh_publisher p.publication
   own-publisher = subst (λ (q : Publication). untold_publisher p ≡ fresh_publisher q) (sym own-publication) publisher
 
-  pub own-subscribers : (ss : List SubscriberView) → map untold ss ≡ fresh_subscribers publication → map untold ss ≡ fresh_subscribers p.publication
-  own-subscribers ss subscribers = subst (λ (q : Publication). map untold ss ≡ fresh_subscribers q) (sym own-publication) subscribers
+  pub own-subscribers : (ss : List SubscriberView) → map untold_subscriber ss ≡ fresh_subscribers publication → map untold_subscriber ss ≡ fresh_subscribers p.publication
+  own-subscribers ss subscribers = subst (λ (q : Publication). map untold_subscriber ss ≡ fresh_subscribers q) (sym own-publication) subscribers
 
   pub own-valid : (resolvers : ℕ) × IsValid resolvers publication → (resolvers : ℕ) × IsValid resolvers p.publication
   own-valid valid = subst (λ (q : Publication). (resolvers : ℕ) × IsValid resolvers q) (sym own-publication) valid
@@ -112,8 +112,8 @@ of-each f P [] all = tt
 of-each f P (x ∷ xs) all = (all.0, of-each f P xs all.1)
 
 -- Behind a script the sites are the same.
-module _ (publication : Publication) (ss new : List SubscriberView) (subscribers : map untold ss ≡ fresh_subscribers publication) where
-  same-as : {Y : Type 0} (f : SubscriberView → Y) → ((s : SubscriberView) → f (untold s) ≡ f s) → map f (map (λ (s : SubscriberView). s) new) ≡ map f (map (λ (s : SubscriberView). s) ss) → map f new ≡ map f (fresh_subscribers publication)
+module _ (publication : Publication) (ss new : List SubscriberView) (subscribers : map untold_subscriber ss ≡ fresh_subscribers publication) where
+  same-as : {Y : Type 0} (f : SubscriberView → Y) → ((s : SubscriberView) → f (untold_subscriber s) ≡ f s) → map f (map (λ (s : SubscriberView). s) new) ≡ map f (map (λ (s : SubscriberView). s) ss) → map f new ≡ map f (fresh_subscribers publication)
   same-as f untelling stays =
       ap (map f) (sym (map-id new)) ∙ (stays ∙ (ap (map f) (map-id ss) ∙ (sym (map-untold f untelling ss) ∙ ap (map f) subscribers)))
 

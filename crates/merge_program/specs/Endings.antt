@@ -30,18 +30,18 @@ status_of (Expired last_sync now) = 8
 status_of (BadReply place) = 9
 status_of (Declined number) = 12
 
-abbrev pub unopened : OpenFault → Ending
-unopened opening.Failed = StoreFault
-unopened opening.NoMemory = NoMemory
+abbrev pub ending_of_opening : OpenFault → Ending
+ending_of_opening opening.Failed = StoreFault
+ending_of_opening opening.NoMemory = NoMemory
 
 abbrev pub unopened_text : OpenFault → Ending
 unopened_text opening.Failed = ReadFault
 unopened_text opening.NoMemory = NoMemory
 
-abbrev pub unread : Unread → Ending
-unread reading.Failed = ReadFault
-unread reading.TooLong = TooLong
-unread reading.NoMemory = NoMemory
+abbrev pub ending_of_reading : Unread → Ending
+ending_of_reading reading.Failed = ReadFault
+ending_of_reading reading.TooLong = TooLong
+ending_of_reading reading.NoMemory = NoMemory
 
 abbrev pub refused_for : SchemaFault → Ending
 refused_for schema.NoMemory = NoMemory

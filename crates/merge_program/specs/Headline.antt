@@ -32,7 +32,7 @@ abbrev pub lines_of_input : List ℕ → List (List ℕ)
 lines_of_input input = lines_of (script_of input)
 
 -- What was written is the text of a run over the events of the lines before the first that is no event, or of all.
-pub record Answered (publication : Publication) (handed : HandedView) (lines : List (List ℕ)) (sides : Sides) : Type 0 where
+pub record RunIsWritten (publication : Publication) (handed : HandedView) (lines : List (List ℕ)) (sides : Sides) : Type 0 where
   pub answers : List Answer
   pub run : IsRun publication handed (events_of lines) answers sides.before sides.after
   pub bytes : Appends sides.was sides.written (texts_of (names_of publication) answers)
@@ -100,7 +100,7 @@ pub record AnsweredWhole (handed : HandedView) (input : List ℕ) (sides : Sides
   pub taken : IsTaken (length handed.tallies) input publication
   pub events : fault_of (lines_of_input input) ≡ None
   pub empty : AreEmptyStores (is_site publication) stored
-  pub answered : Answered publication handed (lines_of_input input) sides
+  pub answered : RunIsWritten publication handed (lines_of_input input) sides
 
 -- The first line of the input's script that is no event has this number and this first wrong word, and the events before it were answered.
 -- The stores were empty, where they are told.
@@ -109,7 +109,7 @@ pub record AnsweredUpTo (handed : HandedView) (input : List ℕ) (line word : �
   pub taken : IsTaken (length handed.tallies) input publication
   pub no_event : fault_of (lines_of_input input) ≡ Some (line, word)
   pub empty : AreEmptyStores (is_site publication) stored
-  pub answered : Answered publication handed (lines_of_input input) sides
+  pub answered : RunIsWritten publication handed (lines_of_input input) sides
 
 -- The input was taken. The run ended as the sites did not start, and nothing was written; or at a restart of its script.
 abbrev pub IsStopped : HandedView → List ℕ → Sides → (lost : ℕ) → Type 0
@@ -128,9 +128,9 @@ WrittenInPart handed input sides = (sides.written ≡ sides.was)
 -- Why a script's run ended, over sites that have done nothing. `stored` and `kept` are what is told of their stores before and behind it;
 -- writes were refused from `writes` to `refused`.
 abbrev pub PlayEnds : Ending → Publication → HandedView → List (List ℕ) → Sides → (stored kept : SiteId → Option Map) → (writes refused : ℕ) → Type 0
-PlayEnds Done publication handed lines sides stored kept writes refused = (fault_of lines ≡ None) × AreEmptyStores (is_site publication) stored × Answered publication handed lines sides
+PlayEnds Done publication handed lines sides stored kept writes refused = (fault_of lines ≡ None) × AreEmptyStores (is_site publication) stored × RunIsWritten publication handed lines sides
 PlayEnds (NoEvent line word) publication handed lines sides stored kept writes refused =
-    (fault_of lines ≡ Some (line, word)) × AreEmptyStores (is_site publication) stored × Answered publication handed lines sides
+    (fault_of lines ≡ Some (line, word)) × AreEmptyStores (is_site publication) stored × RunIsWritten publication handed lines sides
 PlayEnds WriteFault publication handed lines sides stored kept writes refused = Rose writes refused
 PlayEnds StoreFault publication handed lines sides stored kept writes refused = IsCutOff publication handed lines sides 1 × Rose sides.before sides.after
 PlayEnds (Damaged table key) publication handed lines sides stored kept writes refused = IsDamagedFor publication handed lines sides stored kept table key

@@ -8,7 +8,7 @@ use Rattle.merge_ports.specs.Parts.{AppendsFront}
 use Rattle.merge_model.specs.World.Events.{is_site}
 use Rattle.merge_model.specs.declared.answer.Answer.{Answer}
 use Rattle.merge_world.specs.Views.{HandedView}
-use Rattle.merge_make.specs.Publication.{made}
+use Rattle.merge_make.specs.Publication.{made_publication}
 use Rattle.merge_make.specs.Script.{script}
 use Rattle.merge_make.specs.Summary.{summary_of}
 use Rattle.merge_program.specs.Runs.{IsRun, Sides}
@@ -19,7 +19,7 @@ use Rattle.merge_program.specs.declared.ending.Ending.TheVariants.{Damaged, Done
 -- the summary of the answers in a run over the script for so many customers
 pub record IsSummary (customers : ℕ) (handed : HandedView) (before after : ℕ) (text : List ℕ) : Type 0 where
   pub answers : List Answer
-  pub run : IsRun made handed (script customers) answers before after
+  pub run : IsRun made_publication handed (script customers) answers before after
   pub told : text ≡ summary_of customers answers
 
 -- such a summary was written
@@ -38,7 +38,7 @@ pub record FrontWritten (customers : ℕ) (handed : HandedView) (sides : Sides) 
 -- why there is no summary: a site did not start, or memory was wanting behind that
 abbrev pub IsUnmade : Ending → (stored : SiteId → Option Map) → (before after : ℕ) → Type 0
 IsUnmade StoreFault stored before after = Rose before after
-IsUnmade (Damaged table key) stored before after = IsUnstarted (is_site made) stored (Damaged table key) before after
+IsUnmade (Damaged table key) stored before after = IsUnstarted (is_site made_publication) stored (Damaged table key) before after
 IsUnmade NoMemory stored before after = Unit {0}
 IsUnmade other stored before after = ⊥
 
@@ -51,8 +51,8 @@ WriteEnds other text old new writes refused = ⊥
 -- Why the run ended, and what was written by then. `stored` is what is told of the stores before it; writes were refused from `writes` to
 -- `refused`.
 abbrev pub MakeEnds : Ending → ℕ → HandedView → Sides → (stored : SiteId → Option Map) → (writes refused : ℕ) → Type 0
-MakeEnds Done customers handed sides stored writes refused = SummaryWritten customers handed sides × AreEmptyStores (is_site made) stored
-MakeEnds WriteFault customers handed sides stored writes refused = FrontWritten customers handed sides × Rose writes refused × AreEmptyStores (is_site made) stored
+MakeEnds Done customers handed sides stored writes refused = SummaryWritten customers handed sides × AreEmptyStores (is_site made_publication) stored
+MakeEnds WriteFault customers handed sides stored writes refused = FrontWritten customers handed sides × Rose writes refused × AreEmptyStores (is_site made_publication) stored
 MakeEnds other customers handed sides stored writes refused = IsUnmade other stored sides.before sides.after × (sides.written ≡ sides.was)
 
 -- the statuses of `make`

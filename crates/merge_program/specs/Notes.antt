@@ -51,6 +51,6 @@ abbrev pub IsTold : List ℕ → (old new : Option (List ℕ)) → (before after
 IsTold note old new before after = Appends old new note ⊎ (AppendsFront old new note × Rose before after)
 
 -- What the notes got of an ending: its note, or nothing, where memory was wanting to put that together.
-pub record Told (ending : Ending) (old new : Option (List ℕ)) (before after : ℕ) : Type 0 where
+pub record EndingIsTold (ending : Ending) (old new : Option (List ℕ)) (before after : ℕ) : Type 0 where
   pub help : List ℕ
   pub told : IsTold (note_of help ending) old new before after ⊎ (IsTrue (is_put_together ending) × (new ≡ old))

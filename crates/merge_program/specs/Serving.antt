@@ -21,7 +21,7 @@ use Rattle.merge_program.specs.declared.finish.Finish.TheVariants.{Differs, Door
 use Rattle.merge_program.specs.declared.order.Order.{Order}
 use Rattle.merge_program.specs.Endings.{status_of}
 use Rattle.merge_program.specs.Files.{IsAccepted, IsLong, IsRefusedFile}
-use Rattle.merge_program.specs.Notes.{IsTold, Told}
+use Rattle.merge_program.specs.Notes.{EndingIsTold, IsTold}
 use Rattle.merge_program.specs.Sited.{IsUntouched}
 use Rattle.merge_program.specs.Visits.{Visit, sides_of}
 use Rattle.merge_ports.specs.Faults.{Rose}
@@ -58,10 +58,10 @@ abbrev pub difference_text : Difference → List ℕ
 difference_text d = codes "differs " ++ decimal d.seat ++ 32 ∷ mark_text d.told ++ 32 ∷ mark_text d.kept ++ 10 ∷ []
 
 -- what the notes got; that of a difference is put together, and memory may be wanting for it
-abbrev pub Finished : Finish → (old new : Option (List ℕ)) → (before after : ℕ) → Type 0
-Finished (Ended ending) old new before after = Told ending old new before after
-Finished DoorFault old new before after = IsTold (codes "link fault\n") old new before after
-Finished (Differs d) old new before after = IsTold (difference_text d) old new before after ⊎ (new ≡ old)
+abbrev pub FinishIsTold : Finish → (old new : Option (List ℕ)) → (before after : ℕ) → Type 0
+FinishIsTold (Ended ending) old new before after = EndingIsTold ending old new before after
+FinishIsTold DoorFault old new before after = IsTold (codes "link fault\n") old new before after
+FinishIsTold (Differs d) old new before after = IsTold (difference_text d) old new before after ⊎ (new ≡ old)
 
 -- what is told around the service of an order
 abbrev pub around_order : Order → Visit → Doorway → Around
@@ -116,6 +116,6 @@ pub record TellsServed (status : ℕ) (order : Order) (resolvers : ℕ) (says : 
   pub finish : Finish
   pub status_is : status ≡ finish_status finish
   pub ends : ServeEnds finish order resolvers says v d
-  pub told : Finished finish old new before after
+  pub told : FinishIsTold finish old new before after
   pub done : status ≡ 0 → IsServed order resolvers says v d
   pub came : status ≡ 13 → IfSome d.handed (λ (n : ℕ). 1 ≤ n)

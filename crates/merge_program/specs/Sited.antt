@@ -15,7 +15,7 @@ use Rattle.merge_site.specs.Kept.{IsKept}
 use Rattle.merge_site.specs.Loading.{IsDamage, IsRead}
 use Rattle.merge_site.specs.Publishers.{publisher_stored, records_of as publisher_records}
 use Rattle.merge_site.specs.Subscribers.{records_of as subscriber_records, subscriber_stored}
-use Rattle.merge_command.specs.Alone.{alone}
+use Rattle.merge_command.specs.Alone.{subscriber_view_alone}
 use Rattle.merge_program.specs.Runs.{Sides}
 
 abbrev pub begin : Moment
@@ -36,7 +36,7 @@ pub record SubscriberRead (publication : Publication) (site : SiteId) (told : Op
   pub tables : SubscriberTables
   pub here : tables.site ≡ site
   pub read : IsRead (subscriber_loaded publication site (new_holders publication)) told (Ok (subscriber_stored tables))
-  pub seen : v ≡ alone publication tables 0 begin
+  pub seen : v ≡ subscriber_view_alone publication tables 0 begin
 
 abbrev pub IsReadAs : (is_publisher : Bool) → Publication → SiteId → Option Map → SitesView → Type 0
 IsReadAs true publication site told v = PublisherRead publication told v

@@ -12,7 +12,7 @@ use Rattle.merge_program.specs.Changing.{ChangeEnds}
 use Rattle.merge_program.specs.Endings.{status_of}
 use Rattle.merge_program.specs.Headline.{PlayRunEnds}
 use Rattle.merge_program.specs.Making.{MakeEnds}
-use Rattle.merge_program.specs.Notes.{Told}
+use Rattle.merge_program.specs.Notes.{EndingIsTold}
 use Rattle.merge_program.specs.Showing.{ShowEnds}
 use Rattle.merge_program.specs.Stores.{at_no_path}
 use Rattle.merge_program.specs.Syncing.{SyncEnds}
@@ -59,4 +59,4 @@ pub record IsNoted (status : ℕ) (command : Option Command) (handed : HandedVie
   pub ending : Ending
   pub status_is : status ≡ status_of ending
   pub ends : CommandEnds command ending handed v
-  pub told : Told ending old new before after
+  pub told : EndingIsTold ending old new before after

@@ -22,8 +22,8 @@ RoseBy faults before after = min (before + faults) (2 ^ 64 - 1) ≤ after
 abbrev pub untold_publisher : PublisherView → PublisherView
 untold_publisher p = record p { told = None }
 
-abbrev pub untold : SubscriberView → SubscriberView
-untold s = record s { told = None }
+abbrev pub untold_subscriber : SubscriberView → SubscriberView
+untold_subscriber s = record s { told = None }
 
 -- sites that have done nothing
 abbrev pub fresh_publisher : Publication → PublisherView

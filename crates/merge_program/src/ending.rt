@@ -1,6 +1,6 @@
 //! Why a run of the program ended.
 ghost use Rattle.std.specs.Prelude.{◌≡◌};
-ghost use Rattle.merge_program.specs.Endings.{refused_for, status_of, stopped_by, unopened, unopened_text, unread};
+ghost use Rattle.merge_program.specs.Endings.{ending_of_opening, ending_of_reading, refused_for, status_of, stopped_by, unopened_text};
 
 use merge_batch::Refusal;
 use merge_ports::{OpenFault, ReadFault};
@@ -89,7 +89,7 @@ impl From<NoMemory> for Ending {
 
 /// How a run ends by a store that cannot be opened.
 pub fn unopened(fault: OpenFault) -> Ending
-    ensures { result ≡ unopened fault }
+    ensures { result ≡ ending_of_opening fault }
 {
     match fault {
         OpenFault::Failed => Ending::StoreFault,
@@ -109,7 +109,7 @@ pub fn unopened_text(fault: OpenFault) -> Ending
 
 /// How a run ends by an input or a file that was not read whole.
 pub fn unread(fault: ReadFault) -> Ending
-    ensures { result ≡ unread fault }
+    ensures { result ≡ ending_of_reading fault }
 {
     match fault {
         ReadFault::Failed => Ending::ReadFault,

@@ -1,7 +1,7 @@
 //! How a run of `serve` finishes.
 ghost use Rattle.std.specs.Fmt.{decimal};
 ghost use Rattle.std.specs.Prelude.{◌≡◌, ◌++◌, ◌∷◌, [], IfOk, codes, string_bytes};
-ghost use Rattle.merge_program.specs.Serving.{Finished, difference_text, finish_of, finish_status, mark_text};
+ghost use Rattle.merge_program.specs.Serving.{FinishIsTold, difference_text, finish_of, finish_status, mark_text};
 
 use crate::ending::{Ending, Status};
 use crate::notes::{tell, write_made, write_note};
@@ -70,7 +70,7 @@ impl Finish {
 
     /// Tells the notes of it. Nothing is told of a good one.
     pub fn tell<N: Sink>(&self, alloc: Global, notes: &mut N)
-        ensures { Finished self.now (N.written notes.old) (N.written notes.new) (N.count notes.old) (N.count notes.new) }
+        ensures { FinishIsTold self.now (N.written notes.old) (N.written notes.new) (N.count notes.old) (N.count notes.new) }
     {
         match self {
             Finish::Ended(ending) => tell(alloc, ending, notes),

@@ -1,12 +1,12 @@
 //! The script that is made for a number of customers is played, and summed up.
 ghost use Rattle.std.specs.Prelude.{◌≡◌, [], IfErr, IfOk, OnOk, map, ℕ};
 ghost use Rattle.merge_model.specs.World.Events.{is_site};
-ghost use Rattle.merge_make.specs.Publication.{made};
+ghost use Rattle.merge_make.specs.Publication.{made_publication};
 ghost use Rattle.merge_world.specs.Views.{handed_view, site_of};
 ghost use Rattle.merge_program.specs.Elsewhere.{SameAtOthers};
 ghost use Rattle.merge_program.specs.Fresh.{fresh_view};
 ghost use Rattle.merge_program.specs.Making.{IsSummary, IsUnmade, MakeEnds, WriteEnds};
-ghost use Rattle.merge_program.specs.Stores.{AreEmptyStores, AreRooms, RoseBy, at_no_path, fresh_publisher, fresh_subscribers, untold, untold_publisher};
+ghost use Rattle.merge_program.specs.Stores.{AreEmptyStores, AreRooms, RoseBy, at_no_path, fresh_publisher, fresh_subscribers, untold_publisher, untold_subscriber};
 
 use crate::ending::Ending;
 use crate::stores::{give_back, no_path, start};
@@ -28,7 +28,7 @@ fn make_on<P: PublisherSite, S: SubscriberSite>(
     resolvers: &mut Vec<Handed>,
     customers: u16,
 ) -> Result<Octets, NoMemory>
-    requires fresh { ⟦<Sites<P, S> as Seen>⟧.seen sites.old ≡ fresh_view made }
+    requires fresh { ⟦<Sites<P, S> as Seen>⟧.seen sites.old ≡ fresh_view made_publication }
     ensures summary { IfOk result (λ text. (before after : ℕ) → RoseBy (⟦<Sites<P, S> as Seen>⟧.seen sites.new).faults before after
         → IsSummary customers (handed_view (λ r. says r) (λ r. tally_of r) resolvers.old.items) before after text) }
     ensures stays { (⟦<Sites<P, S> as Seen>⟧.seen sites.new).sites ≡ (⟦<Sites<P, S> as Seen>⟧.seen sites.old).sites }
@@ -47,8 +47,8 @@ fn make_started<E: Outside>(
     outside: &mut E,
     path: &Words,
 ) -> Result<Octets, NoMemory>
-    requires publisher { untold_publisher started.0 ≡ fresh_publisher made }
-    requires subscribers { map untold started.1.items ≡ fresh_subscribers made }
+    requires publisher { untold_publisher started.0 ≡ fresh_publisher made_publication }
+    requires subscribers { map untold_subscriber started.1.items ≡ fresh_subscribers made_publication }
     requires room { E.HasRoom outside.old (record { 0 = 0 }) path.now }
     requires rooms { AreRooms (E.HasRoom outside.old) path.now (map site_of started.1.items) }
     ensures summary { IfOk result (IsSummary customers (handed_view (λ r. says r) (λ r. tally_of r) resolvers.old.items) (E.counts outside.old).stores (E.counts outside.new).stores) }
@@ -80,7 +80,7 @@ fn summary<E: Outside>(
 ) -> Result<Octets, Ending>
     ensures summary { IfOk result (IsSummary customers (handed_view (λ r. says r) (λ r. tally_of r) resolvers.old.items) (E.counts outside.old).stores (E.counts outside.new).stores) }
     ensures unmade { IfErr result (λ ending. IsUnmade ending (at_no_path (E.told outside.old)) (E.counts outside.old).stores (E.counts outside.new).stores) }
-    ensures empty { OnOk result (AreEmptyStores (is_site made) (at_no_path (E.told outside.old))) }
+    ensures empty { OnOk result (AreEmptyStores (is_site made_publication) (at_no_path (E.told outside.old))) }
     ensures others { SameAtOthers [] (E.told outside.old) (E.told outside.new) }
 {
     let publication = made(alloc)?;

@@ -2,7 +2,7 @@
 ghost use Rattle.std.specs.Prelude.{◌≡◌, ◌++◌, ◌∷◌, [], IfOk, List, OnErr, ℕ, codes, string_bytes, unwrap_or};
 ghost use Rattle.std.specs.Fmt.{decimal};
 ghost use Rattle.merge_schema.specs.Faults.{number_of, words_of};
-ghost use Rattle.merge_program.specs.Notes.{IsTold, Told, key_text};
+ghost use Rattle.merge_program.specs.Notes.{EndingIsTold, IsTold, key_text};
 
 use crate::command::help;
 use crate::ending::Ending;
@@ -95,7 +95,7 @@ pub(crate) fn write_made<N: Sink>(notes: &mut N, note: Result<String, NoMemory>)
 
 /// Tells the notes of an ending. Nothing is told of a good one.
 pub fn tell<N: Sink>(alloc: Global, ending: &Ending, notes: &mut N)
-    ensures { Told ending.now (N.written notes.old) (N.written notes.new) (N.count notes.old) (N.count notes.new) }
+    ensures { EndingIsTold ending.now (N.written notes.old) (N.written notes.new) (N.count notes.old) (N.count notes.new) }
 {
     match ending {
         Ending::Done => {}

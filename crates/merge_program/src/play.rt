@@ -10,7 +10,7 @@ ghost use Rattle.merge_program.specs.Elsewhere.{SameAtOthers};
 ghost use Rattle.merge_program.specs.Endings.{status_of};
 ghost use Rattle.merge_program.specs.Headline.{AnsweredInPart, InputEnds, PlayEnds, WrittenInPart};
 ghost use Rattle.merge_program.specs.Statuses.{is_silent};
-ghost use Rattle.merge_program.specs.Stores.{AreEmptyStores, AreRooms, at_no_path, fresh_publisher, fresh_subscribers, untold, untold_publisher};
+ghost use Rattle.merge_program.specs.Stores.{AreEmptyStores, AreRooms, at_no_path, fresh_publisher, fresh_subscribers, untold_publisher, untold_subscriber};
 ghost use Rattle.merge_types.specs.Limits.{input_limit};
 
 use crate::ending::{Ending, refused};
@@ -37,7 +37,7 @@ fn play_started<O: Sink, E: Outside>(
     path: &Words,
 ) -> Ending
     requires publisher { untold_publisher started.0 ≡ fresh_publisher started.0.publication }
-    requires subscribers { map untold started.1.items ≡ fresh_subscribers started.0.publication }
+    requires subscribers { map untold_subscriber started.1.items ≡ fresh_subscribers started.0.publication }
     requires valid { (resolvers : ℕ) × IsValid resolvers started.0.publication }
     requires room { E.HasRoom outside.old (record { 0 = 0 }) path.now }
     requires rooms { AreRooms (E.HasRoom outside.old) path.now (map site_of started.1.items) }

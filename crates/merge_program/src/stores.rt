@@ -10,7 +10,7 @@ ghost use Rattle.merge_site.specs.Beginning.{IsEmptyStore};
 ghost use Rattle.merge_world.specs.Views.{faults_of, site_of};
 ghost use Rattle.merge_program.specs.Elsewhere.{SameAtOthers};
 ghost use Rattle.merge_program.specs.GivenBack.{AreToldBack, AscendAbove};
-ghost use Rattle.merge_program.specs.Stores.{AreEmptyStores, AreRooms, IsUnstarted, IsUnstartedAt, RoseBy, fresh_publisher, fresh_subscriber, fresh_subscribers, untold, untold_publisher};
+ghost use Rattle.merge_program.specs.Stores.{AreEmptyStores, AreRooms, IsUnstarted, IsUnstartedAt, RoseBy, fresh_publisher, fresh_subscriber, fresh_subscribers, untold_publisher, untold_subscriber};
 
 use crate::ending::{Ending, stopped, unopened};
 use merge_ports::Outside;
@@ -79,7 +79,7 @@ fn start_subscriber<E: Outside>(
     site: SiteId,
 ) -> Result<KeptSubscriber<E::Keep>, Ending>
     requires { (resolvers : ℕ) × IsValid resolvers publication.now }
-    ensures fresh { IfOk result (λ subscriber. untold subscriber ≡ fresh_subscriber publication.now site) }
+    ensures fresh { IfOk result (λ subscriber. untold_subscriber subscriber ≡ fresh_subscriber publication.now site) }
     ensures room { OnOk result (E.HasRoom outside.new site path.now) }
     ensures still { (s : Site) (p : List ℕ) → E.HasRoom outside.old s p → E.HasRoom outside.new s p }
     ensures kept { OnOk result ((E.counts outside.new).stores ≡ (E.counts outside.old).stores) }
@@ -128,7 +128,7 @@ fn start_subscribers<E: Outside>(
 ) -> Result<(), Ending>
     requires valid { (resolvers : ℕ) × IsValid resolvers publication.now }
     requires none { subscribers.old.items ≡ [] }
-    ensures fresh { OnOk result (map untold subscribers.new.items ≡ fresh_subscribers publication.now) }
+    ensures fresh { OnOk result (map untold_subscriber subscribers.new.items ≡ fresh_subscribers publication.now) }
     ensures rooms { AreRooms (E.HasRoom outside.new) path.now (map site_of subscribers.new.items) }
     ensures still { (s : Site) (p : List ℕ) → E.HasRoom outside.old s p → E.HasRoom outside.new s p }
     ensures kept { OnOk result ((E.counts outside.new).stores ≡ (E.counts outside.old).stores) }
@@ -176,7 +176,7 @@ pub fn start<E: Outside>(
 ) -> Result<(KeptPublisher<E::Keep>, Vec<KeptSubscriber<E::Keep>>), Ending>
     requires { (resolvers : ℕ) × IsValid resolvers publication.now }
     ensures publisher { IfOk result (λ sites. untold_publisher sites.0 ≡ fresh_publisher publication.now) }
-    ensures subscribers { IfOk result (λ sites. map untold sites.1.items ≡ fresh_subscribers publication.now) }
+    ensures subscribers { IfOk result (λ sites. map untold_subscriber sites.1.items ≡ fresh_subscribers publication.now) }
     ensures room { OnOk result (E.HasRoom outside.new (record { 0 = 0 }) path.now) }
     ensures rooms { IfOk result (λ sites. AreRooms (E.HasRoom outside.new) path.now (map site_of sites.1.items)) }
     ensures kept { OnOk result ((E.counts outside.new).stores ≡ (E.counts outside.old).stores) }

@@ -20,9 +20,9 @@ use Rattle.merge_model.specs.History.{History, MadeChange, made_at, no_history, 
 use Rattle.merge_model.specs.Judge.ByHistory.{by_made, by_past}
 use Rattle.merge_model.specs.Judge.{SubscriberJudge}
 use Rattle.merge_model.specs.Laws.{SubscriberIsSorted}
-use Rattle.merge_model.specs.Subscriber.Reinit.{reinitialised}
+use Rattle.merge_model.specs.Subscriber.Reinit.{result_of_reinit}
 use Rattle.merge_model.specs.Subscriber.Sending.{upload_sent, with_message}
-use Rattle.merge_model.specs.Subscriber.Taking.{taken}
+use Rattle.merge_model.specs.Subscriber.Taking.{tables_after_reply}
 use Rattle.merge_model.specs.Subscriber.{subscriber_at_moment, subscriber_closed, subscriber_last_closed, subscriber_local_refusal, subscriber_made_locally, subscriber_next_dot, subscriber_version_at, with_version_if}
 use Rattle.merge_model.specs.Tables.Changes.{key_of, version_after}
 use Rattle.merge_model.specs.Tables.Keys.{at_number}
@@ -81,7 +81,7 @@ module _ (made : List MadeChange) (c : MadeChange) (s : SubscriberTables) (at : 
   version-has now held key (Some version) there = more-by (λ (generation : ℕ). count_in generation made) (λ (generation : ℕ). count_in generation (c ∷ made)) (subscriber_last_closed s) s.gens.filling.filled few counted-here has
 
 -- A reply closes none.
-reply-has : (made : List MadeChange) (judge : SubscriberJudge) (now : Moment) (m : Reply) (s : SubscriberTables) → HasChanges made s → HasChanges made (taken judge now m s)
+reply-has : (made : List MadeChange) (judge : SubscriberJudge) (now : Moment) (m : Reply) (s : SubscriberTables) → HasChanges made s → HasChanges made (tables_after_reply judge now m s)
 reply-has made judge now (reply.Joined m) s has = has
 reply-has made judge now (reply.Uploaded m) s has = has
 reply-has made judge now (reply.Ranged m) s has = has
@@ -124,14 +124,14 @@ module _ (publication : Publication) (says : Saying) where
       (λ n x differs there. subst (λ (made : List MadeChange). HasChanges made x) (sym (made-other h c n differs)) (f n x there))
 
   anew-has : (w : World) (h : History) (s : SubscriberTables) → Closing w h → EachHasChanges w h → subscriber_at w s.site ≡ Some s
-      → (let judge : SubscriberJudge = by_made h s.site in EachHasChanges (with_subscriber (reinitialised judge (subscriber_at_moment w.moment s)).0 w) (Noting.noted_anew judge s h))
+      → (let judge : SubscriberJudge = by_made h s.site in EachHasChanges (with_subscriber (result_of_reinit judge (subscriber_at_moment w.moment s)).0 w) (Noting.noted_anew judge s h))
   anew-has w h s b f at =
       let judge : SubscriberJudge = by_made h s.site in
       let k : History = Noting.noted_anew judge s h in
       let a : Alike h k = anew-keep (λ (x : History). Alike h x) (alike-notes h) judge s h (alike-itself h) in
       let same : made_at k s.site.0 ≡ made_at h s.site.0 = a.made s.site.0 (λ zero. found-named w.subscribers s.site.0 s b.0.none at zero) in
-      subscriber-on w k s (reinitialised judge (subscriber_at_moment w.moment s)).0 refl
-      (subst (λ (made : List MadeChange). HasChanges made (reinitialised judge (subscriber_at_moment w.moment s)).0) (sym same) (closing-at w h s b f at))
+      subscriber-on w k s (result_of_reinit judge (subscriber_at_moment w.moment s)).0 refl
+      (subst (λ (made : List MadeChange). HasChanges made (result_of_reinit judge (subscriber_at_moment w.moment s)).0) (sym same) (closing-at w h s b f at))
       (alike-has w h k b a.made f)
 
   pub has-keeps : StepsKeep publication says Closing EachHasChanges
@@ -157,7 +157,7 @@ module _ (publication : Publication) (says : Saying) where
     replies = λ w h s number m sent b f at there out none. (let judge : SubscriberJudge = by_made h s.site in
         let a : Alike h (Noting.noted_reply judge s.site (pasts_with h number) m h) = reply-keep (λ (x : History). Alike h x) (alike-notes h) judge s.site (pasts_with h number) m h (alike-itself h) in
         let k : History = Noting.noted_reply judge s.site (pasts_with h number) m h in
-        let t : SubscriberTables = taken judge w.moment m s in
+        let t : SubscriberTables = tables_after_reply judge w.moment m s in
         let j : EachHasChanges w k = alike-has w h k b a.made f in
         subscriber-on w k s t (reply-site judge w.moment m s) (reply-has (made_at k s.site.0) judge w.moment m s (here-has w k s j at)) j);
   }

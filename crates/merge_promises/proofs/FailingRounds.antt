@@ -4,11 +4,11 @@ use Rattle.std.proofs.Common.{ap, inl, inr, subst, sym, ◌∙◌}
 use Rattle.merge_types.specs.declared.identifiers.SiteId.{SiteId}
 use Rattle.merge_schema.specs.declared.publication.Publication.{Publication}
 use Rattle.merge_batch.specs.declared.reply.Downloaded.{Downloaded}
-use Rattle.merge_model.specs.Failing.{Faulty, failing, faulty}
+use Rattle.merge_model.specs.Failing.{Faulty, faulty, faulty_stepping}
 use Rattle.merge_model.specs.Failing.Runs.{model_behind_actions}
 use Rattle.merge_model.specs.History.Model.{Model, model}
 use Rattle.merge_model.specs.Laws.SlipLaws.{is_slip, refused_for}
-use Rattle.merge_model.specs.World.Session.{Session, Stepping, after_download, all_downloads, all_uploads, answered_as, arrived, ask, downloaded_in, downloading, exchange, last_message, then_deliver, unsent_generations, uploading, with_answer, with_download, with_upload}
+use Rattle.merge_model.specs.World.Session.{Session, Stepping, after_download, all_downloads, all_uploads, answered_as, ask, downloaded_in, downloads_up_to, exchange, last_message, session_after_reply, then_deliver, unsent_generations, uploads_up_to, with_answer, with_download, with_upload}
 use Rattle.merge_model.specs.World.Steps.{Deliver, Send, SendDownload, SendUpload, Sending}
 use Rattle.merge_model.specs.World.{Saying}
 use Rattle.merge_model.specs.declared.outcome.Outcome.{Outcome}
@@ -18,7 +18,7 @@ use Rattle.merge_model.proofs.Runs.Alike.{BothOr}
 use Rattle.merge_laws.specs.Laws.{OfEveryValidActions}
 use Rattle.merge_laws.specs.Laws.Rounds.{AllComplete, Completes, downloaded_by, uploaded_by}
 use Rattle.merge_laws.proofs.Sessions.RoundLaw.{round-settles}
-use Rattle.merge_promises.specs.Syncs.{AllCompleteFailing, FailingRoundSettles, begun, downloaded_failing, uploaded_failing}
+use Rattle.merge_promises.specs.Syncs.{AllCompleteFailing, FailingRoundSettles, downloaded_failing, new_failing_session, uploaded_failing}
 
 -- the session of the plain model
 abbrev forgets : Session (Faulty Model) → Session Model
@@ -29,7 +29,7 @@ module _ (publication : Publication) (says : Saying) (site : SiteId) where
   plain = model publication says
 
   abbrev fails : Stepping (Faulty Model)
-  fails = failing publication (model publication says)
+  fails = faulty_stepping publication (model publication says)
 
   -- Of a step comes what comes of the plain one, or it fails.
   abbrev Agrees : Faulty Model × Outcome → Model × Outcome → Type 0
@@ -54,20 +54,20 @@ module _ (publication : Publication) (says : Saying) (site : SiteId) where
   abbrev Plainly : (Session (Faulty Model) → Session (Faulty Model)) → (Session Model → Session Model) → Type 0
   Plainly part other = (s : Session (Faulty Model)) → (part s).stop ≡ None → forgets (part s) ≡ other (forgets s)
 
-  arrives-by : (next : Session (Faulty Model) → Session (Faulty Model)) (onward : Session Model → Session Model) → Plainly next onward → (s : Session (Faulty Model)) (f : Faulty Model) (outcome : Outcome) → (arrived fails site next s (f, outcome)).stop ≡ None
-      → forgets (arrived fails site next s (f, outcome)) ≡ arrived plain site onward (forgets s) (f.world, outcome)
+  arrives-by : (next : Session (Faulty Model) → Session (Faulty Model)) (onward : Session Model → Session Model) → Plainly next onward → (s : Session (Faulty Model)) (f : Faulty Model) (outcome : Outcome) → (session_after_reply fails site next s (f, outcome)).stop ≡ None
+      → forgets (session_after_reply fails site next s (f, outcome)) ≡ session_after_reply plain site onward (forgets s) (f.world, outcome)
   arrives-by next onward each s f (Took taken) ended = each (record s { world = f }) ended
   arrives-by next onward each s f (Refuses refusal) ended = refl
   arrives-by next onward each s f outcome ended = refl
 
-  arrived-off : (next : Session (Faulty Model) → Session (Faulty Model)) (s : Session (Faulty Model)) (x : Faulty Model × Outcome) → refused_for is_slip x.1 ≡ true → (arrived fails site next s x).stop ≡ None → ⊥
+  arrived-off : (next : Session (Faulty Model) → Session (Faulty Model)) (s : Session (Faulty Model)) (x : Faulty Model × Outcome) → refused_for is_slip x.1 ≡ true → (session_after_reply fails site next s x).stop ≡ None → ⊥
   arrived-off next s (f, Refuses refusal) is ended = absurd (cc ended)
   arrived-off next s (f, outcome) is ended = absurd (cc is)
 
   arrives : (next : Session (Faulty Model) → Session (Faulty Model)) (onward : Session Model → Session Model) → Plainly next onward → (s : Session (Faulty Model)) (x : Faulty Model × Outcome) (y : Model × Outcome) → Agrees x y
-      → (arrived fails site next s x).stop ≡ None → forgets (arrived fails site next s x) ≡ arrived plain site onward (forgets s) y
-  arrives next onward each s (f, outcome) (m, other) (inl b) ended = subst (λ (k : Model). forgets (arrived fails site next s (f, outcome)) ≡ arrived plain site onward (forgets s) (k, other)) b.1
-      (subst (λ (o : Outcome). forgets (arrived fails site next s (f, outcome)) ≡ arrived plain site onward (forgets s) (f.world, o)) b.0 (arrives-by next onward each s f outcome ended))
+      → (session_after_reply fails site next s x).stop ≡ None → forgets (session_after_reply fails site next s x) ≡ session_after_reply plain site onward (forgets s) y
+  arrives next onward each s (f, outcome) (m, other) (inl b) ended = subst (λ (k : Model). forgets (session_after_reply fails site next s (f, outcome)) ≡ session_after_reply plain site onward (forgets s) (k, other)) b.1
+      (subst (λ (o : Outcome). forgets (session_after_reply fails site next s (f, outcome)) ≡ session_after_reply plain site onward (forgets s) (f.world, o)) b.0 (arrives-by next onward each s f outcome ended))
   arrives next onward each s x y (inr is) ended = absurd (arrived-off next s x is ended)
 
   -- an exchange, whose answer is counted
@@ -76,7 +76,7 @@ module _ (publication : Publication) (says : Saying) (site : SiteId) where
         → forgets (answered_as fails site counted next s (f, outcome)) ≡ answered_as plain site counts onward (forgets s) (f.world, outcome)
     answers-by s f (Posted number) ended =
         arrives next onward each (counted (record s { world = f })) (fails.act f (Deliver number)) (plain.act f.world (Deliver number)) (acts-or publication plain f f.world (Deliver number) refl) ended
-        ∙ ap (λ (t : Session Model). arrived plain site onward t (plain.act f.world (Deliver number))) (counting (record s { world = f }))
+        ∙ ap (λ (t : Session Model). session_after_reply plain site onward t (plain.act f.world (Deliver number))) (counting (record s { world = f }))
     answers-by s f (Refuses refusal) ended = refl
     answers-by s f outcome ended = refl
 
@@ -94,9 +94,9 @@ module _ (publication : Publication) (says : Saying) (site : SiteId) where
 
   -- Uploads.
 
-  uploading-plain : (count : ℕ) → Plainly (uploading fails site count) (uploading plain site count)
+  uploading-plain : (count : ℕ) → Plainly (uploads_up_to fails site count) (uploads_up_to plain site count)
   uploading-plain zero s ended = refl
-  uploading-plain (suc count) s ended = exchanges (with_upload fails site) (uploading fails site count) (with_upload plain site) (uploading plain site count) (λ t. refl) (uploading-plain count) SendUpload s ended
+  uploading-plain (suc count) s ended = exchanges (with_upload fails site) (uploads_up_to fails site count) (with_upload plain site) (uploads_up_to plain site count) (λ t. refl) (uploading-plain count) SendUpload s ended
 
   uploads-all : Plainly (all_uploads fails site) (all_uploads plain site)
   uploads-all s ended = uploading-plain (unsent_generations plain site s.world.world) s ended
@@ -122,20 +122,20 @@ module _ (publication : Publication) (says : Saying) (site : SiteId) where
   chosen true s x y each = λ ended. refl
   chosen false s x y each = each
 
-  downloading-plain : (count target : ℕ) → Plainly (downloading fails site count target) (downloading plain site count target)
+  downloading-plain : (count target : ℕ) → Plainly (downloads_up_to fails site count target) (downloads_up_to plain site count target)
   downloading-plain zero target s ended = refl
   downloading-plain (suc count) target s ended =
-      let one : Downloaded → Session (Faulty Model) → Session (Faulty Model) = λ (m : Downloaded) (t : Session (Faulty Model)). if nat_le target m.from then t else downloading fails site count target t in
-      let other : Downloaded → Session Model → Session Model = λ (m : Downloaded) (t : Session Model). if nat_le target m.from then t else downloading plain site count target t in
+      let one : Downloaded → Session (Faulty Model) → Session (Faulty Model) = λ (m : Downloaded) (t : Session (Faulty Model)). if nat_le target m.from then t else downloads_up_to fails site count target t in
+      let other : Downloaded → Session Model → Session Model = λ (m : Downloaded) (t : Session Model). if nat_le target m.from then t else downloads_up_to plain site count target t in
       exchanges (with_answer fails site) (after_download fails site one) (with_answer plain site) (after_download plain site other) answer-counts
-      (goes-on one other (λ m t. chosen (nat_le target m.from) t (downloading fails site count target t) (downloading plain site count target (forgets t)) (downloading-plain count target t))) SendDownload s ended
+      (goes-on one other (λ m t. chosen (nat_le target m.from) t (downloads_up_to fails site count target t) (downloads_up_to plain site count target (forgets t)) (downloading-plain count target t))) SendDownload s ended
 
   downloads-all : Plainly (all_downloads fails site) (all_downloads plain site)
   downloads-all s ended =
-      let one : Downloaded → Session (Faulty Model) → Session (Faulty Model) = λ (m : Downloaded) (t : Session (Faulty Model)). if nat_le m.last m.from then t else downloading fails site (m.last + 1 - m.from) m.last t in
-      let other : Downloaded → Session Model → Session Model = λ (m : Downloaded) (t : Session Model). if nat_le m.last m.from then t else downloading plain site (m.last + 1 - m.from) m.last t in
+      let one : Downloaded → Session (Faulty Model) → Session (Faulty Model) = λ (m : Downloaded) (t : Session (Faulty Model)). if nat_le m.last m.from then t else downloads_up_to fails site (m.last + 1 - m.from) m.last t in
+      let other : Downloaded → Session Model → Session Model = λ (m : Downloaded) (t : Session Model). if nat_le m.last m.from then t else downloads_up_to plain site (m.last + 1 - m.from) m.last t in
       exchanges (with_answer fails site) (after_download fails site one) (with_answer plain site) (after_download plain site other) answer-counts
-      (goes-on one other (λ m t. chosen (nat_le m.last m.from) t (downloading fails site (m.last + 1 - m.from) m.last t) (downloading plain site (m.last + 1 - m.from) m.last (forgets t)) (downloading-plain (m.last + 1 - m.from) m.last t))) SendDownload s ended
+      (goes-on one other (λ m t. chosen (nat_le m.last m.from) t (downloads_up_to fails site (m.last + 1 - m.from) m.last t) (downloads_up_to plain site (m.last + 1 - m.from) m.last (forgets t)) (downloading-plain (m.last + 1 - m.from) m.last t))) SendDownload s ended
 
 -- So it is of one site after the other.
 module _ (part : SiteId → Faulty Model → Session (Faulty Model)) (plainly : SiteId → Model → Session Model) (agree : (site : SiteId) (f : Faulty Model) → (part site f).stop ≡ None → forgets (part site f) ≡ plainly site f.world) where
@@ -149,5 +149,5 @@ module _ (part : SiteId → Faulty Model → Session (Faulty Model)) (plainly : 
 pub failing-rounds : OfEveryValidActions FailingRoundSettles
 failing-rounds resolvers publication valid says tallies slips actions later uploading downloading sent done up down first second =
     round-settles resolvers publication valid says tallies slips actions uploading downloading sent.world done.world up down
-    (all-complete (uploaded_failing publication says) (uploaded_by publication says) (λ site f ended. uploads-all publication says site (begun f) ended) uploading (faulty (model_behind_actions publication says tallies slips actions) later) sent first)
-    (all-complete (downloaded_failing publication says) (downloaded_by publication says) (λ site f ended. downloads-all publication says site (begun f) ended) downloading sent done second)
+    (all-complete (uploaded_failing publication says) (uploaded_by publication says) (λ site f ended. uploads-all publication says site (new_failing_session f) ended) uploading (faulty (model_behind_actions publication says tallies slips actions) later) sent first)
+    (all-complete (downloaded_failing publication says) (downloaded_by publication says) (λ site f ended. downloads-all publication says site (new_failing_session f) ended) downloading sent done second)

@@ -3,7 +3,7 @@ use Rattle.std.specs.Prelude.{List, None, [], false, refl, true, ℕ, ◌∷◌,
 use Rattle.std.proofs.Common.{ap, inl, inr, subst, sym, ◌∙◌}
 use Rattle.merge_types.specs.declared.identifiers.SiteId.{SiteId}
 use Rattle.merge_schema.specs.declared.publication.Publication.{Publication}
-use Rattle.merge_model.specs.Failing.{Faulty, failing, faulty}
+use Rattle.merge_model.specs.Failing.{Faulty, faulty, faulty_stepping}
 use Rattle.merge_model.specs.Failing.Runs.{model_behind}
 use Rattle.merge_model.specs.History.Model.{Model, model}
 use Rattle.merge_model.specs.Laws.SlipLaws.{is_slip}
@@ -18,8 +18,8 @@ use Rattle.merge_promises.proofs.SyncLaw.{two-rounds}
 
 -- the passing of time does not fail, and what is seen of a world is seen of the one in it
 module _ {W : Type 0} (publication : Publication) (stepping : Stepping W) where
-  passes : (f : Faulty W) (w : W) (seconds : ℕ) → Same publication stepping f w → Both (Same publication stepping) ((failing publication stepping).act f (Pass seconds)) (stepping.act w (Pass seconds))
-  passes f w seconds same = subst (λ (v : W). Both (Same publication stepping) ((failing publication stepping).act f (Pass seconds)) (stepping.act v (Pass seconds))) same (refl, refl)
+  passes : (f : Faulty W) (w : W) (seconds : ℕ) → Same publication stepping f w → Both (Same publication stepping) ((faulty_stepping publication stepping).act f (Pass seconds)) (stepping.act w (Pass seconds))
+  passes f w seconds same = subst (λ (v : W). Both (Same publication stepping) ((faulty_stepping publication stepping).act f (Pass seconds)) (stepping.act v (Pass seconds))) same (refl, refl)
 
   looks : (f : Faulty W) (w : W) → Same publication stepping f w → stepping.look f.world ≡ stepping.look w
   looks f w same = ap (λ (v : W). stepping.look v) same
@@ -33,7 +33,7 @@ module _ (publication : Publication) (says : Saying) where
   is-plain : (site : SiteId) (f : Faulty Model) → (synced_failing publication says site f).stop ≡ None → IsPlain site f
   is-plain site f ended =
       let plainly : Stepping Model = model publication says in
-      elim (session-alike (failing publication plainly) plainly (Same publication plainly) is_slip (acts-or publication plainly) (passes publication plainly) (looks publication plainly) site f f.world refl) [
+      elim (session-alike (faulty_stepping publication plainly) plainly (Same publication plainly) is_slip (acts-or publication plainly) (passes publication plainly) (looks publication plainly) site f f.world refl) [
         | inl alike ↦ record { world = alike.world; ended = sym alike.stop ∙ ended }
         | inr slipped ↦ (let never : false ≡ true = ap (stops_off is_slip) (sym ended) ∙ slipped in absurd (cc never))
       ]

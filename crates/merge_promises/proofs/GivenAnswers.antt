@@ -9,7 +9,7 @@ use Rattle.merge_units.specs.declared.case.Case.{Case}
 use Rattle.merge_units.specs.declared.result.Decision.{Decision}
 use Rattle.merge_units.specs.declared.result.Decision.TheVariants.{KeepPublisher}
 use Rattle.merge_units.specs.declared.site_row.PublisherRow.{PublisherRow}
-use Rattle.merge_resolve.specs.Asked.{decisions_of, raised}
+use Rattle.merge_resolve.specs.Asked.{decisions_of, tallies_after_question}
 use Rattle.merge_resolve.specs.Questions.{question_asked, question_of as asked_of}
 use Rattle.merge_resolve.specs.declared.asking.Question.{Question}
 use Rattle.merge_schema.specs.declared.publication.Publication.{Publication}
@@ -27,7 +27,7 @@ use Rattle.merge_promises.specs.Given.{DecisionsAreAnswers, decided_by, decided_
 
 answers-length : (says : Saying) (tallies : List ℕ) (questions : List Question) → length (decisions_of says tallies (map asked_of questions)) ≡ length questions
 answers-length says tallies [] = refl
-answers-length says tallies (question ∷ questions) = ap (λ (n : ℕ). suc n) (answers-length says (raised tallies question.place) questions)
+answers-length says tallies (question ∷ questions) = ap (λ (n : ℕ). suc n) (answers-length says (tallies_after_question tallies question.place) questions)
 
 zipped-length : (questions : List Question) (answers : List (Option Decision)) → length answers ≡ length questions → length (map kept_decision (zip questions answers)) ≡ length questions
 zipped-length [] answers even = refl

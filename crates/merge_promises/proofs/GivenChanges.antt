@@ -29,7 +29,7 @@ use Rattle.merge_batch.specs.LocalChanges.{change_refusal, key_of, lives, new_va
 use Rattle.merge_batch.specs.declared.refusal.Refusal.{Refusal}
 use Rattle.merge_batch.specs.declared.refusal.Refusal.TheVariants.{UnknownSite}
 use Rattle.merge_model.specs.Judge.{PublisherJudge}
-use Rattle.merge_model.specs.Publisher.PublisherLocal.{Drawn, changing_locally, drawn, local, local_refusal, made_locally, next_dot, version_at, with_draw}
+use Rattle.merge_model.specs.Publisher.PublisherLocal.{Drawn, changing_locally, draw_for_change, local, local_refusal, made_locally, next_dot, version_at, with_draw}
 use Rattle.merge_model.specs.Publisher.{at_moment, counters}
 use Rattle.merge_model.specs.Subscriber.{generations_at, is_joining, subscriber_at_moment, subscriber_counters, subscriber_drawn, subscriber_last_closed, subscriber_local, subscriber_local_refusal, subscriber_made_locally, subscriber_next_dot, subscriber_version_at, with_open, with_version_if}
 use Rattle.merge_model.specs.Tables.Keys.{at_number, put_number, same_key}
@@ -222,7 +222,7 @@ module _ (publication : Publication) (change : Change) where
         let refused = first-none (change_refusal publication dot change held (length p.rows)) _ counted.1 in
         found-row publication dot change held (length p.rows) refused.0
 
-    gives-here : (d : Drawn) → drawn publication p change ≡ Ok d → local_refusal publication change p ≡ None → GivesHere publication change p (made_locally publication judge change d (at_moment now p)).0
+    gives-here : (d : Drawn) → draw_for_change publication p change ≡ Ok d → local_refusal publication change p ≡ None → GivesHere publication change p (made_locally publication judge change d (at_moment now p)).0
     gives-here d draws fine =
         let none : no_row change held ≡ None = row-found fine in
         record {
@@ -234,14 +234,14 @@ module _ (publication : Publication) (change : Change) where
     abbrev drawn_local : Result Drawn Refusal → Result (PublisherTables × RowId) Refusal
     drawn_local draw = elim draw [ Err why ↦ Err why | Ok d ↦ Ok (made_locally publication judge change d (at_moment now p)) ]
 
-    drawn-gives : (draw : Result Drawn Refusal) → drawn publication p change ≡ draw → local_refusal publication change p ≡ None → IfOk (drawn_local draw) (λ done. GivesHere publication change p done.0)
+    drawn-gives : (draw : Result Drawn Refusal) → draw_for_change publication p change ≡ draw → local_refusal publication change p ≡ None → IfOk (drawn_local draw) (λ done. GivesHere publication change p done.0)
     drawn-gives (Err why) at fine = tt
     drawn-gives (Ok d) at fine = gives-here d at fine
 
     local-gives : (refusal : Option Refusal) → local_refusal publication change p ≡ refusal
-        → (let done : Result (PublisherTables × RowId) Refusal = elim refusal [ Some why ↦ Err why | None ↦ drawn_local (drawn publication p change) ] in IfOk done (λ a. GivesHere publication change p a.0))
+        → (let done : Result (PublisherTables × RowId) Refusal = elim refusal [ Some why ↦ Err why | None ↦ drawn_local (draw_for_change publication p change) ] in IfOk done (λ a. GivesHere publication change p a.0))
     local-gives (Some why) fine = tt
-    local-gives None fine = drawn-gives (drawn publication p change) refl fine
+    local-gives None fine = drawn-gives (draw_for_change publication p change) refl fine
 
     pub local-given : IfOk (local publication judge now change p) (λ done. GivesHere publication change p done.0)
     local-given = local-gives (local_refusal publication change p) refl

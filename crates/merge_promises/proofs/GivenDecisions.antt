@@ -25,7 +25,7 @@ use Rattle.merge_batch.specs.declared.request.Upload.{Upload}
 use Rattle.merge_model.specs.Judge.{PublisherJudge}
 use Rattle.merge_model.specs.Publisher.Acts.{Act, Fate, Met, New, Unknown, acts_of, version_by, version_of_act, versions_of}
 use Rattle.merge_model.specs.Publisher.PublisherLocal.{version_at}
-use Rattle.merge_model.specs.Publisher.PublisherUpload.{brings_news, changing_by, taken_in, upload, upload_refusal, uploaded, with_acts}
+use Rattle.merge_model.specs.Publisher.PublisherUpload.{brings_news, changing_by, tables_after_upload, taken_in, upload, upload_refusal, with_acts}
 use Rattle.merge_model.specs.Publisher.{at_moment}
 use Rattle.merge_model.specs.Tables.Keys.{same_key}
 use Rattle.merge_model.specs.Tables.Refusals.{unless}
@@ -154,7 +154,7 @@ module _ (publication : Publication) (says : Saying) (judge : PublisherJudge) (w
   Holds q = brings_news judge m ≡ true → AllGive acts q
 
   upload-gives : (why : Option Refusal) → upload_refusal publication judge w.moment m w.publisher ≡ why
-      → (let done : Result (PublisherTables × Uploaded) Refusal = unless why (uploaded publication judge m decisions here, told_by judge m) in IfOk done (λ a. Holds a.0))
+      → (let done : Result (PublisherTables × Uploaded) Refusal = unless why (tables_after_upload publication judge m decisions here, told_by judge m) in IfOk done (λ a. Holds a.0))
   upload-gives (Some why) is = tt
   upload-gives None is = λ news. news-give (brings_news judge m) news (acts-apart publication judge w.moment m decisions w.publisher here is)
 

@@ -4,7 +4,7 @@ use Rattle.std.specs.Prelude.{List, [], refl, ◌++◌, ◌≡◌, ◌⊎◌, �
 use Rattle.std.proofs.Common.{ap, append_assoc, inl, inr, subst, sym, ◌∙◌}
 use Rattle.merge_schema.specs.Valid.{IsValid}
 use Rattle.merge_schema.specs.declared.publication.Publication.{Publication}
-use Rattle.merge_model.specs.Failing.{Faulty, failing, fails, faulty}
+use Rattle.merge_model.specs.Failing.{Faulty, fails, faulty, faulty_stepping}
 use Rattle.merge_model.specs.History.{LeftFor, Line}
 use Rattle.merge_model.specs.History.Model.{Model, empty_model, model}
 use Rattle.merge_model.specs.World.Steps.{Action}
@@ -17,7 +17,7 @@ use Rattle.merge_laws.proofs.LastLines.LastLineAdded.{added}
 use Rattle.merge_laws.proofs.Received.Models.{model-fine, received-always}
 use Rattle.merge_laws.proofs.Runs.Tallied.{received-tallied}
 use Rattle.merge_laws.specs.Laws.Effects.{behind_actions}
-use Rattle.merge_owed.specs.Purged.{behind}
+use Rattle.merge_owed.specs.Purged.{model_behind_events}
 use Rattle.merge_promises.specs.Leavings.{ActionLeavingsWereSeen, LeavingsWereSeen, RunLeavingsWereSeen, WasSeen, WasSeenByActions}
 use Rattle.merge_promises.proofs.LeavingSteps.{Adds, SeenLine, fails-add}
 
@@ -73,7 +73,7 @@ module _ (resolvers : ℕ) (publication : Publication) (valid : IsValid resolver
   received-next : (f : Faulty Model) (action : Action) → OfReceived f.world → OfReceived (Next f action).world
   received-next f action r = fails-keep publication (model publication says) OfReceived (λ m act of. model-fine publication says m act of) (λ m others of. received-tallied m.world others m.history of) f action r
 
-  received-event : (f : Faulty Model) (e : Event) → OfReceived f.world → OfReceived (behind publication says f (e ∷ [])).world
+  received-event : (f : Faulty Model) (e : Event) → OfReceived f.world → OfReceived (model_behind_events publication says f (e ∷ [])).world
   received-event f e r = runs-keep publication (model publication says) OfReceived (λ m act of. model-fine publication says m act of) (λ m others of. received-tallied m.world others m.history of) (e ∷ []) f r
 
   -- Behind one action.
@@ -142,7 +142,7 @@ module _ (resolvers : ℕ) (publication : Publication) (valid : IsValid resolver
 
   -- And of events.
 
-  in-event : (Seen : List Line → Line → ℕ → Type 0) (f : Faulty Model) (e : Event) (events : List Event) (steps : List Action) → behind_actions publication says f steps ≡ behind publication says f (e ∷ []) → (older : List Line) (line : Line) (site : ℕ)
+  in-event : (Seen : List Line → Line → ℕ → Type 0) (f : Faulty Model) (e : Event) (events : List Event) (steps : List Action) → behind_actions publication says f steps ≡ model_behind_events publication says f (e ∷ []) → (older : List Line) (line : Line) (site : ℕ)
       → SeenOr publication says Seen f steps older line site → SeenIn publication says Seen f (e ∷ events) older line site
   in-event Seen f e events steps are older line site (inl seen) = inl seen
   in-event Seen f e events steps are older line site (inr was) = inr (record {
@@ -155,14 +155,14 @@ module _ (resolvers : ℕ) (publication : Publication) (valid : IsValid resolver
     seen = was;
   })
 
-  one-event : (Seen : List Line → Line → ℕ → Type 0) (f : Faulty Model) (e : Event) (events : List Event) → OfReceived f.world → AllSeen Seen f.world → AllSeen (SeenIn publication says Seen f (e ∷ events)) (behind publication says f (e ∷ [])).world
+  one-event : (Seen : List Line → Line → ℕ → Type 0) (f : Faulty Model) (e : Event) (events : List Event) → OfReceived f.world → AllSeen Seen f.world → AllSeen (SeenIn publication says Seen f (e ∷ events)) (model_behind_events publication says f (e ∷ [])).world
   one-event Seen f e events r all =
-      let made : (steps : List Action) × (behind_actions publication says f steps ≡ behind publication says f (e ∷ [])) = events-are-actions (failing publication (model publication says)) publication (e ∷ []) f in
+      let made : (steps : List Action) × (behind_actions publication says f steps ≡ model_behind_events publication says f (e ∷ [])) = events-are-actions (faulty_stepping publication (model publication says)) publication (e ∷ []) f in
       subst (λ (g : Faulty Model). AllSeen (SeenIn publication says Seen f (e ∷ events)) g.world) made.1
       (more-seen (SeenOr publication says Seen f made.0) (SeenIn publication says Seen f (e ∷ events)) (behind_actions publication says f made.0).world (in-event Seen f e events made.0 made.1) (seen-actions made.0 Seen f r all))
 
   later-in : (f : Faulty Model) (e : Event) (events : List Event) (older : List Line) (line : Line) (site : ℕ)
-      → WasSeen publication says (behind publication says f (e ∷ [])) events older line site → WasSeen publication says f (e ∷ events) older line site
+      → WasSeen publication says (model_behind_events publication says f (e ∷ [])) events older line site → WasSeen publication says f (e ∷ events) older line site
   later-in f e events older line site was = record {
     before = e ∷ was.before;
     one = was.one;
@@ -174,16 +174,16 @@ module _ (resolvers : ℕ) (publication : Publication) (valid : IsValid resolver
   }
 
   or-later-event : (Seen : List Line → Line → ℕ → Type 0) (f : Faulty Model) (e : Event) (events : List Event) (older : List Line) (line : Line) (site : ℕ)
-      → SeenIn publication says (SeenIn publication says Seen f (e ∷ events)) (behind publication says f (e ∷ [])) events older line site → SeenIn publication says Seen f (e ∷ events) older line site
+      → SeenIn publication says (SeenIn publication says Seen f (e ∷ events)) (model_behind_events publication says f (e ∷ [])) events older line site → SeenIn publication says Seen f (e ∷ events) older line site
   or-later-event Seen f e events older line site (inl seen) = seen
   or-later-event Seen f e events older line site (inr was) = inr (later-in f e events older line site was)
 
-  seen-events : (events : List Event) (Seen : List Line → Line → ℕ → Type 0) (f : Faulty Model) → OfReceived f.world → AllSeen Seen f.world → AllSeen (SeenIn publication says Seen f events) (behind publication says f events).world
+  seen-events : (events : List Event) (Seen : List Line → Line → ℕ → Type 0) (f : Faulty Model) → OfReceived f.world → AllSeen Seen f.world → AllSeen (SeenIn publication says Seen f events) (model_behind_events publication says f events).world
   seen-events [] Seen f r all = more-seen Seen (SeenIn publication says Seen f []) f.world (λ older line site seen. inl seen) all
   seen-events (e ∷ events) Seen f r all =
       let Then : List Line → Line → ℕ → Type 0 = SeenIn publication says Seen f (e ∷ events) in
-      let g : Faulty Model = behind publication says f (e ∷ []) in
-      more-seen (SeenIn publication says Then g events) Then (behind publication says g events).world (or-later-event Seen f e events)
+      let g : Faulty Model = model_behind_events publication says f (e ∷ []) in
+      more-seen (SeenIn publication says Then g events) Then (model_behind_events publication says g events).world (or-later-event Seen f e events)
       (seen-events events Then g (received-event f e r) (one-event Seen f e events r all))
 
 -- The laws.
@@ -205,6 +205,6 @@ seen-by-actions resolvers publication valid says tallies slips actions =
 pub seen-always : RunLeavingsWereSeen
 seen-always resolvers publication valid says tallies slips events =
     let start : Faulty Model = faulty (empty_model publication tallies) slips in
-    seen-cut (WasSeen publication says start events) (behind publication says start events).world
-    (more-seen (SeenIn publication says Nothing start events) (WasSeen publication says start events) (behind publication says start events).world (λ older line site seen. never-or seen)
+    seen-cut (WasSeen publication says start events) (model_behind_events publication says start events).world
+    (more-seen (SeenIn publication says Nothing start events) (WasSeen publication says start events) (model_behind_events publication says start events).world (λ older line site seen. never-or seen)
     (seen-events resolvers publication valid says events Nothing start (received-always publication says tallies [] []) tt))

@@ -32,8 +32,8 @@ use Rattle.merge_model.specs.Judge.{PublisherJudge}
 use Rattle.merge_model.specs.Publisher.Acts.{Act, acting_items, acts_of, key_of_item}
 use Rattle.merge_model.specs.Publisher.Entries.{Changing, Entries, changed_by, changing_entries}
 use Rattle.merge_model.specs.Publisher.PublisherJoin.{join_acts}
-use Rattle.merge_model.specs.Publisher.PublisherLocal.{Drawn, changing_locally, drawn, local_refusal, made_locally, next_dot, with_draw}
-use Rattle.merge_model.specs.Publisher.PublisherUpload.{brings_news, changing_by, taken_in, upload_refusal, uploaded, with_acts}
+use Rattle.merge_model.specs.Publisher.PublisherLocal.{Drawn, changing_locally, draw_for_change, local_refusal, made_locally, next_dot, with_draw}
+use Rattle.merge_model.specs.Publisher.PublisherUpload.{brings_news, changing_by, tables_after_upload, taken_in, upload_refusal, with_acts}
 use Rattle.merge_model.specs.Publisher.{at_moment, last_closed}
 use Rattle.merge_model.specs.Subscriber.{subscriber_drawn, subscriber_last_closed, subscriber_next_dot}
 use Rattle.merge_model.specs.Tables.Keys.{at_number, has_key, put_number}
@@ -97,7 +97,7 @@ or-none false true is = absurd cc
 or-none false false is = absurd cc
 
 -- a draw asks for no moment
-draw-later : (publication : Publication) (now : Moment) (p : PublisherTables) (change : Change) → drawn publication (at_moment now p) change ≡ drawn publication p change
+draw-later : (publication : Publication) (now : Moment) (p : PublisherTables) (change : Change) → draw_for_change publication (at_moment now p) change ≡ draw_for_change publication p change
 draw-later publication now p (Insert article values) = refl
 draw-later publication now p (Update article row values) = refl
 draw-later publication now p (Delete article row) = refl
@@ -222,14 +222,14 @@ module _ (resolvers : ℕ) (publication : Publication) (valid : IsValid resolver
       → (let judge : PublisherJudge = by_past m.history (pasts_with m.history 0) in
       let done : Result (PublisherTables × RowId) Refusal = elim refusal [
         | Some why ↦ Err why
-        | None ↦ elim (drawn publication w.publisher change) [ Err why ↦ Err why | Ok d ↦ Ok (made_locally publication judge change d (here w)) ]
+        | None ↦ elim (draw_for_change publication w.publisher change) [ Err why ↦ Err why | Ok d ↦ Ok (made_locally publication judge change d (here w)) ]
       ] in
-      let new : History = elim (drawn publication w.publisher change) [ Err why ↦ m.history | Ok d ↦ own_noted publication judge change d (here w) m.history ] in
+      let new : History = elim (draw_for_change publication w.publisher change) [ Err why ↦ m.history | Ok d ↦ own_noted publication judge change d (here w) m.history ] in
       After action (unless_refused w done (λ (made : PublisherTables × RowId). (with_publisher made.0 w, Made made.1))) new)
   own-refused action change (Some why) =
       let judge : PublisherJudge = by_past m.history (pasts_with m.history 0) in
-      refused action why (let new : History = elim (drawn publication w.publisher change) [ Err reason ↦ m.history | Ok d ↦ own_noted publication judge change d (here w) m.history ] in new)
-  own-refused action change None = own-drawn action change (drawn publication w.publisher change)
+      refused action why (let new : History = elim (draw_for_change publication w.publisher change) [ Err reason ↦ m.history | Ok d ↦ own_noted publication judge change d (here w) m.history ] in new)
+  own-refused action change None = own-drawn action change (draw_for_change publication w.publisher change)
 
   own-after : (action : Action) (change : Change) → After action (make_at_publisher publication judges change w) (Noting.noted_at_publisher publication (by_past m.history (pasts_with m.history 0)) change (here w) m.history)
   own-after action change =
@@ -328,12 +328,12 @@ module _ (resolvers : ℕ) (publication : Publication) (valid : IsValid resolver
 
   upload-after : (number : ℕ) (from : SiteId) (u : Upload) (decisions : List Decision) (refusal : Option Refusal) → IsUpload m number u.site u
       → (let judge : PublisherJudge = history_judge m number in
-      let made : PublisherTables × Uploaded = (uploaded publication judge u decisions (here w), record { seq = u.seq; received = max u.to (judge.received u.site.0) }) in
+      let made : PublisherTables × Uploaded = (tables_after_upload publication judge u decisions (here w), record { seq = u.seq; received = max u.to (judge.received u.site.0) }) in
       After (Deliver number) (after_upload publication says judge from u w (unless refusal made)) (Noting.noted_upload publication judge u decisions (pasts_with m.history number) (here w) m.history))
   upload-after number from u decisions (Some why) sent = refused (Deliver number) why (Noting.noted_upload publication (history_judge m number) u decisions (pasts_with m.history number) (here w) m.history)
   upload-after number from u decisions None sent =
       let judge : PublisherJudge = history_judge m number in
-      let made : PublisherTables × Uploaded = (uploaded publication judge u decisions (here w), record { seq = u.seq; received = max u.to (judge.received u.site.0) }) in
+      let made : PublisherTables × Uploaded = (tables_after_upload publication judge u decisions (here w), record { seq = u.seq; received = max u.to (judge.received u.site.0) }) in
       after-adds (Deliver number) (after_upload publication says judge from u w (Ok made)) (Noting.noted_upload publication judge u decisions (pasts_with m.history number) (here w) m.history)
       (news-adds number u decisions (brings_news judge u) sent refl)
 

@@ -9,7 +9,7 @@ use Rattle.merge_types.specs.declared.row_key.RowKey.{RowKey as Key}
 use Rattle.merge_units.specs.declared.result.Decision.{Decision}
 use Rattle.merge_ident.specs.Holders.{Holder}
 use Rattle.merge_ident.specs.declared.grants.GrantPlan.{GrantPlan}
-use Rattle.merge_gens.specs.Filling.{closed as closed_filling}
+use Rattle.merge_gens.specs.Filling.{filling_after_close as closed_filling}
 use Rattle.merge_gens.specs.declared.filling.Filling.{Filling}
 use Rattle.merge_schema.specs.declared.publication.Publication.{Publication}
 use Rattle.merge_batch.specs.Replies.{broken_by_reply}
@@ -34,20 +34,20 @@ use Rattle.merge_model.specs.History.Model.{Model, model, model_step}
 use Rattle.merge_model.specs.Judge.ByHistory.{by_history}
 use Rattle.merge_model.specs.Judge.{PublisherJudge, SubscriberJudge}
 use Rattle.merge_model.specs.Publisher.Acts.{acts_of}
-use Rattle.merge_model.specs.Publisher.PublisherDownload.{asked, download_refusal, reply_to}
-use Rattle.merge_model.specs.Publisher.PublisherJoin.{join_acts, join_refusal, join_taken, joined}
+use Rattle.merge_model.specs.Publisher.PublisherDownload.{download_refusal, reply_to, tables_after_download}
+use Rattle.merge_model.specs.Publisher.PublisherJoin.{join_acts, join_refusal, join_taken, tables_after_join}
 use Rattle.merge_model.specs.Publisher.PublisherPurge.{purge}
-use Rattle.merge_model.specs.Publisher.PublisherRanges.{plans, ranged, ranges_refusal, with_grants}
-use Rattle.merge_model.specs.Publisher.PublisherUpload.{brings_news, taken_in, upload_refusal, uploaded}
-use Rattle.merge_model.specs.Publisher.{at_moment, closed, counters, last_closed}
+use Rattle.merge_model.specs.Publisher.PublisherRanges.{plans, ranges_refusal, reply_to_ranges, with_grants}
+use Rattle.merge_model.specs.Publisher.PublisherUpload.{brings_news, tables_after_upload, taken_in, upload_refusal}
+use Rattle.merge_model.specs.Publisher.{at_moment, counters, last_closed, tables_after_close}
 use Rattle.merge_model.specs.Subscriber.Sending.{join_made, join_of, ranges_made, sending_refusal, unsent_rows, upload_made, upload_sent, want_of, with_message}
-use Rattle.merge_model.specs.Subscriber.Taking.{met_by, seq_of, taken}
+use Rattle.merge_model.specs.Subscriber.Taking.{met_by, seq_of, tables_after_reply}
 use Rattle.merge_model.specs.Subscriber.{subscriber_at_moment, subscriber_closed, subscriber_counters}
 use Rattle.merge_model.specs.Tables.Keys.{at_number}
 use Rattle.merge_model.specs.Tables.Refusals.{counter_end, unless}
 use Rattle.merge_model.specs.Tables.{PublisherTables, SubscriberTables}
 use Rattle.merge_model.specs.World.Faults.{reply_fault}
-use Rattle.merge_model.specs.World.Steps.{Action, CloseAt, Deliver, Forget, Look, Make, MakeAnew, Pass, Send, SendDownload, SendJoin, SendRanges, SendUpload, Sending, at_subscriber, close_publisher, close_subscriber, deliver_letter, deliver_reply, deliver_request, kept_decisions, post, posted, send_from, step_by, unless_refused, upload_questions}
+use Rattle.merge_model.specs.World.Steps.{Action, CloseAt, Deliver, Forget, Look, Make, MakeAnew, Pass, Send, SendDownload, SendJoin, SendRanges, SendUpload, Sending, at_subscriber, close_publisher, close_subscriber, deliver_letter, deliver_reply, deliver_request, kept_decisions, post, post_if_made, send_from, step_by, unless_refused, upload_questions}
 use Rattle.merge_model.specs.World.{Judges, Saying, World, letter_at, subscriber_at, with_publisher, with_subscriber}
 use Rattle.merge_model.specs.declared.letter.Letter.{Letter}
 use Rattle.merge_model.specs.declared.letter.Message.{Message}
@@ -108,7 +108,7 @@ is-ask publication (ask.Upload from to) m s none = absurd (grind (arith, none))
 
 module _ (s : SubscriberTables) (asked_from : (seq from : ℕ) → s.outstanding ≡ Some (seq, ask.Download from) → from ≡ s.watermark) (knows : (seq from to : ℕ) → s.outstanding ≡ Some (seq, ask.Upload from to) → s.received ≤ to) where
   -- what a reply that acts leaves
-  taken-rises : (publication : Publication) (judge : SubscriberJudge) (now : Moment) (seq : ℕ) (sent : Outstanding) (m : Reply) → s.outstanding ≡ Some (seq, sent) → reply_fault publication sent m s ≡ None → Rises s (taken judge now m s)
+  taken-rises : (publication : Publication) (judge : SubscriberJudge) (now : Moment) (seq : ℕ) (sent : Outstanding) (m : Reply) → s.outstanding ≡ Some (seq, sent) → reply_fault publication sent m s ≡ None → Rises s (tables_after_reply judge now m s)
   taken-rises publication judge now seq sent (reply.Joined m) out none = record { joined = λ joins. refl; received = omega arith; watermark = omega arith }
   taken-rises publication judge now seq sent (reply.Uploaded m) out none = record { joined = λ joins. joins; received = uploaded-least publication sent m s seq none out knows; watermark = omega arith }
   taken-rises publication judge now seq sent (reply.Ranged m) out none = record { joined = λ joins. joins; received = omega arith; watermark = omega arith }
@@ -168,8 +168,8 @@ module _ (publication : Publication) (says : Saying) (m : Model) (g : Ground pub
   -- Closings.
 
   publisher-closes : Ends (close_publisher w).0
-  publisher-closes = unless-ends (counter_end (counters p)) (closed here, last_closed (closed here)) (λ (done : PublisherTables × ℕ). (with_publisher done.0 w, Closes done.1))
-      (still-ends (closed here) (λ silent empty. (filling-closed p.gens.filling, closed-still p.gens.filling empty)))
+  publisher-closes = unless-ends (counter_end (counters p)) (tables_after_close here, last_closed (tables_after_close here)) (λ (done : PublisherTables × ℕ). (with_publisher done.0 w, Closes done.1))
+      (still-ends (tables_after_close here) (λ silent empty. (filling-closed p.gens.filling, closed-still p.gens.filling empty)))
 
   subscriber-closes : (s : SubscriberTables) → subscriber_at w s.site ≡ Some s → Ends (close_subscriber w s).0
   subscriber-closes s at =
@@ -183,8 +183,8 @@ module _ (publication : Publication) (says : Saying) (m : Model) (g : Ground pub
   message-ends s sent at = one-ends s (with_message sent s) at refl (record { joined = λ joins. joins; received = omega arith; watermark = omega arith })
 
   send-ends : (sending : Sending) (s : SubscriberTables) → subscriber_at w s.site ≡ Some s → Ends (send_from judges sending w s).0
-  send-ends SendJoin s at = unless-ends (counter_end (subscriber_counters s)) (join_made s) (posted s.site (λ (j : Join). request.Join j) w)
-      (elim s.is_joined as (λ (b : Bool). (let made : Option (SubscriberTables × Join) = if b then None else Some (with_message ask.Join s, join_of s) in Ends (posted s.site (λ (j : Join). request.Join j) w made).0)) [
+  send-ends SendJoin s at = unless-ends (counter_end (subscriber_counters s)) (join_made s) (post_if_made s.site (λ (j : Join). request.Join j) w)
+      (elim s.is_joined as (λ (b : Bool). (let made : Option (SubscriberTables × Join) = if b then None else Some (with_message ask.Join s, join_of s) in Ends (post_if_made s.site (λ (j : Join). request.Join j) w made).0)) [
         | true ↦ stays
         | false ↦ message-ends s ask.Join at
       ])
@@ -192,15 +192,15 @@ module _ (publication : Publication) (says : Saying) (m : Model) (g : Ground pub
       let judge : SubscriberJudge = judges.subscriber s.site s in
       let t : SubscriberTables = subscriber_closed (subscriber_at_moment w.moment s) in
       let sent : SubscriberTables × Upload = upload_sent judge t in
-      unless-ends (sending_refusal s) (upload_made judge w.moment s) (posted s.site (λ (u : Upload). request.Upload u) w)
-      (elim (unsent_rows judge s) as (λ (rows : List (Key × ℕ)). (let made : Option (SubscriberTables × Upload) = elim rows [ [] ↦ None | row ∷ rest ↦ Some sent ] in Ends (posted s.site (λ (u : Upload). request.Upload u) w made).0)) [
+      unless-ends (sending_refusal s) (upload_made judge w.moment s) (post_if_made s.site (λ (u : Upload). request.Upload u) w)
+      (elim (unsent_rows judge s) as (λ (rows : List (Key × ℕ)). (let made : Option (SubscriberTables × Upload) = elim rows [ [] ↦ None | row ∷ rest ↦ Some sent ] in Ends (post_if_made s.site (λ (u : Upload). request.Upload u) w made).0)) [
         | [] ↦ stays
         | row ∷ rest ↦ one-ends s sent.0 at refl (record { joined = λ joins. joins; received = omega arith; watermark = omega arith })
       ])
   send-ends SendRanges s at =
       let a : RangeAsk = record { site = s.site; seq = s.seq + 1; wants = map want_of s.held } in
-      unless-ends (sending_refusal s) (ranges_made s) (posted s.site (λ (r : RangeAsk). request.Ranges r) w)
-      (elim s.held as (λ (held : List (ℕ × Holder)). (let made : Option (SubscriberTables × RangeAsk) = elim held [ [] ↦ None | entry ∷ entries ↦ Some (with_message ask.Ranges s, a) ] in Ends (posted s.site (λ (r : RangeAsk). request.Ranges r) w made).0)) [
+      unless-ends (sending_refusal s) (ranges_made s) (post_if_made s.site (λ (r : RangeAsk). request.Ranges r) w)
+      (elim s.held as (λ (held : List (ℕ × Holder)). (let made : Option (SubscriberTables × RangeAsk) = elim held [ [] ↦ None | entry ∷ entries ↦ Some (with_message ask.Ranges s, a) ] in Ends (post_if_made s.site (λ (r : RangeAsk). request.Ranges r) w made).0)) [
         | [] ↦ stays
         | entry ∷ entries ↦ message-ends s ask.Ranges at
       ])
@@ -217,20 +217,20 @@ module _ (publication : Publication) (says : Saying) (m : Model) (g : Ground pub
   request-ends : (number : ℕ) (site : SiteId) (r : Request) → letter_at w number ≡ Some (record { site = site; message = Asks r }) → Ends (deliver_request publication says (judges.publisher number) site r w).0
   request-ends number site (request.Join j) at =
       let d : Joined = record { seq = j.seq } in
-      unless-ends (join_refusal publication j p) (joined j here, d) (λ (made : PublisherTables × Joined). post site (Replies (reply.Joined made.1)) (with_publisher made.0 w))
-      (still-ends (joined j here) (λ silent. if-still (join_acts j here) (join_taken j here) here (λ empty. (empty, refl)) (λ empty. (empty, refl))))
+      unless-ends (join_refusal publication j p) (tables_after_join j here, d) (λ (made : PublisherTables × Joined). post site (Replies (reply.Joined made.1)) (with_publisher made.0 w))
+      (still-ends (tables_after_join j here) (λ silent. if-still (join_acts j here) (join_taken j here) here (λ empty. (empty, refl)) (λ empty. (empty, refl))))
   request-ends number site (request.Upload u) at =
       let judge : PublisherJudge = judges.publisher number in
       let decisions : List Decision = kept_decisions says w.tallies (upload_questions publication judge w.moment u p) in
       let d : Uploaded = told_by judge u in
-      unless-ends (upload_refusal publication judge w.moment u p) (uploaded publication judge u decisions here, d) (λ (made : PublisherTables × Uploaded). post site (Replies (reply.Uploaded made.1)) (uploaded_world publication says judge u made.0 w))
+      unless-ends (upload_refusal publication judge w.moment u p) (tables_after_upload publication judge u decisions here, d) (λ (made : PublisherTables × Uploaded). post site (Replies (reply.Uploaded made.1)) (uploaded_world publication says judge u made.0 w))
       (λ silent. news-still (brings_news judge u) (taken_in publication judge u (acts_of judge u decisions here) here) (silent number site u at), stays.1)
   request-ends number site (request.Ranges r) at =
       let planned : List GrantPlan = plans publication r p in
-      unless-ends (ranges_refusal publication (judges.publisher number) w.moment r p) (with_grants planned here, ranged r planned) (λ (made : PublisherTables × Ranged). post site (Replies (reply.Ranged made.1)) (with_publisher made.0 w))
+      unless-ends (ranges_refusal publication (judges.publisher number) w.moment r p) (with_grants planned here, reply_to_ranges r planned) (λ (made : PublisherTables × Ranged). post site (Replies (reply.Ranged made.1)) (with_publisher made.0 w))
       (still-ends (with_grants planned here) (λ silent empty. (empty, refl)))
   request-ends number site (request.Download r) at =
-      let q : PublisherTables = asked r here in
+      let q : PublisherTables = tables_after_download r here in
       unless-ends (download_refusal publication w.moment r p) (q, reply_to publication (judges.publisher number) r q) (λ (made : PublisherTables × Downloaded). post site (Replies (reply.Downloaded made.1)) (with_publisher made.0 w))
       (still-ends q (λ silent empty. (filling-closed p.gens.filling, closed-still p.gens.filling empty)))
 
@@ -255,12 +255,12 @@ module _ (publication : Publication) (says : Saying) (m : Model) (g : Ground pub
     missed-ends : Ends (with_subscriber s w)
     missed-ends = one-ends s s at refl (rises-itself s)
 
-    fault-ends : (r : Reply) (sent : ℕ × Outstanding) → s.outstanding ≡ Some sent → (fault : Option Refusal) → reply_fault publication sent.1 r s ≡ fault → Ends (unless_refused w (unless fault (taken judge w.moment r s, Acted)) acts).0
+    fault-ends : (r : Reply) (sent : ℕ × Outstanding) → s.outstanding ≡ Some sent → (fault : Option Refusal) → reply_fault publication sent.1 r s ≡ fault → Ends (unless_refused w (unless fault (tables_after_reply judge w.moment r s, Acted)) acts).0
     fault-ends r sent out (Some why) is = stays
-    fault-ends r sent out None is = one-ends s (taken judge w.moment r s) at (reply-site judge w.moment r s) (taken-rises s asks-from knows publication judge w.moment sent.0 sent.1 r out is)
+    fault-ends r sent out None is = one-ends s (tables_after_reply judge w.moment r s) at (reply-site judge w.moment r s) (taken-rises s asks-from knows publication judge w.moment sent.0 sent.1 r out is)
 
     fits-ends : (r : Reply) (sent : ℕ × Outstanding) → s.outstanding ≡ Some sent → (b : Bool)
-        → (let done : Result (SubscriberTables × Taken) Refusal = if b then unless (reply_fault publication sent.1 r s) (taken judge w.moment r s, Acted) else Ok (s, Missed (seq_of r) sent.0) in Ends (unless_refused w done acts).0)
+        → (let done : Result (SubscriberTables × Taken) Refusal = if b then unless (reply_fault publication sent.1 r s) (tables_after_reply judge w.moment r s, Acted) else Ok (s, Missed (seq_of r) sent.0) in Ends (unless_refused w done acts).0)
     fits-ends r sent out true = fault-ends r sent out (reply_fault publication sent.1 r s) refl
     fits-ends r sent out false = missed-ends
 

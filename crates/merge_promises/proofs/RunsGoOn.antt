@@ -3,7 +3,7 @@ use Rattle.std.specs.Prelude.{Bool, List, None, Some, [], false, refl, true, ℕ
 use Rattle.std.proofs.Common.{ap, subst, sym, ◌∙◌}
 use Rattle.std.proofs.lemmas.List.{append_assoc}
 use Rattle.merge_schema.specs.declared.publication.Publication.{Publication}
-use Rattle.merge_model.specs.Failing.{Faulty, Slip, Slips, acting_with, failing, fails, faulty, is_allowed, slip_if}
+use Rattle.merge_model.specs.Failing.{Faulty, Slip, Slips, acting_with, fails, faulty, faulty_stepping, is_allowed, slip_if}
 use Rattle.merge_model.specs.Failing.Runs.{after_actions, model_after_actions, model_behind_actions}
 use Rattle.merge_model.specs.History.Model.{Model, empty_model, model}
 use Rattle.merge_model.specs.World.Session.{Stepping}
@@ -80,7 +80,7 @@ module _ {W : Type 0} (publication : Publication) (stepping : Stepping W) where
   act-left Look w slips = one-left slips Look w (stepping.act w Look)
 
   abbrev run : Faulty W → List Action → Faulty W
-  run f actions = after_actions (failing publication stepping) f actions
+  run f actions = after_actions (faulty_stepping publication stepping) f actions
 
   all-with : (actions : List Action) (w : W) (slips rest : Slips) → run (faulty w (used_all actions slips ++ rest)) actions ≡ faulty (run (faulty w slips) actions).world rest
   all-with [] w slips rest = refl
@@ -97,7 +97,7 @@ module _ {W : Type 0} (publication : Publication) (stepping : Stepping W) where
 goes-on : (publication : Publication) (says : Saying) (tallies : List ℕ) (slips others : Slips) (actions more : List Action)
     → model_behind_actions publication says tallies (used_all actions slips ++ others) (actions ++ more) ≡ model_after_actions publication says (model_behind_actions publication says tallies slips actions) others more
 goes-on publication says tallies slips others actions more =
-    let steps : Stepping (Faulty Model) = failing publication (model publication says) in
+    let steps : Stepping (Faulty Model) = faulty_stepping publication (model publication says) in
     let start : Model = empty_model publication tallies in
     ap (λ (f : Faulty Model). f.world) (after-more steps actions more (faulty start (used_all actions slips ++ others)))
     ∙ ap (λ (f : Faulty Model). (after_actions steps f more).world) (all-with publication (model publication says) actions start slips others)

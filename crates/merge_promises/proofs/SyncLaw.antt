@@ -17,7 +17,7 @@ use Rattle.merge_model.specs.Subscriber.Sending.{unsent_rows}
 use Rattle.merge_model.specs.Subscriber.{subscriber_last_closed}
 use Rattle.merge_model.specs.Tables.Keys.{at_number}
 use Rattle.merge_model.specs.Tables.{SubscriberTables}
-use Rattle.merge_model.specs.World.Session.{Session, all_uploads, as_it_is, exchange, is_joined_in, joining, unless_stopped, unsent_generations, uploading, with_upload}
+use Rattle.merge_model.specs.World.Session.{Session, all_uploads, as_it_is, exchange, is_joined_in, join_if_due, unless_stopped, unsent_generations, uploads_up_to, with_upload}
 use Rattle.merge_model.specs.World.Session.{ask as asking}
 use Rattle.merge_model.specs.World.Steps.{SendDownload, SendJoin, SendRanges, SendUpload}
 use Rattle.merge_model.specs.World.{Saying, subscriber_at}
@@ -57,9 +57,9 @@ module _ (publication : Publication) (says : Saying) where
       none-sent : Answered publication says (λ k. ⊥) (Unmoved m) site (asking (model publication says) site SendUpload m)
       none-sent = subst (λ (x : SiteId). Answered publication says (λ k. ⊥) (Unmoved m) x (asking (model publication says) x SendUpload m)) (same-site publication says site m a) (nothing-sent publication says m a.tables (own publication says site m a) quiet.nothing)
 
-      uploads-calm : (count : ℕ) (v : Session Model) → v.world ≡ m → Settles publication says site (Gone publication says site (Calm site) (calm-then site) m) (uploading (model publication says) site count v)
+      uploads-calm : (count : ℕ) (v : Session Model) → v.world ≡ m → Settles publication says site (Gone publication says site (Calm site) (calm-then site) m) (uploads_up_to (model publication says) site count v)
       uploads-calm zero v same = λ none. subst (Gone publication says site (Calm site) (calm-then site) m) (sym same) (a.known, calm-itself site m)
-      uploads-calm (suc count) v same = exchange-settles publication says site (λ k. ⊥) (Unmoved m) (Gone publication says site (Calm site) (calm-then site) m) SendUpload v (with_upload (model publication says) site) (uploading (model publication says) site count)
+      uploads-calm (suc count) v same = exchange-settles publication says site (λ k. ⊥) (Unmoved m) (Gone publication says site (Calm site) (calm-then site) m) SendUpload v (with_upload (model publication says) site) (uploads_up_to (model publication says) site count)
           (subst (λ (k : Model). Answered publication says (λ n. ⊥) (Unmoved m) site (asking (model publication says) site SendUpload k)) (sym same) none-sent)
           (subst (Known publication says site) (sym same) a.known) (λ x known never. absurd never) (λ k known unmoved. (known, calm-unmoved site m k unmoved))
 
@@ -71,7 +71,7 @@ module _ (publication : Publication) (says : Saying) where
       session-calm =
           let begun : Session Model = new_session m in
           let as_is : Session Model → Session Model = as_it_is (model publication says) site in
-          let joined : Session Model = joining (model publication says) site begun in
+          let joined : Session Model = join_if_due (model publication says) site begun in
           rest-goes publication says site (Calm site) (calm-then site)
           (λ k known. goes publication says Calm SendRanges (λ n s at. ranges-calm publication says n s at) site k known) (λ k known. goes publication says Calm SendDownload (λ n s at. download-calm publication says n s at) site k known)
           m (unless_stopped (model publication says) site (all_uploads (model publication says) site) joined)

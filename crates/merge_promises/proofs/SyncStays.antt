@@ -21,16 +21,16 @@ use Rattle.merge_model.specs.History.Noting
 use Rattle.merge_model.specs.Judge.ByHistory.{by_history, by_made, by_past}
 use Rattle.merge_model.specs.Judge.{PublisherJudge, SubscriberJudge}
 use Rattle.merge_model.specs.Publisher.{last_closed}
-use Rattle.merge_model.specs.Publisher.PublisherJoin.{join_acts, join_refusal, joined}
-use Rattle.merge_model.specs.Publisher.PublisherRanges.{plans, ranged, ranges_refusal, with_grants}
+use Rattle.merge_model.specs.Publisher.PublisherJoin.{join_acts, join_refusal, tables_after_join}
+use Rattle.merge_model.specs.Publisher.PublisherRanges.{plans, ranges_refusal, reply_to_ranges, with_grants}
 use Rattle.merge_model.specs.Subscriber.Sending.{join_made, join_of, ranges_made, sending_refusal, unsent_rows, upload_made, upload_sent, want_of, with_message}
-use Rattle.merge_model.specs.Subscriber.Taking.{taken}
+use Rattle.merge_model.specs.Subscriber.Taking.{tables_after_reply}
 use Rattle.merge_model.specs.Subscriber.{subscriber_at_moment, subscriber_closed, subscriber_counters}
 use Rattle.merge_model.specs.Tables.Keys.{at_number}
 use Rattle.merge_model.specs.Tables.Refusals.{counter_end}
 use Rattle.merge_model.specs.Tables.{PublisherTables, SubscriberTables}
 use Rattle.merge_model.specs.World.Session.{ask as asking}
-use Rattle.merge_model.specs.World.Steps.{Deliver, SendDownload, SendJoin, SendRanges, SendUpload, Sending, post, posted, send_from}
+use Rattle.merge_model.specs.World.Steps.{Deliver, SendDownload, SendJoin, SendRanges, SendUpload, Sending, post, post_if_made, send_from}
 use Rattle.merge_model.specs.World.{Saying, World, subscriber_at, with_publisher, with_subscriber}
 use Rattle.merge_model.specs.declared.letter.Message.TheVariants.{Asks, Replies}
 use Rattle.merge_model.specs.declared.outcome.Outcome.{Outcome}
@@ -110,14 +110,14 @@ module _ (publication : Publication) (says : Saying) (m : Model) (s : Subscriber
       let v : World = with_subscriber u w in
       let k : Model = posted_model s.site (Asks (request.Join a)) v h in
       let judge : PublisherJudge = by_past k.history (pasts_with k.history (length v.pool + 1)) in
-      let q : PublisherTables = joined a (here k.world) in
+      let q : PublisherTables = tables_after_join a (here k.world) in
       let d : Joined = record { seq = a.seq } in
       let x : World = with_publisher q k.world in
       let noting : History = Noting.noted_join judge a w.publisher k.history in
       let n : Model = posted_model s.site (Replies (reply.Joined d)) x noting in
       let own : SubscriberJudge = by_made n.history s.site in
       let there : subscriber_at v s.site ≡ Some u = at_put_same s.site.0 u w.subscribers in
-      let act : Option (SubscriberTables × Join) → World × Outcome = posted s.site (λ (y : Join). request.Join y) w in
+      let act : Option (SubscriberTables × Join) → World × Outcome = post_if_made s.site (λ (y : Join). request.Join y) w in
       send-step publication says Acts Acts s.site m s SendJoin at
       (unless-step (Sent publication says Acts Acts s.site) w h (λ why. tt) (counter_end (subscriber_counters s)) (join_made s) act h (λ fine.
       elim s.is_joined as (λ (b : Bool). (let made : Option (SubscriberTables × Join) = if b then None else Some (u, a) in After (Sent publication says Acts Acts s.site) (act made) h h)) [
@@ -129,7 +129,7 @@ module _ (publication : Publication) (says : Saying) (m : Model) (s : Subscriber
             post-step (Answered publication says Acts Acts s.site) s.site (Replies (reply.Joined d)) x noting k.history
             (back-step publication says Acts Acts s.site x noting u (reply.Joined d) there
             (reply-step publication says Acts Acts s.site n.world n.history own u (reply.Joined d) ask.Join n.history (λ none. record {
-              others = λ site differs. two-puts (taken own w.moment (reply.Joined d) u) u site differs refl refl;
+              others = λ site differs. two-puts (tables_after_reply own w.moment (reply.Joined d) u) u site differs refl refl;
               made = λ site named. if-made (join_acts a w.publisher) (join_noted judge a w.publisher k.history) k.history site ((joined-alike publication says k.history judge a w.publisher).made site named);
             }))))))
       ]))
@@ -143,12 +143,12 @@ module _ (publication : Publication) (says : Saying) (m : Model) (s : Subscriber
       let k : Model = posted_model s.site (Asks (request.Ranges a)) v h in
       let judge : PublisherJudge = by_past k.history (pasts_with k.history (length v.pool + 1)) in
       let q : PublisherTables = with_grants (plans publication a w.publisher) (here k.world) in
-      let d : Ranged = ranged a (plans publication a w.publisher) in
+      let d : Ranged = reply_to_ranges a (plans publication a w.publisher) in
       let x : World = with_publisher q k.world in
       let n : Model = posted_model s.site (Replies (reply.Ranged d)) x k.history in
       let own : SubscriberJudge = by_made n.history s.site in
       let there : subscriber_at v s.site ≡ Some u = at_put_same s.site.0 u w.subscribers in
-      let act : Option (SubscriberTables × RangeAsk) → World × Outcome = posted s.site (λ (y : RangeAsk). request.Ranges y) w in
+      let act : Option (SubscriberTables × RangeAsk) → World × Outcome = post_if_made s.site (λ (y : RangeAsk). request.Ranges y) w in
       send-step publication says Acts Acts s.site m s SendRanges at
       (unless-step (Sent publication says Acts Acts s.site) w h (λ why. tt) (sending_refusal s) (ranges_made s) act h (λ fine.
       elim s.held as (λ (held : List (ℕ × Holder)). (let made : Option (SubscriberTables × RangeAsk) = elim held [ [] ↦ None | entry ∷ entries ↦ Some (u, a) ] in After (Sent publication says Acts Acts s.site) (act made) h h)) [
@@ -160,7 +160,7 @@ module _ (publication : Publication) (says : Saying) (m : Model) (s : Subscriber
             post-step (Answered publication says Acts Acts s.site) s.site (Replies (reply.Ranged d)) x k.history k.history
             (back-step publication says Acts Acts s.site x k.history u (reply.Ranged d) there
             (reply-step publication says Acts Acts s.site n.world n.history own u (reply.Ranged d) ask.Ranges n.history (λ none. record {
-              stays = record { others = λ site differs. two-puts (taken own w.moment (reply.Ranged d) u) u site differs refl refl; made = λ site named. refl };
+              stays = record { others = λ site differs. two-puts (tables_after_reply own w.moment (reply.Ranged d) u) u site differs refl refl; made = λ site named. refl };
               states = λ site differs. refl;
               moment = refl;
               open_stays = λ empty. (empty, refl);
@@ -172,7 +172,7 @@ module _ (publication : Publication) (says : Saying) (m : Model) (s : Subscriber
   nothing-sent nothing =
       let Acts : Model → Type 0 = λ k. ⊥ in
       let made : SubscriberTables × Upload = upload_sent (by_made h s.site) (subscriber_closed (subscriber_at_moment w.moment s)) in
-      let act : Option (SubscriberTables × Upload) → World × Outcome = posted s.site (λ (y : Upload). request.Upload y) w in
+      let act : Option (SubscriberTables × Upload) → World × Outcome = post_if_made s.site (λ (y : Upload). request.Upload y) w in
       send-step publication says Acts (Unmoved m) s.site m s SendUpload at
       (unless-step (Sent publication says Acts (Unmoved m) s.site) w h (λ why. tt) (sending_refusal s) (upload_made (by_made h s.site) w.moment s) act h (λ fine.
       subst (λ (unsent : List (Key × ℕ)). (let sent : Option (SubscriberTables × Upload) = elim unsent [ [] ↦ None | row ∷ rest ↦ Some made ] in After (Sent publication says Acts (Unmoved m) s.site) (act sent) h h)) (sym nothing) (refl, refl)))

@@ -45,14 +45,14 @@ use Rattle.merge_model.specs.History.Model.{Model, empty_model, model}
 use Rattle.merge_model.specs.Judge.ByHistory.{by_made, by_past}
 use Rattle.merge_model.specs.Judge.{PublisherJudge, SubscriberJudge}
 use Rattle.merge_model.specs.Publisher.{new_holders}
-use Rattle.merge_model.specs.Publisher.PublisherDownload.{asked, reply_to}
+use Rattle.merge_model.specs.Publisher.PublisherDownload.{reply_to, tables_after_download}
 use Rattle.merge_model.specs.Publisher.PublisherJoin.{join_taken}
-use Rattle.merge_model.specs.Publisher.PublisherLocal.{Drawn, after_answer, drawn, drawn_from, no_draw, own_ask, taken_from}
-use Rattle.merge_model.specs.Publisher.PublisherRanges.{ask_by, granted_by, plans, ranged, with_grants}
+use Rattle.merge_model.specs.Publisher.PublisherLocal.{Drawn, after_answer, draw_for_change, drawn_from, no_draw, own_ask, taken_from}
+use Rattle.merge_model.specs.Publisher.PublisherRanges.{ask_by, granted_by, plans, reply_to_ranges, with_grants}
 use Rattle.merge_model.specs.Publisher.PublisherUpload.{taken_in}
-use Rattle.merge_model.specs.Subscriber.Reinit.{reinitialised}
+use Rattle.merge_model.specs.Subscriber.Reinit.{result_of_reinit}
 use Rattle.merge_model.specs.Subscriber.Sending.{join_of, upload_sent, want_of, with_message}
-use Rattle.merge_model.specs.Subscriber.Taking.{taken, with_grant}
+use Rattle.merge_model.specs.Subscriber.Taking.{tables_after_reply, with_grant}
 use Rattle.merge_model.specs.Subscriber.{empty_subscriber, subscriber_at_moment, subscriber_closed, subscriber_drawn, subscriber_made_locally, subscriber_next_dot, subscriber_version_at, taken_value, with_version_if}
 use Rattle.merge_model.specs.Tables.Changes.{key_of, version_after}
 use Rattle.merge_model.specs.Tables.Keys.{at_number, put_number}
@@ -255,7 +255,7 @@ module _ (publication : Publication) (p : PublisherTables) (subscribers : List (
   found-drawn article (Some holder) at =
       from-drawn article holder (subst (λ (h : Holder). HolderIsWhole p.grants article h) (found-holder p.held article holder at) (i.held 0 article)) (answer_to_take holder)
 
-  draw-whole : (change : Change) → IfOk (drawn publication p change) (λ d. After d.grants d.held)
+  draw-whole : (change : Change) → IfOk (draw_for_change publication p change) (λ d. After d.grants d.held)
   draw-whole (Insert article values) = found-drawn article (at_number p.held article) refl
   draw-whole (Update article row values) = i
   draw-whole (Delete article row) = i
@@ -332,22 +332,22 @@ module _ (w : World) (i : Whole w) (s : SubscriberTables) (at : subscriber_at w 
       (subst (λ (draw : Result (Value × List (ℕ × Holder)) Refusal). IfOk draw (λ x. HoldsHere x.1)) is (draw-took change low)))
 
   -- a reply comes that acts
-  reply-acts : (judge : SubscriberJudge) (m : Reply) → AllByRecursion (IsTold w.publisher.grants) (ranges_told (Replies m)) → Whole (with_subscriber (taken judge w.moment m s) w)
-  reply-acts judge (reply.Joined m) tells = same-held (taken judge w.moment (reply.Joined m) s) refl refl
-  reply-acts judge (reply.Uploaded m) tells = same-held (taken judge w.moment (reply.Uploaded m) s) refl refl
-  reply-acts judge (reply.Ranged m) tells = holding (taken judge w.moment (reply.Ranged m) s) refl (λ low. all-received w.publisher.grants m.grants s.held tells (own-held low))
-  reply-acts judge (reply.Downloaded m) tells = same-held (taken judge w.moment (reply.Downloaded m) s) refl refl
-  reply-acts judge (reply.Refused number values) tells = same-held (taken judge w.moment (reply.Refused number values) s) refl refl
+  reply-acts : (judge : SubscriberJudge) (m : Reply) → AllByRecursion (IsTold w.publisher.grants) (ranges_told (Replies m)) → Whole (with_subscriber (tables_after_reply judge w.moment m s) w)
+  reply-acts judge (reply.Joined m) tells = same-held (tables_after_reply judge w.moment (reply.Joined m) s) refl refl
+  reply-acts judge (reply.Uploaded m) tells = same-held (tables_after_reply judge w.moment (reply.Uploaded m) s) refl refl
+  reply-acts judge (reply.Ranged m) tells = holding (tables_after_reply judge w.moment (reply.Ranged m) s) refl (λ low. all-received w.publisher.grants m.grants s.held tells (own-held low))
+  reply-acts judge (reply.Downloaded m) tells = same-held (tables_after_reply judge w.moment (reply.Downloaded m) s) refl refl
+  reply-acts judge (reply.Refused number values) tells = same-held (tables_after_reply judge w.moment (reply.Refused number values) s) refl refl
 
 -- The publisher answers an ask for ranges.
 answers-ranges : (publication : Publication) (w : World) (site : SiteId) (m : RangeAsk) → Whole w
-    → Whole (post site (Replies (reply.Ranged (ranged m (plans publication m w.publisher)))) (with_publisher (with_grants (plans publication m w.publisher) (here w)) w)).0
+    → Whole (post site (Replies (reply.Ranged (reply_to_ranges m (plans publication m w.publisher)))) (with_publisher (with_grants (plans publication m w.publisher) (here w)) w)).0
 answers-ranges publication w site m i =
     let grants : List Grant = w.publisher.grants in
     let asks : List Ask = map (ask_by m.site) m.wants in
     let more : List Grant = grants_with_all grants (plans_of (rules_of publication) grants asks) in
     let grow : Grows grants more = all-grow (rules_of publication) grants asks in
-    posted-whole site (Replies (reply.Ranged (ranged m (plans publication m w.publisher)))) (with_publisher (with_grants (plans publication m w.publisher) (here w)) w) (record {
+    posted-whole site (Replies (reply.Ranged (reply_to_ranges m (plans publication m w.publisher)))) (with_publisher (with_grants (plans publication m w.publisher) (here w)) w) (record {
       held = λ n article. holder-grows grants more grow article (holder_in (holders_at w.publisher.held w.subscribers n) article) (i.held n article);
       letters = letters-grow grants more grow w.pool i.letters;
     }) (plans-told (rules_of publication) grants asks)
@@ -367,7 +367,7 @@ module _ (publication : Publication) (says : Saying) where
     same = λ w h s r i at. same-held w i s at s refl refl;
     subscriber_change = λ w h s change d r i at named fine is. change-whole w i s at publication change d is;
     subscriber_closing = λ w h s r i at. same-held w i s at (subscriber_closed (subscriber_at_moment w.moment s)) refl refl;
-    anew = λ w h s r i at. same-held w i s at (reinitialised (by_made h s.site) (subscriber_at_moment w.moment s)).0 refl refl;
+    anew = λ w h s r i at. same-held w i s at (result_of_reinit (by_made h s.site) (subscriber_at_moment w.moment s)).0 refl refl;
     sends_join = λ w h s r i at joining. (let t : SubscriberTables = with_message ask.Join s in posted-whole s.site (Asks (request.Join (join_of s))) (with_subscriber t w) (same-held w i s at t refl refl) tt);
     sends_upload = λ w h s r i at fine. (let made : SubscriberTables × Upload = upload_sent (by_made h s.site) (subscriber_closed (subscriber_at_moment w.moment s)) in
         posted-whole s.site (Asks (request.Upload made.1)) (with_subscriber made.0 w) (same-held w i s at made.0 refl refl) tt);
@@ -381,7 +381,7 @@ module _ (publication : Publication) (says : Saying) where
         posted-whole m.site (Replies (reply.Uploaded (told_by judge m))) (uploaded_world publication says judge m (taken_in publication judge m (acts_in publication says judge m w) (here w)) w) i tt);
     uploads_again = λ w h number m r i at none. (let judge : PublisherJudge = by_past h (pasts_with h number) in posted-whole m.site (Replies (reply.Uploaded (told_by judge m))) (uploaded_world publication says judge m (here w) w) i tt);
     answers_ranges = λ w h site m r i. answers-ranges publication w site m i;
-    answers_ask = λ w h number site m r i at fine. posted-whole site (Replies (reply.Downloaded (reply_to publication (by_past h (pasts_with h number)) m (asked m (here w))))) (with_publisher (asked m (here w)) w) i tt;
+    answers_ask = λ w h number site m r i at fine. posted-whole site (Replies (reply.Downloaded (reply_to publication (by_past h (pasts_with h number)) m (tables_after_download m (here w))))) (with_publisher (tables_after_download m (here w)) w) i tt;
     replies = λ w h s number m sent r i at there out none. reply-acts w i s at (by_made h s.site) m (pool-at (LetterTells w.publisher.grants) w number (record { site = s.site; message = Replies m }) there i.letters);
   }
 

@@ -35,7 +35,7 @@ use Rattle.merge_batch.specs.declared.request.Request.TheVariants as request
 use Rattle.merge_batch.specs.declared.request.Upload.{Upload}
 use Rattle.merge_model.specs.Judge.{PublisherJudge}
 use Rattle.merge_model.specs.Publisher.Acts.{Act, Fate, Met, New, Unknown, acts_of, asked_at, meeting_of}
-use Rattle.merge_model.specs.Publisher.PublisherLocal.{Drawn, drawn, next_dot, version_at}
+use Rattle.merge_model.specs.Publisher.PublisherLocal.{Drawn, draw_for_change, next_dot, version_at}
 use Rattle.merge_model.specs.Publisher.PublisherUpload.{brings_news}
 use Rattle.merge_model.specs.Publisher.{at_moment}
 use Rattle.merge_model.specs.Subscriber.{subscriber_drawn, subscriber_next_dot, subscriber_version_at}
@@ -157,7 +157,7 @@ GivesRow publication dot draw change found after = Gives publication dot draw ch
 
 pub record GivesHere (publication : Publication) (change : Change) (p q : PublisherTables) : Type 0 where
   pub draw : Drawn
-  pub draws : drawn publication p change ≡ Ok draw
+  pub draws : draw_for_change publication p change ≡ Ok draw
   pub gives : GivesRow publication (next_dot p) draw.value change (version_at p) (version_at q)
 
 abbrev pub PublisherGives : Type 0

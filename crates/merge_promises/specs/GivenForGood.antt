@@ -35,7 +35,7 @@ use Rattle.merge_model.specs.History.Model.{Model, model_step}
 use Rattle.merge_model.specs.Judge.ByHistory.{by_history}
 use Rattle.merge_model.specs.Judge.{PublisherJudge}
 use Rattle.merge_model.specs.Publisher.Acts.{Act, Fate, Met}
-use Rattle.merge_model.specs.Publisher.PublisherLocal.{Drawn, drawn, next_dot, version_at}
+use Rattle.merge_model.specs.Publisher.PublisherLocal.{Drawn, draw_for_change, next_dot, version_at}
 use Rattle.merge_model.specs.Publisher.PublisherUpload.{brings_news}
 use Rattle.merge_model.specs.Subscriber.{subscriber_drawn, subscriber_next_dot, subscriber_version_at}
 use Rattle.merge_model.specs.Tables.Changes.{key_of}
@@ -105,7 +105,7 @@ ChangeStands publication dot draw change held later = EveryVersion (λ (key : Ke
 
 pub record StandsHere (publication : Publication) (says : Saying) (change : Change) (p : PublisherTables) (n : Model) : Type 0 where
   pub draw : Drawn
-  pub draws : drawn publication p change ≡ Ok draw
+  pub draws : draw_for_change publication p change ≡ Ok draw
   pub stands : (slips : Slips) (actions : List Action) → ChangeStands publication (next_dot p) draw.value change (version_at p (key_of (next_dot p) change)) (model_after_actions publication says n slips actions)
 
 abbrev pub GivenStandsHere : Publication → Saying → Model → Type 0

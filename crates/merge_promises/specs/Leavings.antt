@@ -17,7 +17,7 @@ use Rattle.merge_model.specs.declared.event.Event.{Event}
 use Rattle.merge_laws.specs.Laws.ActsOnce.{IsUpload}
 use Rattle.merge_laws.specs.Laws.Effects.{behind_actions, history_judge}
 use Rattle.merge_owed.specs.Mappings.{is_inside}
-use Rattle.merge_owed.specs.Purged.{behind}
+use Rattle.merge_owed.specs.Purged.{model_behind_events}
 
 -- An upload that this very site sent comes to the publisher, it is more than answered, and an item of the row acts.
 pub record ItsUploadActs (m : Model) (action : Action) (place : RowSite) : Type 0 where
@@ -55,8 +55,8 @@ pub record WasSeen (publication : Publication) (says : Saying) (f : Faulty Model
   pub later : List Event
   pub parts : events ≡ before ++ one ∷ later
   pub steps : List Action
-  pub are : behind_actions publication says (behind publication says f before) steps ≡ behind publication says (behind publication says f before) (one ∷ [])
-  pub seen : WasSeenByActions publication says (behind publication says f before) steps older line site
+  pub are : behind_actions publication says (model_behind_events publication says f before) steps ≡ model_behind_events publication says (model_behind_events publication says f before) (one ∷ [])
+  pub seen : WasSeenByActions publication says (model_behind_events publication says f before) steps older line site
 
 -- Wherever the lines of the history are cut at one that says that a row left a site's partition, it was written so.
 abbrev pub LeavingsWereSeen : (List Line → Line → ℕ → Type 0) → Model → Type 0
@@ -65,7 +65,7 @@ LeavingsWereSeen Seen m = (newer older : List Line) (line : Line) (site : ℕ) �
 -- Of a valid publication, with the model behind a run, by one of its events.
 abbrev pub RunLeavingsWereSeen : Type 0
 RunLeavingsWereSeen = (resolvers : ℕ) (publication : Publication) → IsValid resolvers publication → (says : Saying) (tallies : List ℕ) (slips : Slips) (events : List Event)
-    → (let start : Faulty Model = faulty (empty_model publication tallies) slips in LeavingsWereSeen (WasSeen publication says start events) (behind publication says start events).world)
+    → (let start : Faulty Model = faulty (empty_model publication tallies) slips in LeavingsWereSeen (WasSeen publication says start events) (model_behind_events publication says start events).world)
 
 -- And of every list of actions, by one of them.
 abbrev pub ActionLeavingsWereSeen : Type 0

@@ -3,7 +3,7 @@
 use Rattle.std.specs.Prelude.{List, None, Some, [], true, ◌∷◌, ◌≡◌}
 use Rattle.merge_types.specs.declared.identifiers.SiteId.{SiteId}
 use Rattle.merge_schema.specs.declared.publication.Publication.{Publication}
-use Rattle.merge_model.specs.Failing.{Faulty, Slips, failing, faulty}
+use Rattle.merge_model.specs.Failing.{Faulty, Slips, faulty, faulty_stepping}
 use Rattle.merge_model.specs.History.Model.{Model, model}
 use Rattle.merge_model.specs.Laws.Promises.{IsSettled}
 use Rattle.merge_model.specs.Tables.{SubscriberTables}
@@ -35,7 +35,7 @@ TwoRoundsSettle publication says m = (first second : List SiteId) (between done 
 -- The same where steps may fail: what counts is a session that nothing refused.
 
 abbrev pub synced_failing : Publication → Saying → SiteId → Faulty Model → Session (Faulty Model)
-synced_failing publication says site f = session (failing publication (model publication says)) site f
+synced_failing publication says site f = session (faulty_stepping publication (model publication says)) site f
 
 pub record SyncsFailing (publication : Publication) (says : Saying) (site : SiteId) (f : Faulty Model) : Type 0 where
   pub tables : SubscriberTables
@@ -55,14 +55,14 @@ FailingTwoRoundsSettle publication says m = (slips : Slips) (first second : List
 -- A round in which steps may fail: every subscriber completes an upload, and then every one a download. The parts of sessions are those of
 -- the plain model, and one is completed where nothing was refused.
 
-abbrev pub begun : Faulty Model → Session (Faulty Model)
-begun f = record { world = f; uploads = 0; downloads = 0; stop = None }
+abbrev pub new_failing_session : Faulty Model → Session (Faulty Model)
+new_failing_session f = record { world = f; uploads = 0; downloads = 0; stop = None }
 
 abbrev pub uploaded_failing : Publication → Saying → SiteId → Faulty Model → Session (Faulty Model)
-uploaded_failing publication says site f = all_uploads (failing publication (model publication says)) site (begun f)
+uploaded_failing publication says site f = all_uploads (faulty_stepping publication (model publication says)) site (new_failing_session f)
 
 abbrev pub downloaded_failing : Publication → Saying → SiteId → Faulty Model → Session (Faulty Model)
-downloaded_failing publication says site f = all_downloads (failing publication (model publication says)) site (begun f)
+downloaded_failing publication says site f = all_downloads (faulty_stepping publication (model publication says)) site (new_failing_session f)
 
 pub record CompletesFailing (part : SiteId → Faulty Model → Session (Faulty Model)) (site : SiteId) (f : Faulty Model) : Type 0 where
   pub tables : SubscriberTables

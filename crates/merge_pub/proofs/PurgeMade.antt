@@ -12,7 +12,7 @@ use Rattle.merge_table.specs.declared.edit.Edit.{Edit}
 use Rattle.merge_table.proofs.Takes.{filter_is_takes}
 use Rattle.merge_units.specs.Version.{is_live}
 use Rattle.merge_units.specs.declared.site_row.PublisherRow.{PublisherRow}
-use Rattle.merge_gens.specs.Book.{purged}
+use Rattle.merge_gens.specs.Book.{book_after_purge}
 use Rattle.merge_gens.specs.Index.{entries_after_all}
 use Rattle.merge_gens.specs.Moves.{row_site_cmp}
 use Rattle.merge_gens.specs.declared.closings.Closing.{Closing}
@@ -99,7 +99,7 @@ purged_at p latest cut = record p {
   latest = latest;
   rows = filter (stays p.gens.closings cut) p.rows;
   mappings = filter (stays_mapped p.gens.closings cut) p.mappings;
-  gens = purged p.gens cut;
+  gens = book_after_purge p.gens cut;
 }
 
 abbrev forgotten_at : PublisherTables → Moment → Forgotten
@@ -109,10 +109,10 @@ abbrev done_at : PublisherTables → Moment → Moment → PublisherTables × Fo
 done_at p latest cut = (purged_at p latest cut, forgotten_at p cut)
 
 pub purge-made : (publication : Publication) (now : Moment) (p mid done : PublisherTables) (latest cut : Moment) (told : Forgotten) → latest ≡ later now p.latest → cut ≡ cutoff publication (record p { latest = latest })
-    → mid ≡ record p { latest = latest; rows = filter (stays p.gens.closings cut) p.rows; mappings = filter (stays_mapped p.gens.closings cut) p.mappings } → done ≡ record mid { gens = purged mid.gens cut } → told ≡ forgotten_at p cut
+    → mid ≡ record p { latest = latest; rows = filter (stays p.gens.closings cut) p.rows; mappings = filter (stays_mapped p.gens.closings cut) p.mappings } → done ≡ record mid { gens = book_after_purge mid.gens cut } → told ≡ forgotten_at p cut
     → purge publication now p ≡ (done, told)
 purge-made publication now p mid done latest cut told moment at is forgot tells =
     ap (λ (l : Moment). done_at p l (cutoff publication (record p { latest = l }))) (sym moment)
     ∙ ap (done_at p latest) (sym at)
     ∙ ap (λ (t : Forgotten). (let pair : PublisherTables × Forgotten = (purged_at p latest cut, t) in pair)) (sym tells)
-    ∙ ap (λ (q : PublisherTables). (let pair : PublisherTables × Forgotten = (q, told) in pair)) (sym (forgot ∙ ap (λ (q : PublisherTables). (let r : PublisherTables = record q { gens = purged q.gens cut } in r)) is))
+    ∙ ap (λ (q : PublisherTables). (let pair : PublisherTables × Forgotten = (q, told) in pair)) (sym (forgot ∙ ap (λ (q : PublisherTables). (let r : PublisherTables = record q { gens = book_after_purge q.gens cut } in r)) is))

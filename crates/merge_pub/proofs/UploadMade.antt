@@ -21,7 +21,7 @@ use Rattle.merge_model.specs.Publisher.Acts.{Act, act_of, acts_from, acts_of, le
 use Rattle.merge_model.specs.Judge.ByNumbers.{by_numbers}
 use Rattle.merge_model.specs.Publisher.Entries.{changed_by}
 use Rattle.merge_model.specs.Publisher.{at_moment, later}
-use Rattle.merge_model.specs.Publisher.PublisherUpload.{changing_by, seen_in, state_seeing, taken_in, upload_refusal, uploaded, with_acts, with_taken}
+use Rattle.merge_model.specs.Publisher.PublisherUpload.{changing_by, seen_in, state_seeing, tables_after_upload, taken_in, upload_refusal, with_acts, with_taken}
 use Rattle.merge_model.specs.Tables.Refusals.{unless}
 use Rattle.merge_model.specs.World.Steps.{kept_decisions, upload_questions}
 use Rattle.merge_model.specs.Tables.{PublisherTables}
@@ -107,7 +107,7 @@ module _ (publication : Publication) (now : Moment) (m : Upload) (p : PublisherT
     taken-same true = acted-same
     taken-same false = refl
 
-    tables-same : (acting : Acting) → acting ≡ with_acts_from publication now m p says (none_acted p) the_acts → taken_tables publication (by_numbers p) the_arrival m acting p ≡ uploaded publication (by_numbers p) m the_decisions (at_moment now p)
+    tables-same : (acting : Acting) → acting ≡ with_acts_from publication now m p says (none_acted p) the_acts → taken_tables publication (by_numbers p) the_arrival m acting p ≡ tables_after_upload publication (by_numbers p) m the_decisions (at_moment now p)
     unfolding taken_tables
     tables-same acting is = ap (λ (a : Acting). (let q : PublisherTables = if nat_lt the_arrival.received m.to then acted_tables publication (by_numbers p) the_arrival m a p else record p { latest = the_arrival.moment } in q)) is ∙ taken-same (nat_lt the_arrival.received m.to)
 
@@ -115,7 +115,7 @@ module _ (publication : Publication) (now : Moment) (m : Upload) (p : PublisherT
         → pass_at acting after ≡ after_items publication p.rows the_arrival says (pass_at (none_acted p) tallies) m.items → p' ≡ taken_tables publication (by_numbers p) the_arrival m acting p
         → upload_by publication says tallies now m p ≡ Ok (p', record { seq = m.seq; received = max m.to the_arrival.received })
     made-here acting after p' none pass made =
-        made-unless (upload_refusal publication (by_numbers p) now m p) (uploaded publication (by_numbers p) m the_decisions (at_moment now p), record { seq = m.seq; received = max m.to the_arrival.received }) none
+        made-unless (upload_refusal publication (by_numbers p) now m p) (tables_after_upload publication (by_numbers p) m the_decisions (at_moment now p), record { seq = m.seq; received = max m.to the_arrival.received }) none
         ∙ ap (λ (q : PublisherTables). (let done : Result (PublisherTables × Uploaded) Refusal = Ok (q, record { seq = m.seq; received = max m.to the_arrival.received }) in done)) (sym (made ∙ tables-same acting (acting-whole acting after pass)))
 
 -- the upload is made
@@ -131,7 +131,7 @@ upload-made publication now m p p' says tallies after arrival acting reply none 
 -- or it is refused, whatever would be decided
 pub upload-refused : (publication : Publication) (now : Moment) (m : Upload) (p : PublisherTables) (says : Saying) (tallies : List ℕ) (why : Refusal) → Some why ≡ upload_refusal publication (by_numbers p) now m p → upload_by publication says tallies now m p ≡ Err why
 upload-refused publication now m p says tallies why some =
-    refused-unless (upload_refusal publication (by_numbers p) now m p) (uploaded publication (by_numbers p) m (kept_decisions says tallies (upload_questions publication (by_numbers p) now m p)) (at_moment now p), record { seq = m.seq; received = max m.to (arrival_of now m p).received }) why some
+    refused-unless (upload_refusal publication (by_numbers p) now m p) (tables_after_upload publication (by_numbers p) m (kept_decisions says tallies (upload_questions publication (by_numbers p) now m p)) (at_moment now p), record { seq = m.seq; received = max m.to (arrival_of now m p).received }) why some
 
 ok-not-err : {A : Type 0} (done : A) (why : Refusal) → Ok done ≡ Err why → ⊥
 ok-not-err done why is = cc
@@ -139,7 +139,7 @@ ok-not-err done why is = cc
 -- one that nothing refuses is not
 pub upload-allowed : (publication : Publication) (now : Moment) (m : Upload) (p : PublisherTables) (says : Saying) (tallies : List ℕ) (why : Refusal) → None ≡ upload_refusal publication (by_numbers p) now m p → upload_by publication says tallies now m p ≡ Err why → ⊥
 upload-allowed publication now m p says tallies why none refused =
-    let made = made-unless {A = PublisherTables × Uploaded} (upload_refusal publication (by_numbers p) now m p) (uploaded publication (by_numbers p) m (kept_decisions says tallies (upload_questions publication (by_numbers p) now m p)) (at_moment now p), record { seq = m.seq; received = max m.to (arrival_of now m p).received }) none in
+    let made = made-unless {A = PublisherTables × Uploaded} (upload_refusal publication (by_numbers p) now m p) (tables_after_upload publication (by_numbers p) m (kept_decisions says tallies (upload_questions publication (by_numbers p) now m p)) (at_moment now p), record { seq = m.seq; received = max m.to (arrival_of now m p).received }) none in
     ok-not-err _ why (sym made ∙ refused)
 
 -- how often resolvers were asked

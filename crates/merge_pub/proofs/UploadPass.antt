@@ -13,7 +13,7 @@ use Rattle.merge_units.specs.declared.result.Decision.TheVariants.{KeepPublisher
 use Rattle.merge_units.specs.declared.site_row.PublisherRow.{PublisherRow}
 use Rattle.merge_units.specs.declared.version.Version.{Version}
 use Rattle.merge_conflict.specs.declared.row.ConflictRow.{ConflictRow}
-use Rattle.merge_resolve.specs.Asked.{raised, tallies_after}
+use Rattle.merge_resolve.specs.Asked.{tallies_after, tallies_after_question}
 use Rattle.merge_resolve.specs.Questions.{question_asked, question_of as asked_of}
 use Rattle.merge_resolve.specs.declared.asking.Question.{Question}
 use Rattle.merge_schema.specs.declared.publication.Publication.{Publication}

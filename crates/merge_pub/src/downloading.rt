@@ -5,8 +5,8 @@ ghost use Rattle.merge_batch.specs.declared.refusal.Refusal.{Refusal as OneRefus
 ghost use Rattle.merge_batch.specs.declared.refusal.Refusal.TheVariants.{NoMemory as no_memory};
 ghost use Rattle.merge_model.specs.Judge.ByNumbers.{by_numbers};
 ghost use Rattle.merge_model.specs.Tables.Keys.{at_number};
-ghost use Rattle.merge_model.specs.Publisher.{closed};
-ghost use Rattle.merge_model.specs.Publisher.PublisherDownload.{download, download_refusal, in_step, reply_to, synced};
+ghost use Rattle.merge_model.specs.Publisher.{tables_after_close};
+ghost use Rattle.merge_model.specs.Publisher.PublisherDownload.{download, download_refusal, in_step, reply_to, state_after_download};
 ghost use Rattle.merge_pub.specs.After.{after};
 ghost use Rattle.merge_pub.specs.Held.{IsDrafted, publication_of, tables_of};
 ghost use Rattle.merge_pub.specs.Refused.{RefusesAs, refusal_of};
@@ -39,7 +39,7 @@ impl Publisher {
     // The last closed generation once the open one closes.
     fn last_after_closing(&self) -> u64
         requires { self.now.gens.book.filling.last_closed < counter_limit }
-        ensures last { result ≡ (closed (tables_of self.now)).gens.filling.last_closed }
+        ensures last { result ≡ (tables_after_close (tables_of self.now)).gens.filling.last_closed }
         ensures onward { self.now.gens.book.filling.last_closed ≤ result }
         ensures low { result < number_limit }
     {
@@ -54,7 +54,7 @@ impl Publisher {
     fn reply(&self, m: &Download, received: u64) -> Result<Downloaded, NoMemory>
         requires order { m.now.from ≤ self.now.gens.book.filling.last_closed }
         requires low { self.now.gens.book.filling.last_closed < counter_limit }
-        ensures { IfOk result (λ reply. received ≡ (by_numbers (tables_of self.now)).received m.now.site.0 → reply ≡ reply_to (publication_of self.now) (by_numbers (tables_of self.now)) m.now (closed (tables_of self.now))) }
+        ensures { IfOk result (λ reply. received ≡ (by_numbers (tables_of self.now)).received m.now.site.0 → reply ≡ reply_to (publication_of self.now) (by_numbers (tables_of self.now)) m.now (tables_after_close (tables_of self.now))) }
     {
         let last = self.last_after_closing();
         let to = self.batch_end(m.site, m.from, last)?;
@@ -84,7 +84,7 @@ impl Publisher {
     // What is remembered of a site that asks: it holds the generations up to the one that it asks
     // from.
     fn synced(&self, m: &Download, latest: Moment, state: SiteState) -> SiteState
-        ensures { result ≡ synced m.now (record (tables_of self.now) { latest = latest }) state }
+        ensures { result ≡ state_after_download m.now (record (tables_of self.now) { latest = latest }) state }
     {
         SiteState {
             watermark: state.watermark.max(m.from),

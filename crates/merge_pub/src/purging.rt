@@ -1,7 +1,7 @@
 //! The publisher forgets what is old.
 ghost use Rattle.std.specs.Prelude.{◌≡◌, [], IfOk, count_by, filter, nat_lt, not};
 ghost use Rattle.merge_table.specs.Edits.{takes_of};
-ghost use Rattle.merge_gens.specs.Book.{purged};
+ghost use Rattle.merge_gens.specs.Book.{book_after_purge};
 ghost use Rattle.merge_model.specs.Publisher.PublisherPurge.{cutoff, purge};
 ghost use Rattle.merge_pub.specs.After.{after};
 ghost use Rattle.merge_pub.specs.Forgetting.{LeavesAll};
@@ -110,7 +110,7 @@ impl Publisher {
 
     // Forgets the generations that closed before the moment.
     fn forget_closings(&mut self, cutoff: Moment)
-        ensures tables { tables_of self.new ≡ record (tables_of self.old) { gens = purged (tables_of self.old).gens cutoff } }
+        ensures tables { tables_of self.new ≡ record (tables_of self.old) { gens = book_after_purge (tables_of self.old).gens cutoff } }
         ensures publication { publication_of self.new ≡ publication_of self.old }
         ensures compact { IsCompact self.old → IsCompact self.new }
     {

@@ -4,7 +4,7 @@ ghost use Rattle.merge_batch.specs.declared.refusal.Refusal.{Refusal as OneRefus
 ghost use Rattle.merge_batch.specs.declared.refusal.Refusal.TheVariants.{NoMemory as no_memory};
 ghost use Rattle.merge_ident.specs.Books as granting;
 ghost use Rattle.merge_model.specs.Judge.ByNumbers.{by_numbers};
-ghost use Rattle.merge_model.specs.Publisher.PublisherRanges.{ask_by, ended_by, granted_by, plans, ranged, ranges, ranges_refusal};
+ghost use Rattle.merge_model.specs.Publisher.PublisherRanges.{ask_by, ended_by, granted_by, plans, ranges, ranges_refusal, reply_to_ranges};
 ghost use Rattle.merge_pub.specs.After.{after};
 ghost use Rattle.merge_pub.specs.Held.{IsDrafted, publication_of, tables_of};
 ghost use Rattle.merge_pub.specs.Ranging.{AreRuled, IsForOthers};
@@ -128,7 +128,7 @@ fn ended_told(alloc: Global, plans: &[GrantPlan]) -> Result<EndedRanges, NoMemor
 
 // What the site is told.
 fn ranged(alloc: Global, m: &RangeAsk, plans: &[GrantPlan]) -> Result<Ranged, NoMemory>
-    ensures { IfOk result (λ told. told ≡ ranged m.now plans.now) }
+    ensures { IfOk result (λ told. told ≡ reply_to_ranges m.now plans.now) }
 {
     let grants = grants_told(alloc, plans)?;
     let ended = ended_told(alloc, plans)?;

@@ -3,7 +3,7 @@ ghost use Rattle.std.specs.Prelude.{◌≡◌, ◌<◌, ◌∷◌, [], IfOk, IsO
 ghost use Rattle.merge_types.specs.Limits.{counter_limit};
 ghost use Rattle.merge_table.specs.declared.edit.Edit.TheVariants.{Put};
 ghost use Rattle.merge_ident.specs.Books as granting;
-ghost use Rattle.merge_model.specs.Publisher.{closed, with_state};
+ghost use Rattle.merge_model.specs.Publisher.{tables_after_close, with_state};
 ghost use Rattle.merge_model.specs.Publisher.PublisherRanges.{with_grants};
 ghost use Rattle.merge_pub.specs.After.{after};
 ghost use Rattle.merge_steps.specs.Keeps.{KeepsRules};
@@ -79,7 +79,7 @@ impl Publisher {
         state: SiteState,
     ) -> Result<Draft, NoMemory>
         requires { self.old.gens.book.filling.last_closed < counter_limit }
-        ensures made { IfOk result (λ d. after d.changes (tables_of self.old) ≡ closed (with_state site state (record (tables_of self.old) { latest = latest }))) }
+        ensures made { IfOk result (λ d. after d.changes (tables_of self.old) ≡ tables_after_close (with_state site state (record (tables_of self.old) { latest = latest }))) }
         ensures ready { IfOk result (λ d. IsDrafted self.new d) }
         ensures same { tables_of self.new ≡ tables_of self.old }
         ensures publication { publication_of self.new ≡ publication_of self.old }

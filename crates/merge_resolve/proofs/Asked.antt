@@ -1,7 +1,7 @@
 -- One object is asked.
 use Rattle.std.proofs.Common.{◌≡◌, ℕ, zero, suc, ◌+◌, ◌-◌, ◌<◌, ◌^◌, min, List, [], ◌∷◌, ◌++◌, length, get_or, set, map, Some, slice_index, refl, ap, sym, ◌∙◌, arith}
 use Rattle.std.proofs.lemmas.List.{map-set}
-use Rattle.merge_resolve.specs.Asked.{raised, says_at, tallies_after}
+use Rattle.merge_resolve.specs.Asked.{says_at, tallies_after, tallies_after_question}
 
 module _ {X Q D : Type 0} (says : X → ℕ → Q → D) where
   -- an object that says the same in its place
@@ -20,7 +20,7 @@ module _ {X : Type 0} (tally : X → ℕ) where
   tally_index (x ∷ xs) (suc at) y in_range = tally_index xs at y (omega arith)
 
   -- its tally is one more
-  pub tallies-set : (xs : List X) (at : ℕ) (y : X) → at < length xs → tally y ≡ min (tally (get_or xs at y) + 1) (2 ^ 64 - 1) → map tally (set xs at y) ≡ raised (map tally xs) at
+  pub tallies-set : (xs : List X) (at : ℕ) (y : X) → at < length xs → tally y ≡ min (tally (get_or xs at y) + 1) (2 ^ 64 - 1) → map tally (set xs at y) ≡ tallies_after_question (map tally xs) at
   tallies-set xs at y in_range more = map-set tally xs at y ∙ ap (set (map tally xs) at) (more ∙ ap (λ n. min (n + 1) (2 ^ 64 - 1)) (sym (tally_index xs at y in_range)))
 
 module _ {X Q D : Type 0} (says : X → ℕ → Q → D) (tally : X → ℕ) where
@@ -37,4 +37,4 @@ module _ {X Q D : Type 0} (says : X → ℕ → Q → D) (tally : X → ℕ) whe
 -- more questions after others
 pub tallies_after-append : {Q : Type 0} (tallies : List ℕ) (xs ys : List (ℕ × Q)) → tallies_after tallies (xs ++ ys) ≡ tallies_after (tallies_after tallies xs) ys
 tallies_after-append tallies [] ys = refl
-tallies_after-append tallies (x ∷ xs) ys = tallies_after-append (raised tallies x.0) xs ys
+tallies_after-append tallies (x ∷ xs) ys = tallies_after-append (tallies_after_question tallies x.0) xs ys

@@ -35,7 +35,7 @@ use Rattle.merge_resolve.specs.declared.question.Meeting.{Meeting}
 use Rattle.merge_types.specs.Fitting.{fits_column}
 use Rattle.merge_resolve.specs.Counted.{is_by_row, fits_place, fit_all, fit_columns, own_placed, with_own, side_length, kept_length, is_within, within_or_kept}
 use Rattle.merge_resolve.specs.Columns.{body_value}
-use Rattle.merge_resolve.specs.Questions.{Asked, tracking_kind, both_place, case_asked, question_asked, counted}
+use Rattle.merge_resolve.specs.Questions.{Asked, tracking_kind, both_place, case_asked, question_asked, decision_for_question}
 use Rattle.merge_resolve.specs.CountedLaws.{HasColumns, CountedFits, CountedStaysInLimit}
 
 -- a list that fits has one value for each
@@ -140,17 +140,17 @@ module _ (meeting : Meeting) (asked : Asked) where
         let same : length kept_values ≡ length values = with_own_length the_case asked.identity (body_value the_case.kind (Live ps) asked.identity) values (even_by asked.tracking asked.types (filter_map both_place (enumerate_from 0 ss)) values fit) in
         taken_by asked.tracking asked.types ss ps values kept_values columns.0 columns.1 here any fit same
 
-    list_fits : FitsDecision (case.Conflict ss) (Live ps) (counted (question_asked meeting asked (Live ps) (Live is) (case.Conflict ss)) (Custom values))
+    list_fits : FitsDecision (case.Conflict ss) (Live ps) (decision_for_question (question_asked meeting asked (Live ps) (Live is) (case.Conflict ss)) (Custom values))
     list_fits = by_tests (FitsDecision (case.Conflict ss) (Live ps)) _ (is_within ss ps is kept_values) kept_values tt (λ fit within. kept_fits fit)
 
     list_within : (dot : Dot) → length ss ≡ length is → stored_length (cells_of (case_body dot KeepPublisher (case.Conflict ss) (Live ps) (Live is))) ≤ row_limit
-        → stored_length (cells_of (case_body dot (counted (question_asked meeting asked (Live ps) (Live is) (case.Conflict ss)) (Custom values)) (case.Conflict ss) (Live ps) (Live is))) ≤ row_limit
+        → stored_length (cells_of (case_body dot (decision_for_question (question_asked meeting asked (Live ps) (Live is) (case.Conflict ss)) (Custom values)) (case.Conflict ss) (Live ps) (Live is))) ≤ row_limit
     list_within dot there keep = by_tests (λ (d : Decision). stored_length (cells_of (case_body dot d (case.Conflict ss) (Live ps) (Live is))) ≤ row_limit) _ (is_within ss ps is kept_values) kept_values keep
         (λ fit within. omega (arith, decided_length dot kept_values kept_values ss ps is here there (kept_fits fit), is_within_bytes ss ps is kept_values within))
 
   live_fits : (any : Bool) (ss : List Side) (ps is : List Cell) (d : Decision) → length ss ≡ length ps → list_any is_both ss ≡ any → HasColumns asked (Live ps)
       → is_conflict (if any then case.Conflict ss else case.Merge ss) ≡ true
-      → FitsDecision (if any then case.Conflict ss else case.Merge ss) (Live ps) (counted (question_asked meeting asked (Live ps) (Live is) (if any then case.Conflict ss else case.Merge ss)) d)
+      → FitsDecision (if any then case.Conflict ss else case.Merge ss) (Live ps) (decision_for_question (question_asked meeting asked (Live ps) (Live is) (if any then case.Conflict ss else case.Merge ss)) d)
   live_fits true ss ps is KeepPublisher here is_any columns conflict = tt
   live_fits true ss ps is TakeSubscriber here is_any columns conflict = tt
   live_fits true ss ps is (Custom values) here is_any columns conflict = list_fits ss ps is here is_any columns values
@@ -160,7 +160,7 @@ module _ (meeting : Meeting) (asked : Asked) where
       → is_conflict (if any then case.Conflict ss else case.Merge ss) ≡ true
       → stored_length (cells_of (case_body dot KeepPublisher (if any then case.Conflict ss else case.Merge ss) (Live ps) (Live is))) ≤ row_limit
       → stored_length (cells_of (case_body dot TakeSubscriber (if any then case.Conflict ss else case.Merge ss) (Live ps) (Live is))) ≤ row_limit
-      → stored_length (cells_of (case_body dot (counted (question_asked meeting asked (Live ps) (Live is) (if any then case.Conflict ss else case.Merge ss)) d) (if any then case.Conflict ss else case.Merge ss) (Live ps) (Live is))) ≤ row_limit
+      → stored_length (cells_of (case_body dot (decision_for_question (question_asked meeting asked (Live ps) (Live is) (if any then case.Conflict ss else case.Merge ss)) d) (if any then case.Conflict ss else case.Merge ss) (Live ps) (Live is))) ≤ row_limit
   live_within true ss ps is KeepPublisher dot here there is_any columns conflict keep take = keep
   live_within true ss ps is TakeSubscriber dot here there is_any columns conflict keep take = take
   live_within true ss ps is (Custom values) dot here there is_any columns conflict keep take = list_within ss ps is here is_any columns values dot there keep
@@ -168,7 +168,7 @@ module _ (meeting : Meeting) (asked : Asked) where
 
   module _ (here there : Knowing) where
     fits_by : (ours theirs : Bool) (p i : Body) (d : Decision) → HaveEqualCounts p i → HasColumns asked p → is_conflict (news_case ours theirs (bodies_case here there p i)) ≡ true
-        → FitsDecision (news_case ours theirs (bodies_case here there p i)) p (counted (question_asked meeting asked p i (news_case ours theirs (bodies_case here there p i))) d)
+        → FitsDecision (news_case ours theirs (bodies_case here there p i)) p (decision_for_question (question_asked meeting asked p i (news_case ours theirs (bodies_case here there p i))) d)
     fits_by true true (Live ps) (Live is) d counts columns conflict =
         live_fits (list_any is_both (sides_of here there ps is)) (sides_of here there ps is) ps is d (length-sides_of here there ps is counts) refl columns conflict
     fits_by true true (Live ps) (Dead i) KeepPublisher counts columns conflict = tt
@@ -185,7 +185,7 @@ module _ (meeting : Meeting) (asked : Asked) where
     within_by : (ours theirs : Bool) (p i : Body) (d : Decision) (dot : Dot) → HaveEqualCounts p i → HasColumns asked p → is_conflict (news_case ours theirs (bodies_case here there p i)) ≡ true
         → stored_length (cells_of (case_body dot KeepPublisher (news_case ours theirs (bodies_case here there p i)) p i)) ≤ row_limit
         → stored_length (cells_of (case_body dot TakeSubscriber (news_case ours theirs (bodies_case here there p i)) p i)) ≤ row_limit
-        → stored_length (cells_of (case_body dot (counted (question_asked meeting asked p i (news_case ours theirs (bodies_case here there p i))) d) (news_case ours theirs (bodies_case here there p i)) p i)) ≤ row_limit
+        → stored_length (cells_of (case_body dot (decision_for_question (question_asked meeting asked p i (news_case ours theirs (bodies_case here there p i))) d) (news_case ours theirs (bodies_case here there p i)) p i)) ≤ row_limit
     within_by true true (Live ps) (Live is) d dot counts columns conflict keep take =
         live_within (list_any is_both (sides_of here there ps is)) (sides_of here there ps is) ps is d dot (length-sides_of here there ps is counts) (length-sides_of here there ps is counts ∙ counts) refl columns conflict keep take
     within_by true true (Live ps) (Dead i) KeepPublisher dot counts columns conflict keep take = keep

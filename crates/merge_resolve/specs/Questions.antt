@@ -87,5 +87,5 @@ question_asked meeting asked publisher incoming case = record {
 }
 
 -- what a resolver's decision counts as
-abbrev pub counted : Question → Decision → Decision
-counted question decision = counted_decision question.types question.identity question.sides question.case decision
+abbrev pub decision_for_question : Question → Decision → Decision
+decision_for_question question decision = counted_decision question.types question.identity question.sides question.case decision

@@ -13,7 +13,7 @@ use Rattle.merge_units.specs.Version.{cells_of}
 use Rattle.merge_units.specs.Results.{winner_body}
 use Rattle.merge_resolve.specs.Columns.{value_in, body_value, first_values}
 use Rattle.merge_resolve.specs.Rules.{by_priority}
-use Rattle.merge_resolve.specs.Extremes.{judged}
+use Rattle.merge_resolve.specs.Extremes.{answer_on_both}
 
 -- whether an i64 can hold it
 abbrev pub is_i64 : ℤ → Bool
@@ -48,17 +48,17 @@ with_sum case winner column sum =
     if is_by_row case.kind then slice_set (first_values winner) column sum else map (column_after case.kind winner column sum) case.cells
 
 -- the decision where there is a sum: as the priority does where its column is in no conflicting cell
-abbrev pub summed : ConflictCase → ℕ → Value → Decision
-summed case column sum =
+abbrev pub sum_decision : ConflictCase → ℕ → Value → Decision
+sum_decision case column sum =
     if is_in_conflict case.kind case.cells column
     then Custom (with_sum case (cells_of (winner_body (by_priority case) case.publisher case.incoming)) column sum)
     else by_priority case
 
 abbrev pub summed_or_priority : ConflictCase → Option ℕ → Option Value → Decision
-summed_or_priority case (Some column) (Some sum) = summed case column sum
+summed_or_priority case (Some column) (Some sum) = sum_decision case column sum
 summed_or_priority case _ _ = by_priority case
 
 -- what the rule decides
 abbrev pub additive_decision : ConflictCase → Decision
 additive_decision case =
-    summed_or_priority case case.column (judged sum_of (body_value case.kind case.publisher case.column) (body_value case.kind case.incoming case.column))
+    summed_or_priority case case.column (answer_on_both sum_of (body_value case.kind case.publisher case.column) (body_value case.kind case.incoming case.column))

@@ -6,9 +6,9 @@ ghost use Rattle.merge_resolve.specs.Choices.{rule_of};
 ghost use Rattle.std.specs.Option.{option_copied};
 ghost use Rattle.merge_units.specs.Version.{cells_of};
 ghost use Rattle.merge_units.specs.Results.{winner_body};
-ghost use Rattle.merge_resolve.specs.Extremes.{judged};
+ghost use Rattle.merge_resolve.specs.Extremes.{answer_on_both};
 ghost use Rattle.merge_resolve.specs.Columns.{value_in, first_values};
-ghost use Rattle.merge_resolve.specs.Sums.{is_i64, int_sum, sum_of, cell_of, column_after, with_sum, is_in_conflict, summed, additive_decision};
+ghost use Rattle.merge_resolve.specs.Sums.{is_i64, int_sum, sum_of, cell_of, column_after, with_sum, is_in_conflict, sum_decision, additive_decision};
 
 use crate::counted::is_by_row;
 use crate::priority::by_priority;
@@ -64,7 +64,7 @@ fn additive_decision(alloc: Global, case: &ConflictCase) -> Result<Decision, NoM
 }
 
 fn both_sum(ours: Option<&Value>, theirs: Option<&Value>) -> Option<Value>
-    ensures { result ≡ judged sum_of (option_copied ours.entry) (option_copied theirs.entry) }
+    ensures { result ≡ answer_on_both sum_of (option_copied ours.entry) (option_copied theirs.entry) }
 {
     match (ours, theirs) {
         (Some(ours), Some(theirs)) => sum_of(ours, theirs),
@@ -96,7 +96,7 @@ fn int_sum(our: i64, their: i64) -> Option<Value>
 
 // The decision where there is a sum.
 fn summed(alloc: Global, case: &ConflictCase, column: u8, sum: &Value) -> Result<Decision, NoMemory>
-    ensures { IfOk result (λ decision. decision ≡ summed case.now column sum.now) }
+    ensures { IfOk result (λ decision. decision ≡ sum_decision case.now column sum.now) }
 {
     if !is_in_conflict(case.kind, case.cells.as_slice(), column) {
         return Ok(by_priority(case));

@@ -1,6 +1,6 @@
 //! Asking the resolvers of a list.
 ghost use Rattle.std.specs.Prelude.{◌≡◌, ◌<◌, ◌+◌, ◌^◌, ◌-◌, ℕ, min, IfOk, length, slice_index, map, Some};
-ghost use Rattle.merge_resolve.specs.Asked.{raised, says_at};
+ghost use Rattle.merge_resolve.specs.Asked.{says_at, tallies_after_question};
 ghost use Rattle.merge_resolve.specs.Changes.{ChangesAt};
 
 use crate::{ConflictCase, Handed};
@@ -43,7 +43,7 @@ pub fn ask_at(
 ) -> Result<Decision, NoMemory>
     requires { at < length resolvers.old.items }
     ensures decision { IfOk result (λ decision. Some decision ≡ says_at (λ r. says r) resolvers.old.items at (slice_index (map (λ r. tally_of r) resolvers.old.items) at) case.now) }
-    ensures tallies { map (λ r. tally_of r) resolvers.new.items ≡ raised (map (λ r. tally_of r) resolvers.old.items) at }
+    ensures tallies { map (λ r. tally_of r) resolvers.new.items ≡ tallies_after_question (map (λ r. tally_of r) resolvers.old.items) at }
     ensures steady { (k n : ℕ) (asked : _) → says_at (λ r. says r) resolvers.new.items k n asked ≡ says_at (λ r. says r) resolvers.old.items k n asked }
     ensures len { length resolvers.new.items ≡ length resolvers.old.items }
     ensures others { ChangesAt

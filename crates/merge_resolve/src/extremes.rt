@@ -3,7 +3,7 @@ ghost use Rattle.std.specs.Prelude.{◌≡◌, ℕ, ◌+◌, ◌-◌, ◌^◌, m
 ghost use Rattle.merge_resolve.specs.declared.choice.ResolverChoice.TheVariants as choice;
 ghost use Rattle.merge_resolve.specs.Choices.{rule_of};
 ghost use Rattle.std.specs.Option.{option_copied};
-ghost use Rattle.merge_resolve.specs.Extremes.{beats, picked, judged, extreme_decision};
+ghost use Rattle.merge_resolve.specs.Extremes.{beats, decision_by_extreme, answer_on_both, extreme_decision};
 
 use crate::priority::{by_priority, take_if};
 use crate::values::body_value;
@@ -112,7 +112,7 @@ fn decision_by(extreme: Extreme, case: &ConflictCase) -> Decision
 }
 
 fn judged(extreme: Extreme, ours: Option<&Value>, theirs: Option<&Value>) -> Option<Decision>
-    ensures { result ≡ judged (picked extreme) (option_copied ours.entry) (option_copied theirs.entry) }
+    ensures { result ≡ answer_on_both (decision_by_extreme extreme) (option_copied ours.entry) (option_copied theirs.entry) }
 {
     match (ours, theirs) {
         (Some(ours), Some(theirs)) => picked(extreme, ours, theirs),
@@ -122,7 +122,7 @@ fn judged(extreme: Extreme, ours: Option<&Value>, theirs: Option<&Value>) -> Opt
 
 // The side with the better value, where both may be compared.
 fn picked(extreme: Extreme, ours: &Value, theirs: &Value) -> Option<Decision>
-    ensures { result ≡ picked extreme ours.now theirs.now }
+    ensures { result ≡ decision_by_extreme extreme ours.now theirs.now }
 {
     match (ours, theirs) {
         (Value::Null, Value::Null) => Some(Decision::KeepPublisher),

@@ -7,7 +7,7 @@ use Rattle.toml.specs.Data.{Data, as_array}
 use Rattle.toml.specs.View.{view, items_of, items_view}
 use Rattle.toml.specs.declared.value.Value.{Value}
 use Rattle.merge_schema.specs.declared.fault.SchemaFault.TheVariants.{BadValue}
-use Rattle.merge_schema.specs.Values.{list_of, as_list, is_table, tables_from, kept_if, not_above, or_bad}
+use Rattle.merge_schema.specs.FileValues.{list_of, as_list, is_table, tables_from, kept_if, not_above, or_bad}
 use Rattle.merge_schema.specs.Steps.{◌>>=◌}
 
 pub list_of-items_of : (ds : List Data) → list_of (items_of ds) ≡ ds

@@ -6,8 +6,8 @@ use Rattle.merge_types.specs.declared.values.Column.{Column}
 use Rattle.merge_schema.specs.declared.fault.SchemaFault.{SchemaFault}
 use Rattle.merge_schema.specs.declared.publication.Identity.{Identity}
 use Rattle.merge_schema.specs.Steps.{◌>>=◌}
-use Rattle.merge_schema.specs.Tables.{each_table, columns_from, column_of}
-use Rattle.merge_schema.specs.Values.{one_table}
+use Rattle.merge_schema.specs.FileTables.{each_table, columns_from, column_of}
+use Rattle.merge_schema.specs.FileValues.{one_table}
 
 -- elements, behind those that were read before
 abbrev pub with_front : {B : Type 0} → List B → Result (List B) SchemaFault → Result (List B) SchemaFault

@@ -25,7 +25,7 @@ use Rattle.merge_schema.specs.Checks.{article_names, column_names, site_names, d
 use Rattle.merge_schema.specs.Lookups.{stands_in, column_place, draft_place, has_column, columns_of, columns_named, found}
 use Rattle.merge_schema.specs.Partition.{joins_of}
 use Rattle.merge_schema.specs.Steps.{◌>>=◌, every, refused_if, UnlessMemory}
-use Rattle.merge_schema.specs.Tables.{needs_column}
+use Rattle.merge_schema.specs.FileTables.{needs_column}
 use Rattle.merge_schema.specs.Valid.{IsWithin, AreDistinct, FilterFits, IsValidJoin, IsValidDecider, IsValidArticle, IsValid}
 use Rattle.merge_schema.specs.ValidTables.{IsValidDraft, HasValidTables}
 use Rattle.merge_schema.proofs.Distinct.{distinct_names}

@@ -8,7 +8,7 @@ use Rattle.merge_schema.specs.declared.fault.SchemaFault.TheVariants.{NotToml, M
 use Rattle.merge_schema.specs.Answers.{checked_draft}
 use Rattle.merge_schema.specs.Checks.{names_checked}
 use Rattle.merge_schema.specs.Steps.{◌>>=◌}
-use Rattle.merge_schema.specs.Tables.{identity_of, column_of, join_of, article_of, subscription_of, draft_of}
+use Rattle.merge_schema.specs.FileTables.{identity_of, column_of, join_of, article_of, subscription_of, draft_of}
 
 -- what is said of a file, up to its filters
 abbrev read_members : Option Members → Result (Unit {0}) SchemaFault

@@ -15,7 +15,7 @@ use Rattle.merge_schema.specs.Ancestors.{joins_checked}
 use Rattle.merge_schema.specs.Building.{ArePlaced, publication_of}
 use Rattle.merge_schema.specs.Checks.{names_checked}
 use Rattle.merge_schema.specs.Steps.{◌>>=◌}
-use Rattle.merge_schema.specs.Tables.{draft_of}
+use Rattle.merge_schema.specs.FileTables.{draft_of}
 
 -- the tables, with names that were checked
 abbrev pub checked_draft : ℕ → Members → Result Draft SchemaFault

@@ -1,7 +1,7 @@
 pub mod Steps
-pub mod Values
+pub mod FileValues
 pub mod Keys
-pub mod Tables
+pub mod FileTables
 pub mod Lookups
 pub mod Checks
 pub mod Ancestors

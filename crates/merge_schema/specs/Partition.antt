@@ -10,7 +10,7 @@ use Rattle.merge_filter.specs.declared.evaluation.Truth.{Truth}
 use Rattle.merge_filter.specs.declared.evaluation.Truth.TheVariants.{True, False, Unknown}
 use Rattle.merge_filter.specs.declared.word.Sign.TheVariants.{Equal}
 use Rattle.merge_filter.specs.Syntax.{Syntax}
-use Rattle.merge_filter.specs.Eval.{truth, compared}
+use Rattle.merge_filter.specs.Eval.{truth, truth_of_comparison}
 use Rattle.merge_schema.specs.declared.publication.Article.{Article}
 use Rattle.merge_schema.specs.declared.publication.JoinFilter.{JoinFilter}
 use Rattle.merge_schema.specs.declared.publication.Publication.{Publication}
@@ -54,7 +54,7 @@ passes (Some filter) host row = is_true (truth filter row.values host)
 
 -- whether two values join: they are equal, and not Null
 abbrev pub are_joined : Value → Value → Bool
-are_joined child parent = is_true (compared child Equal parent)
+are_joined child parent = is_true (truth_of_comparison child Equal parent)
 
 -- whether a row is the join's parent of a row
 abbrev pub is_parent : JoinFilter → LiveRow → LiveRow → Bool

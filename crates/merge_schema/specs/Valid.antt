@@ -16,7 +16,7 @@ use Rattle.merge_schema.specs.Ancestors.{columns_if}
 use Rattle.merge_schema.specs.Checks.{column_names, can_decide, is_identity}
 use Rattle.merge_schema.specs.EvaluationOrder.{IsEvaluationOrder}
 use Rattle.merge_schema.specs.ParentsFirst.{evaluation_order}
-use Rattle.merge_schema.specs.Tables.{needs_column}
+use Rattle.merge_schema.specs.FileTables.{needs_column}
 
 abbrev pub IsWithin : ℕ → ℕ → ℕ → Type 0
 IsWithin low high n = (low ≤ n) × (n ≤ high)

@@ -7,7 +7,7 @@ use Rattle.merge_schema.specs.declared.draft.ArticleDraft.{ArticleDraft}
 use Rattle.merge_schema.specs.declared.draft.Draft.{Draft}
 use Rattle.merge_schema.specs.declared.publication.Identity.{Identity}
 use Rattle.merge_schema.specs.declared.publication.Subscription.{Subscription}
-use Rattle.merge_schema.specs.Tables.{needs_column}
+use Rattle.merge_schema.specs.FileTables.{needs_column}
 use Rattle.merge_schema.specs.Valid.{IsWithin, HasValidRanges, HasValidIdentity, IsValidSubscription}
 
 -- an identity that a table brings

@@ -11,10 +11,10 @@ ghost use Rattle.merge_schema.specs.declared.publication.Article.{Article};
 
 use crate::draft::{ArticleDraft, Draft, JoinDraft};
 use crate::fault::SchemaFault;
+use crate::file_values::bad_value;
 use crate::joins::joins_checked;
 use crate::names::{column_place, columns_named, draft_place, found};
 use crate::publication::{Article, JoinFilter, Publication};
-use crate::values::bad_value;
 use merge_filter::{Filter, FilterFault, parse};
 use merge_types::{Column, Listing, Words};
 use std::alloc::Global;

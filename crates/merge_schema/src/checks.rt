@@ -9,12 +9,12 @@ ghost use Rattle.merge_schema.specs.Steps.{Gives, every, refused_if};
 
 use crate::draft::{ArticleDraft, Draft, JoinDraft};
 use crate::fault::SchemaFault;
+use crate::file_values::bad_value;
 use crate::names::{
     article_names, column_names, column_place, columns_named, distinct, has_column, site_names,
     stands_in,
 };
 use crate::publication::Identity;
-use crate::values::bad_value;
 use merge_filter::column_type;
 use merge_types::{ColumnType, Words};
 use std::alloc::Global;

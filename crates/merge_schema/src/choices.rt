@@ -1,6 +1,6 @@
 //! Words that name a choice.
 ghost use Rattle.std.specs.Prelude.{◌≡◌, ◌<◌, IfSome};
-ghost use Rattle.merge_schema.specs.Tables.{tracking_named, type_named, kind_named, handler_named, resolver_named, if_in_list, needs_column};
+ghost use Rattle.merge_schema.specs.FileTables.{tracking_named, type_named, kind_named, handler_named, resolver_named, if_in_list, needs_column};
 
 use crate::publication::SubscriptionKind;
 use merge_types::{ColumnType, Tracking};

@@ -7,7 +7,7 @@ ghost use Rattle.merge_schema.specs.declared.keys.Shape.TheVariants.{Top, Articl
 ghost use Rattle.merge_schema.specs.Steps.{Gives};
 
 use crate::fault::SchemaFault;
-use crate::values::bad_value;
+use crate::file_values::bad_value;
 use std::alloc::Global;
 use toml::Table;
 

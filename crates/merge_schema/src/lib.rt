@@ -6,6 +6,8 @@ mod checks;
 mod choices;
 mod draft;
 mod fault;
+mod file_tables;
+mod file_values;
 mod joins;
 mod keys;
 mod laws;
@@ -14,8 +16,6 @@ mod order;
 mod places;
 mod publication;
 mod reading;
-mod tables;
-mod values;
 
 pub use fault::SchemaFault;
 pub use laws::{ancestor_laws, partition_laws, validity_laws};

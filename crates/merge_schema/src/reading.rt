@@ -8,8 +8,8 @@ ghost use Rattle.toml.specs.View.{table_view};
 use crate::building::publication_of;
 use crate::checks::names_checked;
 use crate::fault::SchemaFault;
+use crate::file_tables::draft_of;
 use crate::publication::Publication;
-use crate::tables::draft_of;
 use std::alloc::Global;
 use toml::Table;
 

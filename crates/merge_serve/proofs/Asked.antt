@@ -8,9 +8,9 @@ use Rattle.merge_wire.specs.declared.fault.WireFault.TheVariants as fault
 use Rattle.merge_wire.specs.declared.message.Message.{Message}
 use Rattle.merge_serve.specs.declared.answer.Bare.{Bare}
 use Rattle.merge_serve.specs.declared.answer.Bare.TheVariants as bare
-use Rattle.merge_serve.specs.Asking.{IsDeclined, IsNoRequest, IsUnasked, unread}
+use Rattle.merge_serve.specs.Asking.{IsDeclined, IsNoRequest, IsUnasked, unasked_of_fault}
 
-pub unasked_fault : (old new : Option (List ℕ)) (before after : ℕ) (e : WireFault) → IsRequestFault old new before after e → IsUnasked old new before after (unread e)
+pub unasked_fault : (old new : Option (List ℕ)) (before after : ℕ) (e : WireFault) → IsRequestFault old new before after e → IsUnasked old new before after (unasked_of_fault e)
 unasked_fault old new before after fault.BadHead p = inl (fault.BadHead, refl, p)
 unasked_fault old new before after fault.BadLength p = inl (fault.BadLength, refl, p)
 unasked_fault old new before after (fault.TooLong n) p = (n, p)

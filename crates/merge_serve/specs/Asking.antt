@@ -66,11 +66,11 @@ IsUnasked old new before after (unasked.Declined why) = IsDeclined old new befor
 IsUnasked old new before after unasked.ReadFault = Rose before after
 
 -- what comes of a message that is not read
-abbrev pub unread : WireFault → Unasked
-unread fault.BadHead = unasked.Declined bare.BadRequest
-unread fault.BadLength = unasked.Declined bare.BadRequest
-unread (fault.TooLong n) = unasked.Declined bare.TooLong
-unread fault.Ended = unasked.Declined bare.BadRequest
-unread fault.ReadFault = unasked.ReadFault
-unread fault.WriteFault = unasked.Declined bare.NoMemory
-unread fault.NoMemory = unasked.Declined bare.NoMemory
+abbrev pub unasked_of_fault : WireFault → Unasked
+unasked_of_fault fault.BadHead = unasked.Declined bare.BadRequest
+unasked_of_fault fault.BadLength = unasked.Declined bare.BadRequest
+unasked_of_fault (fault.TooLong n) = unasked.Declined bare.TooLong
+unasked_of_fault fault.Ended = unasked.Declined bare.BadRequest
+unasked_of_fault fault.ReadFault = unasked.ReadFault
+unasked_of_fault fault.WriteFault = unasked.Declined bare.NoMemory
+unasked_of_fault fault.NoMemory = unasked.Declined bare.NoMemory

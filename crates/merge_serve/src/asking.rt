@@ -2,7 +2,7 @@
 ghost use Rattle.std.specs.Prelude.{◌≡◌, ◌≤◌, ◌↔◌, IfErr, IfOk, IsTrue};
 ghost use Rattle.merge_json.specs.Messages.{IsSent};
 ghost use Rattle.merge_json.specs.Sendable.{IsSendableRequest};
-ghost use Rattle.merge_serve.specs.Asking.{Asks, IsNoRequest, IsPost, IsUnasked, unread};
+ghost use Rattle.merge_serve.specs.Asking.{Asks, IsNoRequest, IsPost, IsUnasked, unasked_of_fault};
 
 use crate::answer::Bare;
 use merge_batch::Request;
@@ -20,7 +20,7 @@ pub enum Unasked {
 
 // What is answered to a message that could not be read.
 fn unread(fault: WireFault) -> Unasked
-    ensures { result ≡ unread fault }
+    ensures { result ≡ unasked_of_fault fault }
 {
     match fault {
         WireFault::BadHead | WireFault::BadLength | WireFault::Ended => {

@@ -22,9 +22,9 @@ use Rattle.merge_model.specs.Publisher.PublisherJoin.{join}
 use Rattle.merge_model.specs.Publisher.PublisherRanges.{ranges}
 use Rattle.merge_model.specs.Publisher.PublisherUpload.{upload}
 use Rattle.merge_model.specs.Tables.{PublisherTables, SubscriberTables}
-use Rattle.merge_model.specs.World.Calls.{as_reply, handled}
+use Rattle.merge_model.specs.World.Calls.{as_reply, result_of_request}
 use Rattle.merge_model.specs.World.Events.{machine}
-use Rattle.merge_model.specs.World.Steps.{Action, CloseAt, Deliver, Forget, Look, Make, MakeAnew, Pass, Send, Sending, SendDownload, SendJoin, SendRanges, SendUpload, after_upload, answered as answers, at_subscriber, deliver, deliver_letter, deliver_request, kept_decisions, posted, send_from, unless_refused, upload_questions}
+use Rattle.merge_model.specs.World.Steps.{Action, CloseAt, Deliver, Forget, Look, Make, MakeAnew, Pass, Send, Sending, SendDownload, SendJoin, SendRanges, SendUpload, after_upload, post_reply as answers, at_subscriber, deliver, deliver_letter, deliver_request, kept_decisions, post_if_made, send_from, unless_refused, upload_questions}
 use Rattle.merge_model.specs.World.{Saying, World, by_tables, letter_at, subscriber_at}
 use Rattle.merge_model.specs.declared.letter.Letter.{Letter}
 use Rattle.merge_model.specs.declared.letter.Message.{Message}
@@ -32,57 +32,57 @@ use Rattle.merge_model.specs.declared.letter.Message.TheVariants.{Asks, Replies}
 use Rattle.merge_model.specs.declared.outcome.Outcome.{Outcome}
 use Rattle.merge_model.specs.declared.outcome.Outcome.TheVariants.{NoLetter}
 use Rattle.merge_desk.proofs.Entries.{answered-again}
-use Rattle.merge_desk.specs.Replay.{answer_to, answered, entry_decisions, replay}
+use Rattle.merge_desk.specs.Replay.{answer_to, entry_decisions, replay, tables_and_reply}
 use Rattle.merge_desk.specs.declared.entry.Entry.{Entry}
-use Rattle.merge_draft.specs.Drafting.{decided}
+use Rattle.merge_draft.specs.Drafting.{result_with_decisions}
 use Rattle.merge_served.proofs.Moments.{taken-alike}
-use Rattle.merge_served.specs.Served.{Attended, IsServing, asked_by, attended, attended_at, attended_by, attended_in, if_taken, unless_failed}
+use Rattle.merge_served.specs.Served.{AttendedRequest, IsServing, asked_by, attended, attended_at, attended_by, attended_in, if_taken, unless_failed}
 
 -- Journals by their parts.
 
-first : {x y : Attended} {xs ys : List Attended} → x ∷ xs ≡ y ∷ ys → x ≡ y
+first : {x y : AttendedRequest} {xs ys : List AttendedRequest} → x ∷ xs ≡ y ∷ ys → x ≡ y
 first e = cc e
 
-rest : {x y : Attended} {xs ys : List Attended} → x ∷ xs ≡ y ∷ ys → xs ≡ ys
+rest : {x y : AttendedRequest} {xs ys : List AttendedRequest} → x ∷ xs ≡ y ∷ ys → xs ≡ ys
 rest e = cc e
 
 -- entries of which none is taken leave the tables
 none-behind : (publication : Publication) (p : PublisherTables) (j : Entry) (es : List Entry) (r : Result (PublisherTables × Reply) Refusal)
     → ((q : PublisherTables) → attended_in publication q es ≡ [] → replay publication q es ≡ q)
-    → if_taken r (attended_at p j) ++ attended_in publication (answered p r).0 es ≡ [] → replay publication (answered p r).0 es ≡ p
+    → if_taken r (attended_at p j) ++ attended_in publication (tables_and_reply p r).0 es ≡ [] → replay publication (tables_and_reply p r).0 es ≡ p
 none-behind publication p j es (Ok done) more e = let here : attended_at p j ∷ attended_in publication done.0 es ≡ [] = e in absurd (cc here)
 none-behind publication p j es (Err why) more e = more p e
 
 none-taken : (publication : Publication) (p : PublisherTables) (journal : List Entry) → attended_in publication p journal ≡ [] → replay publication p journal ≡ p
 none-taken publication p [] e = refl
-none-taken publication p (j ∷ journal) e = none-behind publication p j journal (decided publication j.moment j.request j.decisions p) (λ q. none-taken publication q journal) e
+none-taken publication p (j ∷ journal) e = none-behind publication p j journal (result_with_decisions publication j.moment j.request j.decisions p) (λ q. none-taken publication q journal) e
 
 -- a journal in two parts, by what was taken
-record Parts (publication : Publication) (p : PublisherTables) (xs ys : List Attended) (journal : List Entry) : Type 0 where
+record Parts (publication : Publication) (p : PublisherTables) (xs ys : List AttendedRequest) (journal : List Entry) : Type 0 where
   early : List Entry
   late : List Entry
   whole : journal ≡ early ++ late
   taken : attended_in publication p early ≡ xs
   behind : attended_in publication (replay publication p early) late ≡ ys
 
-split-behind : (publication : Publication) (p : PublisherTables) (j : Entry) (es : List Entry) (xs ys : List Attended) (r : Result (PublisherTables × Reply) Refusal)
-    → decided publication j.moment j.request j.decisions p ≡ r
-    → ((q : PublisherTables) (xs ys : List Attended) → attended_in publication q es ≡ xs ++ ys → Parts publication q xs ys es)
-    → if_taken r (attended_at p j) ++ attended_in publication (answered p r).0 es ≡ xs ++ ys → Parts publication p xs ys (j ∷ es)
+split-behind : (publication : Publication) (p : PublisherTables) (j : Entry) (es : List Entry) (xs ys : List AttendedRequest) (r : Result (PublisherTables × Reply) Refusal)
+    → result_with_decisions publication j.moment j.request j.decisions p ≡ r
+    → ((q : PublisherTables) (xs ys : List AttendedRequest) → attended_in publication q es ≡ xs ++ ys → Parts publication q xs ys es)
+    → if_taken r (attended_at p j) ++ attended_in publication (tables_and_reply p r).0 es ≡ xs ++ ys → Parts publication p xs ys (j ∷ es)
 split-behind publication p j es xs ys (Err why) is more e =
     let parts = more p xs ys e in record {
       early = j ∷ parts.early;
       late = parts.late;
       whole = ap (λ (l : List Entry). j ∷ l) parts.whole;
-      taken = ap (λ (r : Result (PublisherTables × Reply) Refusal). if_taken r (attended_at p j) ++ attended_in publication (answered p r).0 parts.early) is ∙ parts.taken;
-      behind = ap (λ (r : Result (PublisherTables × Reply) Refusal). attended_in publication (replay publication (answered p r).0 parts.early) parts.late) is ∙ parts.behind;
+      taken = ap (λ (r : Result (PublisherTables × Reply) Refusal). if_taken r (attended_at p j) ++ attended_in publication (tables_and_reply p r).0 parts.early) is ∙ parts.taken;
+      behind = ap (λ (r : Result (PublisherTables × Reply) Refusal). attended_in publication (replay publication (tables_and_reply p r).0 parts.early) parts.late) is ∙ parts.behind;
     }
 split-behind publication p j es [] ys (Ok done) is more e = record {
   early = [];
   late = j ∷ es;
   whole = refl;
   taken = refl;
-  behind = ap (λ (r : Result (PublisherTables × Reply) Refusal). if_taken r (attended_at p j) ++ attended_in publication (answered p r).0 es) is ∙ e;
+  behind = ap (λ (r : Result (PublisherTables × Reply) Refusal). if_taken r (attended_at p j) ++ attended_in publication (tables_and_reply p r).0 es) is ∙ e;
 }
 split-behind publication p j es (x ∷ xs) ys (Ok done) is more e =
     let here : attended_at p j ∷ attended_in publication done.0 es ≡ x ∷ (xs ++ ys) = e in
@@ -90,15 +90,15 @@ split-behind publication p j es (x ∷ xs) ys (Ok done) is more e =
       early = j ∷ parts.early;
       late = parts.late;
       whole = ap (λ (l : List Entry). j ∷ l) parts.whole;
-      taken = ap (λ (r : Result (PublisherTables × Reply) Refusal). if_taken r (attended_at p j) ++ attended_in publication (answered p r).0 parts.early) is
-          ∙ ap (λ (a : Attended). a ∷ attended_in publication done.0 parts.early) (first here) ∙ ap (λ (l : List Attended). x ∷ l) parts.taken;
-      behind = ap (λ (r : Result (PublisherTables × Reply) Refusal). attended_in publication (replay publication (answered p r).0 parts.early) parts.late) is ∙ parts.behind;
+      taken = ap (λ (r : Result (PublisherTables × Reply) Refusal). if_taken r (attended_at p j) ++ attended_in publication (tables_and_reply p r).0 parts.early) is
+          ∙ ap (λ (a : AttendedRequest). a ∷ attended_in publication done.0 parts.early) (first here) ∙ ap (λ (l : List AttendedRequest). x ∷ l) parts.taken;
+      behind = ap (λ (r : Result (PublisherTables × Reply) Refusal). attended_in publication (replay publication (tables_and_reply p r).0 parts.early) parts.late) is ∙ parts.behind;
     }
 
-split : (publication : Publication) (p : PublisherTables) (xs ys : List Attended) (journal : List Entry) → attended_in publication p journal ≡ xs ++ ys → Parts publication p xs ys journal
+split : (publication : Publication) (p : PublisherTables) (xs ys : List AttendedRequest) (journal : List Entry) → attended_in publication p journal ≡ xs ++ ys → Parts publication p xs ys journal
 split publication p [] ys [] e = record { early = []; late = []; whole = refl; taken = refl; behind = e }
 split publication p (x ∷ xs) ys [] e = let here : [] ≡ x ∷ (xs ++ ys) = e in absurd (cc here)
-split publication p xs ys (j ∷ journal) e = split-behind publication p j journal xs ys (decided publication j.moment j.request j.decisions p) refl (λ q xs ys. split publication q xs ys journal) e
+split publication p xs ys (j ∷ journal) e = split-behind publication p j journal xs ys (result_with_decisions publication j.moment j.request j.decisions p) refl (λ q xs ys. split publication q xs ys journal) e
 
 replay-on : (publication : Publication) (p : PublisherTables) (early late : List Entry) → replay publication p (early ++ late) ≡ replay publication (replay publication p early) late
 replay-on publication p [] late = refl
@@ -118,7 +118,7 @@ quiet-if-there w site (Some t) act is h = rw (is, at_subscriber) (h t)
 quiet-at : (w : World) (site : SiteId) (act : SubscriberTables → World × Outcome) → ((t : SubscriberTables) → (act t).0.publisher ≡ w.publisher) → (at_subscriber site w act).0.publisher ≡ w.publisher
 quiet-at w site act h = quiet-if-there w site (subscriber_at w site) act refl h
 
-quiet-posted : {A : Type 0} (site : SiteId) (message : A → Request) (w : World) (made : Option (SubscriberTables × A)) → (posted site message w made).0.publisher ≡ w.publisher
+quiet-posted : {A : Type 0} (site : SiteId) (message : A → Request) (w : World) (made : Option (SubscriberTables × A)) → (post_if_made site message w made).0.publisher ≡ w.publisher
 quiet-posted site message w None = refl
 quiet-posted site message w (Some made) = refl
 
@@ -144,17 +144,17 @@ module _ (publication : Publication) (says : Saying) where
   -- What a message does that comes to the publisher: the journal's part leads to its tables, and a refusal leaves them.
 
   by_answer : {A : Type 0} (site : SiteId) (message : A → Reply) (w : World) (done : Result (PublisherTables × A) Refusal)
-      → (answers site message w done).0.publisher ≡ (answered w.publisher (as_reply message done)).0
+      → (answers site message w done).0.publisher ≡ (tables_and_reply w.publisher (as_reply message done)).0
   by_answer site message w (Ok made) = refl
   by_answer site message w (Err why) = refl
 
   by_upload : (site : SiteId) (m : Upload) (w : World) (done : Result (PublisherTables × Uploaded) Refusal)
-      → (after_upload publication says (by_numbers w.publisher) site m w done).0.publisher ≡ (answered w.publisher (as_reply reply.Uploaded done)).0
+      → (after_upload publication says (by_numbers w.publisher) site m w done).0.publisher ≡ (tables_and_reply w.publisher (as_reply reply.Uploaded done)).0
   by_upload site m w (Ok made) = refl
   by_upload site m w (Err why) = refl
 
   delivered : (site : SiteId) (m : Request) (w : World)
-      → (deliver_request publication says (by_numbers w.publisher) site m w).0.publisher ≡ (answered w.publisher (handled publication says w.tallies w.moment m w.publisher)).0
+      → (deliver_request publication says (by_numbers w.publisher) site m w).0.publisher ≡ (tables_and_reply w.publisher (result_of_request publication says w.tallies w.moment m w.publisher)).0
   delivered site (request.Join m) w = by_answer site reply.Joined w (join publication w.moment m w.publisher)
   delivered site (request.Upload m) w = by_upload site m w (upload publication (by_numbers w.publisher) w.moment m (kept_decisions says w.tallies (upload_questions publication (by_numbers w.publisher) w.moment m w.publisher)) w.publisher)
   delivered site (request.Ranges m) w = by_answer site reply.Ranged w (ranges publication (by_numbers w.publisher) w.moment m w.publisher)
@@ -178,42 +178,42 @@ module _ (publication : Publication) (says : Saying) where
   refused site (request.Download m) w = refused_answer site reply.Downloaded w (download publication (by_numbers w.publisher) w.moment m w.publisher)
 
   -- what a message is taken for
-  abbrev asked_of : World → Request → Attended
+  abbrev asked_of : World → Request → AttendedRequest
   asked_of w m = record { moment = later w.moment w.publisher.latest; request = m; decisions = entry_decisions publication says w.tallies w.moment m w.publisher }
 
   -- an entry that is taken for a message makes the same of the tables
   same-made : (w : World) (m : Request) (j : Entry) (made done : PublisherTables × Reply) → attended_at w.publisher j ≡ asked_of w m
-      → decided publication j.moment j.request j.decisions w.publisher ≡ Ok made → handled publication says w.tallies w.moment m w.publisher ≡ Ok done → made ≡ done
+      → result_with_decisions publication j.moment j.request j.decisions w.publisher ≡ Ok made → result_of_request publication says w.tallies w.moment m w.publisher ≡ Ok done → made ≡ done
   same-made w m j made done same is so =
       let p : PublisherTables = w.publisher in
-      let moment : later j.moment p.latest ≡ later w.moment p.latest = ap (λ (a : Attended). a.moment) same in
-      let here : decided publication w.moment j.request j.decisions p ≡ Ok made = sym (taken-alike publication j.moment w.moment j.request j.decisions p moment) ∙ is in
-      let asked : decided publication w.moment j.request j.decisions p ≡ decided publication w.moment m (entry_decisions publication says w.tallies w.moment m p) p =
-      ap (λ (a : Attended). decided publication w.moment a.request a.decisions p) same in
-      ap (answered p) (sym here) ∙ ap (answered p) asked ∙ answered-again publication says w.tallies w.moment m p ∙ ap (answered p) so
+      let moment : later j.moment p.latest ≡ later w.moment p.latest = ap (λ (a : AttendedRequest). a.moment) same in
+      let here : result_with_decisions publication w.moment j.request j.decisions p ≡ Ok made = sym (taken-alike publication j.moment w.moment j.request j.decisions p moment) ∙ is in
+      let asked : result_with_decisions publication w.moment j.request j.decisions p ≡ result_with_decisions publication w.moment m (entry_decisions publication says w.tallies w.moment m p) p =
+      ap (λ (a : AttendedRequest). result_with_decisions publication w.moment a.request a.decisions p) same in
+      ap (tables_and_reply p) (sym here) ∙ ap (tables_and_reply p) asked ∙ answered-again publication says w.tallies w.moment m p ∙ ap (tables_and_reply p) so
 
-  taken-behind : (w : World) (m : Request) (done : PublisherTables × Reply) → handled publication says w.tallies w.moment m w.publisher ≡ Ok done
-      → (j : Entry) (es : List Entry) (r : Result (PublisherTables × Reply) Refusal) → decided publication j.moment j.request j.decisions w.publisher ≡ r
+  taken-behind : (w : World) (m : Request) (done : PublisherTables × Reply) → result_of_request publication says w.tallies w.moment m w.publisher ≡ Ok done
+      → (j : Entry) (es : List Entry) (r : Result (PublisherTables × Reply) Refusal) → result_with_decisions publication j.moment j.request j.decisions w.publisher ≡ r
       → (attended_in publication w.publisher es ≡ asked_of w m ∷ [] → replay publication w.publisher es ≡ done.0)
-      → if_taken r (attended_at w.publisher j) ++ attended_in publication (answered w.publisher r).0 es ≡ asked_of w m ∷ [] → replay publication (answered w.publisher r).0 es ≡ done.0
+      → if_taken r (attended_at w.publisher j) ++ attended_in publication (tables_and_reply w.publisher r).0 es ≡ asked_of w m ∷ [] → replay publication (tables_and_reply w.publisher r).0 es ≡ done.0
   taken-behind w m done so j es (Err why) is more e = more e
   taken-behind w m done so j es (Ok made) is more e =
       let here : attended_at w.publisher j ∷ attended_in publication made.0 es ≡ asked_of w m ∷ [] = e in
       none-taken publication made.0 es (rest here) ∙ ap (λ (d : PublisherTables × Reply). d.0) (same-made w m j made done (first here) is so)
 
-  one-taken : (w : World) (m : Request) (done : PublisherTables × Reply) → handled publication says w.tallies w.moment m w.publisher ≡ Ok done
+  one-taken : (w : World) (m : Request) (done : PublisherTables × Reply) → result_of_request publication says w.tallies w.moment m w.publisher ≡ Ok done
       → (part : List Entry) → attended_in publication w.publisher part ≡ asked_of w m ∷ [] → replay publication w.publisher part ≡ done.0
   one-taken w m done so [] e = let here : [] ≡ asked_of w m ∷ [] = e in absurd (cc here)
   one-taken w m done so (j ∷ part) e =
-      taken-behind w m done so j part (decided publication j.moment j.request j.decisions w.publisher) refl (one-taken w m done so part) e
+      taken-behind w m done so j part (result_with_decisions publication j.moment j.request j.decisions w.publisher) refl (one-taken w m done so part) e
 
-  one-entry : (w : World) (m : Request) (h : Result (PublisherTables × Reply) Refusal) → handled publication says w.tallies w.moment m w.publisher ≡ h
-      → (part : List Entry) → attended_in publication w.publisher part ≡ if_taken h (asked_of w m) → replay publication w.publisher part ≡ (answered w.publisher h).0
+  one-entry : (w : World) (m : Request) (h : Result (PublisherTables × Reply) Refusal) → result_of_request publication says w.tallies w.moment m w.publisher ≡ h
+      → (part : List Entry) → attended_in publication w.publisher part ≡ if_taken h (asked_of w m) → replay publication w.publisher part ≡ (tables_and_reply w.publisher h).0
   one-entry w m (Ok done) is part e = one-taken w m done is part e
   one-entry w m (Err why) is part e = none-taken publication w.publisher part e
 
   -- how a message that comes and its part of a journal fit together
-  record Fits (w : World) (asked : List Attended) (done : World × Outcome) : Type 0 where
+  record Fits (w : World) (asked : List AttendedRequest) (done : World × Outcome) : Type 0 where
     entries : (part : List Entry) → attended_in publication w.publisher part ≡ asked → replay publication w.publisher part ≡ done.0.publisher
     still : refused_for is_slip done.1 ≡ true → done.0.publisher ≡ w.publisher
 
@@ -226,7 +226,7 @@ module _ (publication : Publication) (says : Saying) where
   fits-message : (site : SiteId) (number : ℕ) (message : Message) (w : World)
       → Fits w (asked_by publication says w (Some (record { site = site; message = message }))) (deliver_letter publication says (by_tables w) number w (record { site = site; message = message }))
   fits-message site number (Asks m) w = record {
-    entries = λ part e. one-entry w m (handled publication says w.tallies w.moment m w.publisher) refl part e ∙ sym (delivered site m w);
+    entries = λ part e. one-entry w m (result_of_request publication says w.tallies w.moment m w.publisher) refl part e ∙ sym (delivered site m w);
     still = refused site m w;
   }
   fits-message site number (Replies m) w = quiet-fits w _ (quiet-at w site _ (λ t. quiet-unless w _ _ (λ made. refl)))
@@ -235,7 +235,7 @@ module _ (publication : Publication) (says : Saying) where
   fits number w None is = rw (is, deliver) (quiet-fits w (w, NoLetter) refl)
   fits number w (Some letter) is = rw (is, deliver) (fits-message letter.site number letter.message w)
 
-  made-fits : (b : Bool) (w : World) (asked : List Attended) (done : World × Outcome) → Fits w asked done → refused_for is_slip done.1 ≡ b
+  made-fits : (b : Bool) (w : World) (asked : List AttendedRequest) (done : World × Outcome) → Fits w asked done → refused_for is_slip done.1 ≡ b
       → (part : List Entry) → attended_in publication w.publisher part ≡ unless_failed b asked → replay publication w.publisher part ≡ done.0.publisher
   made-fits true w asked done f is part e = none-taken publication w.publisher part e ∙ sym (f.still is)
   made-fits false w asked done f is part e = f.entries part e
@@ -247,14 +247,14 @@ module _ (publication : Publication) (says : Saying) where
   told-slip : (slip : Slip) → is_slip (slip_refusal slip) ≡ true
   told-slip slip = by-kind slip.is_fault
 
-  slip-fits : (b : Bool) (slips : Slips) (slip : Slip) (action : Action) (w : World) (asked : List Attended) (done : World × Outcome) → Fits w asked done
+  slip-fits : (b : Bool) (slips : Slips) (slip : Slip) (action : Action) (w : World) (asked : List AttendedRequest) (done : World × Outcome) → Fits w asked done
       → (part : List Entry) → attended_in publication w.publisher part ≡ unless_failed (refused_for is_slip (slip_if publication (machine publication says) b slips slip action w done).1) asked
       → replay publication w.publisher part ≡ (slip_if publication (machine publication says) b slips slip action w done).0.world.publisher
   slip-fits true slips slip action w asked done f part e =
       none-taken publication w.publisher part (e ∙ ap (λ (b : Bool). unless_failed b asked) (told-slip slip))
   slip-fits false slips slip action w asked done f part e = made-fits _ w asked done f refl part e
 
-  acting-fits : (slips : Slips) (action : Action) (w : World) (asked : List Attended) (done : World × Outcome) → Fits w asked done
+  acting-fits : (slips : Slips) (action : Action) (w : World) (asked : List AttendedRequest) (done : World × Outcome) → Fits w asked done
       → (part : List Entry) → attended_in publication w.publisher part ≡ unless_failed (refused_for is_slip (acting_with publication (machine publication says) slips action w done).1) asked
       → replay publication w.publisher part ≡ (acting_with publication (machine publication says) slips action w done).0.world.publisher
   acting-fits [] action w asked done f part e = made-fits _ w asked done f refl part e

@@ -10,7 +10,7 @@ use Rattle.merge_model.specs.Failing.Reach.{stepping}
 use Rattle.merge_model.specs.Failing.Runs.{after_actions, machine_does, model_behind_actions, model_does, world_behind_actions}
 use Rattle.merge_model.specs.Laws.SlipLaws.{is_slip, refused_for}
 use Rattle.merge_model.specs.Publisher.{later}
-use Rattle.merge_model.specs.World.Calls.{handled}
+use Rattle.merge_model.specs.World.Calls.{result_of_request}
 use Rattle.merge_model.specs.World.Steps.{Action, CloseAt, Deliver, Forget, Make}
 use Rattle.merge_model.specs.Tables.{PublisherTables}
 use Rattle.merge_model.specs.World.{Saying, World, empty_world, letter_at}
@@ -18,30 +18,30 @@ use Rattle.merge_model.specs.declared.letter.Letter.{Letter}
 use Rattle.merge_model.specs.declared.letter.Message.TheVariants.{Asks, Replies}
 use Rattle.merge_model.specs.declared.outcome.Outcome.{Outcome}
 use Rattle.merge_laws.specs.Laws.Promised.{Promised}
-use Rattle.merge_draft.specs.Drafting.{decided}
+use Rattle.merge_draft.specs.Drafting.{result_with_decisions}
 use Rattle.merge_desk.specs.Replay.{answer_to, entry_decisions, replay}
 use Rattle.merge_desk.specs.declared.entry.Entry.{Entry}
 
 -- a request that was taken: at which moment, and what the decisions on its conflicts counted as
-pub record Attended : Type 0 where
+pub record AttendedRequest : Type 0 where
   pub moment : Moment
   pub request : Request
   pub decisions : List Decision
 
 -- a request that is refused changes nothing, and so it need not have come
-abbrev pub if_taken : {A E : Type 0} → Result A E → Attended → List Attended
+abbrev pub if_taken : {A E : Type 0} → Result A E → AttendedRequest → List AttendedRequest
 if_taken (Ok made) a = a ∷ []
 if_taken (Err why) a = []
 
 -- an entry that comes to these tables: the publisher takes the later of its moment and the last one that it took
-abbrev pub attended_at : PublisherTables → Entry → Attended
+abbrev pub attended_at : PublisherTables → Entry → AttendedRequest
 attended_at p e = record { moment = later e.moment p.latest; request = e.request; decisions = e.decisions }
 
 -- the requests of a journal that were taken, one entry after the other from these tables on
-abbrev pub attended_in : Publication → PublisherTables → List Entry → List Attended
+abbrev pub attended_in : Publication → PublisherTables → List Entry → List AttendedRequest
 attended_in publication p [] = []
 attended_in publication p (e ∷ es) =
-    if_taken (decided publication e.moment e.request e.decisions p) (attended_at p e) ++ attended_in publication (answer_to publication p e).0 es
+    if_taken (result_with_decisions publication e.moment e.request e.decisions p) (attended_at p e) ++ attended_in publication (answer_to publication p e).0 es
 
 -- The publisher only serves: it makes no change, closes nothing by itself and purges nothing. Its sites may do all that they can.
 abbrev pub IsServing : Action → Type 0
@@ -51,16 +51,16 @@ IsServing Forget = ⊥
 IsServing action = Unit {0}
 
 -- a request that failed, by a fault of the store or for want of memory, changes nothing either
-abbrev pub unless_failed : Bool → List Attended → List Attended
+abbrev pub unless_failed : Bool → List AttendedRequest → List AttendedRequest
 unless_failed true attended = []
 unless_failed false attended = attended
 
 module _ (publication : Publication) (says : Saying) where
   -- what the publisher takes of a message that comes
-  abbrev pub asked_by : World → Option Letter → List Attended
+  abbrev pub asked_by : World → Option Letter → List AttendedRequest
   asked_by w None = []
   asked_by w (Some letter) = elim letter.message [
-    | Asks m ↦ if_taken (handled publication says w.tallies w.moment m w.publisher) (record {
+    | Asks m ↦ if_taken (result_of_request publication says w.tallies w.moment m w.publisher) (record {
       moment = later w.moment w.publisher.latest;
       request = m;
       decisions = entry_decisions publication says w.tallies w.moment m w.publisher;
@@ -69,12 +69,12 @@ module _ (publication : Publication) (says : Saying) where
   ]
 
   -- what the publisher takes by an action
-  abbrev pub attended_by : World → Action → Outcome → List Attended
+  abbrev pub attended_by : World → Action → Outcome → List AttendedRequest
   attended_by w (Deliver number) outcome = unless_failed (refused_for is_slip outcome) (asked_by w (letter_at w number))
   attended_by w action outcome = []
 
   -- what it takes by all of them, one after the other
-  abbrev pub attended : Faulty World → List Action → List Attended
+  abbrev pub attended : Faulty World → List Action → List AttendedRequest
   attended f [] = []
   attended f (action ∷ actions) = let done = (stepping publication says).act f action in attended_by f.world action done.1 ++ attended done.0 actions
 

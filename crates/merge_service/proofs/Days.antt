@@ -13,8 +13,8 @@ use Rattle.merge_desk.specs.Ending.{IsDiffering}
 use Rattle.merge_desk.specs.Views.{IsJournal, SeatView, numbers_from, seat_number}
 use Rattle.merge_desk.specs.declared.comparing.Difference.{Difference}
 use Rattle.merge_desk.specs.declared.entry.Entry.{Entry}
-use Rattle.merge_service.specs.Days.{IsDay, IsOutcome, IsTornDay, ended}
-use Rattle.merge_service.specs.Stops.{undoored}
+use Rattle.merge_service.specs.Days.{IsDay, IsOutcome, IsTornDay, result_of_outcome}
+use Rattle.merge_service.specs.Stops.{stop_of_door}
 use Rattle.merge_service.specs.declared.day.Outcome.{Outcome}
 use Rattle.merge_service.specs.declared.day.Outcome.TheVariants as outcome
 use Rattle.merge_service.specs.declared.stop.Stop.{Stop}
@@ -69,12 +69,12 @@ module _ (publication : Publication) (says : Saying) (old new : PublisherTables)
     closed-day journal accepted kept same few whole paid true less most = (risen (whole (less refl)), (journal, kept))
     closed-day journal accepted kept same few whole paid false less most = (kept, all-handed accepted handed (most refl) few same, omega (arith, paid, few))
 
-    pub day-by : (o : Outcome) → IsOutcome publication says old new requests handed faults o → Day (ended o requests)
+    pub day-by : (o : Outcome) → IsOutcome publication says old new requests handed faults o → Day (result_of_outcome o requests)
     day-by outcome.Unstarted p = p
     day-by (outcome.Differs d) p = p
     day-by (outcome.Closed journal accepted) p = closed-day journal accepted p.0 p.1 p.2 p.3 p.4 (nat_lt accepted requests) (ltb-true accepted requests) (ltb-false accepted requests)
 
-    pub day-so : (o : Outcome) (r : Result (List Entry) Stop) → r ≡ ended o requests → (told : Option ℕ) → handed ≡ told → IsOutcome publication says old new requests told faults o → Day r
+    pub day-so : (o : Outcome) (r : Result (List Entry) Stop) → r ≡ result_of_outcome o requests → (told : Option ℕ) → handed ≡ told → IsOutcome publication says old new requests told faults o → Day r
     day-so o r is told same p = subst Day (sym is) (day-by o (subst (λ (h : Option ℕ). IsOutcome publication says old new requests h faults o) (sym same) p))
 
 pub counted-so : (mid before faults after : ℕ) → mid ≡ before → after ≡ min (mid + faults) (2 ^ 64 - 1) → after ≡ min (before + faults) (2 ^ 64 - 1)
@@ -91,9 +91,9 @@ day-of p publication s says o old new requests handed before after r q same said
 
 -- the door was not opened
 module _ (publication : Publication) (says : Saying) (old : PublisherTables) (requests : ℕ) (handed : Option ℕ) (before after : ℕ) where
-  closed-door : (fault : OpenFault) → (fault ≡ opening.Failed → Rose before after) → IsDay publication says old old requests handed before after (Err (undoored fault))
+  closed-door : (fault : OpenFault) → (fault ≡ opening.Failed → Rose before after) → IsDay publication says old old requests handed before after (Err (stop_of_door fault))
   closed-door opening.Failed rose = (rose refl, ([], no-journal publication says old))
   closed-door opening.NoMemory rose = refl
 
-  pub no-door : (fault : OpenFault) (stop : Stop) → stop ≡ undoored fault → (fault ≡ opening.Failed → Rose before after) → IsDay publication says old old requests handed before after (Err stop)
+  pub no-door : (fault : OpenFault) (stop : Stop) → stop ≡ stop_of_door fault → (fault ≡ opening.Failed → Rose before after) → IsDay publication says old old requests handed before after (Err stop)
   no-door fault stop is rose = subst (λ (s : Stop). IsDay publication says old old requests handed before after (Err s)) (sym is) (closed-door fault rose)

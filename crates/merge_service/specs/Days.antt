@@ -43,10 +43,10 @@ IsOutcome publication says old new requests handed faults (outcome.Closed journa
     × (length journal ≤ accepted)
 
 -- a day ends for its door where less were accepted than were asked for
-abbrev pub ended : Outcome → (requests : ℕ) → Result (List Entry) Stop
-ended outcome.Unstarted requests = Err NoMemory
-ended (outcome.Closed journal accepted) requests = if nat_lt accepted requests then Err DoorFault else Ok journal
-ended (outcome.Differs d) requests = Err (Differs d)
+abbrev pub result_of_outcome : Outcome → (requests : ℕ) → Result (List Entry) Stop
+result_of_outcome outcome.Unstarted requests = Err NoMemory
+result_of_outcome (outcome.Closed journal accepted) requests = if nat_lt accepted requests then Err DoorFault else Ok journal
+result_of_outcome (outcome.Differs d) requests = Err (Differs d)
 
 -- how a day ended at a door that was opened and given back
 abbrev pub IsDay : Publication → Saying → (old new : PublisherTables) → (requests : ℕ) → (handed : Option ℕ) → (before after : ℕ) → Result (List Entry) Stop → Type 0

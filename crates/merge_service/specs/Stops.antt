@@ -7,17 +7,17 @@ use Rattle.merge_service.specs.declared.stop.Stop.{Stop}
 use Rattle.merge_service.specs.declared.stop.Stop.TheVariants.{Damaged, DoorFault, NoMemory, StoreFault}
 
 -- the store is not opened
-abbrev pub unopened : OpenFault → Stop
-unopened opening.Failed = StoreFault
-unopened opening.NoMemory = NoMemory
+abbrev pub stop_of_opening : OpenFault → Stop
+stop_of_opening opening.Failed = StoreFault
+stop_of_opening opening.NoMemory = NoMemory
 
 -- the door is not opened
-abbrev pub undoored : OpenFault → Stop
-undoored opening.Failed = DoorFault
-undoored opening.NoMemory = NoMemory
+abbrev pub stop_of_door : OpenFault → Stop
+stop_of_door opening.Failed = DoorFault
+stop_of_door opening.NoMemory = NoMemory
 
 -- the publisher does not start for its store, or for want of memory
-abbrev pub unstarted : Refusal → Stop
-unstarted refusal.StoreFault = StoreFault
-unstarted (refusal.Damaged table key) = Damaged table key
-unstarted other = NoMemory
+abbrev pub stop_of_start : Refusal → Stop
+stop_of_start refusal.StoreFault = StoreFault
+stop_of_start (refusal.Damaged table key) = Damaged table key
+stop_of_start other = NoMemory

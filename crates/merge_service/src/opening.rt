@@ -1,6 +1,6 @@
 //! A day at a door that is opened for it.
 ghost use Rattle.std.specs.Prelude.{◌≡◌, ◌≤◌, Some};
-ghost use Rattle.merge_service.specs.Days.{IsDay, ended};
+ghost use Rattle.merge_service.specs.Days.{IsDay, result_of_outcome};
 
 use crate::day::{Day, Outcome, hold_day};
 use crate::stop::{Stop, undoored};
@@ -17,7 +17,7 @@ use std::thread::Threads;
 
 // How a day ended by its outcome.
 fn ended(outcome: Outcome, requests: u64) -> Result<Listing<Entry>, Stop>
-    ensures { result ≡ ended outcome requests }
+    ensures { result ≡ result_of_outcome outcome requests }
 {
     match outcome {
         Outcome::Unstarted => Err(Stop::NoMemory),

@@ -1,6 +1,6 @@
 //! Why a day at a publisher's store was not summed up.
 ghost use Rattle.std.specs.Prelude.{◌≡◌};
-ghost use Rattle.merge_service.specs.Stops.{undoored, unopened, unstarted};
+ghost use Rattle.merge_service.specs.Stops.{stop_of_door, stop_of_opening, stop_of_start};
 
 use merge_batch::Refusal;
 use merge_desk::Difference;
@@ -47,7 +47,7 @@ impl From<Failed> for Stop {
 
 /// How a day stops by a store that cannot be opened.
 pub(crate) fn unopened(fault: OpenFault) -> Stop
-    ensures { result ≡ unopened fault }
+    ensures { result ≡ stop_of_opening fault }
 {
     match fault {
         OpenFault::Failed => Stop::StoreFault,
@@ -57,7 +57,7 @@ pub(crate) fn unopened(fault: OpenFault) -> Stop
 
 /// How a day stops by a door that cannot be opened.
 pub(crate) fn undoored(fault: OpenFault) -> Stop
-    ensures { result ≡ undoored fault }
+    ensures { result ≡ stop_of_door fault }
 {
     match fault {
         OpenFault::Failed => Stop::DoorFault,
@@ -67,7 +67,7 @@ pub(crate) fn undoored(fault: OpenFault) -> Stop
 
 /// How a day stops by a publisher that does not start. That is for its store, or for want of memory.
 pub(crate) fn unstarted(why: Refusal) -> Stop
-    ensures { result ≡ unstarted why }
+    ensures { result ≡ stop_of_start why }
 {
     match why {
         Refusal::StoreFault => Stop::StoreFault,

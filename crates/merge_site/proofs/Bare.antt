@@ -16,7 +16,7 @@ use Rattle.merge_model.specs.Publisher.{empty_publisher, holder_for, new_holders
 use Rattle.merge_model.specs.Subscriber.{empty_subscriber}
 use Rattle.merge_model.specs.Tables.{PublisherTables, SubscriberTables}
 use Rattle.merge_ports.specs.Entries.{Map, entry_cmp}
-use Rattle.merge_keeper.specs.Encoded.{AllKeys, encoded}
+use Rattle.merge_keeper.specs.Encoded.{AllKeys, encoded_entries}
 use Rattle.merge_keeper.specs.Entries.{held_key, held_value, state_key, was_received}
 use Rattle.merge_keeper.specs.Stored.{IsPublisherKeyed, IsSubscriberKeyed, publisher_state, subscriber_state}
 use Rattle.merge_sub.specs.Begin.{holders_from}
@@ -65,7 +65,7 @@ subscriber_keyed publication site few = record {
 subscriber_alone : (publication : Publication) (site : SiteId) → subscriber.records_of (empty_subscriber publication site) ≡ (state_key, subscriber_state (subscriber_stored (empty_subscriber publication site))) ∷ []
 unfolding subscriber.records_of
 subscriber_alone publication site =
-    ap (λ (l : List (ℕ × Holder)). (let m : Map = (state_key, subscriber_state (subscriber_stored (empty_subscriber publication site))) ∷ encoded held_key held_value l in m)) (none_received (identities publication))
+    ap (λ (l : List (ℕ × Holder)). (let m : Map = (state_key, subscriber_state (subscriber_stored (empty_subscriber publication site))) ∷ encoded_entries held_key held_value l in m)) (none_received (identities publication))
 
 subscriber_fresh : (publication : Publication) (site : SiteId) → IsFreshState (subscriber_state (subscriber_stored (empty_subscriber publication site)))
 subscriber_fresh publication site = inr (site, refl)
@@ -91,7 +91,7 @@ publisher_keyed publication few = record {
 publisher_alone : (publication : Publication) → publisher.records_of (empty_publisher publication) ≡ (state_key, publisher_state (publisher_stored (empty_publisher publication))) ∷ []
 unfolding publisher.records_of
 publisher_alone publication =
-    ap (λ (l : List (ℕ × Holder)). (let m : Map = (state_key, publisher_state (publisher_stored (empty_publisher publication))) ∷ (rows_after_all entry_cmp (encoded held_key held_value l) [] ++ []) in m)) (none_received (identities publication))
+    ap (λ (l : List (ℕ × Holder)). (let m : Map = (state_key, publisher_state (publisher_stored (empty_publisher publication))) ∷ (rows_after_all entry_cmp (encoded_entries held_key held_value l) [] ++ []) in m)) (none_received (identities publication))
 
 publisher_fresh : (publication : Publication) → IsFreshState (publisher_state (publisher_stored (empty_publisher publication)))
 publisher_fresh publication = inl refl

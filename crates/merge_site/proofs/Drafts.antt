@@ -10,10 +10,10 @@ use Rattle.merge_batch.specs.declared.reply.Reply.TheVariants as reply
 use Rattle.merge_batch.specs.declared.reply.Uploaded.{Uploaded}
 use Rattle.merge_batch.specs.declared.request.Request.{Request}
 use Rattle.merge_json.specs.Sendable.{IsSendableReply}
-use Rattle.merge_model.specs.World.Calls.{as_reply, handled, request_commits}
+use Rattle.merge_model.specs.World.Calls.{as_reply, request_commits, result_of_request}
 use Rattle.merge_model.specs.Tables.{PublisherTables}
 use Rattle.merge_model.specs.World.{Saying}
-use Rattle.merge_draft.specs.Drafting.{decided, decisions_on}
+use Rattle.merge_draft.specs.Drafting.{decisions_on, result_with_decisions}
 use Rattle.merge_draft.specs.declared.drafting.Drafted.{Drafted}
 use Rattle.merge_draft.proofs.Decided.{handled-is}
 use Rattle.merge_pub.specs.After.{after}
@@ -22,7 +22,7 @@ use Rattle.merge_steps.specs.declared.changes.Draft.{Draft}
 use Rattle.merge_pub.specs.declared.uploading.UploadDraft.{UploadDraft}
 use Rattle.merge_site.specs.Calls.{IsRefused}
 use Rattle.merge_site.specs.Drafting.{HeldView, IsFit, IsWorked, drafted_as, upload_drafted}
-use Rattle.merge_site.specs.Publishers.{drafted, told_alone}
+use Rattle.merge_site.specs.Publishers.{tables_after_draft, told_alone}
 use Rattle.merge_site.specs.declared.request_draft.RequestDraft.{RequestDraft}
 
 ok-not-err : {X : Type 0} (x : X) (why : Refusal) → Ok x ≡ Err why → ⊥
@@ -64,11 +64,11 @@ module _ {A : Type 0} (message : A → Reply) (by : Result (PublisherTables × A
 
 module _ {A : Type 0} (message : A → Reply) (commits : Bool) (worked : Result (Draft × A) Refusal) (result : Result (Drafted RequestDraft) Refusal) (is : result ≡ drafted_as message commits worked) where
   pub worked-as : (by : Result (PublisherTables × A) Refusal) (commits_with : Reply → Bool) (p : PublisherTables)
-      → IfOk worked (λ made. by ≡ Ok (drafted p made)) → IfOk worked (λ made. commits ≡ commits_with (message made.1)) → IfOk worked (λ made. IsSendableReply (message made.1)) → ((why : Refusal) → worked ≡ Err why → IsRefused by why)
+      → IfOk worked (λ made. by ≡ Ok (tables_after_draft p made)) → IfOk worked (λ made. commits ≡ commits_with (message made.1)) → IfOk worked (λ made. IsSendableReply (message made.1)) → ((why : Refusal) → worked ≡ Err why → IsRefused by why)
       → IsWorked (as_reply message by) [] commits_with p result
   worked-as by commits_with p made told sendable refused = subst (IsWorked (as_reply message by) [] commits_with p) (sym is) (each worked made told sendable refused)
     where
-      each : (w : Result (Draft × A) Refusal) → IfOk w (λ made. by ≡ Ok (drafted p made)) → IfOk w (λ made. commits ≡ commits_with (message made.1)) → IfOk w (λ made. IsSendableReply (message made.1)) → ((why : Refusal) → w ≡ Err why → IsRefused by why)
+      each : (w : Result (Draft × A) Refusal) → IfOk w (λ made. by ≡ Ok (tables_after_draft p made)) → IfOk w (λ made. commits ≡ commits_with (message made.1)) → IfOk w (λ made. IsSendableReply (message made.1)) → ((why : Refusal) → w ≡ Err why → IsRefused by why)
           → IsWorked (as_reply message by) [] commits_with p (drafted_as message commits w)
       each (Ok m) made told sendable refused = worked-made message by [] commits_with p m.0 m.1 commits [] made told refl sendable
       each (Err why) made told sendable refused = worked-refused message by [] commits_with p why (refused why refl)
@@ -113,11 +113,11 @@ module _ (commits : Bool) (worked : Result UploadDraft Refusal) (result : Result
 -- By the decisions that were made.
 
 module _ (publication : Publication) (says : Saying) (tallies : List ℕ) (now : Moment) (m : Request) (p : PublisherTables) where
-  pub made-decided : (commits_with : Reply → Bool) (result : Result (Drafted RequestDraft) Refusal) → IsWorked (handled publication says tallies now m p) (decisions_on publication says tallies now m p) commits_with p result
-      → IfOk result (λ d. decided publication now m d.decisions p ≡ Ok (after d.work.draft.changes p, d.reply))
+  pub made-decided : (commits_with : Reply → Bool) (result : Result (Drafted RequestDraft) Refusal) → IsWorked (result_of_request publication says tallies now m p) (decisions_on publication says tallies now m p) commits_with p result
+      → IfOk result (λ d. result_with_decisions publication now m d.decisions p ≡ Ok (after d.work.draft.changes p, d.reply))
   made-decided commits_with (Err why) worked = tt
   made-decided commits_with (Ok d) worked =
-      ap (λ (ds : List Decision). decided publication now m ds p) worked.decisions ∙ sym (handled-is publication says tallies now m p) ∙ worked.made
+      ap (λ (ds : List Decision). result_with_decisions publication now m ds p) worked.decisions ∙ sym (handled-is publication says tallies now m p) ∙ worked.made
 
   pub commits-told : (decisions : List Decision) (by : Result (PublisherTables × Reply) Refusal) (result : Result (Drafted RequestDraft) Refusal) → IsWorked by decisions (request_commits publication now m p) p result
       → IfOk result (λ d. d.work.commits ≡ true → request_commits publication now m p d.reply ≡ true)

@@ -12,7 +12,7 @@ use Rattle.merge_table.specs.declared.edit.Edit.{Edit}
 use Rattle.merge_table.proofs.Sorted.{sorted_after_all}
 use Rattle.merge_units.specs.declared.site_row.SubscriberRow.{SubscriberRow}
 use Rattle.merge_gens.specs.Book.{Book, IsSound, forgotten_if_any}
-use Rattle.merge_gens.specs.Plan.{settled}
+use Rattle.merge_gens.specs.Plan.{book_after_plan}
 use Rattle.merge_gens.specs.declared.closings.Closing.{Closing}
 use Rattle.merge_gens.specs.declared.filling.Filling.{Filling}
 use Rattle.merge_ident.specs.Holders.{Holder}
@@ -57,20 +57,20 @@ stored_with site state filling closings rows conflicts held = record {
 }
 
 -- what is stored after a step is the step's tables as they are stored
-pub stored-after : (s : SubscriberTables) (c : Changes) (stored : SubscriberChanges) → AreStoredAs s.gens.closings c stored → IsSound (settled s.gens c.gens) → AreRising (s.conflicts ++ c.conflicts.rows)
+pub stored-after : (s : SubscriberTables) (c : Changes) (stored : SubscriberChanges) → AreStoredAs s.gens.closings c stored → IsSound (book_after_plan s.gens c.gens) → AreRising (s.conflicts ++ c.conflicts.rows)
     → subscriber_after stored (subscriber_stored s) ≡ subscriber_stored (after c s)
 stored-after s c stored h sound rising =
-    let closings : closings_after s.gens.closings stored.closings ≡ (forgotten_if_any (settled s.gens c.gens) c.done).closings = ap (closings_after s.gens.closings) h.closings ∙ closings-changed s.gens c.gens (up_to c.done) sound ∙ ap (λ (book : Book). book.closings) (left-up_to (settled s.gens c.gens) c.done) in
+    let closings : closings_after s.gens.closings stored.closings ≡ (forgotten_if_any (book_after_plan s.gens c.gens) c.done).closings = ap (closings_after s.gens.closings) h.closings ∙ closings-changed s.gens c.gens (up_to c.done) sound ∙ ap (λ (book : Book). book.closings) (left-up_to (book_after_plan s.gens c.gens) c.done) in
     let conflicts : conflicts_after s.conflicts stored.conflicts ≡ s.conflicts ++ c.conflicts.rows = ap (conflicts_after s.conflicts) h.conflicts ∙ conflicts-changed s.conflicts c.conflicts.rows rising in
-    let filling : stored.filling ≡ (forgotten_if_any (settled s.gens c.gens) c.done).filling = h.filling ∙ sym (filling-left (settled s.gens c.gens) (up_to c.done)) ∙ ap (λ (book : Book). book.filling) (left-up_to (settled s.gens c.gens) c.done) in
+    let filling : stored.filling ≡ (forgotten_if_any (book_after_plan s.gens c.gens) c.done).filling = h.filling ∙ sym (filling-left (book_after_plan s.gens c.gens) (up_to c.done)) ∙ ap (λ (book : Book). book.filling) (left-up_to (book_after_plan s.gens c.gens) c.done) in
     let rows : rows_after_all key_cmp s.rows stored.rows ≡ rows_after_all key_cmp s.rows c.rows = ap (rows_after_all key_cmp s.rows) h.rows in
     let held : rows_after_all nat_cmp s.held (map held_put stored.held) ≡ rows_after_all nat_cmp s.held c.held = ap (rows_after_all nat_cmp s.held) h.held in
     ap (λ (n : State). stored_with s.site n stored.filling (closings_after s.gens.closings stored.closings) (rows_after_all key_cmp s.rows stored.rows) (conflicts_after s.conflicts stored.conflicts) (rows_after_all nat_cmp s.held (map held_put stored.held))) h.state
     ∙ ap (λ (f : Filling). stored_with s.site c.state f (closings_after s.gens.closings stored.closings) (rows_after_all key_cmp s.rows stored.rows) (conflicts_after s.conflicts stored.conflicts) (rows_after_all nat_cmp s.held (map held_put stored.held))) filling
-    ∙ ap (λ (l : List Closing). stored_with s.site c.state (forgotten_if_any (settled s.gens c.gens) c.done).filling l (rows_after_all key_cmp s.rows stored.rows) (conflicts_after s.conflicts stored.conflicts) (rows_after_all nat_cmp s.held (map held_put stored.held))) closings
-    ∙ ap (λ (l : List (RowKey × SubscriberRow)). stored_with s.site c.state (forgotten_if_any (settled s.gens c.gens) c.done).filling (forgotten_if_any (settled s.gens c.gens) c.done).closings l (conflicts_after s.conflicts stored.conflicts) (rows_after_all nat_cmp s.held (map held_put stored.held))) rows
-    ∙ ap (λ (l : List ConflictRow). stored_with s.site c.state (forgotten_if_any (settled s.gens c.gens) c.done).filling (forgotten_if_any (settled s.gens c.gens) c.done).closings (rows_after_all key_cmp s.rows c.rows) l (rows_after_all nat_cmp s.held (map held_put stored.held))) conflicts
-    ∙ ap (stored_with s.site c.state (forgotten_if_any (settled s.gens c.gens) c.done).filling (forgotten_if_any (settled s.gens c.gens) c.done).closings (rows_after_all key_cmp s.rows c.rows) (s.conflicts ++ c.conflicts.rows)) held
+    ∙ ap (λ (l : List Closing). stored_with s.site c.state (forgotten_if_any (book_after_plan s.gens c.gens) c.done).filling l (rows_after_all key_cmp s.rows stored.rows) (conflicts_after s.conflicts stored.conflicts) (rows_after_all nat_cmp s.held (map held_put stored.held))) closings
+    ∙ ap (λ (l : List (RowKey × SubscriberRow)). stored_with s.site c.state (forgotten_if_any (book_after_plan s.gens c.gens) c.done).filling (forgotten_if_any (book_after_plan s.gens c.gens) c.done).closings l (conflicts_after s.conflicts stored.conflicts) (rows_after_all nat_cmp s.held (map held_put stored.held))) rows
+    ∙ ap (λ (l : List ConflictRow). stored_with s.site c.state (forgotten_if_any (book_after_plan s.gens c.gens) c.done).filling (forgotten_if_any (book_after_plan s.gens c.gens) c.done).closings (rows_after_all key_cmp s.rows c.rows) l (rows_after_all nat_cmp s.held (map held_put stored.held))) conflicts
+    ∙ ap (stored_with s.site c.state (forgotten_if_any (book_after_plan s.gens c.gens) c.done).filling (forgotten_if_any (book_after_plan s.gens c.gens) c.done).closings (rows_after_all key_cmp s.rows c.rows) (s.conflicts ++ c.conflicts.rows)) held
 
 -- ---- numbers still fit their fields
 
@@ -83,14 +83,14 @@ keyed_stored c t k f = record {
   sorted = sorted_after_all nat_cmp nat_cmp_total t.held (map held_put c.held) k.sorted;
 }
 
-pub keyed-after : (s : SubscriberTables) (c : Changes) (kept : List Closing) (stored : SubscriberChanges) → kept ≡ s.gens.closings → AreKeyed s → IsSound (settled s.gens c.gens) → AreRising (s.conflicts ++ c.conflicts.rows)
+pub keyed-after : (s : SubscriberTables) (c : Changes) (kept : List Closing) (stored : SubscriberChanges) → kept ≡ s.gens.closings → AreKeyed s → IsSound (book_after_plan s.gens c.gens) → AreRising (s.conflicts ++ c.conflicts.rows)
     → AreStoredAs kept c stored → FitSubscriber stored → AreKeyed (after c s)
 unfolding AreKeyed
 keyed-after s c kept stored is keyed sound rising h fit =
     subst IsSubscriberKeyed (stored-after s c stored (subst (λ (l : List Closing). AreStoredAs l c stored) is h) sound rising) (keyed_stored stored (subscriber_stored s) keyed fit)
 
 pub edits-lead : (s : SubscriberTables) (c : Changes) (kept : List Closing) (stored : SubscriberChanges) (site : SiteId) (edits : List EntryEdit) → kept ≡ s.gens.closings → site ≡ s.site → AreKeyed s
-    → IsSound (settled s.gens c.gens) → AreRising (s.conflicts ++ c.conflicts.rows) → AreStoredAs kept c stored → FitSubscriber stored
+    → IsSound (book_after_plan s.gens c.gens) → AreRising (s.conflicts ++ c.conflicts.rows) → AreStoredAs kept c stored → FitSubscriber stored
     → ((t : SubscriberStored) → t.site ≡ site → map change_of edits ≡ subscriber_edits stored t) → LeadTo edits (records_of s) (records_of (after c s))
 unfolding AreKeyed records_of
 edits-lead s c kept stored site edits is own keyed sound rising h fit written =

@@ -17,7 +17,7 @@ use Rattle.merge_table.specs.declared.edit.Edit.{Edit}
 use Rattle.merge_table.specs.declared.edit.Edit.TheVariants.{Take}
 use Rattle.merge_table.proofs.Takes.{filter_is_takes, insert_last}
 use Rattle.merge_gens.specs.Book.{Book, IsSound, forgotten_if_any}
-use Rattle.merge_gens.specs.Plan.{settled}
+use Rattle.merge_gens.specs.Plan.{book_after_plan}
 use Rattle.merge_gens.specs.declared.closings.Closing.{Closing}
 use Rattle.merge_gens.specs.declared.plan.GenerationPlan.{GenerationPlan}
 use Rattle.merge_conflict.specs.Rising.{AreRising, RiseAbove}
@@ -106,7 +106,7 @@ book_stays book (UpTo generation) = refl
 book_stays book (Before cutoff) = refl
 
 -- the generations that are kept after a plan, and without those that are forgotten
-pub closings-changed : (book : Book) (plan : GenerationPlan) (forgets : Option Forgets) → IsSound (settled book plan) → closings_after book.closings (closing_changes book.closings plan.closings forgets) ≡ (book_left (settled book plan) forgets).closings
+pub closings-changed : (book : Book) (plan : GenerationPlan) (forgets : Option Forgets) → IsSound (book_after_plan book plan) → closings_after book.closings (closing_changes book.closings plan.closings forgets) ≡ (book_left (book_after_plan book plan) forgets).closings
 closings-changed book plan None sound =
     in_turn book.closings (map closing_put plan.closings) [] []
     ∙ ap (map closing_of) (members_behind closing_pair book.closings plan.closings (sorted_closings (book.closings ++ plan.closings) sound.ascending))
@@ -116,7 +116,7 @@ closings-changed book plan (Some forgets) sound =
     in_turn book.closings (map closing_put plan.closings) (closing_takes_by forgets book.closings) (closing_takes_by forgets plan.closings)
     ∙ ap (λ (l : List (ℕ × Moment)). left_after l (closing_takes_by forgets book.closings ++ closing_takes_by forgets plan.closings)) (members_behind closing_pair book.closings plan.closings sorted)
     ∙ forgotten_by forgets book.closings plan.closings sorted
-    ∙ book_stays (settled book plan) forgets
+    ∙ book_stays (book_after_plan book plan) forgets
 
 pub filling-left : (book : Book) (forgets : Option Forgets) → (book_left book forgets).filling ≡ book.filling
 filling-left book None = refl

@@ -28,7 +28,7 @@ use Rattle.merge_keeper.specs.Entries.{held_ranges, was_received}
 use Rattle.merge_keeper.specs.Given.{IsBeginning}
 use Rattle.merge_keeper.specs.PublisherRules.{held_pair, own_ranges, range_records, with_conflicts, with_records, IsRangeRecord, KeepRules}
 use Rattle.merge_keeper.specs.PublisherStart.{grant_is_sound, holds, is_held, is_sound, own_is_sound, with_record}
-use Rattle.merge_keeper.specs.Start.{are_kept, holder_of, holds_last, identity_at, insert_by_begin, is_own, last_own, own_count, place_by_begin, replaced, with_held, KeepOneByOne}
+use Rattle.merge_keeper.specs.Start.{are_kept, holder_of, holds_last, identity_at, insert_by_begin, is_own, last_own, own_count, place_by_begin, with_value_at, with_held, KeepOneByOne}
 use Rattle.merge_keeper.specs.declared.publisher_record.PublisherRecord.{PublisherRecord}
 use Rattle.merge_keeper.specs.declared.publisher_record.PublisherRecord.TheVariants.{State, Row, Mapped, Closed, Lost, Held, Granted, Subscribed}
 use Rattle.merge_keeper.specs.declared.stored.PublisherStored.{PublisherStored}
@@ -147,12 +147,12 @@ rest_none : (a b : Bool) → (a || b) ≡ false → b ≡ false
 rest_none true b e = absurd cc
 rest_none false b e = e
 
-replaced_step : (article place : ℕ) (holder : Holder) (p : ℕ × Holder) (held : List (ℕ × Holder)) → (place == article) ≡ false → holds article p ≡ false → is_held (replaced held place holder) article ≡ false
-    → (b : Bool) → (p.0 == place) ≡ b → is_held (replaced (p ∷ held) place holder) article ≡ false
+replaced_step : (article place : ℕ) (holder : Holder) (p : ℕ × Holder) (held : List (ℕ × Holder)) → (place == article) ≡ false → holds article p ≡ false → is_held (with_value_at held place holder) article ≡ false
+    → (b : Bool) → (p.0 == place) ≡ b → is_held (with_value_at (p ∷ held) place holder) article ≡ false
 replaced_step article place holder p held other first rest true e = rw e (rw other rest)
 replaced_step article place holder p held other first rest false e = rw e (rw first rest)
 
-not_replaced : (article place : ℕ) (holder : Holder) (held : List (ℕ × Holder)) → (place == article) ≡ false → is_held held article ≡ false → is_held (replaced held place holder) article ≡ false
+not_replaced : (article place : ℕ) (holder : Holder) (held : List (ℕ × Holder)) → (place == article) ≡ false → is_held held article ≡ false → is_held (with_value_at held place holder) article ≡ false
 not_replaced article place holder [] other none = refl
 not_replaced article place holder (p ∷ held) other none =
     replaced_step article place holder p held other (first_none (holds article p) (is_held held article) none)
@@ -161,7 +161,7 @@ not_replaced article place holder (p ∷ held) other none =
 not_with_held : (publication : Publication) (article place : ℕ) (ranges : HeldRanges) (held : List (ℕ × Holder)) → (place == article) ≡ false → is_held held article ≡ false → is_held (with_held publication held place ranges) article ≡ false
 not_with_held publication article place ranges held other none = by_identity (identity_at publication place)
   where
-    by_identity : (o : Option Identity) → is_held (option_map_or (λ identity. replaced held place (holder_of identity ranges)) o held) article ≡ false
+    by_identity : (o : Option Identity) → is_held (option_map_or (λ identity. with_value_at held place (holder_of identity ranges)) o held) article ≡ false
     by_identity None = none
     by_identity (Some identity) = not_replaced article place (holder_of identity ranges) held other none
 

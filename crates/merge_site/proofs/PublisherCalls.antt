@@ -18,7 +18,7 @@ use Rattle.merge_steps.specs.declared.changes.Draft.{Draft}
 use Rattle.merge_pub.specs.declared.purging.PurgeDraft.{PurgeDraft}
 use Rattle.merge_world.specs.Views.{PublisherView}
 use Rattle.merge_site.specs.Calls.{IsRefused, WorkedOut}
-use Rattle.merge_site.specs.Publishers.{IsKeptPublisher, drafted}
+use Rattle.merge_site.specs.Publishers.{IsKeptPublisher, tables_after_draft}
 use Rattle.merge_site.proofs.Called.{none-filled}
 
 abbrev pub view_of : Held → ℕ → Option Map → PublisherView
@@ -31,31 +31,31 @@ still-kept h now told same kept = rw same kept
 module _ {A : Type 0} {kept : Option Map} (old : PublisherView) (h now new : Held) (before after' : ℕ) (seen : view_of h before kept ≡ old) (same : tables_of now ≡ tables_of h) where
   -- by what is seen of it
   pub seen-called : (by : PublisherView → Result (PublisherTables × A) Refusal) (of : PublisherView → A → Bool) (commits : Bool) (worked : Result (Draft × A) Refusal) (result : Result A Refusal)
-      → IfOk worked (λ made. by (view_of h before kept) ≡ Ok (drafted (tables_of h) made))
+      → IfOk worked (λ made. by (view_of h before kept) ≡ Ok (tables_after_draft (tables_of h) made))
       → ((why : Refusal) → worked ≡ Err why → IsRefused (by (view_of h before kept)) why)
-      → ((b : Result (PublisherTables × A) Refusal) (o : A → Bool) → WorkedOut (drafted (tables_of now)) b worked → IfOk worked (λ made. commits ≡ true → o made.1 ≡ true) → Called b o (tables_of now) (tables_of new) before after' result)
+      → ((b : Result (PublisherTables × A) Refusal) (o : A → Bool) → WorkedOut (tables_after_draft (tables_of now)) b worked → IfOk worked (λ made. commits ≡ true → o made.1 ≡ true) → Called b o (tables_of now) (tables_of new) before after' result)
       → IfOk worked (λ made. commits ≡ true → of (view_of h before kept) made.1 ≡ true)
       → Called (by old) (of old) old.tables (tables_of new) old.faults after' result
   seen-called by of commits worked result made refused called makes =
       let b = by (view_of h before kept) in
-      let out : WorkedOut (drafted (tables_of now)) b worked = record { done = subst (λ (t : PublisherTables). IfOk worked (λ d. b ≡ Ok (drafted t d))) (sym same) made; refused = refused } in
+      let out : WorkedOut (tables_after_draft (tables_of now)) b worked = record { done = subst (λ (t : PublisherTables). IfOk worked (λ d. b ≡ Ok (tables_after_draft t d))) (sym same) made; refused = refused } in
       subst (λ (v : PublisherView). Called (by v) (of v) v.tables (tables_of new) v.faults after' result) seen
       (subst (λ (t : PublisherTables). Called b (of (view_of h before kept)) t (tables_of new) before after' result) same (called b (of (view_of h before kept)) out makes))
 
   pub pub-called : (by : Publication → PublisherTables → Result (PublisherTables × A) Refusal) (of : PublisherTables → A → Bool) (commits : Bool) (worked : Result (Draft × A) Refusal) (result : Result A Refusal)
-      → IfOk worked (λ made. by (publication_of h) (tables_of h) ≡ Ok (drafted (tables_of h) made))
+      → IfOk worked (λ made. by (publication_of h) (tables_of h) ≡ Ok (tables_after_draft (tables_of h) made))
       → ((why : Refusal) → worked ≡ Err why → IsRefused (by (publication_of h) (tables_of h)) why)
-      → ((b : Result (PublisherTables × A) Refusal) (o : A → Bool) → WorkedOut (drafted (tables_of now)) b worked → IfOk worked (λ made. commits ≡ true → o made.1 ≡ true) → Called b o (tables_of now) (tables_of new) before after' result)
+      → ((b : Result (PublisherTables × A) Refusal) (o : A → Bool) → WorkedOut (tables_after_draft (tables_of now)) b worked → IfOk worked (λ made. commits ≡ true → o made.1 ≡ true) → Called b o (tables_of now) (tables_of new) before after' result)
       → IfOk worked (λ made. commits ≡ true → of (tables_of h) made.1 ≡ true)
       → Called (by old.publication old.tables) (of old.tables) old.tables (tables_of new) old.faults after' result
   pub-called by of = seen-called (λ (v : PublisherView). by v.publication v.tables) (λ (v : PublisherView). of v.tables)
 
 -- a closing that commits nothing changes nothing
 pub closing-still : (h now : Held) (moment : Moment) (worked : Result (Draft × ℕ) Refusal) (commits : Bool) → tables_of now ≡ tables_of h → commits ≡ (is_later moment (tables_of h).latest || nat_lt 0 (tables_of h).gens.filling.filled)
-    → IfOk worked (λ made. close_generation moment (tables_of h) ≡ Ok (drafted (tables_of h) made)) → IfOk worked (λ made. commits ≡ false → after made.0.changes (tables_of now) ≡ tables_of now)
+    → IfOk worked (λ made. close_generation moment (tables_of h) ≡ Ok (tables_after_draft (tables_of h) made)) → IfOk worked (λ made. commits ≡ false → after made.0.changes (tables_of now) ≡ tables_of now)
 closing-still h now moment (Err why) commits same is made = tt
 closing-still h now moment (Ok worked) commits same is made = λ quiet.
-    subst (λ (t : PublisherTables). after worked.0.changes t ≡ t) (sym same) (closings-quiet moment (tables_of h) (drafted (tables_of h) worked) made (sym is ∙ quiet))
+    subst (λ (t : PublisherTables). after worked.0.changes t ≡ t) (sym same) (closings-quiet moment (tables_of h) (tables_after_draft (tables_of h) worked) made (sym is ∙ quiet))
 
 -- a purge that was worked out and made
 pub purge-made : {kept : Option Map} (old : PublisherView) (h now new : Held) (before after' : ℕ) (moment : Moment) → view_of h before kept ≡ old → tables_of now ≡ tables_of h → after' ≡ before → (d : PurgeDraft) (forgotten : Forgotten) → purge (publication_of h) moment (tables_of h) ≡ (after_purge d (tables_of h), forgotten) → tables_of new ≡ after_purge d (tables_of now)

@@ -12,7 +12,7 @@ use Rattle.merge_table.proofs.Sorted.{sorted_after_all}
 use Rattle.merge_units.specs.declared.site_row.PublisherRow.{PublisherRow}
 use Rattle.merge_gens.specs.Book.{Book, IsSound}
 use Rattle.merge_gens.specs.Moves.{row_site_cmp}
-use Rattle.merge_gens.specs.Plan.{settled}
+use Rattle.merge_gens.specs.Plan.{book_after_plan}
 use Rattle.merge_gens.specs.declared.closings.Closing.{Closing}
 use Rattle.merge_gens.specs.declared.filling.Filling.{Filling}
 use Rattle.merge_gens.specs.declared.moves.Mapping.{Mapping}
@@ -71,10 +71,10 @@ abbrev lists_of : PublisherTables → Lists
 lists_of p = (p.gens.closings, (p.rows, (p.mappings, (p.conflicts, (p.grants, (p.held, p.sites))))))
 
 -- what is stored after a step is the step's tables as they are stored
-pub stored-after : (p : PublisherTables) (c : Changes) (kept : List Closing) (forgets : Option Forgets) (stored : PublisherChanges) → kept ≡ p.gens.closings → AreStoredAs kept forgets c stored → IsSound (settled p.gens c.gens) → AreRising (p.conflicts ++ c.conflicts.rows)
+pub stored-after : (p : PublisherTables) (c : Changes) (kept : List Closing) (forgets : Option Forgets) (stored : PublisherChanges) → kept ≡ p.gens.closings → AreStoredAs kept forgets c stored → IsSound (book_after_plan p.gens c.gens) → AreRising (p.conflicts ++ c.conflicts.rows)
     → publisher_after stored (publisher_stored p) ≡ publisher_stored (after_forgetting forgets c p)
 stored-after p c kept forgets stored is h sound rising =
-    let left : Book = book_left (settled p.gens c.gens) forgets in
+    let left : Book = book_left (book_after_plan p.gens c.gens) forgets in
     let closings : closings_after p.gens.closings stored.closings ≡ left.closings =
     ap (closings_after p.gens.closings) (h.closings ∙ ap (λ (l : List Closing). closing_changes l c.gens.closings forgets) is) ∙ closings-changed p.gens c.gens forgets sound in
     let rows : rows_after_all key_cmp p.rows stored.rows ≡ rows_after_all key_cmp p.rows c.rows = ap (rows_after_all key_cmp p.rows) h.rows in
@@ -83,7 +83,7 @@ stored-after p c kept forgets stored is h sound rising =
     let grants : with_grants p.grants stored.grants ≡ grants_with_all p.grants c.grants = ap (with_grants p.grants) h.grants ∙ sym (granted-all c.grants p.grants) in
     let held : rows_after_all nat_cmp p.held (map held_put stored.held) ≡ rows_after_all nat_cmp p.held c.held = ap (rows_after_all nat_cmp p.held) h.held in
     let sites : rows_after_all nat_cmp p.sites stored.sites ≡ rows_after_all nat_cmp p.sites c.sites = ap (rows_after_all nat_cmp p.sites) h.sites in
-    let filling : stored.filling ≡ left.filling = h.filling ∙ sym (filling-left (settled p.gens c.gens) forgets) in
+    let filling : stored.filling ≡ left.filling = h.filling ∙ sym (filling-left (book_after_plan p.gens c.gens) forgets) in
     let lists = both _ _ _ _ closings (both _ _ _ _ rows (both _ _ _ _ mappings (both _ _ _ _ conflicts (both _ _ _ _ grants (both _ _ _ _ held sites))))) in
     ap (stored_with stored.changes stored.conflict_count stored.latest stored.filling) lists
     ∙ ap (λ (f : Filling). stored_with stored.changes stored.conflict_count stored.latest f (lists_of (after_forgetting forgets c p))) filling
@@ -103,7 +103,7 @@ keyed_stored c t k f = record {
   sites = keys-after_all (λ n. n < 2 ^ 16) nat_cmp c.sites f.sites t.sites k.sites;
 }
 
-pub keyed-after : (p : PublisherTables) (c : Changes) (kept : List Closing) (forgets : Option Forgets) (stored : PublisherChanges) → kept ≡ p.gens.closings → AreKeyed p → IsSound (settled p.gens c.gens) → AreRising (p.conflicts ++ c.conflicts.rows)
+pub keyed-after : (p : PublisherTables) (c : Changes) (kept : List Closing) (forgets : Option Forgets) (stored : PublisherChanges) → kept ≡ p.gens.closings → AreKeyed p → IsSound (book_after_plan p.gens c.gens) → AreRising (p.conflicts ++ c.conflicts.rows)
     → AreStoredAs kept forgets c stored → FitFields stored → AreKeyed (after_forgetting forgets c p)
 unfolding AreKeyed
 keyed-after p c kept forgets stored is keyed sound rising h fit = subst IsPublisherKeyed (stored-after p c kept forgets stored is h sound rising) (keyed_stored stored (publisher_stored p) keyed fit)
@@ -120,7 +120,7 @@ fit p c kept forgets stored f h grants follow = record {
   sites = f.sites;
 }
 
-pub edits-lead : (p : PublisherTables) (c : Changes) (kept : List Closing) (forgets : Option Forgets) (stored : PublisherChanges) (edits : List EntryEdit) → kept ≡ p.gens.closings → AreKeyed p → IsSound (settled p.gens c.gens)
+pub edits-lead : (p : PublisherTables) (c : Changes) (kept : List Closing) (forgets : Option Forgets) (stored : PublisherChanges) (edits : List EntryEdit) → kept ≡ p.gens.closings → AreKeyed p → IsSound (book_after_plan p.gens c.gens)
     → AreRising (p.conflicts ++ c.conflicts.rows) → AreStoredAs kept forgets c stored → FitFields stored → AreGrants p.grants → AllFollow p.grants c.grants → ((t : PublisherStored) → map change_of edits ≡ publisher_edits stored t)
     → LeadTo edits (records_of p) (records_of (after_forgetting forgets c p))
 unfolding AreKeyed records_of

@@ -12,7 +12,7 @@ use Rattle.merge_batch.specs.declared.reply.Reply.{Reply}
 use Rattle.merge_batch.specs.declared.request.RangeAsk.{RangeAsk}
 use Rattle.merge_batch.specs.declared.request.Request.{Request}
 use Rattle.merge_batch.specs.declared.request.Request.TheVariants as request
-use Rattle.merge_model.specs.World.Calls.{Called, Counted, as_reply, handled, is_later, is_new_grant, request_commits}
+use Rattle.merge_model.specs.World.Calls.{Called, Counted, as_reply, is_later, is_new_grant, request_commits, result_of_request}
 use Rattle.merge_model.specs.Laws.{AreSorted}
 use Rattle.merge_model.specs.Publisher.PublisherRanges.{plans}
 use Rattle.merge_model.specs.Tables.{PublisherTables}
@@ -24,13 +24,13 @@ use Rattle.merge_pub.specs.Held.{Held, publication_of, tables_of}
 use Rattle.merge_steps.specs.declared.changes.Draft.{Draft}
 use Rattle.merge_world.specs.Views.{PublisherView}
 use Rattle.merge_site.specs.Calls.{IsRefused, WorkedOut}
-use Rattle.merge_site.specs.Publishers.{drafted}
+use Rattle.merge_site.specs.Publishers.{tables_after_draft}
 use Rattle.merge_site.proofs.PublisherCalls.{seen-called, view_of}
 
 -- A request that commits nothing changes nothing.
 pub request-still : {A : Type 0} (message : A → Reply) (says : Saying) (tallies : List ℕ) (moment : Moment) (m : Request) (h now : Held) (by : Result (PublisherTables × A) Refusal) (worked : Result (Draft × A) Refusal) (commits : Bool)
-    → handled (publication_of h) says tallies moment m (tables_of h) ≡ as_reply message by → AreSorted (tables_of h) → tables_of now ≡ tables_of h
-    → IfOk worked (λ made. commits ≡ request_commits (publication_of h) moment m (tables_of h) made.1) → IfOk worked (λ made. by ≡ Ok (drafted (tables_of h) made))
+    → result_of_request (publication_of h) says tallies moment m (tables_of h) ≡ as_reply message by → AreSorted (tables_of h) → tables_of now ≡ tables_of h
+    → IfOk worked (λ made. commits ≡ request_commits (publication_of h) moment m (tables_of h) made.1) → IfOk worked (λ made. by ≡ Ok (tables_after_draft (tables_of h) made))
     → IfOk worked (λ made. commits ≡ false → after made.0.changes (tables_of now) ≡ tables_of now)
 request-still message says tallies moment m h now by (Err why) commits handles sorted same is made = tt
 request-still message says tallies moment m h now by (Ok worked) commits handles sorted same is made = λ quiet.
@@ -54,9 +54,9 @@ commits-so (Ok made) commits of is = λ yes. sym is ∙ yes
 
 module _ {A : Type 0} {kept : Option Map} (old : PublisherView) (h now new : Held) (before after' : ℕ) (seen : view_of h before kept ≡ old) (same : tables_of now ≡ tables_of h) where
   pub request-called : (moment : Moment) (m : Request) (by : Publication → PublisherTables → Result (PublisherTables × A) Refusal) (commits : Bool) (worked : Result (Draft × A) Refusal) (result : Result A Refusal)
-      → IfOk worked (λ made. by (publication_of h) (tables_of h) ≡ Ok (drafted (tables_of h) made))
+      → IfOk worked (λ made. by (publication_of h) (tables_of h) ≡ Ok (tables_after_draft (tables_of h) made))
       → ((why : Refusal) → worked ≡ Err why → IsRefused (by (publication_of h) (tables_of h)) why)
-      → ((b : Result (PublisherTables × A) Refusal) (o : A → Bool) → WorkedOut (drafted (tables_of now)) b worked → IfOk worked (λ made. commits ≡ true → o made.1 ≡ true) → Called b o (tables_of now) (tables_of new) before after' result)
+      → ((b : Result (PublisherTables × A) Refusal) (o : A → Bool) → WorkedOut (tables_after_draft (tables_of now)) b worked → IfOk worked (λ made. commits ≡ true → o made.1 ≡ true) → Called b o (tables_of now) (tables_of new) before after' result)
       → IfOk worked (λ made. commits ≡ request_commits (publication_of h) moment m (tables_of h) made.1)
       → Called (by old.publication old.tables) (request_commits old.publication moment m old.tables) old.tables (tables_of new) old.faults after' result
   request-called moment m by commits worked result made refused called is =

@@ -31,7 +31,7 @@ use Rattle.merge_model.specs.Tables.Publications.{identities}
 use Rattle.merge_model.specs.Publisher.{new_holders}
 use Rattle.merge_model.specs.Tables.{PublisherTables}
 use Rattle.merge_ports.specs.Entries.{Map, entry_cmp}
-use Rattle.merge_keeper.specs.Encoded.{encoded}
+use Rattle.merge_keeper.specs.Encoded.{encoded_entries}
 use Rattle.merge_keeper.specs.Entries.{closing_pair, conflict_pair, held_key, held_value, state_key}
 use Rattle.merge_keeper.specs.Given.{IsMap}
 use Rattle.merge_keeper.specs.Orders.{IsPublisherOrdered}
@@ -179,7 +179,7 @@ started-keyed publication few t f = record {
 begun-alone : (publication : Publication) (t : PublisherStored) → tables_with (new_holders publication) no_state ≡ t → publisher_records t ≡ (state_key, publisher_state t) ∷ []
 begun-alone publication t is =
     subst (λ (t : PublisherStored). publisher_records t ≡ (state_key, publisher_state t) ∷ []) is
-    (ap (λ (l : List (ℕ × Holder)). (let m : Map = (state_key, publisher_state (tables_with (new_holders publication) no_state)) ∷ (rows_after_all entry_cmp (encoded held_key held_value l) [] ++ []) in m)) (none_received (identities publication)))
+    (ap (λ (l : List (ℕ × Holder)). (let m : Map = (state_key, publisher_state (tables_with (new_holders publication) no_state)) ∷ (rows_after_all entry_cmp (encoded_entries held_key held_value l) [] ++ []) in m)) (none_received (identities publication)))
 
 first-fresh : (publication : Publication) → IsFreshState (publisher_state (tables_with (new_holders publication) no_state))
 first-fresh publication = inl refl

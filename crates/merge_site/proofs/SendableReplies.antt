@@ -25,12 +25,12 @@ use Rattle.merge_model.specs.Judge.ByNumbers.{by_numbers}
 use Rattle.merge_model.specs.Tables.Keys.{row_at}
 use Rattle.merge_model.specs.Script.Proper.{IsProperBody}
 use Rattle.merge_model.specs.Publisher.{at_moment}
-use Rattle.merge_model.specs.Publisher.PublisherDownload.{TouchedRow, asked, download, download_refusal, is_between, item_of, reply_to, touched_rows}
+use Rattle.merge_model.specs.Publisher.PublisherDownload.{TouchedRow, download, download_refusal, is_between, item_of, reply_to, tables_after_download, touched_rows}
 use Rattle.merge_model.specs.Tables.Refusals.{unless}
 use Rattle.merge_model.specs.Tables.{PublisherTables}
 use Rattle.merge_steps.specs.declared.changes.Draft.{Draft}
 use Rattle.merge_world.specs.Printable.{ArePrintable}
-use Rattle.merge_site.specs.Publishers.{drafted}
+use Rattle.merge_site.specs.Publishers.{tables_after_draft}
 
 -- One row.
 
@@ -77,11 +77,11 @@ done-is (Some why) done made is = absurd cc
 download-sendable : (publication : Publication) (now : Moment) (m : Download) (p : PublisherTables) → ArePrintable (λ (row : PublisherRow). row.version) p.rows
     → (made : PublisherTables × Downloaded) → download publication (by_numbers p) now m p ≡ Ok made → IsSendableReply (reply.Downloaded made.1)
 download-sendable publication now m p printable made is =
-    let after : PublisherTables = asked m (at_moment now p) in
+    let after : PublisherTables = tables_after_download m (at_moment now p) in
     subst (λ (d : PublisherTables × Downloaded). All IsProperOrder d.1.items) (done-is (download_refusal publication now m p) (after, reply_to publication (by_numbers p) m after) made is)
     (items-proper after printable (filter (is_between m.from (reply_to publication (by_numbers p) m after).to) (touched_rows publication (by_numbers p) m.site after)))
 
 pub downloads-sendable : (publication : Publication) (now : Moment) (m : Download) (p : PublisherTables) → ArePrintable (λ (row : PublisherRow). row.version) p.rows
-    → (worked : Result (Draft × Downloaded) Refusal) → IfOk worked (λ made. download publication (by_numbers p) now m p ≡ Ok (drafted p made)) → IfOk worked (λ made. IsSendableReply (reply.Downloaded made.1))
-downloads-sendable publication now m p printable (Ok made) is = download-sendable publication now m p printable (drafted p made) is
+    → (worked : Result (Draft × Downloaded) Refusal) → IfOk worked (λ made. download publication (by_numbers p) now m p ≡ Ok (tables_after_draft p made)) → IfOk worked (λ made. IsSendableReply (reply.Downloaded made.1))
+downloads-sendable publication now m p printable (Ok made) is = download-sendable publication now m p printable (tables_after_draft p made) is
 downloads-sendable publication now m p printable (Err why) is = tt

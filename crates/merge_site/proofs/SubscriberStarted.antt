@@ -19,7 +19,7 @@ use Rattle.merge_ports.specs.Entries.{Map}
 use Rattle.merge_record.specs.Rows.{IsSubscriberRow}
 use Rattle.merge_record.specs.Tables.{IsRowKey}
 use Rattle.merge_record.specs.Versions.{IsVersion}
-use Rattle.merge_keeper.specs.Encoded.{encoded}
+use Rattle.merge_keeper.specs.Encoded.{encoded_entries}
 use Rattle.merge_keeper.specs.Entries.{closing_pair, conflict_pair, held_key, held_value, state_key}
 use Rattle.merge_keeper.specs.Given.{IsMap}
 use Rattle.merge_keeper.specs.Orders.{IsSubscriberOrdered}
@@ -129,7 +129,7 @@ started-keyed publication few held s rules ordered articles = record {
 begun-alone : (publication : Publication) (site : SiteId) (t : SubscriberStored) → tables_with site (new_holders publication) (no_state site) ≡ t → subscriber_records t ≡ (state_key, subscriber_state t) ∷ []
 begun-alone publication site t is =
     subst (λ (t : SubscriberStored). subscriber_records t ≡ (state_key, subscriber_state t) ∷ []) is
-    (ap (λ (l : List (ℕ × Holder)). (let m : Map = (state_key, subscriber_state (tables_with site (new_holders publication) (no_state site))) ∷ encoded held_key held_value l in m)) (none_received (identities publication)))
+    (ap (λ (l : List (ℕ × Holder)). (let m : Map = (state_key, subscriber_state (tables_with site (new_holders publication) (no_state site))) ∷ encoded_entries held_key held_value l in m)) (none_received (identities publication)))
 
 first-fresh : (publication : Publication) (site : SiteId) → IsFreshState (subscriber_state (tables_with site (new_holders publication) (no_state site)))
 first-fresh publication site = inr (site, refl)

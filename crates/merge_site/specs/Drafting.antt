@@ -9,7 +9,7 @@ use Rattle.merge_batch.specs.declared.reply.Reply.{Reply}
 use Rattle.merge_batch.specs.declared.reply.Reply.TheVariants as reply
 use Rattle.merge_batch.specs.declared.request.Request.{Request}
 use Rattle.merge_json.specs.Sendable.{IsSendableReply}
-use Rattle.merge_model.specs.World.Calls.{handled, questions_on, request_commits}
+use Rattle.merge_model.specs.World.Calls.{questions_on, request_commits, result_of_request}
 use Rattle.merge_model.specs.Tables.{PublisherTables}
 use Rattle.merge_model.specs.World.{Saying}
 use Rattle.merge_draft.specs.Drafting.{decisions_on}
@@ -53,7 +53,7 @@ pub record IsWorked (by : Result (PublisherTables × Reply) Refusal) (kept : Lis
 -- A request was drafted on the tables `p`, where the resolvers say this and were asked so often before it and behind it: what was
 -- worked out, and that they were asked all its questions where it is made, none where it is refused, and else the first few.
 pub record IsRequestDrafted (publication : Publication) (says : Saying) (tallies told : List ℕ) (now : Moment) (m : Request) (p : PublisherTables) (result : Result (Drafted RequestDraft) Refusal) : Type 0 where
-  pub worked : IsWorked (handled publication says tallies now m p) (decisions_on publication says tallies now m p) (request_commits publication now m p) p result
+  pub worked : IsWorked (result_of_request publication says tallies now m p) (decisions_on publication says tallies now m p) (request_commits publication now m p) p result
   pub asked : OnOk result (told ≡ tallies_after tallies (questions_on publication now m p))
   pub some : (n : ℕ) × (told ≡ tallies_after tallies (take n (questions_on publication now m p)))
-  pub none : (refusal : Refusal) → handled publication says tallies now m p ≡ Err refusal → told ≡ tallies
+  pub none : (refusal : Refusal) → result_of_request publication says tallies now m p ≡ Err refusal → told ≡ tallies

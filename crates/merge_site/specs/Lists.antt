@@ -4,7 +4,7 @@ use Rattle.merge_types.specs.declared.identifiers.Moment.{Moment}
 use Rattle.merge_table.specs.Edits.{takes_of}
 use Rattle.merge_table.specs.declared.edit.Edit.{Edit}
 use Rattle.merge_table.specs.declared.edit.Edit.TheVariants.{Put}
-use Rattle.merge_gens.specs.Book.{Book, forgotten, purged}
+use Rattle.merge_gens.specs.Book.{Book, book_after_forgetting, book_after_purge}
 use Rattle.merge_gens.specs.declared.closings.Closing.{Closing}
 use Rattle.merge_ident.specs.Holders.{Holder}
 use Rattle.merge_conflict.specs.declared.row.ConflictRow.{ConflictRow}
@@ -42,8 +42,8 @@ closing_changes kept closed forgets = map closing_put closed ++ closing_takes fo
 -- the generations after that
 abbrev pub book_left : Book → Option Forgets → Book
 book_left book None = book
-book_left book (Some (UpTo generation)) = forgotten book generation
-book_left book (Some (Before cutoff)) = purged book cutoff
+book_left book (Some (UpTo generation)) = book_after_forgetting book generation
+book_left book (Some (Before cutoff)) = book_after_purge book cutoff
 
 abbrev pub up_to : Option ℕ → Option Forgets
 up_to done = option_map UpTo done

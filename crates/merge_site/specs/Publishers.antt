@@ -104,5 +104,5 @@ told_alone (Ok drafted) = Ok (drafted.draft, drafted.told)
 told_alone (Err why) = Err why
 
 -- the tables after a draft, and what the call answers
-abbrev pub drafted : {A : Type 0} → PublisherTables → Draft × A → PublisherTables × A
-drafted p made = (after made.0.changes p, made.1)
+abbrev pub tables_after_draft : {A : Type 0} → PublisherTables → Draft × A → PublisherTables × A
+tables_after_draft p made = (after made.0.changes p, made.1)

@@ -5,7 +5,7 @@ ghost use Rattle.merge_batch.specs.declared.reply.Reply.TheVariants as a_reply;
 ghost use Rattle.merge_batch.specs.declared.request.Request.TheVariants.{Download as a_download, Join as a_join, Ranges as a_range_ask, Upload as an_upload};
 ghost use Rattle.merge_draft.specs.Drafting.{decisions_on};
 ghost use Rattle.merge_model.specs.Laws.{AreSorted};
-ghost use Rattle.merge_model.specs.World.Calls.{handled, questions_on, request_commits};
+ghost use Rattle.merge_model.specs.World.Calls.{questions_on, request_commits, result_of_request};
 ghost use Rattle.merge_model.specs.World.{Saying};
 ghost use Rattle.merge_pub.specs.Held.{publication_of, tables_of};
 ghost use Rattle.merge_resolve.specs.Asked.{says_at, tallies_after};
@@ -107,7 +107,7 @@ fn draft_join(
     now: Moment,
     m: &Join,
 ) -> Result<Drafted<RequestDraft>, Refusal>
-    ensures worked { (says : Saying) (tallies : _) → IsWorked (handled (publication_of publisher.old) says tallies now (a_join m.now) (tables_of publisher.old)) [] (request_commits (publication_of publisher.old) now (a_join m.now) (tables_of publisher.old)) (tables_of publisher.old) result }
+    ensures worked { (says : Saying) (tallies : _) → IsWorked (result_of_request (publication_of publisher.old) says tallies now (a_join m.now) (tables_of publisher.old)) [] (request_commits (publication_of publisher.old) now (a_join m.now) (tables_of publisher.old)) (tables_of publisher.old) result }
     ensures ready { IfOk result (λ d. IsFit publisher.new d.work) }
     ensures same { tables_of publisher.new ≡ tables_of publisher.old }
     ensures publication { publication_of publisher.new ≡ publication_of publisher.old }
@@ -125,7 +125,7 @@ fn draft_ranges(
     now: Moment,
     m: &RangeAsk,
 ) -> Result<Drafted<RequestDraft>, Refusal>
-    ensures worked { (says : Saying) (tallies : _) → IsWorked (handled (publication_of publisher.old) says tallies now (a_range_ask m.now) (tables_of publisher.old)) [] (request_commits (publication_of publisher.old) now (a_range_ask m.now) (tables_of publisher.old)) (tables_of publisher.old) result }
+    ensures worked { (says : Saying) (tallies : _) → IsWorked (result_of_request (publication_of publisher.old) says tallies now (a_range_ask m.now) (tables_of publisher.old)) [] (request_commits (publication_of publisher.old) now (a_range_ask m.now) (tables_of publisher.old)) (tables_of publisher.old) result }
     ensures ready { IfOk result (λ d. IsFit publisher.new d.work) }
     ensures same { tables_of publisher.new ≡ tables_of publisher.old }
     ensures publication { publication_of publisher.new ≡ publication_of publisher.old }
@@ -144,7 +144,7 @@ fn draft_download(
     m: &Download,
 ) -> Result<Drafted<RequestDraft>, Refusal>
     requires { ArePrintable (λ row. row.version) (tables_of publisher.old).rows }
-    ensures worked { (says : Saying) (tallies : _) → IsWorked (handled (publication_of publisher.old) says tallies now (a_download m.now) (tables_of publisher.old)) [] (request_commits (publication_of publisher.old) now (a_download m.now) (tables_of publisher.old)) (tables_of publisher.old) result }
+    ensures worked { (says : Saying) (tallies : _) → IsWorked (result_of_request (publication_of publisher.old) says tallies now (a_download m.now) (tables_of publisher.old)) [] (request_commits (publication_of publisher.old) now (a_download m.now) (tables_of publisher.old)) (tables_of publisher.old) result }
     ensures ready { IfOk result (λ d. IsFit publisher.new d.work) }
     ensures same { tables_of publisher.new ≡ tables_of publisher.old }
     ensures publication { publication_of publisher.new ≡ publication_of publisher.old }
@@ -165,10 +165,10 @@ fn draft_upload<L: Ledger>(
     steps: &mut Steps<L>,
 ) -> Result<Drafted<RequestDraft>, Refusal>
     requires { AreSorted (tables_of publisher.old) }
-    ensures worked { IsWorked (handled (publication_of publisher.old) (says_at (λ r. says r) resolvers.old.items) (map (λ r. tally_of r) resolvers.old.items) now (an_upload m.now) (tables_of publisher.old)) (decisions_on (publication_of publisher.old) (says_at (λ r. says r) resolvers.old.items) (map (λ r. tally_of r) resolvers.old.items) now (an_upload m.now) (tables_of publisher.old)) (request_commits (publication_of publisher.old) now (an_upload m.now) (tables_of publisher.old)) (tables_of publisher.old) result }
+    ensures worked { IsWorked (result_of_request (publication_of publisher.old) (says_at (λ r. says r) resolvers.old.items) (map (λ r. tally_of r) resolvers.old.items) now (an_upload m.now) (tables_of publisher.old)) (decisions_on (publication_of publisher.old) (says_at (λ r. says r) resolvers.old.items) (map (λ r. tally_of r) resolvers.old.items) now (an_upload m.now) (tables_of publisher.old)) (request_commits (publication_of publisher.old) now (an_upload m.now) (tables_of publisher.old)) (tables_of publisher.old) result }
     ensures asked { OnOk result (map (λ r. tally_of r) resolvers.new.items ≡ tallies_after (map (λ r. tally_of r) resolvers.old.items) (questions_on (publication_of publisher.old) now (an_upload m.now) (tables_of publisher.old))) }
     ensures some { (n : ℕ) × (map (λ r. tally_of r) resolvers.new.items ≡ tallies_after (map (λ r. tally_of r) resolvers.old.items) (take n (questions_on (publication_of publisher.old) now (an_upload m.now) (tables_of publisher.old)))) }
-    ensures none { (refusal : OneRefusal) → handled (publication_of publisher.old) (says_at (λ r. says r) resolvers.old.items) (map (λ r. tally_of r) resolvers.old.items) now (an_upload m.now) (tables_of publisher.old) ≡ Err refusal → map (λ r. tally_of r) resolvers.new.items ≡ map (λ r. tally_of r) resolvers.old.items }
+    ensures none { (refusal : OneRefusal) → result_of_request (publication_of publisher.old) (says_at (λ r. says r) resolvers.old.items) (map (λ r. tally_of r) resolvers.old.items) now (an_upload m.now) (tables_of publisher.old) ≡ Err refusal → map (λ r. tally_of r) resolvers.new.items ≡ map (λ r. tally_of r) resolvers.old.items }
     ensures steady { (k n : ℕ) (asked : _) → says_at (λ r. says r) resolvers.new.items k n asked ≡ says_at (λ r. says r) resolvers.old.items k n asked }
     ensures ready { IfOk result (λ d. IsFit publisher.new d.work) }
     ensures same { tables_of publisher.new ≡ tables_of publisher.old }
@@ -191,10 +191,10 @@ pub(crate) fn draft_request<L: Ledger>(
     steps: &mut Steps<L>,
 ) -> Result<Drafted<RequestDraft>, Refusal>
     requires { ArePrintable (λ row. row.version) (tables_of publisher.old).rows }
-    ensures worked { IsWorked (handled (publication_of publisher.old) (says_at (λ r. says r) resolvers.old.items) (map (λ r. tally_of r) resolvers.old.items) now request.now (tables_of publisher.old)) (decisions_on (publication_of publisher.old) (says_at (λ r. says r) resolvers.old.items) (map (λ r. tally_of r) resolvers.old.items) now request.now (tables_of publisher.old)) (request_commits (publication_of publisher.old) now request.now (tables_of publisher.old)) (tables_of publisher.old) result }
+    ensures worked { IsWorked (result_of_request (publication_of publisher.old) (says_at (λ r. says r) resolvers.old.items) (map (λ r. tally_of r) resolvers.old.items) now request.now (tables_of publisher.old)) (decisions_on (publication_of publisher.old) (says_at (λ r. says r) resolvers.old.items) (map (λ r. tally_of r) resolvers.old.items) now request.now (tables_of publisher.old)) (request_commits (publication_of publisher.old) now request.now (tables_of publisher.old)) (tables_of publisher.old) result }
     ensures asked { OnOk result (map (λ r. tally_of r) resolvers.new.items ≡ tallies_after (map (λ r. tally_of r) resolvers.old.items) (questions_on (publication_of publisher.old) now request.now (tables_of publisher.old))) }
     ensures some { (n : ℕ) × (map (λ r. tally_of r) resolvers.new.items ≡ tallies_after (map (λ r. tally_of r) resolvers.old.items) (take n (questions_on (publication_of publisher.old) now request.now (tables_of publisher.old)))) }
-    ensures none { (refusal : OneRefusal) → handled (publication_of publisher.old) (says_at (λ r. says r) resolvers.old.items) (map (λ r. tally_of r) resolvers.old.items) now request.now (tables_of publisher.old) ≡ Err refusal → map (λ r. tally_of r) resolvers.new.items ≡ map (λ r. tally_of r) resolvers.old.items }
+    ensures none { (refusal : OneRefusal) → result_of_request (publication_of publisher.old) (says_at (λ r. says r) resolvers.old.items) (map (λ r. tally_of r) resolvers.old.items) now request.now (tables_of publisher.old) ≡ Err refusal → map (λ r. tally_of r) resolvers.new.items ≡ map (λ r. tally_of r) resolvers.old.items }
     ensures steady { (k n : ℕ) (asked : _) → says_at (λ r. says r) resolvers.new.items k n asked ≡ says_at (λ r. says r) resolvers.old.items k n asked }
     ensures ready { IfOk result (λ d. IsFit publisher.new d.work) }
     ensures same { tables_of publisher.new ≡ tables_of publisher.old }

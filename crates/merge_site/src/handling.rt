@@ -4,7 +4,7 @@ ghost use Rattle.std.specs.Prelude.{◌≡◌, ◌≤◌, ◌+◌, ◌||◌, ℕ
 ghost use Rattle.merge_batch.specs.declared.request.Request.TheVariants.{Download as a_download, Join as a_join, Ranges as a_range_ask, Upload as an_upload};
 ghost use Rattle.merge_model.specs.Judge.ByNumbers.{by_numbers};
 ghost use Rattle.merge_model.specs.Laws.{AreSorted};
-ghost use Rattle.merge_model.specs.World.Calls.{Counted, handled, is_later, is_new_grant, questions_on, request_commits};
+ghost use Rattle.merge_model.specs.World.Calls.{Counted, is_later, is_new_grant, questions_on, request_commits, result_of_request};
 ghost use Rattle.merge_model.specs.Publisher.PublisherDownload.{download};
 ghost use Rattle.merge_model.specs.Publisher.PublisherJoin.{join};
 ghost use Rattle.merge_model.specs.Publisher.PublisherRanges.{ranges};
@@ -147,9 +147,9 @@ impl<K: Keeper> KeptPublisher<K> {
         now: Moment,
         request: &Request,
     ) -> Result<Reply, Refusal>
-        ensures called { PublisherCall (handled self.old.publication (says_at (λ r. says r) resolvers.old.items) (map (λ r. tally_of r) resolvers.old.items) now request.now self.old.tables)
+        ensures called { PublisherCall (result_of_request self.old.publication (says_at (λ r. says r) resolvers.old.items) (map (λ r. tally_of r) resolvers.old.items) now request.now self.old.tables)
             (request_commits self.old.publication now request.now self.old.tables) self.old self.new result }
-        ensures counted { Counted (handled self.old.publication (says_at (λ r. says r) resolvers.old.items) (map (λ r. tally_of r) resolvers.old.items) now request.now self.old.tables)
+        ensures counted { Counted (result_of_request self.old.publication (says_at (λ r. says r) resolvers.old.items) (map (λ r. tally_of r) resolvers.old.items) now request.now self.old.tables)
             (questions_on self.old.publication now request.now self.old.tables) (map (λ r. tally_of r) resolvers.old.items) (map (λ r. tally_of r) resolvers.new.items) result }
         ensures publication { self.new.publication ≡ self.old.publication }
         ensures steady { (k n : ℕ) (asked : _) → says_at (λ r. says r) resolvers.new.items k n asked ≡ says_at (λ r. says r) resolvers.old.items k n asked }
@@ -168,9 +168,9 @@ impl<K: Keeper> KeptPublisher<K> {
         requires name { blank.name ≡ L.name }
         requires parts { blank.parts ≡ L.parts }
         requires some { 1 ≤ blank.parts }
-        ensures called { PublisherCall (handled self.old.publication (says_at (λ r. says r) resolvers.old.items) (map (λ r. tally_of r) resolvers.old.items) now request.now self.old.tables)
+        ensures called { PublisherCall (result_of_request self.old.publication (says_at (λ r. says r) resolvers.old.items) (map (λ r. tally_of r) resolvers.old.items) now request.now self.old.tables)
             (request_commits self.old.publication now request.now self.old.tables) self.old self.new result }
-        ensures counted { Counted (handled self.old.publication (says_at (λ r. says r) resolvers.old.items) (map (λ r. tally_of r) resolvers.old.items) now request.now self.old.tables)
+        ensures counted { Counted (result_of_request self.old.publication (says_at (λ r. says r) resolvers.old.items) (map (λ r. tally_of r) resolvers.old.items) now request.now self.old.tables)
             (questions_on self.old.publication now request.now self.old.tables) (map (λ r. tally_of r) resolvers.old.items) (map (λ r. tally_of r) resolvers.new.items) result }
         ensures publication { self.new.publication ≡ self.old.publication }
         ensures steady { (k n : ℕ) (asked : _) → says_at (λ r. says r) resolvers.new.items k n asked ≡ says_at (λ r. says r) resolvers.old.items k n asked }
@@ -188,9 +188,9 @@ impl<K: Keeper> KeptPublisher<K> {
         request: &Request,
         steps: &mut Steps<L>,
     ) -> Result<Reply, Refusal>
-        ensures called { PublisherCall (handled self.old.publication (says_at (λ r. says r) resolvers.old.items) (map (λ r. tally_of r) resolvers.old.items) now request.now self.old.tables)
+        ensures called { PublisherCall (result_of_request self.old.publication (says_at (λ r. says r) resolvers.old.items) (map (λ r. tally_of r) resolvers.old.items) now request.now self.old.tables)
             (request_commits self.old.publication now request.now self.old.tables) self.old self.new result }
-        ensures counted { Counted (handled self.old.publication (says_at (λ r. says r) resolvers.old.items) (map (λ r. tally_of r) resolvers.old.items) now request.now self.old.tables)
+        ensures counted { Counted (result_of_request self.old.publication (says_at (λ r. says r) resolvers.old.items) (map (λ r. tally_of r) resolvers.old.items) now request.now self.old.tables)
             (questions_on self.old.publication now request.now self.old.tables) (map (λ r. tally_of r) resolvers.old.items) (map (λ r. tally_of r) resolvers.new.items) result }
         ensures publication { self.new.publication ≡ self.old.publication }
         ensures steady { (k n : ℕ) (asked : _) → says_at (λ r. says r) resolvers.new.items k n asked ≡ says_at (λ r. says r) resolvers.old.items k n asked }

@@ -13,7 +13,7 @@ ghost use Rattle.merge_pub.specs.PurgeDrafts.{after_purge};
 ghost use Rattle.merge_world.specs.Printable.{AreLostPrintable, ArePrintable};
 ghost use Rattle.merge_site.specs.Calls.{StopsAs, WorkedOut};
 ghost use Rattle.merge_site.specs.Kept.{LeadTo};
-ghost use Rattle.merge_site.specs.Publishers.{AreKeyed, AreStoredAs, FitFields, IsKeptPublisher, after_forgetting, drafted, records_of};
+ghost use Rattle.merge_site.specs.Publishers.{AreKeyed, AreStoredAs, FitFields, IsKeptPublisher, after_forgetting, records_of, tables_after_draft};
 
 use crate::committing::commit;
 use crate::copies::copies_of;
@@ -180,7 +180,7 @@ pub(crate) fn finish<K: Keeper, A: Drop>(
     requires drafted { IfOk worked (λ made. IsDrafted publisher.old made.0) }
     requires still { IfOk worked (λ made. commits ≡ false → after made.0.changes (tables_of publisher.old) ≡ tables_of publisher.old) }
     requires kept { IsKeptPublisher (tables_of publisher.old) (K.told keeper.old) }
-    ensures called { (by : OneResult (PublisherTables × A) OneRefusal) (of : A → Bool) → WorkedOut (drafted (tables_of publisher.old)) by worked → IfOk worked (λ made. commits ≡ true → of made.1 ≡ true)
+    ensures called { (by : OneResult (PublisherTables × A) OneRefusal) (of : A → Bool) → WorkedOut (tables_after_draft (tables_of publisher.old)) by worked → IfOk worked (λ made. commits ≡ true → of made.1 ≡ true)
         → Called by of (tables_of publisher.old) (tables_of publisher.new) (K.count keeper.old) (K.count keeper.new) result }
     ensures worked { OnOk result (IsOk worked) }
     ensures kept { IsKeptPublisher (tables_of publisher.new) (K.told keeper.new) }

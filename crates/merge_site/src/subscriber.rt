@@ -16,7 +16,7 @@ ghost use Rattle.merge_model.specs.declared.outcome.Taken.{Taken as OneTaken};
 ghost use Rattle.merge_schema.specs.Valid.{IsValid};
 ghost use Rattle.merge_sub.specs.Held.{tables_of};
 ghost use Rattle.merge_world.specs.Printable.{AreLostPrintable, ArePrintable};
-ghost use Rattle.merge_world.specs.Restarts.{Restarted};
+ghost use Rattle.merge_world.specs.Restarts.{RestartEnds};
 ghost use Rattle.merge_world.specs.Views.{SubscriberCall};
 ghost use Rattle.merge_site.specs.Beginning.{IsEmptyStore, StartsNot};
 ghost use Rattle.merge_site.specs.Damages.{IsSubscriberDamage};
@@ -260,7 +260,7 @@ impl<K: Keeper> KeptSubscriber<K> {
     /// that it has, which are those that were committed. Where the store is told to have failed, or a
     /// record to be damaged, the caller has lost it.
     pub fn restart(&mut self) -> Result<(), Refusal>
-        ensures restarted { Restarted self.old.tables self.new.tables self.old.faults self.new.faults result }
+        ensures restarted { RestartEnds self.old.tables self.new.tables self.old.faults self.new.faults result }
         ensures damaged { (table : ℕ) (key : List ℕ) → result ≡ Err (Damaged table key) → IsSubscriberDamage self.new table key }
         ensures publication { self.new.publication ≡ self.old.publication }
         ensures site { self.new.tables.site ≡ self.old.tables.site }

@@ -48,7 +48,7 @@ use Rattle.merge_batch.proofs.Tracking.{fits-test, test-fits}
 use Rattle.merge_resolve.specs.Columns.{body_value, cell_value}
 use Rattle.merge_resolve.specs.Counted.{fit_all, fits_place, fit_columns, is_by_row, is_within, with_own, within_or_kept}
 use Rattle.merge_resolve.specs.CountedLaws.{HasColumns}
-use Rattle.merge_resolve.specs.Questions.{Asked, asked_of, both_place, case_asked, counted, question_asked, sides_of_case, tracking_kind}
+use Rattle.merge_resolve.specs.Questions.{Asked, asked_of, both_place, case_asked, decision_for_question, question_asked, sides_of_case, tracking_kind}
 use Rattle.merge_resolve.specs.declared.case.CaseKind.{CaseKind}
 use Rattle.merge_resolve.specs.declared.case.CaseKind.TheVariants as kind
 use Rattle.merge_resolve.specs.declared.case.ConflictCase.{ConflictCase}
@@ -322,7 +322,7 @@ module _ (meeting : Meeting) (article : Article) (place : HasPlace article) (dot
   live-custom tracking.ByColumn our_row their_row values fit =
       column-custom meeting article place dot ss ps is here there ours theirs (test-fits tracking.ByColumn ps our_row) (test-fits tracking.ByColumn is their_row) values fit
 
-  pub live-counted : FitsTracking article.tracking ps → FitsTracking article.tracking is → (raw : Decision) → HasDecided (counted (question_asked meeting (asked_of article) (Live ps) (Live is) (case.Conflict ss)) raw)
+  pub live-counted : FitsTracking article.tracking ps → FitsTracking article.tracking is → (raw : Decision) → HasDecided (decision_for_question (question_asked meeting (asked_of article) (Live ps) (Live is) (case.Conflict ss)) raw)
   live-counted our_row their_row KeepPublisher = live-sides article.tracking our_row their_row KeepPublisher tt
   live-counted our_row their_row TakeSubscriber = live-sides article.tracking our_row their_row TakeSubscriber tt
   live-counted our_row their_row (Custom values) =
@@ -359,19 +359,19 @@ module _ (article : Article) (place : HasPlace article) (dot : Dot) (here there 
 
   counted-live : (meeting : Meeting) (any : Bool) (ss : List Side) (ps is : List Cell) → length ss ≡ length ps → length ss ≡ length is → FitsTracking article.tracking ps → FitsTracking article.tracking is → IsGood article (Live ps) → IsGood article (Live is)
       → (raw : Decision) → is_conflict (if any then case.Conflict ss else case.Merge ss) ≡ true
-      → IsGood article (case_body dot (counted (question_asked meeting (asked_of article) (Live ps) (Live is) (if any then case.Conflict ss else case.Merge ss)) raw) (if any then case.Conflict ss else case.Merge ss) (Live ps) (Live is))
+      → IsGood article (case_body dot (decision_for_question (question_asked meeting (asked_of article) (Live ps) (Live is) (if any then case.Conflict ss else case.Merge ss)) raw) (if any then case.Conflict ss else case.Merge ss) (Live ps) (Live is))
   counted-live meeting true ss ps is even other our_row their_row ours theirs raw conflict = live-counted meeting article place dot ss ps is even other ours theirs our_row their_row raw
   counted-live meeting false ss ps is even other our_row their_row ours theirs raw conflict = absurd (cc conflict)
 
   counted-by : (meeting : Meeting) (ours theirs : Bool) (p i : Body) → HaveEqualCounts p i → FitsBody article.tracking p → FitsBody article.tracking i → IsGood article p → IsGood article i → (raw : Decision)
       → is_conflict (news_case ours theirs (bodies_case here there p i)) ≡ true
-      → IsGood article (case_body dot (counted (question_asked meeting (asked_of article) p i (news_case ours theirs (bodies_case here there p i))) raw) (news_case ours theirs (bodies_case here there p i)) p i)
+      → IsGood article (case_body dot (decision_for_question (question_asked meeting (asked_of article) p i (news_case ours theirs (bodies_case here there p i))) raw) (news_case ours theirs (bodies_case here there p i)) p i)
   counted-by meeting true true (Live ps) (Live is) counts our_row their_row our their raw conflict =
       counted-live meeting (list_any is_both (sides_of here there ps is)) (sides_of here there ps is) ps is (length-sides_of here there ps is counts) (length-sides_of here there ps is counts ∙ counts) our_row their_row our their raw conflict
   counted-by meeting true true (Live ps) (Dead i) counts our_row their_row our their raw conflict =
-      winner-good (counted (question_asked meeting (asked_of article) (Live ps) (Dead i) case.LifeConflict) raw) (Live ps) (Dead i) our their
+      winner-good (decision_for_question (question_asked meeting (asked_of article) (Live ps) (Dead i) case.LifeConflict) raw) (Live ps) (Dead i) our their
   counted-by meeting true true (Dead p) (Live is) counts our_row their_row our their raw conflict =
-      winner-good (counted (question_asked meeting (asked_of article) (Dead p) (Live is) case.LifeConflict) raw) (Dead p) (Live is) our their
+      winner-good (decision_for_question (question_asked meeting (asked_of article) (Dead p) (Live is) case.LifeConflict) raw) (Dead p) (Live is) our their
   counted-by meeting true true (Dead p) (Dead i) counts our_row their_row our their raw conflict = absurd (cc conflict)
   counted-by meeting false true p i counts our_row their_row our their raw conflict = absurd (cc conflict)
   counted-by meeting true false p i counts our_row their_row our their raw conflict = absurd (cc conflict)
@@ -432,14 +432,14 @@ module _ (article : Article) (rules : HasRules article) (held incoming : Version
       (rows_stay_by dot (knows held.lineage) (knows incoming.lineage) KeepPublisher tt held.body incoming.body (same-shape article held.body incoming.body our_row their_row our their the_counts) (few-values held.body our) (short-body article held.body ours) (short-body article incoming.body theirs))
 
   counted-decided : (meeting : Meeting) (raw : Decision) → is_conflict (case_of held incoming) ≡ true
-      → FitsDecision (case_of held incoming) held.body (counted (question_asked meeting (asked_of article) held.body incoming.body (case_of held incoming)) raw)
+      → FitsDecision (case_of held incoming) held.body (decision_for_question (question_asked meeting (asked_of article) held.body incoming.body (case_of held incoming)) raw)
   counted-decided meeting raw conflict =
       counted_fits (knows held.lineage) (knows incoming.lineage) meeting (asked_of article) held.body incoming.body raw the_counts (has-columns article held.body (tracked-body article held.body ours) (good-body article held.body ours)) conflict
 
   body-counted : (meeting : Meeting) (raw : Decision) → is_conflict (case_of held incoming) ≡ true → (dot : Dot)
-      → body_fits (case_body dot (counted (question_asked meeting (asked_of article) held.body incoming.body (case_of held incoming)) raw) (case_of held incoming) held.body incoming.body) article ≡ true
+      → body_fits (case_body dot (decision_for_question (question_asked meeting (asked_of article) held.body incoming.body (case_of held incoming)) raw) (case_of held incoming) held.body incoming.body) article ≡ true
   body-counted meeting raw conflict dot =
-      let d = counted (question_asked meeting (asked_of article) held.body incoming.body (case_of held incoming)) raw in
+      let d = decision_for_question (question_asked meeting (asked_of article) held.body incoming.body (case_of held incoming)) raw in
       let our_row = tracked-body article held.body ours in
       let their_row = tracked-body article incoming.body theirs in
       let our = good-body article held.body ours in
@@ -469,7 +469,7 @@ module _ (resolvers : ℕ) (publication : Publication) (valid : IsValid resolver
   })
 
   -- a decision on a conflict counts as one that may be applied
-  pub may-count : (meeting : Meeting) (raw : Decision) → is_conflict (case_of held incoming) ≡ true → MayDecide publication k held incoming (counted (question_asked meeting (asked_at publication k) held.body incoming.body (case_of held incoming)) raw)
+  pub may-count : (meeting : Meeting) (raw : Decision) → is_conflict (case_of held incoming) ≡ true → MayDecide publication k held incoming (decision_for_question (question_asked meeting (asked_at publication k) held.body incoming.body (case_of held incoming)) raw)
   may-count meeting raw conflict = article-of publication k held.body _ ours (λ article is. record {
     decided = rw is (counted-decided article (rules-at resolvers publication valid k article is) held incoming (rw is at ours) (rw is at theirs) meeting raw conflict);
     fits = λ dot. rw is (body-counted article (rules-at resolvers publication valid k article is) held incoming (rw is at ours) (rw is at theirs) meeting raw conflict dot);

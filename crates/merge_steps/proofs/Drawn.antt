@@ -31,7 +31,7 @@ use Rattle.merge_batch.specs.declared.refusal.Refusal.TheVariants.{IdentityUsedU
 use Rattle.merge_change.specs.Allowed.{HasIdentity, IsIdentity}
 use Rattle.merge_model.specs.Tables.Keys.{at_number, put_number}
 use Rattle.merge_model.specs.Tables.Publications.{identity_column, rules_of}
-use Rattle.merge_model.specs.Publisher.PublisherLocal.{Drawn, after_answer, drawn, drawn_from, own_ask, taken_from}
+use Rattle.merge_model.specs.Publisher.PublisherLocal.{Drawn, after_answer, draw_for_change, drawn_from, own_ask, taken_from}
 use Rattle.merge_model.specs.Tables.{PublisherTables}
 use Rattle.merge_model.proofs.Lists.Finding.{at_put, some_same}
 use Rattle.merge_steps.specs.Drawing.{Draws, Gives, KeepsHeld, Takes, TakesGranted, TakesNext, drawn_by, granted_range, is_whole}
@@ -166,8 +166,8 @@ next-granted rules grants held article holder end by is takes = λ publication s
 -- Of an insert.
 
 found-drawn : (publication : Publication) (q : PublisherTables) (article : ℕ) (values : List Setting) (found : Option Holder) (holder : Holder) (by : Result Drawn Refusal) → found ≡ Some holder → at_number q.held article ≡ found
-    → drawn_from publication q article holder (answer_to_take holder) ≡ by → drawn publication q (Insert article values) ≡ by
-found-drawn publication q article values found holder by is there takes = rw (drawn, there ∙ is) takes
+    → drawn_from publication q article holder (answer_to_take holder) ≡ by → draw_for_change publication q (Insert article values) ≡ by
+found-drawn publication q article values found holder by is there takes = rw (draw_for_change, there ∙ is) takes
 
 insert-drawn : (publication : Publication) (rules : List Rule) (grants : List Grant) (held : List (ℕ × Holder)) (article : ℕ) (values : List Setting) (holder : Holder) (by : Result Drawn Refusal) → rules_of publication ≡ rules → at_number held article ≡ Some holder
     → TakesNext rules grants held article holder by → Draws publication (Insert article values) grants held by
@@ -178,7 +178,7 @@ insert-drawn publication rules grants held article values holder by same there t
 none-drawn : (publication : Publication) (grants : List Grant) (held : List (ℕ × Holder)) (article : ℕ) (values : List Setting) → at_number held article ≡ None
     → Draws publication (Insert article values) grants held (Ok (record { value = Null; held = held; grants = grants }))
 unfolding Draws
-none-drawn publication grants held article values there = λ p. rw (drawn, there) refl
+none-drawn publication grants held article values there = λ p. rw (draw_for_change, there) refl
 
 -- What stays of the ranges.
 

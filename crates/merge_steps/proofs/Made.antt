@@ -7,7 +7,7 @@ use Rattle.merge_units.specs.declared.version.Version.{Version}
 use Rattle.merge_table.specs.declared.edit.Edit.{Edit}
 use Rattle.merge_table.specs.declared.edit.Edit.TheVariants.{Put, Take}
 use Rattle.merge_table.specs.Edits.{rows_after_all}
-use Rattle.merge_gens.specs.Book.{entered}
+use Rattle.merge_gens.specs.Book.{book_after_entries}
 use Rattle.merge_model.specs.Publisher.Entries.{Entries, with_entries, with_move}
 use Rattle.merge_model.specs.Tables.Keys.{drop_row_site, put_row}
 use Rattle.merge_gens.specs.Moves.{row_site_cmp}
@@ -46,8 +46,8 @@ pub row-made : (key : Key) (version : Version) (moves : List (RowSite × MoveKin
     → with_entries (entries_with (first ∷ rest) (key ∷ []) moves gone) ((key, version) ∷ []) p ≡ record p {
       rows = put_row p.rows key (record { version = version; changed = first });
       mappings = rows_after_all row_site_cmp p.mappings (mapping_edits moves rest gone);
-      gens = entered p.gens (1 + length moves) p.latest;
+      gens = book_after_entries p.gens (1 + length moves) p.latest;
     }
 row-made key version moves gone first rest p same =
-    ap (λ (n : ℕ). (let made : PublisherTables = record p { rows = put_row p.rows key (record { version = version; changed = first }); mappings = fold drop_row_site (fold with_move p.mappings (zip moves rest)) gone; gens = entered p.gens (1 + n) p.latest } in made)) (zip-length moves rest same)
-    ∙ ap (λ (ms : List (RowSite × Mapping)). (let made : PublisherTables = record p { rows = put_row p.rows key (record { version = version; changed = first }); mappings = ms; gens = entered p.gens (1 + length moves) p.latest } in made)) (sym (mappings-made (zip moves rest) gone p.mappings))
+    ap (λ (n : ℕ). (let made : PublisherTables = record p { rows = put_row p.rows key (record { version = version; changed = first }); mappings = fold drop_row_site (fold with_move p.mappings (zip moves rest)) gone; gens = book_after_entries p.gens (1 + n) p.latest } in made)) (zip-length moves rest same)
+    ∙ ap (λ (ms : List (RowSite × Mapping)). (let made : PublisherTables = record p { rows = put_row p.rows key (record { version = version; changed = first }); mappings = ms; gens = book_after_entries p.gens (1 + length moves) p.latest } in made)) (sym (mappings-made (zip moves rest) gone p.mappings))

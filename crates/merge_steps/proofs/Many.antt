@@ -13,7 +13,7 @@ use Rattle.merge_table.specs.Contents.{has_room}
 use Rattle.merge_table.specs.Edits.{rows_after_all}
 use Rattle.merge_table.proofs.Room.{has_room-insert_key, or_right}
 use Rattle.merge_table.proofs.Slots.{keys-insert_entry}
-use Rattle.merge_gens.specs.Book.{entered}
+use Rattle.merge_gens.specs.Book.{book_after_entries}
 use Rattle.merge_gens.specs.Filling.{generation_of, generations_of}
 use Rattle.merge_table.proofs.Sorted.{sorted_put}
 use Rattle.merge_part.specs.Moves.{AreMoves}
@@ -62,7 +62,7 @@ rows-made [] rows = refl
 rows-made (row ∷ changed) rows = rows-made changed (put_row rows row.0.0 (record { version = row.0.1; changed = row.1 }))
 
 abbrev rows_with : PublisherTables → List (Key × PublisherRow) → List (RowSite × Mapping) → ℕ → PublisherTables
-rows_with p rows mappings n = record p { rows = rows; mappings = mappings; gens = entered p.gens n p.latest }
+rows_with p rows mappings n = record p { rows = rows; mappings = mappings; gens = book_after_entries p.gens n p.latest }
 
 -- many rows, with the first generations, and the moves with the others
 pub many-made : (generations : List ℕ) (versions : List (Key × Version)) (moves : List (RowSite × MoveKind)) (gone : List RowSite) (p : PublisherTables) → length generations ≡ length (keys_in versions) + length moves
@@ -70,7 +70,7 @@ pub many-made : (generations : List ℕ) (versions : List (Key × Version)) (mov
     ≡ record p {
       rows = rows_after_all key_cmp p.rows (version_edits versions (take (length (keys_in versions)) generations));
       mappings = fold drop_row_site (fold with_move p.mappings (zip moves (drop (length (keys_in versions)) generations))) gone;
-      gens = entered p.gens (length (keys_in versions) + length moves) p.latest;
+      gens = book_after_entries p.gens (length (keys_in versions) + length moves) p.latest;
     }
 many-made generations versions moves gone p same =
     let n : ℕ = length (keys_in versions) in
@@ -144,7 +144,7 @@ module _ (publication : Publication) (valid : CanBeSaid publication) (p : Publis
   pub changes-made : changed_by publication judge changing p ≡ record p {
     rows = rows_after_all key_cmp p.rows (version_edits changing.versions (take (length changed) generations));
     mappings = rows_after_all row_site_cmp p.mappings (mapping_edits entries (drop (length changed) generations) (returns p.mappings changed moves));
-    gens = entered p.gens (length changed + length entries) p.latest;
+    gens = book_after_entries p.gens (length changed + length entries) p.latest;
   }
   changes-made =
       let rest : List ℕ = drop (length changed) generations in

@@ -22,9 +22,9 @@ use Rattle.merge_units.proofs.Fits.{fits_bodies}
 use Rattle.merge_conflict.specs.Losers.{losing_rows}
 use Rattle.merge_conflict.specs.declared.losers.Conflict.{Conflict}
 use Rattle.merge_conflict.specs.declared.row.ConflictRow.{ConflictRow}
-use Rattle.merge_resolve.specs.Asked.{raised, says_at, tallies_after}
+use Rattle.merge_resolve.specs.Asked.{says_at, tallies_after, tallies_after_question}
 use Rattle.merge_resolve.specs.Counted.{counted_decision}
-use Rattle.merge_resolve.specs.Questions.{Asked, asked_of, counted, question_asked, question_of as pair_of}
+use Rattle.merge_resolve.specs.Questions.{Asked, asked_of, decision_for_question, question_asked, question_of as pair_of}
 use Rattle.merge_resolve.specs.declared.asking.Question.{Question}
 use Rattle.merge_resolve.specs.declared.case.ConflictCase.{ConflictCase}
 use Rattle.merge_resolve.specs.declared.question.Meeting.{Meeting}
@@ -56,16 +56,16 @@ same-past [] k v past = refl
 same-past (x ∷ xs) zero v past = absurd (omega arith)
 same-past (x ∷ xs) (suc k) v past = ap (λ (ys : List ℕ). x ∷ ys) (same-past xs k v (omega arith))
 
-pub raised-past : {X : Type 0} (tally : X → ℕ) (xs : List X) (k : ℕ) → length xs ≤ k → map tally xs ≡ raised (map tally xs) k
+pub raised-past : {X : Type 0} (tally : X → ℕ) (xs : List X) (k : ℕ) → length xs ≤ k → map tally xs ≡ tallies_after_question (map tally xs) k
 raised-past tally xs k past = sym (same-past (map tally xs) k (min (slice_index (map tally xs) k + 1) (2 ^ 64 - 1)) (omega (arith, length-map xs tally)))
 
 pub answered-past : {X : Type 0} (says : X → ℕ → ConflictCase → Decision) (xs : List X) (tallies : List ℕ) (q : Question) → length xs ≤ q.place → KeepPublisher ≡ decision_on (says_at says xs) tallies (Some q)
 answered-past {X = X} says xs tallies q past =
-    ap (λ (o : Option X). counted q (unwrap_or (option_map (λ x. says x (slice_index tallies q.place) q.case) o) KeepPublisher)) (sym (none-past xs q.place past))
+    ap (λ (o : Option X). decision_for_question q (unwrap_or (option_map (λ x. says x (slice_index tallies q.place) q.case) o) KeepPublisher)) (sym (none-past xs q.place past))
 
 -- one that was
 pub answered-there : (says : Saying) (tallies : List ℕ) (q : Question) (raw d : Decision) → Some raw ≡ says q.place (slice_index tallies q.place) q.case → d ≡ counted_decision q.types q.identity q.sides q.case raw → d ≡ decision_on says tallies (Some q)
-answered-there says tallies q raw d told is = is ∙ ap (λ (o : Option Decision). counted q (unwrap_or o KeepPublisher)) told
+answered-there says tallies q raw d told is = is ∙ ap (λ (o : Option Decision). decision_for_question q (unwrap_or o KeepPublisher)) told
 
 -- The question.
 
@@ -106,7 +106,7 @@ answer-fits resolvers publication valid arrival item held case ours theirs is ag
     let same : q ≡ the_question publication arrival item held = cc (asked ∙ question-some publication arrival item held case is agrees) in
     let here : is_conflict (case_of held item.version) ≡ true = subst (λ (c : Case). is_conflict c ≡ true) is agrees in
     let raw : Decision = unwrap_or (says q.place (slice_index tallies q.place) q.case) KeepPublisher in
-    let counts : d ≡ counted (the_question publication arrival item held) raw = told ∙ ap (λ (p : Question). counted p raw) same in
+    let counts : d ≡ decision_for_question (the_question publication arrival item held) raw = told ∙ ap (λ (p : Question). decision_for_question p raw) same in
     subst (MayDecide publication item.article held item.version) (sym counts) (may-count resolvers publication valid item.article held item.version ours theirs (meeting_on publication arrival item held) raw here)
 
 -- How often resolvers were asked.
@@ -114,10 +114,10 @@ answer-fits resolvers publication valid arrival item held case ours theirs is ag
 pub asked-none : (tallies : List ℕ) (questions : List Question) → AskedSome tallies tallies questions
 asked-none tallies questions = (0, refl)
 
-pub asked-one : (old new : List ℕ) (q : Question) (o : Option Question) → Some q ≡ o → new ≡ raised old q.place → AskedSome old new (option_to_list o)
+pub asked-one : (old new : List ℕ) (q : Question) (o : Option Question) → Some q ≡ o → new ≡ tallies_after_question old q.place → AskedSome old new (option_to_list o)
 asked-one old new q o is raised_one = subst (λ (x : Option Question). AskedSome old new (option_to_list x)) is (1, raised_one)
 
-pub tallies-one : (old new : List ℕ) (q : Question) (o : Option Question) → Some q ≡ o → new ≡ raised old q.place → new ≡ tallies_on old o
+pub tallies-one : (old new : List ℕ) (q : Question) (o : Option Question) → Some q ≡ o → new ≡ tallies_after_question old q.place → new ≡ tallies_on old o
 tallies-one old new q o is raised_one = subst (λ (x : Option Question). new ≡ tallies_on old x) is raised_one
 
 pub tallies-none : (old new : List ℕ) (o : Option Question) → o ≡ None → new ≡ old → new ≡ tallies_on old o

@@ -16,7 +16,7 @@ use Rattle.std.specs.Cmp.{Equal-is}
 use Rattle.merge_types.specs.RowKeys.{key_cmp, key_exact}
 use Rattle.merge_units.specs.declared.version.Version.{Version}
 use Rattle.merge_units.specs.declared.site_row.PublisherRow.{PublisherRow}
-use Rattle.merge_resolve.specs.Asked.{raised, tallies_after}
+use Rattle.merge_resolve.specs.Asked.{tallies_after, tallies_after_question}
 use Rattle.merge_resolve.specs.Questions.{question_of as asked_of}
 use Rattle.merge_resolve.specs.declared.asking.Question.{Question}
 use Rattle.merge_resolve.specs.declared.case.ConflictCase.{ConflictCase}
@@ -100,7 +100,7 @@ module _ (publication : Publication) (rows : List (Key × PublisherRow)) (arriva
 
   some-within : {C : Type 0} (tallies : List ℕ) (done one rest : List (ℕ × C)) (n : ℕ) → (k : ℕ) × (tallies_after (tallies_after tallies done) (take n one) ≡ tallies_after tallies (take k (done ++ (one ++ rest))))
   some-within tallies [] one rest n = let more = first-within one rest n in (more.0, ap (tallies_after tallies) more.1)
-  some-within tallies (x ∷ done) one rest n = let more = some-within (raised tallies x.0) done one rest n in (suc more.0, more.1)
+  some-within tallies (x ∷ done) one rest n = let more = some-within (tallies_after_question tallies x.0) done one rest n in (suc more.0, more.1)
 
   pub asked-within : (first now new : List ℕ) (items : List UploadItem) (i : ℕ) (item : UploadItem) → i < length items → item ≡ get_or items i item
       → now ≡ tallies_after first (map asked_of (questions_in publication rows arrival (take i items))) → AskedSome now new (option_to_list (question_in publication rows arrival item))

@@ -11,13 +11,13 @@ use Rattle.merge_types.specs.declared.identifiers.Moment.{Moment}
 use Rattle.merge_units.specs.declared.version.Version.{Version}
 use Rattle.merge_table.specs.declared.edit.Edit.{Edit}
 use Rattle.merge_table.specs.Edits.{rows_after_all}
-use Rattle.merge_gens.specs.Book.{Book, entered}
+use Rattle.merge_gens.specs.Book.{Book, book_after_entries}
 use Rattle.merge_gens.specs.Entries.{entry_cmp}
 use Rattle.merge_gens.specs.declared.filling.Filling.{Filling}
 use Rattle.merge_gens.specs.declared.index.IndexEntry.{IndexEntry}
 use Rattle.merge_gens.specs.Filling.{generation_of, generations_of}
 use Rattle.merge_gens.specs.Index.{entries_after_all}
-use Rattle.merge_gens.specs.Plan.{settled}
+use Rattle.merge_gens.specs.Plan.{book_after_plan}
 use Rattle.merge_part.specs.declared.change.Move.{Move}
 use Rattle.merge_part.specs.declared.change.RowChange.{RowChange}
 use Rattle.merge_part.specs.Live.{Live as LiveList, live_after_all, live_rows as listed}
@@ -86,12 +86,12 @@ module _ (publication : Publication) (valid : CanBeSaid publication) (changing :
   with_parts p row_edits mapping_edits gens = record p { rows = rows_after_all key_cmp rows row_edits; mappings = rows_after_all row_site_cmp mappings mapping_edits; gens = gens; latest = latest }
 
   abbrev given : PublisherTables → ℕ → List (RowSite × MoveKind) → PublisherTables
-  given p n es = with_parts p (version_edits changing.versions (take n (generations_of book.filling (n + length es)))) (mapping_edits es (drop n (generations_of book.filling (n + length es))) (returns mappings changed moves)) (entered book (n + length es) latest)
+  given p n es = with_parts p (version_edits changing.versions (take n (generations_of book.filling (n + length es)))) (mapping_edits es (drop n (generations_of book.filling (n + length es))) (returns mappings changed moves)) (book_after_entries book (n + length es) latest)
 
   pub step-made : (entries : List (RowSite × MoveKind)) (w : Worked) → entries ≡ found_entries publication (listed (live_pairs rows)) changing moves
       → w.rows ≡ version_edits changing.versions (take (length changing.versions) (generations_of book.filling (length changing.versions + length entries)))
       → w.mappings ≡ mapping_edits entries (drop (length changing.versions) (generations_of book.filling (length changing.versions + length entries))) (returns mappings changed moves)
-      → settled book w.gens ≡ entered book (length changing.versions + length entries) latest
+      → book_after_plan book w.gens ≡ book_after_entries book (length changing.versions + length entries) latest
       → IsStep publication changing rows mappings book latest w
   unfolding IsStep
   step-made entries w found row_edits mapped gens = λ p judge left.
@@ -99,8 +99,8 @@ module _ (publication : Publication) (valid : CanBeSaid publication) (changing :
       changes-made publication valid (record p { rows = rows; mappings = mappings; gens = book; latest = latest }) judge changing sorted ordered left subscribes moves are-moves
       ∙ ap (λ (k : ℕ). given p k (all_told changed changing.uploader (outs_of publication changing.uploader (live_rows (rows_after changing rows)) changing.acted) moves)) (keys-length changing.versions)
       ∙ ap (λ (es : List (RowSite × MoveKind)). given p n es) (sym (found ∙ entries-are))
-      ∙ ap (λ (es : List (Edit Key PublisherRow)). with_parts p es (mapping_edits entries (drop n (generations_of book.filling (n + length entries))) (returns mappings changed moves)) (entered book (n + length entries) latest)) (sym row_edits)
-      ∙ ap (λ (es : List (Edit RowSite Mapping)). with_parts p w.rows es (entered book (n + length entries) latest)) (sym mapped)
+      ∙ ap (λ (es : List (Edit Key PublisherRow)). with_parts p es (mapping_edits entries (drop n (generations_of book.filling (n + length entries))) (returns mappings changed moves)) (book_after_entries book (n + length entries) latest)) (sym row_edits)
+      ∙ ap (λ (es : List (Edit RowSite Mapping)). with_parts p w.rows es (book_after_entries book (n + length entries) latest)) (sym mapped)
       ∙ ap (λ (g : Book). with_parts p w.rows w.mappings g) (sym gens)
 
 -- the same, where a membership holds the live rows
@@ -110,7 +110,7 @@ pub step-made-held : (publication : Publication) → CanBeSaid publication → (
     → (changed : List Key) → changed ≡ keys_in changing.versions → (entries : List (RowSite × MoveKind)) (w : Worked) → entries ≡ found_entries publication (listed live) changing moves
     → w.rows ≡ version_edits changing.versions (take (length changing.versions) (generations_of book.filling (length changing.versions + length entries)))
     → w.mappings ≡ mapping_edits entries (drop (length changing.versions) (generations_of book.filling (length changing.versions + length entries))) (returns mappings changed moves)
-    → settled book w.gens ≡ entered book (length changing.versions + length entries) latest
+    → book_after_plan book w.gens ≡ book_after_entries book (length changing.versions + length entries) latest
     → IsStep publication changing rows mappings book latest w
 step-made-held publication valid changing rows mappings book latest sorted ordered subscribes live held moves are own keys entries w found row_edits mapped gens =
     step-made publication valid changing rows mappings book latest sorted ordered subscribes moves

@@ -16,7 +16,7 @@ use Rattle.merge_batch.specs.declared.refusal.Refusal.{Refusal}
 use Rattle.merge_batch.specs.declared.refusal.Refusal.TheVariants.{NoMemory}
 use Rattle.merge_model.specs.Tables.Keys.{at_number}
 use Rattle.merge_model.specs.Tables.Publications.{rules_of}
-use Rattle.merge_model.specs.Publisher.PublisherLocal.{Drawn, after_answer, drawn, drawn_from, own_ask, taken_from}
+use Rattle.merge_model.specs.Publisher.PublisherLocal.{Drawn, after_answer, draw_for_change, drawn_from, own_ask, taken_from}
 use Rattle.merge_model.specs.Tables.{PublisherTables}
 use Rattle.merge_steps.specs.Keeps.{AreHeard}
 use Rattle.merge_steps.specs.declared.drawing.Draw.{Draw}
@@ -41,7 +41,7 @@ TakesNext rules grants held article holder by = (publication : Publication) → 
 
 -- what an insert draws
 unfoldable pub Draws : Publication → Change → List Grant → List (ℕ × Holder) → Result Drawn Refusal → Type 0
-Draws publication change grants held by = (p : PublisherTables) → drawn publication (record p { held = held; grants = grants }) change ≡ by
+Draws publication change grants held by = (p : PublisherTables) → draw_for_change publication (record p { held = held; grants = grants }) change ≡ by
 
 -- the ranges are still those that the publisher granted itself, of the same articles
 pub record KeepsHeld (grants : List Grant) (held : List (ℕ × Holder)) (d : Draw) : Type 0 where

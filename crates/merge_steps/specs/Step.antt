@@ -9,7 +9,7 @@ use Rattle.merge_gens.specs.Entries.{entry_cmp}
 use Rattle.merge_gens.specs.Filling.{generations_of}
 use Rattle.merge_gens.specs.declared.filling.Filling.{Filling}
 use Rattle.merge_gens.specs.Index.{entries_after_all}
-use Rattle.merge_gens.specs.Plan.{settled}
+use Rattle.merge_gens.specs.Plan.{book_after_plan}
 use Rattle.merge_table.specs.declared.edit.Edit.{Edit}
 use Rattle.merge_schema.specs.Partition.{LiveRow}
 use Rattle.merge_schema.specs.declared.publication.Publication.{Publication}
@@ -52,7 +52,7 @@ Subscribes publication acted site = (key : Key) → has_key acted key ≡ true �
 unfoldable pub IsStep : Publication → Changing → List (Key × PublisherRow) → List (RowSite × Mapping) → Book → Moment → Worked → Type 0
 IsStep publication changing rows mappings book latest w = (p : PublisherTables) (judge : PublisherJudge) → SeesLeft judge mappings
     → changed_by publication judge changing (record p { rows = rows; mappings = mappings; gens = book; latest = latest })
-    ≡ record p { rows = rows_after_all key_cmp rows w.rows; mappings = rows_after_all row_site_cmp mappings w.mappings; gens = settled book w.gens; latest = latest }
+    ≡ record p { rows = rows_after_all key_cmp rows w.rows; mappings = rows_after_all row_site_cmp mappings w.mappings; gens = book_after_plan book w.gens; latest = latest }
 
 -- what moves makes entries, behind those of the rows, and a row that comes back has left no more
 abbrev pub mappings_edited : Publication → List LiveRow → Changing → Filling → List (RowSite × Mapping) → List Move → List (Edit RowSite Mapping)

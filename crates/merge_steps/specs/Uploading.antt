@@ -17,8 +17,8 @@ use Rattle.merge_gens.specs.declared.sites.SiteState.{SiteState}
 use Rattle.merge_ident.specs.declared.grants.Grant.{Grant}
 use Rattle.merge_conflict.specs.Losers.{publisher_site}
 use Rattle.merge_conflict.specs.declared.row.ConflictRow.{ConflictRow}
-use Rattle.merge_resolve.specs.Asked.{raised, tallies_after}
-use Rattle.merge_resolve.specs.Questions.{counted, question_of as asked_of}
+use Rattle.merge_resolve.specs.Asked.{tallies_after, tallies_after_question}
+use Rattle.merge_resolve.specs.Questions.{decision_for_question, question_of as asked_of}
 use Rattle.merge_resolve.specs.declared.asking.Question.{Question}
 use Rattle.merge_schema.specs.declared.publication.Publication.{Publication}
 use Rattle.merge_batch.specs.Known.{Known}
@@ -93,11 +93,11 @@ question_in publication rows arrival item = if acts_in arrival item then questio
 -- what the decision on a question counts as, and how often the resolvers were asked after it
 abbrev pub decision_on : Saying → List ℕ → Option Question → Decision
 decision_on says tallies None = KeepPublisher
-decision_on says tallies (Some question) = counted question (unwrap_or (says question.place (slice_index tallies question.place) question.case) KeepPublisher)
+decision_on says tallies (Some question) = decision_for_question question (unwrap_or (says question.place (slice_index tallies question.place) question.case) KeepPublisher)
 
 abbrev pub tallies_on : List ℕ → Option Question → List ℕ
 tallies_on tallies None = tallies
-tallies_on tallies (Some question) = raised tallies question.place
+tallies_on tallies (Some question) = tallies_after_question tallies question.place
 
 -- the first few of these questions were asked
 abbrev pub AskedSome : List ℕ → List ℕ → List Question → Type 0

@@ -6,7 +6,7 @@ ghost use Rattle.merge_units.specs.Cases.{case_of, is_conflict};
 ghost use Rattle.merge_units.specs.Results.{result_by};
 ghost use Rattle.merge_units.specs.Version.{HaveEqualCounts};
 ghost use Rattle.merge_conflict.specs.Losers.{losing_rows};
-ghost use Rattle.merge_resolve.specs.Asked.{raised, says_at};
+ghost use Rattle.merge_resolve.specs.Asked.{says_at, tallies_after_question};
 ghost use Rattle.merge_schema.specs.Valid.{IsValid};
 ghost use Rattle.merge_batch.specs.Articles.{fits_article};
 ghost use Rattle.merge_batch.specs.LocalChanges.{tracking_at};
@@ -41,7 +41,7 @@ fn is_conflict(case: &Case) -> bool
 fn unasked(resolvers: &Vec<Handed>, question: &Question) -> Decision
     requires { length resolvers.now.items ≤ question.now.place }
     ensures decision { result ≡ decision_on (says_at (λ r. says r) resolvers.now.items) (map (λ r. tally_of r) resolvers.now.items) (Some question.now) }
-    ensures tallies { map (λ r. tally_of r) resolvers.now.items ≡ raised (map (λ r. tally_of r) resolvers.now.items) question.now.place }
+    ensures tallies { map (λ r. tally_of r) resolvers.now.items ≡ tallies_after_question (map (λ r. tally_of r) resolvers.now.items) question.now.place }
 {
     let _ = resolvers.len();
     let _ = question.place;
@@ -56,7 +56,7 @@ fn answer(
     question: &Question,
 ) -> Result<Decision, NoMemory>
     ensures decision { IfOk result (λ decision. decision ≡ decision_on (says_at (λ r. says r) resolvers.old.items) (map (λ r. tally_of r) resolvers.old.items) (Some question.now)) }
-    ensures tallies { map (λ r. tally_of r) resolvers.new.items ≡ raised (map (λ r. tally_of r) resolvers.old.items) question.now.place }
+    ensures tallies { map (λ r. tally_of r) resolvers.new.items ≡ tallies_after_question (map (λ r. tally_of r) resolvers.old.items) question.now.place }
     ensures steady { (k n : ℕ) (asked : _) → says_at (λ r. says r) resolvers.new.items k n asked ≡ says_at (λ r. says r) resolvers.old.items k n asked }
 {
     let place = question.place as usize;

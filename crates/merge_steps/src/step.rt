@@ -2,7 +2,7 @@
 ghost use Rattle.std.specs.Prelude.{◌≡◌, ◌≤◌, ◌<◌, ◌+◌, ◌*◌, ℕ, map, length, drop, take, All, IfOk};
 ghost use Rattle.std.specs.List.{zip as zipped};
 ghost use Rattle.merge_types.specs.Limits.{counter_limit};
-ghost use Rattle.merge_gens.specs.Book.{entered};
+ghost use Rattle.merge_gens.specs.Book.{book_after_entries};
 ghost use Rattle.merge_gens.specs.Filling.{generations_of};
 ghost use Rattle.merge_gens.specs.Plan as generations_plan;
 ghost use Rattle.merge_table.specs.Edits.{rows_after_all};
@@ -143,7 +143,7 @@ fn work_out(
     ensures mappings { IfOk result (λ w. w.mappings ≡ row.mapping_edits found.entries (drop (length versions.items) (generations_of gens.old.book.filling (length versions.items + length found.entries))) (work.returns mappings.now.rows found.changed found.moves)) }
     ensures index { IfOk result (λ w. w.index ≡ work.all_indexing rows.now.rows (zipped versions.items (take (length versions.items) (generations_of gens.old.book.filling (length versions.items + length found.entries))))) }
     ensures moved { IfOk result (λ w. w.moved ≡ row.moved_edits mappings.now.rows w.mappings) }
-    ensures gens { IfOk result (λ w. generations_plan.settled gens.old.book w.gens ≡ entered gens.old.book (length versions.items + length found.entries) latest) }
+    ensures gens { IfOk result (λ w. generations_plan.book_after_plan gens.old.book w.gens ≡ book_after_entries gens.old.book (length versions.items + length found.entries) latest) }
     ensures ready { IfOk result (λ w. generations_plan.IsPrepared gens.new w.gens) }
     ensures plan { IfOk result (λ w. w.plan ≡ found.plan) }
     ensures same { gens.new.book ≡ gens.old.book }

@@ -17,7 +17,7 @@ use Rattle.merge_schema.specs.declared.publication.Publication.{Publication}
 use Rattle.merge_batch.specs.Lineages.{is_site}
 use Rattle.merge_keeper.specs.SubscriberRules.{Numbered}
 use Rattle.merge_model.specs.Publisher.Acts.{Act, Fate, Met, New, Unknown, conflict_of, lost_by, lost_from}
-use Rattle.merge_model.specs.Subscriber.Reinit.{numbered_from}
+use Rattle.merge_model.specs.Subscriber.Reinit.{discarded_rows_from}
 use Rattle.merge_model.specs.Tables.{SubscriberTables}
 use Rattle.merge_model.proofs.Lists.Finding.{all-weaker}
 use Rattle.merge_model.proofs.Lists.{all-append}
@@ -115,15 +115,15 @@ later-lost publication latest later rows up all = all-weaker (LostAt publication
 
 -- Making a site anew adds its rows one after the other.
 
-pub anew-numbered : (s : SubscriberTables) (last number : ℕ) (rows : List (Key × Version)) → number ≡ last + 1 → Numbered (last + length rows) last (numbered_from s number rows)
+pub anew-numbered : (s : SubscriberTables) (last number : ℕ) (rows : List (Key × Version)) → number ≡ last + 1 → Numbered (last + length rows) last (discarded_rows_from s number rows)
 anew-numbered s last number [] is = omega arith
 anew-numbered s last number (row ∷ rows) is =
-    (is, numbered-to (last + 1) (last + 1 + length rows) (last + length (row ∷ rows)) (numbered_from s (number + 1) rows) (omega arith) (anew-numbered s (last + 1) (number + 1) rows (omega (arith, is))))
+    (is, numbered-to (last + 1) (last + 1 + length rows) (last + length (row ∷ rows)) (discarded_rows_from s (number + 1) rows) (omega arith) (anew-numbered s (last + 1) (number + 1) rows (omega (arith, is))))
 
-pub anew-lost : (publication : Publication) (s : SubscriberTables) (number : ℕ) (rows : List (Key × Version)) → is_site publication s.site.0 ≡ true → AllByRecursion (LostAt publication s.latest.0) (numbered_from s number rows)
+pub anew-lost : (publication : Publication) (s : SubscriberTables) (number : ℕ) (rows : List (Key × Version)) → is_site publication s.site.0 ≡ true → AllByRecursion (LostAt publication s.latest.0) (discarded_rows_from s number rows)
 anew-lost publication s number [] subscribes = tt
 anew-lost publication s number (row ∷ rows) subscribes = ((subscribes, omega arith), anew-lost publication s (number + 1) rows subscribes)
 
-pub anew-long : (s : SubscriberTables) (number : ℕ) (rows : List (Key × Version)) → length (numbered_from s number rows) ≡ length rows
+pub anew-long : (s : SubscriberTables) (number : ℕ) (rows : List (Key × Version)) → length (discarded_rows_from s number rows) ≡ length rows
 anew-long s number [] = refl
 anew-long s number (row ∷ rows) = let rest = anew-long s (number + 1) rows in omega (arith, rest)

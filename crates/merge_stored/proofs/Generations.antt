@@ -8,7 +8,7 @@ use Rattle.std.proofs.lemmas.List.Sums.{sum_by-append, sum_by-cons}
 use Rattle.merge_record.specs.Rows.{ascend_behind, numbers_ascend}
 use Rattle.merge_model.specs.Subscriber.{with_open}
 use Rattle.merge_model.proofs.Lists.{all-kept, all-of}
-use Rattle.merge_stored.specs.Entries.{times}
+use Rattle.merge_stored.specs.Entries.{times_kept}
 
 -- what is weighed does not grow where some are left out
 pub record IsWeight (weigh : List ℕ → ℕ) : Type 0 where
@@ -25,27 +25,27 @@ shorter keep (x ∷ xs) = elim (keep x) as (λ (b : Bool). length (cond b (x ∷
 pub length-weighs : IsWeight length
 length-weighs = record { none = refl; fewer = shorter }
 
-pub times-cons : (g x : ℕ) (xs : List ℕ) → times g (x ∷ xs) ≡ cond (g == x) 1 0 + times g xs
+pub times-cons : (g x : ℕ) (xs : List ℕ) → times_kept g (x ∷ xs) ≡ cond (g == x) 1 0 + times_kept g xs
 times-cons g x xs = sum_by-cons (λ (other : ℕ). cond (g == other) 1 0) x xs
 
-times-fewer : (g : ℕ) (keep : ℕ → Bool) (xs : List ℕ) → times g (filter keep xs) ≤ times g xs
+times-fewer : (g : ℕ) (keep : ℕ → Bool) (xs : List ℕ) → times_kept g (filter keep xs) ≤ times_kept g xs
 times-fewer g keep [] = omega arith
-times-fewer g keep (x ∷ xs) = elim (keep x) as (λ (b : Bool). times g (cond b (x ∷ filter keep xs) (filter keep xs)) ≤ times g (x ∷ xs)) [
+times-fewer g keep (x ∷ xs) = elim (keep x) as (λ (b : Bool). times_kept g (cond b (x ∷ filter keep xs) (filter keep xs)) ≤ times_kept g (x ∷ xs)) [
   | true ↦ (let rest = times-fewer g keep xs in let one = times-cons g x (filter keep xs) in let other = times-cons g x xs in omega (arith, rest, one, other))
   | false ↦ (let rest = times-fewer g keep xs in let other = times-cons g x xs in omega (arith, rest, other))
 ]
 
-pub times-append : (g : ℕ) (xs ys : List ℕ) → times g (xs ++ ys) ≡ times g xs + times g ys
+pub times-append : (g : ℕ) (xs ys : List ℕ) → times_kept g (xs ++ ys) ≡ times_kept g xs + times_kept g ys
 times-append g xs ys = sum_by-append (λ (other : ℕ). cond (g == other) 1 0) xs ys
 
-pub times-weigh : (g : ℕ) → IsWeight (times g)
+pub times-weigh : (g : ℕ) → IsWeight (times_kept g)
 times-weigh g = record { none = refl; fewer = times-fewer g }
 
 -- A new generation takes the place of those from it on.
 
-none-from : (g current : ℕ) (xs : List ℕ) → (g == current) ≡ true → times g (filter (λ (x : ℕ). nat_lt x current) xs) ≡ 0
+none-from : (g current : ℕ) (xs : List ℕ) → (g == current) ≡ true → times_kept g (filter (λ (x : ℕ). nat_lt x current) xs) ≡ 0
 none-from g current [] is = refl
-none-from g current (x ∷ xs) is = elim (nat_lt x current) as (λ (b : Bool). nat_lt x current ≡ b → times g (cond b (x ∷ filter (λ (y : ℕ). nat_lt y current) xs) (filter (λ (y : ℕ). nat_lt y current) xs)) ≡ 0) [
+none-from g current (x ∷ xs) is = elim (nat_lt x current) as (λ (b : Bool). nat_lt x current ≡ b → times_kept g (cond b (x ∷ filter (λ (y : ℕ). nat_lt y current) xs) (filter (λ (y : ℕ). nat_lt y current) xs)) ≡ 0) [
   | true ↦ (λ e. (let rest = none-from g current xs is in let one = times-cons g x (filter (λ (y : ℕ). nat_lt y current) xs) in
       let differs : (g == x) ≡ false = grind (arith, nat_tests, e, is) in
       let none : cond (g == x) 1 0 ≡ 0 = ap (λ (b : Bool). (let n : ℕ = cond b 1 0 in n)) differs in
@@ -53,23 +53,23 @@ none-from g current (x ∷ xs) is = elim (nat_lt x current) as (λ (b : Bool). n
   | false ↦ (λ e. none-from g current xs is)
 ] refl
 
-one-more : (g current : ℕ) → times g (current ∷ []) ≡ cond (g == current) 1 0
+one-more : (g current : ℕ) → times_kept g (current ∷ []) ≡ cond (g == current) 1 0
 one-more g current = times-cons g current [] ∙ (let same : cond (g == current) 1 0 + 0 ≡ cond (g == current) 1 0 = omega arith in same)
 
-pub times-open : (g current : ℕ) (xs : List ℕ) → times g (with_open current xs) ≤ times g xs + cond (g == current) 1 0
+pub times-open : (g current : ℕ) (xs : List ℕ) → times_kept g (with_open current xs) ≤ times_kept g xs + cond (g == current) 1 0
 times-open g current xs =
     let kept : List ℕ = filter (λ (x : ℕ). nat_lt x current) xs in
-    let both : times g (kept ++ current ∷ []) ≡ times g kept + times g (current ∷ []) = times-append g kept (current ∷ []) in
+    let both : times_kept g (kept ++ current ∷ []) ≡ times_kept g kept + times_kept g (current ∷ []) = times-append g kept (current ∷ []) in
     let one = one-more g current in
     let fewer = times-fewer g (λ (x : ℕ). nat_lt x current) xs in
     omega (arith, both, one, fewer)
 
-pub times-here : (current : ℕ) (xs : List ℕ) → times current (with_open current xs) ≡ 1
+pub times-here : (current : ℕ) (xs : List ℕ) → times_kept current (with_open current xs) ≡ 1
 times-here current xs =
     let kept : List ℕ = filter (λ (x : ℕ). nat_lt x current) xs in
     let itself : (current == current) ≡ true = grind (arith, nat_tests) in
-    let both : times current (kept ++ current ∷ []) ≡ times current kept + times current (current ∷ []) = times-append current kept (current ∷ []) in
-    let one : times current (current ∷ []) ≡ 1 = one-more current current ∙ ap (λ (b : Bool). (let n : ℕ = cond b 1 0 in n)) itself in
+    let both : times_kept current (kept ++ current ∷ []) ≡ times_kept current kept + times_kept current (current ∷ []) = times-append current kept (current ∷ []) in
+    let one : times_kept current (current ∷ []) ≡ 1 = one-more current current ∙ ap (λ (b : Bool). (let n : ℕ = cond b 1 0 in n)) itself in
     let none = none-from current current xs itself in
     omega (arith, both, one, none)
 

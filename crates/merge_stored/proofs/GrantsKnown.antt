@@ -39,12 +39,12 @@ use Rattle.merge_model.specs.Judge.{PublisherJudge}
 use Rattle.merge_model.specs.Tables.Keys.{at_number}
 use Rattle.merge_model.specs.Tables.Publications as places
 use Rattle.merge_model.specs.Tables.Publications.{identities, rules_of}
-use Rattle.merge_model.specs.Publisher.{at_moment, closed, counters, site_refusal, unknown_site}
-use Rattle.merge_model.specs.Publisher.PublisherDownload.{asked, download_refusal}
-use Rattle.merge_model.specs.Publisher.PublisherJoin.{join_acts, join_refusal, join_taken, joined}
-use Rattle.merge_model.specs.Publisher.PublisherLocal.{Drawn, after_answer, drawn, drawn_from, local_refusal, made_locally, no_draw, own_ask, taken_from}
+use Rattle.merge_model.specs.Publisher.{at_moment, counters, site_refusal, tables_after_close, unknown_site}
+use Rattle.merge_model.specs.Publisher.PublisherDownload.{download_refusal, tables_after_download}
+use Rattle.merge_model.specs.Publisher.PublisherJoin.{join_acts, join_refusal, join_taken, tables_after_join}
+use Rattle.merge_model.specs.Publisher.PublisherLocal.{Drawn, after_answer, draw_for_change, drawn_from, local_refusal, made_locally, no_draw, own_ask, taken_from}
 use Rattle.merge_model.specs.Publisher.PublisherRanges.{ask_by, plans, ranges_refusal, with_grants}
-use Rattle.merge_model.specs.Publisher.PublisherUpload.{brings_news, taken_in, upload_refusal, uploaded}
+use Rattle.merge_model.specs.Publisher.PublisherUpload.{brings_news, tables_after_upload, taken_in, upload_refusal}
 use Rattle.merge_model.specs.Tables.Refusals.{counter_end, unless}
 use Rattle.merge_model.specs.Failing.Runs.{model_behind}
 use Rattle.merge_model.specs.Tables.{PublisherTables}
@@ -161,7 +161,7 @@ module _ (publication : Publication) where
   found-known p article None all = all
   found-known p article (Some holder) all = drawn-known p article holder (answer_to_take holder) all
 
-  draw-known : (p : PublisherTables) (change : Change) → P p → IfOk (drawn publication p change) (λ d. AllKnown d.grants)
+  draw-known : (p : PublisherTables) (change : Change) → P p → IfOk (draw_for_change publication p change) (λ d. AllKnown d.grants)
   draw-known p (Insert article settings) all = found-known p article (at_number p.held article) all
   draw-known p (Update article row settings) all = all
   draw-known p (Delete article row) all = all
@@ -176,9 +176,9 @@ module _ (publication : Publication) where
   drawn-on judge now change p (Ok d) all = all
 
   local-on : (judge : PublisherJudge) (now : Moment) (change : Change) (p : PublisherTables) (found : Option Refusal) → P p
-      → (let done : Result (PublisherTables × RowId) Refusal = elim found [ Some refusal ↦ Err refusal | None ↦ elim (drawn publication p change) [ Err refusal ↦ Err refusal | Ok d ↦ Ok (made_locally publication judge change d (at_moment now p)) ] ] in IfOk done (λ x. P x.0))
+      → (let done : Result (PublisherTables × RowId) Refusal = elim found [ Some refusal ↦ Err refusal | None ↦ elim (draw_for_change publication p change) [ Err refusal ↦ Err refusal | Ok d ↦ Ok (made_locally publication judge change d (at_moment now p)) ] ] in IfOk done (λ x. P x.0))
   local-on judge now change p (Some refusal) all = tt
-  local-on judge now change p None all = drawn-on judge now change p (drawn publication p change) (draw-known p change all)
+  local-on judge now change p None all = drawn-on judge now change p (draw_for_change publication p change) (draw-known p change all)
 
   upload-on : (judge : PublisherJudge) (m : Upload) (decisions : List Decision) (p : PublisherTables) (b : Bool) → P p → P (if b then taken_in publication judge m (acts_of judge m decisions p) p else p)
   upload-on judge m decisions p true all = all
@@ -197,11 +197,11 @@ module _ (publication : Publication) where
   pub grants-keep : PublisherCallsKeep publication P
   grants-keep = record {
     of_local = λ judge now change p all. local-on judge now change p (local_refusal publication change p) all;
-    of_close = λ now p all. unless-p (counter_end (counters p)) (closed (at_moment now p)) _ (λ fine. all);
-    of_join = λ now m p all. unless-p (join_refusal publication m p) (joined m (at_moment now p)) _ (λ fine. join-on m (at_moment now p) (join_acts m (at_moment now p)) all);
-    of_upload = λ judge now m decisions p all. unless-p (upload_refusal publication judge now m p) (uploaded publication judge m decisions (at_moment now p)) _ (λ fine. upload-on judge m decisions (at_moment now p) (brings_news judge m) all);
+    of_close = λ now p all. unless-p (counter_end (counters p)) (tables_after_close (at_moment now p)) _ (λ fine. all);
+    of_join = λ now m p all. unless-p (join_refusal publication m p) (tables_after_join m (at_moment now p)) _ (λ fine. join-on m (at_moment now p) (join_acts m (at_moment now p)) all);
+    of_upload = λ judge now m decisions p all. unless-p (upload_refusal publication judge now m p) (tables_after_upload publication judge m decisions (at_moment now p)) _ (λ fine. upload-on judge m decisions (at_moment now p) (brings_news judge m) all);
     of_ranges = λ judge now m p all. unless-p (ranges_refusal publication judge now m p) (with_grants (plans publication m p) (at_moment now p)) _ (λ fine. ranges-on judge now m p all fine);
-    of_ask = λ judge now m p all. unless-p (download_refusal publication now m p) (asked m (at_moment now p)) _ (λ fine. all);
+    of_ask = λ judge now m p all. unless-p (download_refusal publication now m p) (tables_after_download m (at_moment now p)) _ (λ fine. all);
     of_purge = λ now p all. all;
   }
 

@@ -14,7 +14,7 @@ use Rattle.merge_schema.specs.declared.publication.Identity.{Identity}
 use Rattle.merge_schema.specs.declared.publication.Publication.{Publication}
 use Rattle.merge_table.proofs.Slots.{lookup_above}
 use Rattle.merge_keeper.specs.Entries.{was_received}
-use Rattle.merge_keeper.specs.Start.{identity_at, replaced}
+use Rattle.merge_keeper.specs.Start.{identity_at, with_value_at}
 use Rattle.merge_keeper.specs.SubscriberRules.{held_with}
 use Rattle.merge_record.specs.Reading.{◌>>=◌}
 use Rattle.merge_table.proofs.Room.{AreAbove}
@@ -141,20 +141,20 @@ apart-too a b less = grind (arith, nat_tests, less)
 apart : (a b : ℕ) → nat_cmp a b ≡ Less → (a == b) ≡ false
 apart a b less = grind (arith, nat_tests, less)
 
-none-replaced : (n : ℕ) (v : Holder) (ps : List (ℕ × Holder)) → Over n ps → replaced ps n v ≡ ps
+none-replaced : (n : ℕ) (v : Holder) (ps : List (ℕ × Holder)) → Over n ps → with_value_at ps n v ≡ ps
 none-replaced n v [] over = refl
 none-replaced n v (p ∷ ps) over =
-    ap (λ (b : Bool). (let l : List (ℕ × Holder) = cond b (n, v) p ∷ replaced ps n v in l)) (apart-too n p.0 over.0) ∙ ap (λ (l : List (ℕ × Holder)). p ∷ l) (none-replaced n v ps over.1)
+    ap (λ (b : Bool). (let l : List (ℕ × Holder) = cond b (n, v) p ∷ with_value_at ps n v in l)) (apart-too n p.0 over.0) ∙ ap (λ (l : List (ℕ × Holder)). p ∷ l) (none-replaced n v ps over.1)
 
 first-stays : (p : ℕ × Holder) (held ps : List (ℕ × Holder)) → Over p.0 ps → held_with (p ∷ held) ps ≡ p ∷ held_with held ps
 first-stays p held [] over = refl
 first-stays p held (q ∷ ps) over =
-    ap (λ (b : Bool). held_with (cond b (q.0, q.1) p ∷ replaced held q.0 q.1) ps) (apart p.0 q.0 over.0) ∙ first-stays p (replaced held q.0 q.1) ps over.1
+    ap (λ (b : Bool). held_with (cond b (q.0, q.1) p ∷ with_value_at held q.0 q.1) ps) (apart p.0 q.0 over.0) ∙ first-stays p (with_value_at held q.0 q.1) ps over.1
 
 first-replaced : (p q : ℕ × Holder) (held ps : List (ℕ × Holder)) → q.0 ≡ p.0 → Over q.0 held → Over q.0 ps → held_with (p ∷ held) (q ∷ ps) ≡ q ∷ held_with held ps
 first-replaced p q held ps same over later =
     let here : (p.0 == q.0) ≡ true = grind (arith, nat_tests, same) in
-    ap (λ (b : Bool). held_with (cond b (q.0, q.1) p ∷ replaced held q.0 q.1) ps) here ∙ ap (λ (l : List (ℕ × Holder)). held_with (q ∷ l) ps) (none-replaced q.0 q.1 held over) ∙ first-stays q held ps later
+    ap (λ (b : Bool). held_with (cond b (q.0, q.1) p ∷ with_value_at held q.0 q.1) ps) here ∙ ap (λ (l : List (ℕ × Holder)). held_with (q ∷ l) ps) (none-replaced q.0 q.1 held over) ∙ first-stays q held ps later
 
 over-filter : (n : ℕ) (ps : List (ℕ × Holder)) → Over n ps → Over n (filter was_received ps)
 over-filter n [] over = tt

@@ -13,7 +13,7 @@ use Rattle.merge_schema.specs.declared.publication.Publication.{Publication}
 use Rattle.merge_record.specs.declared.ranges.HeldRanges.{HeldRanges}
 use Rattle.merge_keeper.specs.PublisherRules.{own_range, own_ranges, with_records}
 use Rattle.merge_keeper.specs.PublisherStart.{holds, is_held, with_record}
-use Rattle.merge_keeper.specs.Start.{holder_of, identity_at, is_own, last_own, last_own_behind, own_count, replaced, replaced_at, with_held}
+use Rattle.merge_keeper.specs.Start.{holder_of, identity_at, is_own, last_own, last_own_behind, own_count, replaced_at, with_held, with_value_at}
 use Rattle.merge_keeper.specs.declared.publisher_record.PublisherRecord.{PublisherRecord}
 use Rattle.merge_keeper.specs.declared.publisher_record.PublisherRecord.TheVariants.{Closed, Granted, Held, Lost, Mapped, Row, State, Subscribed}
 use Rattle.merge_keeper.specs.declared.stored.PublisherStored.{PublisherStored}
@@ -113,7 +113,7 @@ module _ (publication : Publication) (article : ℕ) where
   here-by false a new p is same some has = absurd (grind (arith, nat_tests, is, same, has))
 
   found-keeps : (found : Option Identity) (a : ℕ) (ranges : HeldRanges) (held : List (ℕ × Holder)) (before : Bool) → is_some found ≡ true → nat_lt 0 ranges.have ≡ true → Keeps before held
-      → Keeps (((a == article) && nat_lt 0 ranges.have) || before) (option_map_or (λ (identity : Identity). replaced held a (holder_of identity ranges)) found held)
+      → Keeps (((a == article) && nat_lt 0 ranges.have) || before) (option_map_or (λ (identity : Identity). with_value_at held a (holder_of identity ranges)) found held)
   found-keeps None a ranges held before there some keeps = absurd cc
   found-keeps (Some identity) a ranges held before there some keeps =
       let new : Holder = holder_of identity ranges in record {
@@ -121,7 +121,7 @@ module _ (publication : Publication) (article : ℕ) where
         is = kept-by (a == article) before refl keeps.is;
       }
     where
-      kept-by : (b before : Bool) → (a == article) ≡ b → (before ≡ true → is_held held article ≡ true) → ((a == article) && nat_lt 0 ranges.have || before) ≡ true → is_held (replaced held a (holder_of identity ranges)) article ≡ true
+      kept-by : (b before : Bool) → (a == article) ≡ b → (before ≡ true → is_held held article ≡ true) → ((a == article) && nat_lt 0 ranges.have || before) ≡ true → is_held (with_value_at held a (holder_of identity ranges)) article ≡ true
       kept-by true before is was now =
           let same : a ≡ article = grind (arith, nat_tests, is) in
           any-mapped (has_key article) (holds article) (replaced_at a (holder_of identity ranges)) (λ p has. here-by (p.0 == a) a (holder_of identity ranges) p refl same some has) held keeps.key

@@ -26,11 +26,11 @@ use Rattle.merge_model.specs.Tables.Changes.{key_of, version_after}
 use Rattle.merge_model.specs.World.Faults.{reply_fault}
 use Rattle.merge_model.specs.Judge.{SubscriberJudge}
 use Rattle.merge_model.specs.Tables.Refusals.{counter_end, unless}
-use Rattle.merge_model.specs.Subscriber.Reinit.{reinitialised}
+use Rattle.merge_model.specs.Subscriber.Reinit.{result_of_reinit}
 use Rattle.merge_model.specs.Subscriber.Sending.{join_made, join_of, ranges_made, sending_refusal, unsent_rows, upload_made, upload_sent, want_of, with_message}
 use Rattle.merge_model.specs.Subscriber.{subscriber_at_moment, subscriber_closed, subscriber_counters, subscriber_drawn, subscriber_local_refusal, subscriber_made_locally, subscriber_next_dot, subscriber_version_at, with_version_if}
 use Rattle.merge_model.specs.Tables.{SubscriberTables}
-use Rattle.merge_model.specs.Subscriber.Taking.{met_by, seq_of, take_reply, taken}
+use Rattle.merge_model.specs.Subscriber.Taking.{met_by, seq_of, tables_after_reply, take_reply}
 use Rattle.merge_model.specs.declared.outcome.Taken.{Taken}
 use Rattle.merge_model.specs.declared.outcome.Taken.TheVariants.{Acted, Missed}
 use Rattle.merge_honest.proofs.CallWalk.{CallsKeep, OfMade}
@@ -71,12 +71,12 @@ use Rattle.merge_model.specs.History.{History}
 use Rattle.merge_model.specs.Judge.{PublisherJudge}
 use Rattle.merge_model.specs.Tables.Keys.{at_number, put_number}
 use Rattle.merge_model.specs.Tables.Publications.{identities, rules_of}
-use Rattle.merge_model.specs.Publisher.{at_moment, closed, counters, holder_for, new_holders}
-use Rattle.merge_model.specs.Publisher.PublisherDownload.{asked, download_refusal}
-use Rattle.merge_model.specs.Publisher.PublisherJoin.{join_acts, join_refusal, join_taken, joined}
-use Rattle.merge_model.specs.Publisher.PublisherLocal.{Drawn, after_answer, drawn, drawn_from, local_refusal, made_locally, no_draw, own_ask, taken_from}
+use Rattle.merge_model.specs.Publisher.{at_moment, counters, holder_for, new_holders, tables_after_close}
+use Rattle.merge_model.specs.Publisher.PublisherDownload.{download_refusal, tables_after_download}
+use Rattle.merge_model.specs.Publisher.PublisherJoin.{join_acts, join_refusal, join_taken, tables_after_join}
+use Rattle.merge_model.specs.Publisher.PublisherLocal.{Drawn, after_answer, draw_for_change, drawn_from, local_refusal, made_locally, no_draw, own_ask, taken_from}
 use Rattle.merge_model.specs.Publisher.PublisherRanges.{plans, ranges_refusal, with_grants}
-use Rattle.merge_model.specs.Publisher.PublisherUpload.{brings_news, taken_in, upload_refusal, uploaded}
+use Rattle.merge_model.specs.Publisher.PublisherUpload.{brings_news, tables_after_upload, taken_in, upload_refusal}
 use Rattle.merge_model.specs.Failing.Runs.{model_behind}
 use Rattle.merge_model.specs.Subscriber.{taken_value}
 use Rattle.merge_model.specs.Tables.{PublisherTables}
@@ -248,7 +248,7 @@ module _ (publication : Publication) (rules : All IsRule (rules_of publication))
   all-granted [] held some keys = keys
   all-granted (grant ∷ grants) held some keys = all-granted grants (with_grant held grant) some.1 (granted-by held grant (at_number held grant.article) refl some.0 keys)
 
-  taken-on : (judge : SubscriberJudge) (now : Moment) (sent : Outstanding) (m : Reply) (s : SubscriberTables) → reply_fault publication sent m s ≡ None → S s → S (taken judge now m s)
+  taken-on : (judge : SubscriberJudge) (now : Moment) (sent : Outstanding) (m : Reply) (s : SubscriberTables) → reply_fault publication sent m s ≡ None → S s → S (tables_after_reply judge now m s)
   taken-on judge now sent (reply.Joined m) s none keys = keys
   taken-on judge now sent (reply.Uploaded m) s none keys = keys
   taken-on judge now sent (reply.Ranged m) s none keys = all-granted m.grants s.held (ranged-some publication sent m s none) keys
@@ -261,8 +261,8 @@ module _ (publication : Publication) (rules : All IsRule (rules_of publication))
 
   met-on : (judge : SubscriberJudge) (now : Moment) (m : Reply) (s : SubscriberTables) (found : Option (ℕ × Outstanding)) → S s → IfOk (met_by publication judge now m s found) (λ a. S a.0)
   met-on judge now m s None keys = keys
-  met-on judge now m s (Some sent) keys = elim (sent.0 == seq_of m) as (λ (same : Bool). (let done : Result (SubscriberTables × Taken) Refusal = if same then unless (reply_fault publication sent.1 m s) (taken judge now m s, Acted) else Ok (s, Missed (seq_of m) sent.0) in IfOk done (λ a. S a.0))) [
-    | true ↦ fitting-on (reply_fault publication sent.1 m s) (taken judge now m s) Acted (λ none. taken-on judge now sent.1 m s none keys)
+  met-on judge now m s (Some sent) keys = elim (sent.0 == seq_of m) as (λ (same : Bool). (let done : Result (SubscriberTables × Taken) Refusal = if same then unless (reply_fault publication sent.1 m s) (tables_after_reply judge now m s, Acted) else Ok (s, Missed (seq_of m) sent.0) in IfOk done (λ a. S a.0))) [
+    | true ↦ fitting-on (reply_fault publication sent.1 m s) (tables_after_reply judge now m s) Acted (λ none. taken-on judge now sent.1 m s none keys)
     | false ↦ keys
   ]
 
@@ -282,7 +282,7 @@ module _ (publication : Publication) (rules : All IsRule (rules_of publication))
     of_ranges = λ s keys. unless-made (sending_refusal s) (ranges_made s) (ranges-on s s.held keys);
     of_ask = λ s keys. unless-on (sending_refusal s) (with_message (ask.Download s.watermark) s) _ keys;
     of_reply = λ judge now m s keys. reply-on judge now m s keys;
-    of_anew = λ judge now s keys. unless-on (counter_end (subscriber_counters s)) (reinitialised judge (subscriber_at_moment now s)).0 _ keys;
+    of_anew = λ judge now s keys. unless-on (counter_end (subscriber_counters s)) (result_of_reinit judge (subscriber_at_moment now s)).0 _ keys;
   }
 
   -- The publisher.
@@ -314,7 +314,7 @@ module _ (publication : Publication) (rules : All IsRule (rules_of publication))
   own-found p article None at keys = keys
   own-found p article (Some holder) at keys = drawn-keys p article holder (answer_to_take holder) at keys
 
-  own-draw : (p : PublisherTables) (change : Change) → P p → IfOk (drawn publication p change) (λ d. Keys d.held)
+  own-draw : (p : PublisherTables) (change : Change) → P p → IfOk (draw_for_change publication p change) (λ d. Keys d.held)
   own-draw p (Insert article settings) keys = own-found p article (at_number p.held article) refl keys
   own-draw p (Update article row settings) keys = keys
   own-draw p (Delete article row) keys = keys
@@ -325,9 +325,9 @@ module _ (publication : Publication) (rules : All IsRule (rules_of publication))
   own-drawn judge now change p (Ok d) keys = keys
 
   own-local : (judge : PublisherJudge) (now : Moment) (change : Change) (p : PublisherTables) (found : Option Refusal) → P p
-      → (let done : Result (PublisherTables × RowId) Refusal = elim found [ Some refusal ↦ Err refusal | None ↦ elim (drawn publication p change) [ Err refusal ↦ Err refusal | Ok d ↦ Ok (made_locally publication judge change d (at_moment now p)) ] ] in IfOk done (λ x. P x.0))
+      → (let done : Result (PublisherTables × RowId) Refusal = elim found [ Some refusal ↦ Err refusal | None ↦ elim (draw_for_change publication p change) [ Err refusal ↦ Err refusal | Ok d ↦ Ok (made_locally publication judge change d (at_moment now p)) ] ] in IfOk done (λ x. P x.0))
   own-local judge now change p (Some refusal) keys = tt
-  own-local judge now change p None keys = own-drawn judge now change p (drawn publication p change) (own-draw p change keys)
+  own-local judge now change p None keys = own-drawn judge now change p (draw_for_change publication p change) (own-draw p change keys)
 
   own-upload : (judge : PublisherJudge) (m : Upload) (decisions : List Decision) (p : PublisherTables) (b : Bool) → P p → P (if b then taken_in publication judge m (acts_of judge m decisions p) p else p)
   own-upload judge m decisions p true keys = keys
@@ -340,11 +340,11 @@ module _ (publication : Publication) (rules : All IsRule (rules_of publication))
   pub keys-keep : PublisherCallsKeep publication P
   keys-keep = record {
     of_local = λ judge now change p keys. own-local judge now change p (local_refusal publication change p) keys;
-    of_close = λ now p keys. unless-p (counter_end (counters p)) (closed (at_moment now p)) _ keys;
-    of_join = λ now m p keys. unless-p (join_refusal publication m p) (joined m (at_moment now p)) _ (own-join m (at_moment now p) (join_acts m (at_moment now p)) keys);
-    of_upload = λ judge now m decisions p keys. unless-p (upload_refusal publication judge now m p) (uploaded publication judge m decisions (at_moment now p)) _ (own-upload judge m decisions (at_moment now p) (brings_news judge m) keys);
+    of_close = λ now p keys. unless-p (counter_end (counters p)) (tables_after_close (at_moment now p)) _ keys;
+    of_join = λ now m p keys. unless-p (join_refusal publication m p) (tables_after_join m (at_moment now p)) _ (own-join m (at_moment now p) (join_acts m (at_moment now p)) keys);
+    of_upload = λ judge now m decisions p keys. unless-p (upload_refusal publication judge now m p) (tables_after_upload publication judge m decisions (at_moment now p)) _ (own-upload judge m decisions (at_moment now p) (brings_news judge m) keys);
     of_ranges = λ judge now m p keys. unless-p (ranges_refusal publication judge now m p) (with_grants (plans publication m p) (at_moment now p)) _ keys;
-    of_ask = λ judge now m p keys. unless-p (download_refusal publication now m p) (asked m (at_moment now p)) _ keys;
+    of_ask = λ judge now m p keys. unless-p (download_refusal publication now m p) (tables_after_download m (at_moment now p)) _ keys;
     of_purge = λ now p keys. keys;
   }
 

@@ -20,12 +20,12 @@ use Rattle.merge_model.specs.Failing.{Slips}
 use Rattle.merge_model.specs.History.{History}
 use Rattle.merge_model.specs.Judge.{SubscriberJudge}
 use Rattle.merge_model.specs.Tables.Keys.{at_number, put_number}
-use Rattle.merge_model.specs.Subscriber.Reinit.{reinitialised}
+use Rattle.merge_model.specs.Subscriber.Reinit.{result_of_reinit}
 use Rattle.merge_model.specs.Failing.Runs.{model_behind}
 use Rattle.merge_model.specs.Subscriber.Sending.{upload_end, upload_sent, with_message}
 use Rattle.merge_model.specs.Subscriber.{subscriber_at_moment, subscriber_closed, subscriber_last_closed, subscriber_next_dot, subscriber_version_at, with_version_if}
 use Rattle.merge_model.specs.Tables.{SubscriberTables}
-use Rattle.merge_model.specs.Subscriber.Taking.{taken}
+use Rattle.merge_model.specs.Subscriber.Taking.{tables_after_reply}
 use Rattle.merge_model.specs.World.{Saying, World}
 use Rattle.merge_model.specs.declared.event.Event.{Event}
 use Rattle.merge_laws.proofs.Runs.Ground.{Ground, grounded-always}
@@ -50,7 +50,7 @@ sent-later last later (Some p) up fits = (fits.0, ends-later last later p.1 up f
 later-fits : (s t : SubscriberTables) → t.outstanding ≡ s.outstanding → subscriber_last_closed s ≤ subscriber_last_closed t → OutstandingFits s → OutstandingFits t
 later-fits s t same up fits = subst (λ (found : Option (ℕ × Outstanding)). SentFits (subscriber_last_closed t) found) (sym same) (sent-later (subscriber_last_closed s) (subscriber_last_closed t) s.outstanding up fits)
 
-pub closed-up : (filling : Filling) → filling.last_closed ≤ (fill.closed filling).last_closed
+pub closed-up : (filling : Filling) → filling.last_closed ≤ (fill.filling_after_close filling).last_closed
 closed-up filling = grind (arith, nat_tests)
 
 new-fits : (s : SubscriberTables) (sent : Outstanding) → EndsBy (subscriber_last_closed s) sent → OutstandingFits (with_message sent s)
@@ -68,7 +68,7 @@ change-fits : (key : Key) (found : Option Version) (now : Moment) (held : List (
 change-fits key None now held s fits = fits
 change-fits key (Some version) now held s fits = (let u : SubscriberTables = record (subscriber_at_moment now s) { changes = s.changes + 1; held = held } in later-fits s (with_version_if key (Some version) u) refl (omega arith) fits)
 
-taken-fits : (judge : SubscriberJudge) (now : Moment) (m : Reply) (s : SubscriberTables) → OutstandingFits (taken judge now m s)
+taken-fits : (judge : SubscriberJudge) (now : Moment) (m : Reply) (s : SubscriberTables) → OutstandingFits (tables_after_reply judge now m s)
 taken-fits judge now (reply.Joined m) s = tt
 taken-fits judge now (reply.Uploaded m) s = tt
 taken-fits judge now (reply.Ranged m) s = tt
@@ -95,7 +95,7 @@ module _ (publication : Publication) (says : Saying) where
         let u : SubscriberTables = record (subscriber_at_moment w.moment s) { changes = s.changes + 1; held = d.1 } in
         on w s (with_version_if key found u) (version-site key found u) (change-fits key found w.moment d.1 s (p s.site.0 s at)) p);
     subscriber_closing = λ w h s g p at. on w s (subscriber_closed (subscriber_at_moment w.moment s)) refl (later-fits s (subscriber_closed (subscriber_at_moment w.moment s)) refl (closed-up s.gens.filling) (p s.site.0 s at)) p;
-    anew = λ w h s g p at. on w s (reinitialised (by_made h s.site) (subscriber_at_moment w.moment s)).0 refl tt p;
+    anew = λ w h s g p at. on w s (result_of_reinit (by_made h s.site) (subscriber_at_moment w.moment s)).0 refl tt p;
     sends_join = λ w h s g p at joining. on w s (with_message ask.Join s) refl (new-fits s ask.Join tt) p;
     sends_upload = λ w h s g p at fine. on w s (upload_sent (by_made h s.site) (subscriber_closed (subscriber_at_moment w.moment s))).0 refl (upload-fits (by_made h s.site) w.moment s (g.received.subscribers s.site.0 s at).own) p;
     sends_ranges = λ w h s g p at fine. on w s (with_message ask.Ranges s) refl (new-fits s ask.Ranges tt) p;
@@ -106,7 +106,7 @@ module _ (publication : Publication) (says : Saying) where
     uploads_again = λ w h number m g p at none. p;
     answers_ranges = λ w h site m g p. p;
     answers_ask = λ w h number site m g p at fine. p;
-    replies = λ w h s number m sent g p at there out none. on w s (taken (by_made h s.site) w.moment m s) (reply-site (by_made h s.site) w.moment m s) (taken-fits (by_made h s.site) w.moment m s) p;
+    replies = λ w h s number m sent g p at there out none. on w s (tables_after_reply (by_made h s.site) w.moment m s) (reply-site (by_made h s.site) w.moment m s) (taken-fits (by_made h s.site) w.moment m s) p;
   }
 
   pub outstanding-fits : (tallies : List ℕ) (slips : Slips) (events : List Event) → (resolvers : ℕ) × IsValid resolvers publication → OfSent (model_behind publication says tallies slips events).world (model_behind publication says tallies slips events).history

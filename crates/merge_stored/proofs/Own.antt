@@ -31,12 +31,12 @@ use Rattle.merge_model.specs.History.{History}
 use Rattle.merge_model.specs.Judge.{PublisherJudge}
 use Rattle.merge_model.specs.Tables.Keys.{at_number}
 use Rattle.merge_model.specs.Tables.Publications.{identities, rules_of}
-use Rattle.merge_model.specs.Publisher.{at_moment, closed, counters, site_refusal, unknown_site}
-use Rattle.merge_model.specs.Publisher.PublisherDownload.{asked, download_refusal}
-use Rattle.merge_model.specs.Publisher.PublisherJoin.{join_acts, join_refusal, join_taken, joined}
-use Rattle.merge_model.specs.Publisher.PublisherLocal.{Drawn, after_answer, drawn, drawn_from, local_refusal, made_locally, no_draw, own_ask, taken_from}
+use Rattle.merge_model.specs.Publisher.{at_moment, counters, site_refusal, tables_after_close, unknown_site}
+use Rattle.merge_model.specs.Publisher.PublisherDownload.{download_refusal, tables_after_download}
+use Rattle.merge_model.specs.Publisher.PublisherJoin.{join_acts, join_refusal, join_taken, tables_after_join}
+use Rattle.merge_model.specs.Publisher.PublisherLocal.{Drawn, after_answer, draw_for_change, drawn_from, local_refusal, made_locally, no_draw, own_ask, taken_from}
 use Rattle.merge_model.specs.Publisher.PublisherRanges.{ask_by, plans, ranges_refusal, with_grants}
-use Rattle.merge_model.specs.Publisher.PublisherUpload.{brings_news, taken_in, upload_refusal, uploaded}
+use Rattle.merge_model.specs.Publisher.PublisherUpload.{brings_news, tables_after_upload, taken_in, upload_refusal}
 use Rattle.merge_model.specs.Tables.Refusals.{counter_end, unless}
 use Rattle.merge_model.specs.Tables.{PublisherTables}
 use Rattle.merge_model.specs.World.{World}
@@ -230,7 +230,7 @@ module _ (publication : Publication) where
   found-own p article None at own = own
   found-own p article (Some holder) at own = drawn-own p article holder (answer_to_take holder) refl at own
 
-  draw-own : (p : PublisherTables) (change : Change) → P p → IfOk (drawn publication p change) (λ d. Own d.grants d.held)
+  draw-own : (p : PublisherTables) (change : Change) → P p → IfOk (draw_for_change publication p change) (λ d. Own d.grants d.held)
   draw-own p (Insert article settings) own = found-own p article (at_number p.held article) refl own
   draw-own p (Update article row settings) own = own
   draw-own p (Delete article row) own = own
@@ -245,9 +245,9 @@ module _ (publication : Publication) where
   drawn-on judge now change p (Ok d) own = own
 
   local-on : (judge : PublisherJudge) (now : Moment) (change : Change) (p : PublisherTables) (found : Option Refusal) → P p
-      → (let done : Result (PublisherTables × RowId) Refusal = elim found [ Some refusal ↦ Err refusal | None ↦ elim (drawn publication p change) [ Err refusal ↦ Err refusal | Ok d ↦ Ok (made_locally publication judge change d (at_moment now p)) ] ] in IfOk done (λ x. P x.0))
+      → (let done : Result (PublisherTables × RowId) Refusal = elim found [ Some refusal ↦ Err refusal | None ↦ elim (draw_for_change publication p change) [ Err refusal ↦ Err refusal | Ok d ↦ Ok (made_locally publication judge change d (at_moment now p)) ] ] in IfOk done (λ x. P x.0))
   local-on judge now change p (Some refusal) own = tt
-  local-on judge now change p None own = drawn-on judge now change p (drawn publication p change) (draw-own p change own)
+  local-on judge now change p None own = drawn-on judge now change p (draw_for_change publication p change) (draw-own p change own)
 
   upload-on : (judge : PublisherJudge) (m : Upload) (decisions : List Decision) (p : PublisherTables) (b : Bool) → P p → P (if b then taken_in publication judge m (acts_of judge m decisions p) p else p)
   upload-on judge m decisions p true own = own
@@ -274,11 +274,11 @@ module _ (publication : Publication) where
     pub own-keep : PublisherCallsKeep publication P
     own-keep = record {
       of_local = λ judge now change p own. local-on judge now change p (local_refusal publication change p) own;
-      of_close = λ now p own. unless-p (counter_end (counters p)) (closed (at_moment now p)) _ (λ fine. own);
-      of_join = λ now m p own. unless-p (join_refusal publication m p) (joined m (at_moment now p)) _ (λ fine. join-on m (at_moment now p) (join_acts m (at_moment now p)) own);
-      of_upload = λ judge now m decisions p own. unless-p (upload_refusal publication judge now m p) (uploaded publication judge m decisions (at_moment now p)) _ (λ fine. upload-on judge m decisions (at_moment now p) (brings_news judge m) own);
+      of_close = λ now p own. unless-p (counter_end (counters p)) (tables_after_close (at_moment now p)) _ (λ fine. own);
+      of_join = λ now m p own. unless-p (join_refusal publication m p) (tables_after_join m (at_moment now p)) _ (λ fine. join-on m (at_moment now p) (join_acts m (at_moment now p)) own);
+      of_upload = λ judge now m decisions p own. unless-p (upload_refusal publication judge now m p) (tables_after_upload publication judge m decisions (at_moment now p)) _ (λ fine. upload-on judge m decisions (at_moment now p) (brings_news judge m) own);
       of_ranges = λ judge now m p own. unless-p (ranges_refusal publication judge now m p) (with_grants (plans publication m p) (at_moment now p)) _ (λ fine. ranges-on judge now m p own fine);
-      of_ask = λ judge now m p own. unless-p (download_refusal publication now m p) (asked m (at_moment now p)) _ (λ fine. own);
+      of_ask = λ judge now m p own. unless-p (download_refusal publication now m p) (tables_after_download m (at_moment now p)) _ (λ fine. own);
       of_purge = λ now p own. own;
     }
 

@@ -30,7 +30,7 @@ use Rattle.merge_model.specs.Publisher.PublisherRanges.{ranges}
 use Rattle.merge_model.specs.Publisher.PublisherUpload.{upload}
 use Rattle.merge_model.specs.Subscriber.Reinit.{reinitialise}
 use Rattle.merge_model.specs.Subscriber.Sending.{make_ask, make_join, make_ranges, make_upload}
-use Rattle.merge_model.specs.World.Steps.{Action, CloseAt, Deliver, Forget, Look, Make, MakeAnew, Pass, Send, SendDownload, SendJoin, SendRanges, SendUpload, Sending, after_upload, answered, at_subscriber, close_at, close_publisher, close_subscriber, deliver_letter, deliver_reply, deliver_request, kept_decisions, make_anew, make_at, make_at_publisher, make_at_subscriber, post, posted, send_from, step_by, unless_refused, upload_questions}
+use Rattle.merge_model.specs.World.Steps.{Action, CloseAt, Deliver, Forget, Look, Make, MakeAnew, Pass, Send, SendDownload, SendJoin, SendRanges, SendUpload, Sending, after_upload, at_subscriber, close_at, close_publisher, close_subscriber, deliver_letter, deliver_reply, deliver_request, kept_decisions, make_anew, make_at, make_at_publisher, make_at_subscriber, post, post_if_made, post_reply, send_from, step_by, unless_refused, upload_questions}
 use Rattle.merge_model.specs.Subscriber.{close_subscriber_generation, subscriber_local}
 use Rattle.merge_model.specs.Tables.{PublisherTables, SubscriberTables}
 use Rattle.merge_model.specs.Subscriber.Taking.{take_reply}
@@ -72,7 +72,7 @@ module _ (publication : Publication) (S : PublisherTables → Type 0) where
     there-holds : (site : SiteId) (act : SubscriberTables → World × Outcome) → ((s : SubscriberTables) → Holds (act s).0) → Holds (at_subscriber site w act).0
     there-holds site act each = found-holds site (subscriber_at w site) act each
 
-    sent-holds : {A : Type 0} (site : SiteId) (message : A → Request) (made : Option (SubscriberTables × A)) → Holds (posted site message w made).0
+    sent-holds : {A : Type 0} (site : SiteId) (message : A → Request) (made : Option (SubscriberTables × A)) → Holds (post_if_made site message w made).0
     sent-holds site message None = h
     sent-holds site message (Some made) = h
 
@@ -93,12 +93,12 @@ module _ (publication : Publication) (S : PublisherTables → Type 0) where
           (there-holds site (close_subscriber w) (λ s. left-holds (close_subscriber_generation w.moment s) (λ (done : SubscriberTables × ℕ). (with_subscriber done.0 w, Closes done.1)) (λ a. h)))
 
       send-holds : (sending : Sending) (s : SubscriberTables) → Holds (send_from judges sending w s).0
-      send-holds SendJoin s = left-holds (make_join s) (posted s.site (λ (m : Join). request.Join m) w) (λ made. sent-holds s.site (λ (m : Join). request.Join m) made)
-      send-holds SendUpload s = left-holds (make_upload (judges.subscriber s.site s) w.moment s) (posted s.site (λ (m : Upload). request.Upload m) w) (λ made. sent-holds s.site (λ (m : Upload). request.Upload m) made)
-      send-holds SendRanges s = left-holds (make_ranges s) (posted s.site (λ (m : RangeAsk). request.Ranges m) w) (λ made. sent-holds s.site (λ (m : RangeAsk). request.Ranges m) made)
+      send-holds SendJoin s = left-holds (make_join s) (post_if_made s.site (λ (m : Join). request.Join m) w) (λ made. sent-holds s.site (λ (m : Join). request.Join m) made)
+      send-holds SendUpload s = left-holds (make_upload (judges.subscriber s.site s) w.moment s) (post_if_made s.site (λ (m : Upload). request.Upload m) w) (λ made. sent-holds s.site (λ (m : Upload). request.Upload m) made)
+      send-holds SendRanges s = left-holds (make_ranges s) (post_if_made s.site (λ (m : RangeAsk). request.Ranges m) w) (λ made. sent-holds s.site (λ (m : RangeAsk). request.Ranges m) made)
       send-holds SendDownload s = left-holds (make_ask s) (λ (made : SubscriberTables × Download). post s.site (Asks (request.Download made.1)) (with_subscriber made.0 w)) (λ a. h)
 
-      answered-holds : {A : Type 0} (site : SiteId) (message : A → Reply) (done : Result (PublisherTables × A) Refusal) → IfOk done (λ a. S a.0) → Holds (answered site message w done).0
+      answered-holds : {A : Type 0} (site : SiteId) (message : A → Reply) (done : Result (PublisherTables × A) Refusal) → IfOk done (λ a. S a.0) → Holds (post_reply site message w done).0
       answered-holds {A = A} site message done ok = call-holds done (λ (made : PublisherTables × A). post site (Replies (message made.1)) (with_publisher made.0 w)) ok (λ a is. is)
 
       upload-holds : (judge : PublisherJudge) (site : SiteId) (m : Upload) (done : Result (PublisherTables × Uploaded) Refusal) → IfOk done (λ a. S a.0) → Holds (after_upload publication says judge site m w done).0

@@ -18,13 +18,13 @@ use Rattle.merge_model.specs.Publisher.Entries.{changing_entries, entry_count}
 use Rattle.merge_model.specs.Failing.{Slips}
 use Rattle.merge_model.specs.History.{History}
 use Rattle.merge_model.specs.Judge.{PublisherJudge}
-use Rattle.merge_model.specs.Publisher.{at_moment, closed, counters}
-use Rattle.merge_model.specs.Publisher.PublisherDownload.{asked, download_refusal}
-use Rattle.merge_model.specs.Publisher.PublisherJoin.{join_acts, join_refusal, join_taken, joined}
-use Rattle.merge_model.specs.Publisher.PublisherLocal.{Drawn, changing_locally, drawn, local_refusal, made_locally, with_draw}
+use Rattle.merge_model.specs.Publisher.{at_moment, counters, tables_after_close}
+use Rattle.merge_model.specs.Publisher.PublisherDownload.{download_refusal, tables_after_download}
+use Rattle.merge_model.specs.Publisher.PublisherJoin.{join_acts, join_refusal, join_taken, tables_after_join}
+use Rattle.merge_model.specs.Publisher.PublisherLocal.{Drawn, changing_locally, draw_for_change, local_refusal, made_locally, with_draw}
 use Rattle.merge_model.specs.Publisher.PublisherPurge.{cutoff}
 use Rattle.merge_model.specs.Publisher.PublisherRanges.{plans, ranges_refusal, with_grants}
-use Rattle.merge_model.specs.Publisher.PublisherUpload.{brings_news, changing_by, taken_in, upload_refusal, uploaded, with_acts}
+use Rattle.merge_model.specs.Publisher.PublisherUpload.{brings_news, changing_by, tables_after_upload, taken_in, upload_refusal, with_acts}
 use Rattle.merge_model.specs.Tables.Refusals.{counter_end, unless}
 use Rattle.merge_model.specs.Failing.Runs.{model_behind}
 use Rattle.merge_model.specs.Tables.{PublisherTables}
@@ -52,9 +52,9 @@ module _ (publication : Publication) where
       moved-from p.gens.filling.last_closed (fill.filled_by p.gens.filling count).last_closed q.latest p.gens.closings b
 
   local-on : (judge : PublisherJudge) (now : Moment) (change : Change) (p : PublisherTables) (found : Option Refusal) → ClosingsFrom p
-      → (let done : Result (PublisherTables × RowId) Refusal = elim found [ Some refusal ↦ Err refusal | None ↦ elim (drawn publication p change) [ Err refusal ↦ Err refusal | Ok d ↦ Ok (made_locally publication judge change d (at_moment now p)) ] ] in IfOk done (λ x. ClosingsFrom x.0))
+      → (let done : Result (PublisherTables × RowId) Refusal = elim found [ Some refusal ↦ Err refusal | None ↦ elim (draw_for_change publication p change) [ Err refusal ↦ Err refusal | Ok d ↦ Ok (made_locally publication judge change d (at_moment now p)) ] ] in IfOk done (λ x. ClosingsFrom x.0))
   local-on judge now change p (Some refusal) b = tt
-  local-on judge now change p None b = drawn-on judge now change p (drawn publication p change) b
+  local-on judge now change p None b = drawn-on judge now change p (draw_for_change publication p change) b
 
   upload-on : (judge : PublisherJudge) (m : Upload) (decisions : List Decision) (p : PublisherTables) (b : Bool) → ClosingsFrom p → ClosingsFrom (if b then taken_in publication judge m (acts_of judge m decisions p) p else p)
   upload-on judge m decisions p true b =
@@ -63,8 +63,8 @@ module _ (publication : Publication) where
       moved-from p.gens.filling.last_closed (fill.filled_by p.gens.filling count).last_closed p.latest p.gens.closings b
   upload-on judge m decisions p false b = b
 
-  closed-on : (p : PublisherTables) → ClosingsFrom p → ClosingsFrom (closed p)
-  closed-on p b = moved-from p.gens.filling.last_closed (fill.closed p.gens.filling).last_closed p.latest p.gens.closings b
+  closed-on : (p : PublisherTables) → ClosingsFrom p → ClosingsFrom (tables_after_close p)
+  closed-on p b = moved-from p.gens.filling.last_closed (fill.filling_after_close p.gens.filling).last_closed p.latest p.gens.closings b
 
   join-on : (m : Join) (p : PublisherTables) (b : Bool) → ClosingsFrom p → ClosingsFrom (if b then join_taken m p else p)
   join-on m p true b = b
@@ -73,11 +73,11 @@ module _ (publication : Publication) where
   pub closings-keep : PublisherCallsKeep publication ClosingsFrom
   closings-keep = record {
     of_local = λ judge now change p b. local-on judge now change p (local_refusal publication change p) b;
-    of_close = λ now p b. unless-on (counter_end (counters p)) (closed (at_moment now p)) _ (closed-on (at_moment now p) b);
-    of_join = λ now m p b. unless-on (join_refusal publication m p) (joined m (at_moment now p)) _ (join-on m (at_moment now p) (join_acts m (at_moment now p)) b);
-    of_upload = λ judge now m decisions p b. unless-on (upload_refusal publication judge now m p) (uploaded publication judge m decisions (at_moment now p)) _ (upload-on judge m decisions (at_moment now p) (brings_news judge m) b);
+    of_close = λ now p b. unless-on (counter_end (counters p)) (tables_after_close (at_moment now p)) _ (closed-on (at_moment now p) b);
+    of_join = λ now m p b. unless-on (join_refusal publication m p) (tables_after_join m (at_moment now p)) _ (join-on m (at_moment now p) (join_acts m (at_moment now p)) b);
+    of_upload = λ judge now m decisions p b. unless-on (upload_refusal publication judge now m p) (tables_after_upload publication judge m decisions (at_moment now p)) _ (upload-on judge m decisions (at_moment now p) (brings_news judge m) b);
     of_ranges = λ judge now m p b. unless-on (ranges_refusal publication judge now m p) (with_grants (plans publication m p) (at_moment now p)) _ b;
-    of_ask = λ judge now m p b. unless-on (download_refusal publication now m p) (asked m (at_moment now p)) _ (moved-from p.gens.filling.last_closed (fill.closed p.gens.filling).last_closed (at_moment now p).latest p.gens.closings b);
+    of_ask = λ judge now m p b. unless-on (download_refusal publication now m p) (tables_after_download m (at_moment now p)) _ (moved-from p.gens.filling.last_closed (fill.filling_after_close p.gens.filling).last_closed (at_moment now p).latest p.gens.closings b);
     of_purge = λ now p b. all-filter IsFromOne (λ (c : Closing). nat_le (cutoff publication (at_moment now p)).0 c.moment.0) p.gens.closings b;
   }
 

@@ -28,9 +28,9 @@ use Rattle.merge_model.specs.Publisher.Acts.{Act, acts_of, lost_from}
 use Rattle.merge_model.specs.World.Faults.{known_by, upload_fault}
 use Rattle.merge_model.specs.Judge.{PublisherJudge}
 use Rattle.merge_model.specs.Publisher.{at_moment, counters, empty_publisher, site_refusal, unknown_site}
-use Rattle.merge_model.specs.Publisher.PublisherJoin.{join_acts, join_taken, joined}
-use Rattle.merge_model.specs.Publisher.PublisherLocal.{Drawn, drawn, local_refusal, made_locally}
-use Rattle.merge_model.specs.Publisher.PublisherUpload.{brings_news, taken_in, too_many_new, upload_refusal, uploaded}
+use Rattle.merge_model.specs.Publisher.PublisherJoin.{join_acts, join_taken, tables_after_join}
+use Rattle.merge_model.specs.Publisher.PublisherLocal.{Drawn, draw_for_change, local_refusal, made_locally}
+use Rattle.merge_model.specs.Publisher.PublisherUpload.{brings_news, tables_after_upload, taken_in, too_many_new, upload_refusal}
 use Rattle.merge_model.specs.Tables.Refusals.{counter_end, refused_if, unless}
 use Rattle.merge_model.specs.Tables.{PublisherTables}
 use Rattle.merge_model.specs.Judge.ByHistory.{by_history}
@@ -129,9 +129,9 @@ module _ (publication : Publication) where
   drawn-on judge now change p (Ok d) b = same-on p (made_locally publication judge change d (at_moment now p)).0 refl refl (at-later now p) b
 
   local-on : (judge : PublisherJudge) (now : Moment) (change : Change) (p : PublisherTables) (found : Option Refusal) → S p
-      → (let done : Result (PublisherTables × RowId) Refusal = elim found [ Some refusal ↦ Err refusal | None ↦ elim (drawn publication p change) [ Err refusal ↦ Err refusal | Ok d ↦ Ok (made_locally publication judge change d (at_moment now p)) ] ] in IfOk done (λ x. S x.0))
+      → (let done : Result (PublisherTables × RowId) Refusal = elim found [ Some refusal ↦ Err refusal | None ↦ elim (draw_for_change publication p change) [ Err refusal ↦ Err refusal | Ok d ↦ Ok (made_locally publication judge change d (at_moment now p)) ] ] in IfOk done (λ x. S x.0))
   local-on judge now change p (Some refusal) b = tt
-  local-on judge now change p None b = drawn-on judge now change p (drawn publication p change) b
+  local-on judge now change p None b = drawn-on judge now change p (draw_for_change publication p change) b
 
   taken-on : (judge : PublisherJudge) (m : Upload) (decisions : List Decision) (p : PublisherTables) → is_site publication m.site.0 ≡ true → length (acts_of judge m decisions p) ≤ item_limit → p.conflict_count < counter_limit → S p → S (taken_in publication judge m (acts_of judge m decisions p) p)
   taken-on judge m decisions p subscribes few low b =
@@ -148,7 +148,7 @@ module _ (publication : Publication) where
   news-on judge m decisions p true subscribes few low s = taken-on judge m decisions p subscribes few low s
   news-on judge m decisions p false subscribes few low s = s
 
-  upload-on : (judge : PublisherJudge) (now : Moment) (m : Upload) (decisions : List Decision) (p : PublisherTables) → upload_refusal publication judge now m p ≡ None → S p → S (uploaded publication judge m decisions (at_moment now p))
+  upload-on : (judge : PublisherJudge) (now : Moment) (m : Upload) (decisions : List Decision) (p : PublisherTables) → upload_refusal publication judge now m p ≡ None → S p → S (tables_after_upload publication judge m decisions (at_moment now p))
   upload-on judge now m decisions p fine s =
       let passed = upload-passed publication judge now m p fine in
       let counts = upload-items publication judge m decisions p (at_moment now p).latest passed.sound in
@@ -161,8 +161,8 @@ module _ (publication : Publication) where
   conflicts-keep = record {
     of_local = λ judge now change p s. local-on judge now change p (local_refusal publication change p) s;
     of_close = λ now p s. unless-on _ _ _ (λ fine. same-on p _ refl refl (at-later now p) s);
-    of_join = λ now m p s. unless-on _ (joined m (at_moment now p)) _ (λ fine. join-on now m p (join_acts m (at_moment now p)) s);
-    of_upload = λ judge now m decisions p s. unless-on (upload_refusal publication judge now m p) (uploaded publication judge m decisions (at_moment now p)) _ (λ fine. upload-on judge now m decisions p fine s);
+    of_join = λ now m p s. unless-on _ (tables_after_join m (at_moment now p)) _ (λ fine. join-on now m p (join_acts m (at_moment now p)) s);
+    of_upload = λ judge now m decisions p s. unless-on (upload_refusal publication judge now m p) (tables_after_upload publication judge m decisions (at_moment now p)) _ (λ fine. upload-on judge now m decisions p fine s);
     of_ranges = λ judge now m p s. unless-on _ _ _ (λ fine. same-on p _ refl refl (at-later now p) s);
     of_ask = λ judge now m p s. unless-on _ _ _ (λ fine. same-on p _ refl refl (at-later now p) s);
     of_purge = λ now p s. same-on p _ refl refl (at-later now p) s;

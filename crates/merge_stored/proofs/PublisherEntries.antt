@@ -38,20 +38,20 @@ use Rattle.merge_model.specs.Failing.{Slips}
 use Rattle.merge_model.specs.History.{History}
 use Rattle.merge_model.specs.Judge.{PublisherJudge}
 use Rattle.merge_model.specs.Tables.Keys.{drop_row_site, put_row}
-use Rattle.merge_model.specs.Publisher.{at_moment, closed, counters}
-use Rattle.merge_model.specs.Publisher.PublisherDownload.{asked, download_refusal}
-use Rattle.merge_model.specs.Publisher.PublisherJoin.{is_left_of, join_acts, join_refusal, join_taken, joined}
-use Rattle.merge_model.specs.Publisher.PublisherLocal.{Drawn, changing_locally, drawn, local_refusal, made_locally, with_draw}
+use Rattle.merge_model.specs.Publisher.{at_moment, counters, tables_after_close}
+use Rattle.merge_model.specs.Publisher.PublisherDownload.{download_refusal, tables_after_download}
+use Rattle.merge_model.specs.Publisher.PublisherJoin.{is_left_of, join_acts, join_refusal, join_taken, tables_after_join}
+use Rattle.merge_model.specs.Publisher.PublisherLocal.{Drawn, changing_locally, draw_for_change, local_refusal, made_locally, with_draw}
 use Rattle.merge_model.specs.Publisher.PublisherPurge.{is_old_left, is_old_tombstone, purge}
 use Rattle.merge_model.specs.Publisher.PublisherRanges.{plans, ranges_refusal, with_grants}
-use Rattle.merge_model.specs.Publisher.PublisherUpload.{brings_news, changing_by, taken_in, upload_refusal, uploaded, with_acts}
+use Rattle.merge_model.specs.Publisher.PublisherUpload.{brings_news, changing_by, tables_after_upload, taken_in, upload_refusal, with_acts}
 use Rattle.merge_model.specs.Tables.Refusals.{counter_end, unless}
 use Rattle.merge_model.specs.Failing.Runs.{model_behind}
 use Rattle.merge_model.specs.Tables.{PublisherTables}
 use Rattle.merge_model.specs.World.{Saying, World}
 use Rattle.merge_model.specs.declared.event.Event.{Event}
 use Rattle.merge_laws.proofs.Runs.Ground.{grounded-always}
-use Rattle.merge_stored.specs.Entries.{room_of, times}
+use Rattle.merge_stored.specs.Entries.{room_of, times_kept}
 use Rattle.merge_stored.proofs.Generations.{times-append, times-cons}
 use Rattle.merge_stored.proofs.PublisherCalls.{PublisherCallsKeep, publisher-step}
 use Rattle.merge_stored.proofs.SubscriberRows.{closed-room, entered-room}
@@ -116,31 +116,31 @@ unfilled-by f n = omega arith
 generations-more : (f : Filling) (from n : ℕ) → map (generation_of f) (range_with_len from (n + 1)) ≡ map (generation_of f) (range_with_len from n) ++ generation_of f (from + n) ∷ []
 generations-more f from n = map-range_with_len_more (generation_of f) from n (from + n) refl
 
-one-time : (g x : ℕ) → times g (x ∷ []) ≡ cond (g == x) 1 0
+one-time : (g x : ℕ) → times_kept g (x ∷ []) ≡ cond (g == x) 1 0
 one-time g x = (let nothing : List ℕ = [] in let one = times-cons g x nothing in omega (arith, one))
 
-pub rooms-enough : (f : Filling) (g : ℕ) (n : ℕ) → f.filled < entry_limit → room_of f g + times g (generations_of f n) ≤ room_of (fill.filled_by f n) g
+pub rooms-enough : (f : Filling) (g : ℕ) (n : ℕ) → f.filled < entry_limit → room_of f g + times_kept g (generations_of f n) ≤ room_of (fill.filled_by f n) g
 rooms-enough f g zero low = (let same : room_of (fill.filled_by f 0) g ≡ room_of f g = ap (λ (x : Filling). room_of x g) (after-none f low) in omega (arith, same))
 rooms-enough f g (suc n) low =
     let before : Filling = fill.filled_by f n in
     let rest = rooms-enough f g n low in
     let step = entered-room before g (unfilled-by f n) in
     let after : room_of (fill.filled_by f (n + 1)) g ≡ room_of (fill.filled_by before 1) g = ap (λ (x : Filling). room_of x g) (after-more f n low) in
-    let more : times g (generations_of f (n + 1)) ≡ times g (generations_of f n) + cond (g == generation_of f (0 + n)) 1 0 =
-    ap (times g) (generations-more f 0 n) ∙ (times-append g (generations_of f n) (generation_of f (0 + n) ∷ []) ∙ ap (λ (k : ℕ). times g (generations_of f n) + k) (one-time g (generation_of f (0 + n)))) in
+    let more : times_kept g (generations_of f (n + 1)) ≡ times_kept g (generations_of f n) + cond (g == generation_of f (0 + n)) 1 0 =
+    ap (times_kept g) (generations-more f 0 n) ∙ (times-append g (generations_of f n) (generation_of f (0 + n) ∷ []) ∙ ap (λ (k : ℕ). times_kept g (generations_of f n) + k) (one-time g (generation_of f (0 + n)))) in
     let same : generation_of f (0 + n) ≡ before.last_closed + 1 = omega arith in
     let here : cond (g == generation_of f (0 + n)) 1 0 ≡ cond (g == before.last_closed + 1) 1 0 = ap (λ (k : ℕ). (let c : ℕ = cond (g == k) 1 0 in c)) same in
     let last : suc n ≡ n + 1 = omega arith in
-    subst (λ (k : ℕ). room_of f g + times g (generations_of f k) ≤ room_of (fill.filled_by f k) g) (sym last) (omega (arith, rest, step, after, more, here))
+    subst (λ (k : ℕ). room_of f g + times_kept g (generations_of f k) ≤ room_of (fill.filled_by f k) g) (sym last) (omega (arith, rest, step, after, more, here))
 
 -- What a step gives its generations.
 
-zip-times : {X : Type 0} (g : ℕ) (xs : List X) (ys : List ℕ) → times g (map (λ (e : X × ℕ). e.1) (zip xs ys)) ≤ times g ys
+zip-times : {X : Type 0} (g : ℕ) (xs : List X) (ys : List ℕ) → times_kept g (map (λ (e : X × ℕ). e.1) (zip xs ys)) ≤ times_kept g ys
 zip-times g [] ys = omega arith
 zip-times g (x ∷ xs) [] = omega arith
 zip-times {X} g (x ∷ xs) (y ∷ ys) = (let rest = zip-times g xs ys in let one = times-cons g y (map (λ (e : X × ℕ). e.1) (zip xs ys)) in let other = times-cons g y ys in omega (arith, rest, one, other))
 
-take-drop-times : (g n : ℕ) (xs : List ℕ) → times g (take n xs) + times g (drop n xs) ≤ times g xs
+take-drop-times : (g n : ℕ) (xs : List ℕ) → times_kept g (take n xs) + times_kept g (drop n xs) ≤ times_kept g xs
 take-drop-times g zero xs = omega arith
 take-drop-times g (suc n) [] = omega arith
 take-drop-times g (suc n) (x ∷ xs) = (let rest = take-drop-times g n xs in let one = times-cons g x (take n xs) in let other = times-cons g x xs in omega (arith, rest, one, other))
@@ -151,7 +151,7 @@ changed_in row = row.changed
 abbrev pub moved_in : Mapping → ℕ
 moved_in mapping = mapping.generation
 
-rows-counted : (g : ℕ) (rows : List (Key × PublisherRow)) (changed : List ((Key × Version) × ℕ)) → counted changed_in g (with_rows rows changed) ≤ counted changed_in g rows + times g (map (λ (row : (Key × Version) × ℕ). row.1) changed)
+rows-counted : (g : ℕ) (rows : List (Key × PublisherRow)) (changed : List ((Key × Version) × ℕ)) → counted changed_in g (with_rows rows changed) ≤ counted changed_in g rows + times_kept g (map (λ (row : (Key × Version) × ℕ). row.1) changed)
 rows-counted g rows [] = omega arith
 rows-counted g rows (row ∷ changed) =
     let new : PublisherRow = record { version = row.0.1; changed = row.1 } in
@@ -160,7 +160,7 @@ rows-counted g rows (row ∷ changed) =
     let one = times-cons g row.1 (map (λ (r : (Key × Version) × ℕ). r.1) changed) in
     omega (arith, first, rest, one)
 
-moves-counted : (g : ℕ) (mappings : List (RowSite × Mapping)) (moved : List ((RowSite × MoveKind) × ℕ)) → counted moved_in g (fold with_move mappings moved) ≤ counted moved_in g mappings + times g (map (λ (e : (RowSite × MoveKind) × ℕ). e.1) moved)
+moves-counted : (g : ℕ) (mappings : List (RowSite × Mapping)) (moved : List ((RowSite × MoveKind) × ℕ)) → counted moved_in g (fold with_move mappings moved) ≤ counted moved_in g mappings + times_kept g (map (λ (e : (RowSite × MoveKind) × ℕ). e.1) moved)
 moves-counted g mappings [] = omega arith
 moves-counted g mappings (e ∷ moved) =
     let new : Mapping = record { kind = e.0.1; generation = e.1 } in
@@ -212,10 +212,10 @@ less-on p q filling less b = record {
   room = λ g. (let up = less g in let low = b.room g in let same : room_of q.gens.filling g ≡ room_of p.gens.filling g = ap (λ (f : Filling). room_of f g) filling in omega (arith, up, low, same));
 }
 
-closed-unfilled : (filling : Filling) → filling.filled < entry_limit → (fill.closed filling).filled < entry_limit
+closed-unfilled : (filling : Filling) → filling.filled < entry_limit → (fill.filling_after_close filling).filled < entry_limit
 closed-unfilled filling low = grind (arith, nat_tests, low)
 
-close-on : (p q : PublisherTables) → q.rows ≡ p.rows → q.mappings ≡ p.mappings → q.gens.filling ≡ fill.closed p.gens.filling → S p → S q
+close-on : (p q : PublisherTables) → q.rows ≡ p.rows → q.mappings ≡ p.mappings → q.gens.filling ≡ fill.filling_after_close p.gens.filling → S p → S q
 close-on p q rows mappings filling b = record {
   unfilled = subst (λ (f : Filling). f.filled < entry_limit) (sym filling) (closed-unfilled p.gens.filling b.unfilled);
   room = λ g. (
@@ -223,7 +223,7 @@ close-on p q rows mappings filling b = record {
       let up = closed-room p.gens.filling g b.unfilled in
       let one : counted changed_in g q.rows ≡ counted changed_in g p.rows = ap (λ (r : List (Key × PublisherRow)). counted changed_in g r) rows in
       let two : counted moved_in g q.mappings ≡ counted moved_in g p.mappings = ap (λ (r : List (RowSite × Mapping)). counted moved_in g r) mappings in
-      let same : room_of q.gens.filling g ≡ room_of (fill.closed p.gens.filling) g = ap (λ (f : Filling). room_of f g) filling in omega (arith, low, up, one, two, same));
+      let same : room_of q.gens.filling g ≡ room_of (fill.filling_after_close p.gens.filling) g = ap (λ (f : Filling). room_of f g) filling in omega (arith, low, up, one, two, same));
 }
 
 module _ (publication : Publication) where
@@ -263,9 +263,9 @@ module _ (publication : Publication) where
   drawn-on judge now change p (Ok d) b = changed-on judge (changing_locally publication change d.value (at_moment now p)) (with_draw d (at_moment now p)) (record { unfilled = b.unfilled; room = b.room })
 
   local-on : (judge : PublisherJudge) (now : Moment) (change : Change) (p : PublisherTables) (found : Option Refusal) → S p
-      → (let done : Result (PublisherTables × RowId) Refusal = elim found [ Some refusal ↦ Err refusal | None ↦ elim (drawn publication p change) [ Err refusal ↦ Err refusal | Ok d ↦ Ok (made_locally publication judge change d (at_moment now p)) ] ] in IfOk done (λ x. S x.0))
+      → (let done : Result (PublisherTables × RowId) Refusal = elim found [ Some refusal ↦ Err refusal | None ↦ elim (draw_for_change publication p change) [ Err refusal ↦ Err refusal | Ok d ↦ Ok (made_locally publication judge change d (at_moment now p)) ] ] in IfOk done (λ x. S x.0))
   local-on judge now change p (Some refusal) b = tt
-  local-on judge now change p None b = drawn-on judge now change p (drawn publication p change) b
+  local-on judge now change p None b = drawn-on judge now change p (draw_for_change publication p change) b
 
   upload-on : (judge : PublisherJudge) (m : Upload) (decisions : List Decision) (p : PublisherTables) (b : Bool) → S p → S (if b then taken_in publication judge m (acts_of judge m decisions p) p else p)
   upload-on judge m decisions p true b = (let acts : List Act = acts_of judge m decisions p in changed-on judge (changing_by m acts) (with_acts publication m acts p) (record { unfilled = b.unfilled; room = b.room }))
@@ -284,11 +284,11 @@ module _ (publication : Publication) where
   pub rooms-keep : PublisherCallsKeep publication S
   rooms-keep = record {
     of_local = λ judge now change p b. local-on judge now change p (local_refusal publication change p) b;
-    of_close = λ now p b. unless-on (counter_end (counters p)) (closed (at_moment now p)) _ (close-on p (closed (at_moment now p)) refl refl refl b);
-    of_join = λ now m p b. unless-on (join_refusal publication m p) (joined m (at_moment now p)) _ (join-on m (at_moment now p) (join_acts m (at_moment now p)) (at-on now p b));
-    of_upload = λ judge now m decisions p b. unless-on (upload_refusal publication judge now m p) (uploaded publication judge m decisions (at_moment now p)) _ (upload-on judge m decisions (at_moment now p) (brings_news judge m) (at-on now p b));
+    of_close = λ now p b. unless-on (counter_end (counters p)) (tables_after_close (at_moment now p)) _ (close-on p (tables_after_close (at_moment now p)) refl refl refl b);
+    of_join = λ now m p b. unless-on (join_refusal publication m p) (tables_after_join m (at_moment now p)) _ (join-on m (at_moment now p) (join_acts m (at_moment now p)) (at-on now p b));
+    of_upload = λ judge now m decisions p b. unless-on (upload_refusal publication judge now m p) (tables_after_upload publication judge m decisions (at_moment now p)) _ (upload-on judge m decisions (at_moment now p) (brings_news judge m) (at-on now p b));
     of_ranges = λ judge now m p b. unless-on (ranges_refusal publication judge now m p) (with_grants (plans publication m p) (at_moment now p)) _ (record { unfilled = b.unfilled; room = b.room });
-    of_ask = λ judge now m p b. unless-on (download_refusal publication now m p) (asked m (at_moment now p)) _ (close-on p (asked m (at_moment now p)) refl refl refl b);
+    of_ask = λ judge now m p b. unless-on (download_refusal publication now m p) (tables_after_download m (at_moment now p)) _ (close-on p (tables_after_download m (at_moment now p)) refl refl refl b);
     of_purge = λ now p b. purge-on now p b;
   }
 

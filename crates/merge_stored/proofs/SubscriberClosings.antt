@@ -21,12 +21,12 @@ use Rattle.merge_model.specs.World.Faults.{reply_fault}
 use Rattle.merge_model.specs.History.{History}
 use Rattle.merge_model.specs.Judge.{SubscriberJudge}
 use Rattle.merge_model.specs.Tables.Keys.{at_number, put_number}
-use Rattle.merge_model.specs.Subscriber.Reinit.{reinitialised}
+use Rattle.merge_model.specs.Subscriber.Reinit.{result_of_reinit}
 use Rattle.merge_model.specs.Failing.Runs.{model_behind}
 use Rattle.merge_model.specs.Subscriber.Sending.{upload_sent, with_message}
 use Rattle.merge_model.specs.Subscriber.{subscriber_at_moment, subscriber_closed, subscriber_last_closed, subscriber_next_dot, subscriber_version_at, with_version_if}
 use Rattle.merge_model.specs.Tables.{SubscriberTables}
-use Rattle.merge_model.specs.Subscriber.Taking.{seq_of, taken}
+use Rattle.merge_model.specs.Subscriber.Taking.{seq_of, tables_after_reply}
 use Rattle.merge_model.specs.World.{Saying, World}
 use Rattle.merge_model.specs.declared.event.Event.{Event}
 use Rattle.merge_laws.proofs.Runs.Ground.{Ground, grounded-always}
@@ -42,7 +42,7 @@ abbrev pub ClosingsRun : SubscriberTables → Type 0
 ClosingsRun s = Run (subscriber_last_closed s) (s.received + 1) s.gens.closings
 
 closed-run : (now : Moment) (s : SubscriberTables) → ClosingsRun s → ClosingsRun (subscriber_closed (subscriber_at_moment now s))
-closed-run now s run = run-moved (subscriber_last_closed s) (fill.closed s.gens.filling).last_closed (s.received + 1) (record { 0 = s.changes }) s.gens.closings (closed-up s.gens.filling) run
+closed-run now s run = run-moved (subscriber_last_closed s) (fill.filling_after_close s.gens.filling).last_closed (s.received + 1) (record { 0 = s.changes }) s.gens.closings (closed-up s.gens.filling) run
 
 change-run : (key : Key) (found : Option Version) (now : Moment) (held : List (ℕ × Holder)) (s : SubscriberTables) → ClosingsRun s → (let u : SubscriberTables = record (subscriber_at_moment now s) { changes = s.changes + 1; held = held } in ClosingsRun (with_version_if key found u))
 change-run key None now held s run = run
@@ -52,7 +52,7 @@ received-run : (s : SubscriberTables) (received : ℕ) → s.received ≤ receiv
 received-run s received low up run = run-forgotten (subscriber_last_closed s) (s.received + 1) received s.gens.closings (omega (arith, low)) up run
 
 reply-run : (publication : Publication) (judge : SubscriberJudge) (now : Moment) (sent : Outstanding) (m : Reply) (s : SubscriberTables) → reply_fault publication sent m s ≡ None → s.outstanding ≡ Some (seq_of m, sent)
-    → ((seq from to : ℕ) → s.outstanding ≡ Some (seq, ask.Upload from to) → s.received ≤ to) → ClosingsRun s → ClosingsRun (taken judge now m s)
+    → ((seq from to : ℕ) → s.outstanding ≡ Some (seq, ask.Upload from to) → s.received ≤ to) → ClosingsRun s → ClosingsRun (tables_after_reply judge now m s)
 reply-run publication judge now sent (reply.Joined m) s none out knows run = run
 reply-run publication judge now sent (reply.Uploaded m) s none out knows run = received-run s m.received (uploaded-least publication sent m s m.seq none out knows) (uploaded-bound publication sent m s none) run
 reply-run publication judge now sent (reply.Ranged m) s none out knows run = run
@@ -79,7 +79,7 @@ module _ (publication : Publication) (says : Saying) where
         let u : SubscriberTables = record (subscriber_at_moment w.moment s) { changes = s.changes + 1; held = d.1 } in
         on w s (with_version_if key found u) (version-site key found u) (change-run key found w.moment d.1 s (p s.site.0 s at)) p);
     subscriber_closing = λ w h s g p at. on w s (subscriber_closed (subscriber_at_moment w.moment s)) refl (closed-run w.moment s (p s.site.0 s at)) p;
-    anew = λ w h s g p at. on w s (reinitialised (by_made h s.site) (subscriber_at_moment w.moment s)).0 refl refl p;
+    anew = λ w h s g p at. on w s (result_of_reinit (by_made h s.site) (subscriber_at_moment w.moment s)).0 refl refl p;
     sends_join = λ w h s g p at joining. on w s (with_message ask.Join s) refl (p s.site.0 s at) p;
     sends_upload = λ w h s g p at fine. on w s (upload_sent (by_made h s.site) (subscriber_closed (subscriber_at_moment w.moment s))).0 refl (closed-run w.moment s (p s.site.0 s at)) p;
     sends_ranges = λ w h s g p at fine. on w s (with_message ask.Ranges s) refl (p s.site.0 s at) p;
@@ -90,7 +90,7 @@ module _ (publication : Publication) (says : Saying) where
     uploads_again = λ w h number m g p at none. p;
     answers_ranges = λ w h site m g p. p;
     answers_ask = λ w h number site m g p at fine. p;
-    replies = λ w h s number m sent g p at there out none. on w s (taken (by_made h s.site) w.moment m s) (reply-site (by_made h s.site) w.moment m s)
+    replies = λ w h s number m sent g p at there out none. on w s (tables_after_reply (by_made h s.site) w.moment m s) (reply-site (by_made h s.site) w.moment m s)
         (reply-run publication (by_made h s.site) w.moment sent m s none out (g.numbered.subscribers s.site.0 s at).sent (p s.site.0 s at)) p;
   }
 

@@ -27,11 +27,11 @@ use Rattle.merge_model.specs.World.Faults.{reply_fault}
 use Rattle.merge_model.specs.Judge.{SubscriberJudge}
 use Rattle.merge_model.specs.Publisher.{later}
 use Rattle.merge_model.specs.Tables.Refusals.{counter_end, unless}
-use Rattle.merge_model.specs.Subscriber.Reinit.{discarded, numbered_from, reinitialised}
+use Rattle.merge_model.specs.Subscriber.Reinit.{discarded_rows_from, discarded_versions, result_of_reinit}
 use Rattle.merge_model.specs.Subscriber.Sending.{join_made, join_of, ranges_made, sending_refusal, unsent_rows, upload_made, upload_sent, want_of, with_message}
 use Rattle.merge_model.specs.Subscriber.{subscriber_at_moment, subscriber_closed, subscriber_counters, subscriber_drawn, subscriber_local_refusal, subscriber_made_locally, subscriber_next_dot, subscriber_version_at, with_version_if}
 use Rattle.merge_model.specs.Tables.{SubscriberTables}
-use Rattle.merge_model.specs.Subscriber.Taking.{met_by, seq_of, take_reply, taken}
+use Rattle.merge_model.specs.Subscriber.Taking.{met_by, seq_of, tables_after_reply, take_reply}
 use Rattle.merge_model.specs.declared.outcome.Taken.{Taken}
 use Rattle.merge_model.specs.declared.outcome.Taken.TheVariants.{Acted, Missed}
 use Rattle.merge_model.proofs.Lists.Finding.{all-weaker}
@@ -102,11 +102,11 @@ ranges-on : (s : SubscriberTables) (held : List (ℕ × Holder)) → S s
 ranges-on s [] b = tt
 ranges-on s (entry ∷ entries) b = same-on s (with_message ask.Ranges s) refl refl refl (stays s) b
 
-anew-on : (judge : SubscriberJudge) (now : Moment) (s : SubscriberTables) → S s → S (reinitialised judge (subscriber_at_moment now s)).0
+anew-on : (judge : SubscriberJudge) (now : Moment) (s : SubscriberTables) → S s → S (result_of_reinit judge (subscriber_at_moment now s)).0
 anew-on judge now s b =
     let u : SubscriberTables = subscriber_at_moment now s in
-    let rows : List (Key × Version) = discarded judge u in
-    let lost : List ConflictRow = numbered_from u (u.conflict_count + 1) rows in
+    let rows : List (Key × Version) = discarded_versions judge u in
+    let lost : List ConflictRow = discarded_rows_from u (u.conflict_count + 1) rows in
     let before : S u = same-on s u refl refl refl (at-later now s) b in
     let long : length lost ≡ length rows = anew-long u (u.conflict_count + 1) rows in
     record {
@@ -115,21 +115,21 @@ anew-on judge now s b =
       each = all-append (OwnLost u.site.0 u.latest.0) u.conflicts lost before.each (anew-own u (u.conflict_count + 1) rows);
     }
   where
-    anew-own : (u : SubscriberTables) (number : ℕ) (rows : List (Key × Version)) → AllByRecursion (OwnLost u.site.0 u.latest.0) (numbered_from u number rows)
+    anew-own : (u : SubscriberTables) (number : ℕ) (rows : List (Key × Version)) → AllByRecursion (OwnLost u.site.0 u.latest.0) (discarded_rows_from u number rows)
     anew-own u number [] = tt
     anew-own u number (row ∷ rows) = ((refl, stays u), anew-own u (number + 1) rows)
 
-taken-on : (judge : SubscriberJudge) (now : Moment) (m : Reply) (s : SubscriberTables) → S s → S (taken judge now m s)
-taken-on judge now (reply.Joined m) s b = same-on s (taken judge now (reply.Joined m) s) refl refl refl (at-later now s) b
-taken-on judge now (reply.Uploaded m) s b = same-on s (taken judge now (reply.Uploaded m) s) refl refl refl (at-later now s) b
-taken-on judge now (reply.Ranged m) s b = same-on s (taken judge now (reply.Ranged m) s) refl refl refl (at-later now s) b
-taken-on judge now (reply.Downloaded m) s b = same-on s (taken judge now (reply.Downloaded m) s) refl refl refl (at-later now s) b
-taken-on judge now (reply.Refused number values) s b = same-on s (taken judge now (reply.Refused number values) s) refl refl refl (at-later now s) b
+taken-on : (judge : SubscriberJudge) (now : Moment) (m : Reply) (s : SubscriberTables) → S s → S (tables_after_reply judge now m s)
+taken-on judge now (reply.Joined m) s b = same-on s (tables_after_reply judge now (reply.Joined m) s) refl refl refl (at-later now s) b
+taken-on judge now (reply.Uploaded m) s b = same-on s (tables_after_reply judge now (reply.Uploaded m) s) refl refl refl (at-later now s) b
+taken-on judge now (reply.Ranged m) s b = same-on s (tables_after_reply judge now (reply.Ranged m) s) refl refl refl (at-later now s) b
+taken-on judge now (reply.Downloaded m) s b = same-on s (tables_after_reply judge now (reply.Downloaded m) s) refl refl refl (at-later now s) b
+taken-on judge now (reply.Refused number values) s b = same-on s (tables_after_reply judge now (reply.Refused number values) s) refl refl refl (at-later now s) b
 
 met-on : (publication : Publication) (judge : SubscriberJudge) (now : Moment) (m : Reply) (s : SubscriberTables) (found : Option (ℕ × Outstanding)) → S s → IfOk (met_by publication judge now m s found) (λ a. S a.0)
 met-on publication judge now m s None b = b
-met-on publication judge now m s (Some sent) b = elim (sent.0 == seq_of m) as (λ (same : Bool). (let done : Result (SubscriberTables × Taken) Refusal = if same then unless (reply_fault publication sent.1 m s) (taken judge now m s, Acted) else Ok (s, Missed (seq_of m) sent.0) in IfOk done (λ a. S a.0))) [
-  | true ↦ unless-on (reply_fault publication sent.1 m s) (taken judge now m s) Acted (taken-on judge now m s b)
+met-on publication judge now m s (Some sent) b = elim (sent.0 == seq_of m) as (λ (same : Bool). (let done : Result (SubscriberTables × Taken) Refusal = if same then unless (reply_fault publication sent.1 m s) (tables_after_reply judge now m s, Acted) else Ok (s, Missed (seq_of m) sent.0) in IfOk done (λ a. S a.0))) [
+  | true ↦ unless-on (reply_fault publication sent.1 m s) (tables_after_reply judge now m s) Acted (taken-on judge now m s b)
   | false ↦ b
 ]
 
@@ -149,5 +149,5 @@ conflicts-keep publication = record {
   of_ranges = λ s b. unless-made (sending_refusal s) (ranges_made s) (ranges-on s s.held b);
   of_ask = λ s b. unless-on (sending_refusal s) (with_message (ask.Download s.watermark) s) _ (same-on s (with_message (ask.Download s.watermark) s) refl refl refl (stays s) b);
   of_reply = λ judge now m s b. reply-on publication judge now m s b;
-  of_anew = λ judge now s b. unless-on (counter_end (subscriber_counters s)) (reinitialised judge (subscriber_at_moment now s)).0 _ (anew-on judge now s b);
+  of_anew = λ judge now s b. unless-on (counter_end (subscriber_counters s)) (result_of_reinit judge (subscriber_at_moment now s)).0 _ (anew-on judge now s b);
 }

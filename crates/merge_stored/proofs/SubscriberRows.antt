@@ -38,12 +38,12 @@ use Rattle.merge_model.specs.History.{History, made_at, no_history}
 use Rattle.merge_model.specs.Judge.{SubscriberJudge}
 use Rattle.merge_model.specs.Tables.Keys.{at_number, drop_row, put_number, put_row, row_at}
 use Rattle.merge_model.specs.Laws.{SubscriberIsSorted}
-use Rattle.merge_model.specs.Subscriber.Reinit.{discarded, reinitialised}
+use Rattle.merge_model.specs.Subscriber.Reinit.{discarded_versions, result_of_reinit}
 use Rattle.merge_model.specs.Failing.Runs.{model_behind}
 use Rattle.merge_model.specs.Subscriber.Sending.{upload_sent, with_message}
 use Rattle.merge_model.specs.Subscriber.{subscriber_at_moment, subscriber_closed, subscriber_last_closed, subscriber_next_dot, subscriber_version_at, with_open, with_version_if}
 use Rattle.merge_model.specs.Tables.{SubscriberTables}
-use Rattle.merge_model.specs.Subscriber.Taking.{key_of_download, row_above, taken, with_item, with_order}
+use Rattle.merge_model.specs.Subscriber.Taking.{key_of_download, row_above, tables_after_reply, with_item, with_order}
 use Rattle.merge_model.specs.World.{Saying, World, empty_world, subscriber_at}
 use Rattle.merge_model.specs.declared.event.Event.{Event}
 use Rattle.merge_model.proofs.Entries.EntryLists.{all-put}
@@ -57,7 +57,7 @@ use Rattle.merge_laws.proofs.Walking.{StepsKeep, step-keeps}
 use Rattle.merge_model.proofs.Lists.Finding.{found-named}
 use Rattle.merge_model.proofs.Lists.RowsFound.{Found, each-found}
 use Rattle.merge_honest.proofs.PutFound.{put-each}
-use Rattle.merge_stored.specs.Entries.{Ascends, RowsHaveRoom, room_of, times, total}
+use Rattle.merge_stored.specs.Entries.{Ascends, RowsHaveRoom, room_of, times_kept, total_kept}
 use Rattle.merge_stored.proofs.ConflictLists.{anew-long}
 use Rattle.merge_stored.proofs.Generations.{IsWeight, kept-ascends, length-open, length-weighs, open-ascends, times-open, times-weigh}
 
@@ -67,7 +67,7 @@ Rows = List (Key × SubscriberRow)
 -- What a reply leaves of the generations that are kept.
 
 pub record Shrinks (rows less : Rows) : Type 0 where
-  pub sums : (weigh : List ℕ → ℕ) → IsWeight weigh → total weigh less ≤ total weigh rows
+  pub sums : (weigh : List ℕ → ℕ) → IsWeight weigh → total_kept weigh less ≤ total_kept weigh rows
   pub ascend : AllByRecursion Ascends rows → AllByRecursion Ascends less
 
 none-shrinks : (rows : Rows) → Shrinks rows rows
@@ -79,7 +79,7 @@ then-shrinks one two three a b = record { sums = λ weigh is. (let first = a.sum
 weight-of : (weigh : List ℕ → ℕ) → SubscriberRow → ℕ
 weight-of weigh row = weigh row.generations
 
-pub total-cons : (weigh : List ℕ → ℕ) (row : Key × SubscriberRow) (rows : Rows) → total weigh (row ∷ rows) ≡ weigh row.1.generations + total weigh rows
+pub total-cons : (weigh : List ℕ → ℕ) (row : Key × SubscriberRow) (rows : Rows) → total_kept weigh (row ∷ rows) ≡ weigh row.1.generations + total_kept weigh rows
 total-cons weigh row rows = sum_by-cons (λ (r : SubscriberRow). weigh r.generations) row.1 (values_of rows)
 
 pub above-shrinks : (received : ℕ) (rows : Rows) → Shrinks rows (map (row_above received) rows)
@@ -94,13 +94,13 @@ above-shrinks received (row ∷ rows) =
     }
 
 -- a row that is put with no generation
-put-by : (weigh : List ℕ → ℕ) (o : Ordering) (key : Key) (new : SubscriberRow) (row : Key × SubscriberRow) (rows put : Rows) → weigh new.generations ≡ 0 → total weigh put ≤ total weigh rows
-    → (let after : Rows = match_ordering o ((key, new) ∷ row ∷ rows) ((row.0, new) ∷ rows) (row ∷ put) in total weigh after ≤ total weigh (row ∷ rows))
+put-by : (weigh : List ℕ → ℕ) (o : Ordering) (key : Key) (new : SubscriberRow) (row : Key × SubscriberRow) (rows put : Rows) → weigh new.generations ≡ 0 → total_kept weigh put ≤ total_kept weigh rows
+    → (let after : Rows = match_ordering o ((key, new) ∷ row ∷ rows) ((row.0, new) ∷ rows) (row ∷ put) in total_kept weigh after ≤ total_kept weigh (row ∷ rows))
 put-by weigh Less key new row rows put none rest = (let one = total-cons weigh (key, new) (row ∷ rows) in omega (arith, none, one))
 put-by weigh Equal key new row rows put none rest = (let one = total-cons weigh (row.0, new) rows in let other = total-cons weigh row rows in omega (arith, none, one, other))
 put-by weigh Greater key new row rows put none rest = (let one = total-cons weigh row put in let other = total-cons weigh row rows in omega (arith, rest, one, other))
 
-put-less : (weigh : List ℕ → ℕ) (key : Key) (new : SubscriberRow) (rows : Rows) → weigh new.generations ≡ 0 → total weigh (put_row rows key new) ≤ total weigh rows
+put-less : (weigh : List ℕ → ℕ) (key : Key) (new : SubscriberRow) (rows : Rows) → weigh new.generations ≡ 0 → total_kept weigh (put_row rows key new) ≤ total_kept weigh rows
 put-less weigh key new [] none = (let nothing : Rows = [] in let one = total-cons weigh (key, new) nothing in omega (arith, none, one))
 put-less weigh key new (row ∷ rows) none = put-by weigh (key_cmp key row.0) key new row rows (put_row rows key new) none (put-less weigh key new rows none)
 
@@ -140,11 +140,11 @@ items-shrink judge received (item ∷ items) rows =
     let next : Rows = with_item judge received rows item in
     then-shrinks rows next (fold (with_item judge received) next items) (item-by (judge.is_unsent received (key_of_download item)) (key_of_download item) item.act rows) (items-shrink judge received items next)
 
-reply-shrinks : (judge : SubscriberJudge) (now : Moment) (m : Reply) (s : SubscriberTables) → Shrinks s.rows (taken judge now m s).rows
+reply-shrinks : (judge : SubscriberJudge) (now : Moment) (m : Reply) (s : SubscriberTables) → Shrinks s.rows (tables_after_reply judge now m s).rows
 reply-shrinks judge now (reply.Joined m) s = none-shrinks s.rows
 reply-shrinks judge now (reply.Uploaded m) s = above-shrinks m.received s.rows
 reply-shrinks judge now (reply.Ranged m) s = none-shrinks s.rows
-reply-shrinks judge now (reply.Downloaded m) s = then-shrinks s.rows (map (row_above m.received) s.rows) (taken judge now (reply.Downloaded m) s).rows (above-shrinks m.received s.rows) (items-shrink judge m.received m.items (map (row_above m.received) s.rows))
+reply-shrinks judge now (reply.Downloaded m) s = then-shrinks s.rows (map (row_above m.received) s.rows) (tables_after_reply judge now (reply.Downloaded m) s).rows (above-shrinks m.received s.rows) (items-shrink judge m.received m.items (map (row_above m.received) s.rows))
 reply-shrinks judge now (reply.Refused number values) s = none-shrinks s.rows
 
 -- what a reply leaves
@@ -153,7 +153,7 @@ pub record ReplyLeaves (s t : SubscriberTables) : Type 0 where
   pub changes : t.changes ≡ s.changes
   pub filling : t.gens.filling ≡ s.gens.filling
 
-reply-leaves : (judge : SubscriberJudge) (now : Moment) (m : Reply) (s : SubscriberTables) → ReplyLeaves s (taken judge now m s)
+reply-leaves : (judge : SubscriberJudge) (now : Moment) (m : Reply) (s : SubscriberTables) → ReplyLeaves s (tables_after_reply judge now m s)
 reply-leaves judge now (reply.Joined m) s = record { count = refl; changes = refl; filling = refl }
 reply-leaves judge now (reply.Uploaded m) s = record { count = refl; changes = refl; filling = refl }
 reply-leaves judge now (reply.Ranged m) s = record { count = refl; changes = refl; filling = refl }
@@ -164,8 +164,8 @@ shrink-on : (s t : SubscriberTables) → ReplyLeaves s t → Shrinks s.rows t.ro
 shrink-on s t leaves shrinks b = record {
   few = (let sums = shrinks.sums length length-weighs in let low = b.few in let count = leaves.count in let changes = leaves.changes in omega (arith, sums, low, count, changes));
   ascend = shrinks.ascend b.ascend;
-  room = λ generation. (let sums = shrinks.sums (times generation) (times-weigh generation) in
-      let low : total (times generation) s.rows ≤ room_of t.gens.filling generation = subst (λ (f : Filling). total (times generation) s.rows ≤ room_of f generation) (sym leaves.filling) (b.room generation) in omega (arith, sums, low));
+  room = λ generation. (let sums = shrinks.sums (times_kept generation) (times-weigh generation) in
+      let low : total_kept (times_kept generation) s.rows ≤ room_of t.gens.filling generation = subst (λ (f : Filling). total_kept (times_kept generation) s.rows ≤ room_of f generation) (sym leaves.filling) (b.room generation) in omega (arith, sums, low));
 }
 
 -- A local change.
@@ -216,7 +216,7 @@ entered-room filling generation low = entered-by (nat_le generation filling.last
         let one = room-above filling generation above in
         let none : cond (generation == filling.last_closed + 1) 1 0 ≡ 0 = ap (λ (c : Bool). (let n : ℕ = cond c 1 0 in n)) same in omega (arith, one, none))
 
-pub closed-room : (filling : Filling) (generation : ℕ) → filling.filled < entry_limit → room_of filling generation ≤ room_of (fill.closed filling) generation
+pub closed-room : (filling : Filling) (generation : ℕ) → filling.filled < entry_limit → room_of filling generation ≤ room_of (fill.filling_after_close filling) generation
 closed-room filling generation low = closed-by (filling.filled == 0)
   where
     next : Filling
@@ -239,7 +239,7 @@ held-length weigh (Some row) none = refl
 
 -- the rows with a version more, in the open generation
 pub put-total : (weigh : List ℕ → ℕ) (more : ℕ) (key : Key) (version : Version) (current : ℕ) (rows : Rows) → IsStrictlySortedBy key_cmp (keys_of rows) → weigh [] ≡ 0 → (let gens : List ℕ = generations_in rows key in weigh (with_open current gens) ≤ weigh gens + more
-    → (let new : SubscriberRow = record { version = version; generations = with_open current gens } in total weigh (put_row rows key new) ≤ total weigh rows + more))
+    → (let new : SubscriberRow = record { version = version; generations = with_open current gens } in total_kept weigh (put_row rows key new) ≤ total_kept weigh rows + more))
 put-total weigh more key version current rows sorted none up =
     let gens : List ℕ = generations_in rows key in
     let new : SubscriberRow = record { version = version; generations = with_open current gens } in
@@ -266,7 +266,7 @@ change-on key (Some version) now held s sorted b =
     record {
       few = (let sums = put-total length 1 key version current s.rows sorted.rows_ascend refl (length-open current gens) in let low = b.few in omega (arith, sums, low));
       ascend = all-put Ascends key_cmp key new (λ q is. open-ascends current gens (gens-ascend key s.rows b.ascend)) (open-ascends current gens (gens-ascend key s.rows b.ascend)) s.rows b.ascend;
-      room = λ generation. (let sums = put-total (times generation) (cond (generation == current) 1 0) key version current s.rows sorted.rows_ascend refl (times-open generation current gens) in
+      room = λ generation. (let sums = put-total (times_kept generation) (cond (generation == current) 1 0) key version current s.rows sorted.rows_ascend refl (times-open generation current gens) in
           let low = b.room generation in let room = entered-room s.gens.filling generation sorted.generations_ascend.unfilled in omega (arith, sums, low, room));
     }
 
@@ -283,8 +283,8 @@ some-kept : (received : ℕ) (generations : List ℕ) → list_any (λ (g : ℕ)
 some-kept received [] is = absurd cc
 some-kept received (g ∷ generations) is = omega arith
 
-discarded-step : (b : Bool) (row : Key × SubscriberRow) (rest : List (Key × Version)) (rows : Rows) → (b ≡ true → 1 ≤ length row.1.generations) → length rest ≤ total length rows
-    → (let found : Option (Key × Version) = if b then Some (row.0, row.1.version) else None in length (cons_option found rest) ≤ total length (row ∷ rows))
+discarded-step : (b : Bool) (row : Key × SubscriberRow) (rest : List (Key × Version)) (rows : Rows) → (b ≡ true → 1 ≤ length row.1.generations) → length rest ≤ total_kept length rows
+    → (let found : Option (Key × Version) = if b then Some (row.0, row.1.version) else None in length (cons_option found rest) ≤ total_kept length (row ∷ rows))
 discarded-step true row rest rows some low = (let one = total-cons length row rows in let here = some refl in omega (arith, one, here, low))
 discarded-step false row rest rows some low = (let one = total-cons length row rows in omega (arith, one, low))
 
@@ -292,16 +292,16 @@ abbrev found_by : (Key → Bool) → Key × SubscriberRow → Option (Key × Ver
 found_by unsent row = if unsent row.0 then Some (row.0, row.1.version) else None
 
 discarded-few : (unsent : Key → Bool) (rows : Rows) → AllByRecursion (λ (row : Key × SubscriberRow). unsent row.0 ≡ true → 1 ≤ length row.1.generations) rows
-    → length (filter_map (found_by unsent) rows) ≤ total length rows
+    → length (filter_map (found_by unsent) rows) ≤ total_kept length rows
 discarded-few unsent [] all = omega arith
 discarded-few unsent (row ∷ rows) all = discarded-step (unsent row.0) row (filter_map (found_by unsent) rows) rows all.0 (discarded-few unsent rows all.1)
 
-anew-on : (h : History) (now : Moment) (s : SubscriberTables) → SubscriberIsSorted s → RowsTell (made_at h s.site.0) s.received s.rows → RowsHaveRoom s → RowsHaveRoom (reinitialised (by_made h s.site) (subscriber_at_moment now s)).0
+anew-on : (h : History) (now : Moment) (s : SubscriberTables) → SubscriberIsSorted s → RowsTell (made_at h s.site.0) s.received s.rows → RowsHaveRoom s → RowsHaveRoom (result_of_reinit (by_made h s.site) (subscriber_at_moment now s)).0
 anew-on h now s sorted tell b =
     let u : SubscriberTables = subscriber_at_moment now s in
     let judge : SubscriberJudge = by_made h s.site in
-    let lost : List (Key × Version) = discarded judge u in
-    let few : length lost ≤ total length s.rows = discarded-few (is_unsent_by_made h s.site s.received) s.rows
+    let lost : List (Key × Version) = discarded_versions judge u in
+    let few : length lost ≤ total_kept length s.rows = discarded-few (is_unsent_by_made h s.site s.received) s.rows
     (all-weaker (Found s.rows) (λ (row : Key × SubscriberRow). is_unsent_by_made h s.site s.received row.0 ≡ true → 1 ≤ length row.1.generations)
     (λ row found is. some-kept s.received row.1.generations (ap (λ (r : Option SubscriberRow). list_any (λ (g : ℕ). nat_lt s.received g) (unwrap_or (option_map (λ (x : SubscriberRow). x.generations) r) [])) (sym found) ∙ tell.unsent row.0 s.received (omega arith) ∙ is)) s.rows
     (each-found s.rows sorted.rows_ascend)) in
@@ -341,7 +341,7 @@ module _ (publication : Publication) (says : Saying) where
         let u : SubscriberTables = record (subscriber_at_moment w.moment s) { changes = s.changes + 1; held = d.1 } in
         on w s (with_version_if key found u) (version-site key found u) (change-on key found w.moment d.1 s (sorted-of w h s g at) (p s.site.0 s at)) p);
     subscriber_closing = λ w h s g p at. on w s (subscriber_closed (subscriber_at_moment w.moment s)) refl (closing-on w.moment s (sorted-of w h s g at) (p s.site.0 s at)) p;
-    anew = λ w h s g p at. on w s (reinitialised (by_made h s.site) (subscriber_at_moment w.moment s)).0 refl (anew-on h w.moment s (sorted-of w h s g at) (g.unsent s.site.0 s (found-named w.subscribers s.site.0 s g.none at) at) (p s.site.0 s at)) p;
+    anew = λ w h s g p at. on w s (result_of_reinit (by_made h s.site) (subscriber_at_moment w.moment s)).0 refl (anew-on h w.moment s (sorted-of w h s g at) (g.unsent s.site.0 s (found-named w.subscribers s.site.0 s g.none at) at) (p s.site.0 s at)) p;
     sends_join = λ w h s g p at joining. on w s (with_message ask.Join s) refl (sent-on s 0 ask.Join (p s.site.0 s at)) p;
     sends_upload = λ w h s g p at fine. (let c : SubscriberTables = subscriber_closed (subscriber_at_moment w.moment s) in let t : SubscriberTables = (upload_sent (by_made h s.site) c).0 in
         on w s t refl (let b = closing-on w.moment s (sorted-of w h s g at) (p s.site.0 s at) in record { few = b.few; ascend = b.ascend; room = b.room }) p);
@@ -354,7 +354,7 @@ module _ (publication : Publication) (says : Saying) where
     answers_ranges = λ w h site m g p. p;
     answers_ask = λ w h number site m g p at fine. p;
     replies = λ w h s number m sent g p at there out none. (let judge : SubscriberJudge = by_made h s.site in
-        on w s (taken judge w.moment m s) (reply-site judge w.moment m s) (shrink-on s (taken judge w.moment m s) (reply-leaves judge w.moment m s) (reply-shrinks judge w.moment m s) (p s.site.0 s at)) p);
+        on w s (tables_after_reply judge w.moment m s) (reply-site judge w.moment m s) (shrink-on s (tables_after_reply judge w.moment m s) (reply-leaves judge w.moment m s) (reply-shrinks judge w.moment m s) (p s.site.0 s at)) p);
   }
 
   rows-begin : (tallies : List ℕ) → OfRows (empty_world publication tallies) no_history

@@ -23,7 +23,7 @@ use Rattle.merge_model.proofs.Lists.Finding.{all-weaker}
 use Rattle.merge_laws.specs.Laws.{OfEveryValidRun}
 use Rattle.merge_honest.proofs.KnownItems.{all-true}
 use Rattle.merge_honest.proofs.Rules.{Known, known-always}
-use Rattle.merge_stored.specs.Entries.{Ascends, RowsHaveRoom, room_of, times, total}
+use Rattle.merge_stored.specs.Entries.{Ascends, RowsHaveRoom, room_of, times_kept, total_kept}
 use Rattle.merge_stored.specs.Loading.{SubscriberRowLoads, SubscriberRowsLoad}
 use Rattle.merge_stored.specs.Stored.{subscriber_stored}
 use Rattle.merge_stored.specs.Versions.{VersionIsStored}
@@ -32,25 +32,25 @@ use Rattle.merge_stored.proofs.SubscriberRows.{Rows, room-above, room-closed, ro
 use Rattle.merge_stored.proofs.Versions.{versions-load}
 
 -- Each generation that is kept is kept at least once.
-there-by : (g x : ℕ) (xs : List ℕ) → 1 ≤ times g xs → 1 ≤ times g (x ∷ xs)
+there-by : (g x : ℕ) (xs : List ℕ) → 1 ≤ times_kept g xs → 1 ≤ times_kept g (x ∷ xs)
 there-by g x xs some = (let one = times-cons g x xs in omega (arith, one, some))
 
-here-once : (g : ℕ) (xs : List ℕ) → 1 ≤ times g (g ∷ xs)
+here-once : (g : ℕ) (xs : List ℕ) → 1 ≤ times_kept g (g ∷ xs)
 here-once g xs =
     let one = times-cons g g xs in
     let same : cond (g == g) 1 0 ≡ 1 = (let itself : (g == g) ≡ true = grind (arith, nat_tests) in ap (λ (b : Bool). (let n : ℕ = cond b 1 0 in n)) itself) in
     omega (arith, one, same)
 
-pub each-there : (xs : List ℕ) → AllByRecursion (λ (g : ℕ). 1 ≤ times g xs) xs
+pub each-there : (xs : List ℕ) → AllByRecursion (λ (g : ℕ). 1 ≤ times_kept g xs) xs
 each-there [] = tt
-each-there (x ∷ xs) = (here-once x xs, all-weaker (λ (g : ℕ). 1 ≤ times g xs) (λ (g : ℕ). 1 ≤ times g (x ∷ xs)) (λ g some. there-by g x xs some) xs (each-there xs))
+each-there (x ∷ xs) = (here-once x xs, all-weaker (λ (g : ℕ). 1 ≤ times_kept g xs) (λ (g : ℕ). 1 ≤ times_kept g (x ∷ xs)) (λ g some. there-by g x xs some) xs (each-there xs))
 
 -- the entries of a generation, as a start counts them
-pub entries-are : (g : ℕ) (rows : Rows) → sum_by (start_subscriber.times_in g) rows ≡ total (times g) rows
+pub entries-are : (g : ℕ) (rows : Rows) → sum_by (start_subscriber.times_in g) rows ≡ total_kept (times_kept g) rows
 entries-are g [] = refl
-entries-are g (row ∷ rows) = (let one = sum_by-cons (start_subscriber.times_in g) row rows in let other = total-cons (times g) row rows in let rest = entries-are g rows in omega (arith, one, other, rest))
+entries-are g (row ∷ rows) = (let one = sum_by-cons (start_subscriber.times_in g) row rows in let other = total-cons (times_kept g) row rows in let rest = entries-are g rows in omega (arith, one, other, rest))
 
-pub total-more : (weigh : List ℕ → ℕ) (front : Rows) (row : Key × SubscriberRow) → total weigh (front ++ row ∷ []) ≡ total weigh front + weigh row.1.generations
+pub total-more : (weigh : List ℕ → ℕ) (front : Rows) (row : Key × SubscriberRow) → total_kept weigh (front ++ row ∷ []) ≡ total_kept weigh front + weigh row.1.generations
 total-more weigh [] row = (let nothing : Rows = [] in let one = total-cons weigh row nothing in omega (arith, one))
 total-more weigh (first ∷ front) row = (let one = total-cons weigh first (front ++ row ∷ []) in let other = total-cons weigh first front in let rest = total-more weigh front row in omega (arith, one, other, rest))
 
@@ -85,26 +85,26 @@ module _ (publication : Publication) (s : SubscriberTables) (changes : s.changes
   with_front front = of_subscriber.with_rows (subscriber_stored s) (new_holders publication) front
 
   -- one row
-  module _ (front : Rows) (row : Key × SubscriberRow) (room : (g : ℕ) → total (times g) front + times g row.1.generations ≤ room_of s.gens.filling g) where
-    space-of : (g : ℕ) → 1 ≤ times g row.1.generations → start_subscriber.has_space (with_front front) g ≡ true
+  module _ (front : Rows) (row : Key × SubscriberRow) (room : (g : ℕ) → total_kept (times_kept g) front + times_kept g row.1.generations ≤ room_of s.gens.filling g) where
+    space-of : (g : ℕ) → 1 ≤ times_kept g row.1.generations → start_subscriber.has_space (with_front front) g ≡ true
     space-of g some =
         let up = room g in
-        let low : total (times g) front < room_of s.gens.filling g = omega (arith, up, some) in
+        let low : total_kept (times_kept g) front < room_of s.gens.filling g = omega (arith, up, some) in
         let same = entries-are g front in
         let entries : sum_by (start_subscriber.times_in g) front < room_of s.gens.filling g = omega (arith, low, same) in
         has-room s.received (sum_by (start_subscriber.times_in g) front) s.gens.filling g (nat_le g s.gens.filling.last_closed) (g == s.gens.filling.last_closed + 1) refl refl entries
 
     spaces : list_all (start_subscriber.has_space (with_front front)) row.1.generations ≡ true
-    spaces = all-true (start_subscriber.has_space (with_front front)) row.1.generations (all-weaker (λ (g : ℕ). 1 ≤ times g row.1.generations) (λ (g : ℕ). start_subscriber.has_space (with_front front) g ≡ true) space-of row.1.generations (each-there row.1.generations))
+    spaces = all-true (start_subscriber.has_space (with_front front)) row.1.generations (all-weaker (λ (g : ℕ). 1 ≤ times_kept g row.1.generations) (λ (g : ℕ). start_subscriber.has_space (with_front front) g ≡ true) space-of row.1.generations (each-there row.1.generations))
 
-    generation-low : (g : ℕ) → 1 ≤ times g row.1.generations → g < 2 ^ 64
+    generation-low : (g : ℕ) → 1 ≤ times_kept g row.1.generations → g < 2 ^ 64
     generation-low g some =
         let up = room g in
         let low = at-most-open s.gens.filling g (nat_le g s.gens.filling.last_closed) (g == s.gens.filling.last_closed + 1) refl refl (omega (arith, up, some)) in
         omega (arith, low, closed)
 
     generations-fit : length row.1.generations ≤ s.changes → numbers_ascend row.1.generations ≡ true → AreGenerations row.1.generations
-    generations-fit few ascend = ((omega (arith, few, changes), all-weaker (λ (g : ℕ). 1 ≤ times g row.1.generations) (λ (g : ℕ). g < 2 ^ 64) generation-low row.1.generations (each-there row.1.generations)), ascend)
+    generations-fit few ascend = ((omega (arith, few, changes), all-weaker (λ (g : ℕ). 1 ≤ times_kept g row.1.generations) (λ (g : ℕ). g < 2 ^ 64) generation-low row.1.generations (each-there row.1.generations)), ascend)
 
     row-sound : version_is_sound publication row.0.article row.1.version ≡ true → row_was_made s.site.0 s.changes row.0 row.1.version ≡ true → start_subscriber.row_is_sound publication (with_front front) row.0 row.1 ≡ true
     unfolding start_subscriber.row_is_sound
@@ -114,13 +114,13 @@ module _ (publication : Publication) (s : SubscriberTables) (changes : s.changes
     row-loads stored few ascend = (stored.loads.key_fits, (stored.loads.has_record, generations-fit few ascend), row-sound stored.loads.sound stored.made)
 
   -- one behind the other
-  rows-load : (front rows : Rows) → ((g : ℕ) → total (times g) front + total (times g) rows ≤ room_of s.gens.filling g) → total length rows ≤ s.changes → AllByRecursion Ascends rows
+  rows-load : (front rows : Rows) → ((g : ℕ) → total_kept (times_kept g) front + total_kept (times_kept g) rows ≤ room_of s.gens.filling g) → total_kept length rows ≤ s.changes → AllByRecursion Ascends rows
       → AllByRecursion (λ (row : Key × SubscriberRow). VersionIsStored publication s.site.0 s.changes row.0 row.1.version) rows → KeepOneByOne (SubscriberRowLoads publication s) front rows
   rows-load front [] room few ascend stored = tt
   rows-load front (row ∷ rows) room few ascend stored =
       let counted = total-cons length row rows in (
-        row-loads front row (λ g. (let up = room g in let one = total-cons (times g) row rows in omega (arith, up, one))) stored.0 (omega (arith, few, counted)) ascend.0,
-        rows-load (front ++ row ∷ []) rows (λ g. (let up = room g in let one = total-cons (times g) row rows in let more = total-more (times g) front row in omega (arith, up, one, more))) (omega (arith, few, counted)) ascend.1 stored.1,
+        row-loads front row (λ g. (let up = room g in let one = total-cons (times_kept g) row rows in omega (arith, up, one))) stored.0 (omega (arith, few, counted)) ascend.0,
+        rows-load (front ++ row ∷ []) rows (λ g. (let up = room g in let one = total-cons (times_kept g) row rows in let more = total-more (times_kept g) front row in omega (arith, up, one, more))) (omega (arith, few, counted)) ascend.1 stored.1,
       )
 
 pub subscriber-rows-load : OfEveryValidRun SubscriberRowsLoad

@@ -38,12 +38,12 @@ use Rattle.merge_model.specs.History.{History}
 use Rattle.merge_model.specs.Judge.{PublisherJudge}
 use Rattle.merge_model.specs.Tables.Keys.{at_number, put_number}
 use Rattle.merge_model.specs.History.Model.{Model}
-use Rattle.merge_model.specs.Publisher.{at_moment, closed, counters, last_closed, no_state, site_refusal, state_of, unknown_site}
-use Rattle.merge_model.specs.Publisher.PublisherDownload.{asked, download_refusal, synced}
-use Rattle.merge_model.specs.Publisher.PublisherJoin.{join_acts, join_refusal, join_taken, joined, joined_state}
-use Rattle.merge_model.specs.Publisher.PublisherLocal.{Drawn, drawn, local_refusal, made_locally}
+use Rattle.merge_model.specs.Publisher.{at_moment, counters, last_closed, no_state, site_refusal, state_of, tables_after_close, unknown_site}
+use Rattle.merge_model.specs.Publisher.PublisherDownload.{download_refusal, state_after_download, tables_after_download}
+use Rattle.merge_model.specs.Publisher.PublisherJoin.{join_acts, join_refusal, join_taken, joined_state, tables_after_join}
+use Rattle.merge_model.specs.Publisher.PublisherLocal.{Drawn, draw_for_change, local_refusal, made_locally}
 use Rattle.merge_model.specs.Publisher.PublisherRanges.{plans, ranges_refusal, with_grants}
-use Rattle.merge_model.specs.Publisher.PublisherUpload.{brings_news, seen_in, state_seeing, taken_in, upload_refusal, uploaded, with_taken}
+use Rattle.merge_model.specs.Publisher.PublisherUpload.{brings_news, seen_in, state_seeing, tables_after_upload, taken_in, upload_refusal, with_taken}
 use Rattle.merge_model.specs.Tables.Refusals.{counter_end, refused_if, unless}
 use Rattle.merge_model.specs.Failing.Runs.{model_behind}
 use Rattle.merge_model.specs.Tables.{PublisherTables}
@@ -143,9 +143,9 @@ module _ (publication : Publication) where
   drawn-on judge now change p (Ok d) all = later-on p (made_locally publication judge change d (at_moment now p)).0 refl (entered-up p.gens.filling _) all
 
   local-on : (judge : PublisherJudge) (now : Moment) (change : Change) (p : PublisherTables) (found : Option Refusal) → S p
-      → (let done : Result (PublisherTables × RowId) Refusal = elim found [ Some refusal ↦ Err refusal | None ↦ elim (drawn publication p change) [ Err refusal ↦ Err refusal | Ok d ↦ Ok (made_locally publication judge change d (at_moment now p)) ] ] in IfOk done (λ x. S x.0))
+      → (let done : Result (PublisherTables × RowId) Refusal = elim found [ Some refusal ↦ Err refusal | None ↦ elim (draw_for_change publication p change) [ Err refusal ↦ Err refusal | Ok d ↦ Ok (made_locally publication judge change d (at_moment now p)) ] ] in IfOk done (λ x. S x.0))
   local-on judge now change p (Some refusal) all = tt
-  local-on judge now change p None all = drawn-on judge now change p (drawn publication p change) all
+  local-on judge now change p None all = drawn-on judge now change p (draw_for_change publication p change) all
 
   -- an upload
   seen-on : (last : ℕ) (acts : List Act) → AllByRecursion LineageLow acts → (site : ℕ × SiteState) → SiteIs last site → SiteIs last (state_seeing acts site)
@@ -168,7 +168,7 @@ module _ (publication : Publication) where
   news-on judge m decisions p true to through low all = taken-on judge m decisions p to through low all
   news-on judge m decisions p false to through low all = all
 
-  upload-on : (judge : PublisherJudge) (now : Moment) (m : Upload) (decisions : List Decision) (p : PublisherTables) → upload_refusal publication judge now m p ≡ None → S p → S (uploaded publication judge m decisions (at_moment now p))
+  upload-on : (judge : PublisherJudge) (now : Moment) (m : Upload) (decisions : List Decision) (p : PublisherTables) → upload_refusal publication judge now m p ≡ None → S p → S (tables_after_upload publication judge m decisions (at_moment now p))
   upload-on judge now m decisions p fine all =
       let passed : UploadPassed publication judge m p = upload-passed publication judge now m p fine in
       let valid : IsValidUpload publication (known_by publication judge p) m = passed.valid in
@@ -198,7 +198,7 @@ module _ (publication : Publication) where
   joined-on m p true subscribes fits all = put-on (last_closed p) p.sites m.site (joined_state m p.latest (state_of p m.site)) subscribes (join-fits m p.latest (last_closed p) (state_of p m.site) fits (state-fits (last_closed p) p.sites m.site.0 all)) all
   joined-on m p false subscribes fits all = all
 
-  join-on : (now : Moment) (m : Join) (p : PublisherTables) → join_refusal publication m p ≡ None → S p → S (joined m (at_moment now p))
+  join-on : (now : Moment) (m : Join) (p : PublisherTables) → join_refusal publication m p ≡ None → S p → S (tables_after_join m (at_moment now p))
   join-on now m p fine all =
       let known = first-none (unknown_site publication m.site) _ fine in
       let stale = first-none (refused_if (nat_lt m.seq (state_of p m.site).joined_at) (Stale m.seq (state_of p m.site).joined_at)) _ known.1 in
@@ -206,10 +206,10 @@ module _ (publication : Publication) where
       joined-on m (at_moment now p) (join_acts m (at_moment now p)) (site-subscribes m.site known.0) (join-numbers m fault.0) all
 
   -- an ask
-  synced-fits : (m : Download) (p : PublisherTables) (last : ℕ) (state : SiteState) → m.from ≤ last → StateFits last state → StateFits last (synced m p state)
+  synced-fits : (m : Download) (p : PublisherTables) (last : ℕ) (state : SiteState) → m.from ≤ last → StateFits last state → StateFits last (state_after_download m p state)
   synced-fits m p last state up f = record { joined = f.joined; received = f.received; number = f.number; seen = f.seen; watermark = (let low = f.watermark in grind (arith, nat_tests, low, up)) }
 
-  ask-on : (now : Moment) (m : Download) (p : PublisherTables) → download_refusal publication now m p ≡ None → S p → S (asked m (at_moment now p))
+  ask-on : (now : Moment) (m : Download) (p : PublisherTables) → download_refusal publication now m p ≡ None → S p → S (tables_after_download m (at_moment now p))
   ask-on now m p fine all =
       let passed = first-none (site_refusal publication m.site m.seq now p) _ fine in
       let known = first-none (unknown_site publication m.site) _ passed.0 in
@@ -217,17 +217,17 @@ module _ (publication : Publication) where
       let low : nat_lt (last_closed p) m.from ≡ false = not-refused (nat_lt (last_closed p) m.from) (WrongWatermark m.from (last_closed p)) mark.0 in
       let up : m.from ≤ last_closed p = grind (arith, nat_tests, low) in
       let q : PublisherTables = at_moment now p in
-      let put = put-on (last_closed p) p.sites m.site (synced m q (state_of q m.site)) (site-subscribes m.site known.0) (synced-fits m q (last_closed p) (state_of q m.site) up (state-fits (last_closed p) p.sites m.site.0 all)) all in
-      all-weaker (SiteIs (last_closed p)) (SiteIs (last_closed (asked m q))) (λ site is. (is.0, later-state (last_closed p) (last_closed (asked m q)) site.1 (closed-up p.gens.filling) is.1)) (put_number p.sites m.site.0 (synced m q (state_of q m.site))) put
+      let put = put-on (last_closed p) p.sites m.site (state_after_download m q (state_of q m.site)) (site-subscribes m.site known.0) (synced-fits m q (last_closed p) (state_of q m.site) up (state-fits (last_closed p) p.sites m.site.0 all)) all in
+      all-weaker (SiteIs (last_closed p)) (SiteIs (last_closed (tables_after_download m q))) (λ site is. (is.0, later-state (last_closed p) (last_closed (tables_after_download m q)) site.1 (closed-up p.gens.filling) is.1)) (put_number p.sites m.site.0 (state_after_download m q (state_of q m.site))) put
 
   pub sites-keep : PublisherCallsKeep publication S
   sites-keep = record {
     of_local = λ judge now change p all. local-on judge now change p (local_refusal publication change p) all;
-    of_close = λ now p all. unless-on (counter_end (counters p)) (closed (at_moment now p)) _ (λ fine. later-on p (closed (at_moment now p)) refl (closed-up p.gens.filling) all);
-    of_join = λ now m p all. unless-on (join_refusal publication m p) (joined m (at_moment now p)) _ (λ fine. join-on now m p fine all);
-    of_upload = λ judge now m decisions p all. unless-on (upload_refusal publication judge now m p) (uploaded publication judge m decisions (at_moment now p)) _ (λ fine. upload-on judge now m decisions p fine all);
+    of_close = λ now p all. unless-on (counter_end (counters p)) (tables_after_close (at_moment now p)) _ (λ fine. later-on p (tables_after_close (at_moment now p)) refl (closed-up p.gens.filling) all);
+    of_join = λ now m p all. unless-on (join_refusal publication m p) (tables_after_join m (at_moment now p)) _ (λ fine. join-on now m p fine all);
+    of_upload = λ judge now m decisions p all. unless-on (upload_refusal publication judge now m p) (tables_after_upload publication judge m decisions (at_moment now p)) _ (λ fine. upload-on judge now m decisions p fine all);
     of_ranges = λ judge now m p all. unless-on (ranges_refusal publication judge now m p) (with_grants (plans publication m p) (at_moment now p)) _ (λ fine. all);
-    of_ask = λ judge now m p all. unless-on (download_refusal publication now m p) (asked m (at_moment now p)) _ (λ fine. ask-on now m p fine all);
+    of_ask = λ judge now m p all. unless-on (download_refusal publication now m p) (tables_after_download m (at_moment now p)) _ (λ fine. ask-on now m p fine all);
     of_purge = λ now p all. all;
   }
 

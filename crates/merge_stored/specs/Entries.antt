@@ -14,17 +14,17 @@ abbrev pub room_of : Filling → ℕ → ℕ
 room_of filling generation = if nat_le generation filling.last_closed then entry_limit else (if generation == filling.last_closed + 1 then filling.filled else 0)
 
 -- how often a generation is kept, and how much is kept in all
-abbrev pub times : ℕ → List ℕ → ℕ
-times generation generations = count_by (λ (other : ℕ). generation == other) generations
+abbrev pub times_kept : ℕ → List ℕ → ℕ
+times_kept generation generations = count_by (λ (other : ℕ). generation == other) generations
 
-abbrev pub total : (List ℕ → ℕ) → List (Key × SubscriberRow) → ℕ
-total weigh rows = sum_by (λ (row : SubscriberRow). weigh row.generations) (values_of rows)
+abbrev pub total_kept : (List ℕ → ℕ) → List (Key × SubscriberRow) → ℕ
+total_kept weigh rows = sum_by (λ (row : SubscriberRow). weigh row.generations) (values_of rows)
 
 abbrev pub Ascends : Key × SubscriberRow → Type 0
 Ascends row = numbers_ascend row.1.generations ≡ true
 
 -- What a subscriber keeps with its rows. What it discarded had a generation each time, so conflicts are no more than its changes.
 pub record RowsHaveRoom (s : SubscriberTables) : Type 0 where
-  pub few : s.conflict_count + total length s.rows ≤ s.changes
+  pub few : s.conflict_count + total_kept length s.rows ≤ s.changes
   pub ascend : AllByRecursion Ascends s.rows
-  pub room : (generation : ℕ) → total (times generation) s.rows ≤ room_of s.gens.filling generation
+  pub room : (generation : ℕ) → total_kept (times_kept generation) s.rows ≤ room_of s.gens.filling generation

@@ -16,7 +16,7 @@ use Rattle.merge_model.specs.Publisher.{close_generation, empty_publisher, new_h
 use Rattle.merge_model.specs.Publisher.PublisherLocal.{local}
 use Rattle.merge_model.specs.Publisher.PublisherPurge.{purge}
 use Rattle.merge_model.specs.Tables.{PublisherTables}
-use Rattle.merge_model.specs.World.Calls.{handled}
+use Rattle.merge_model.specs.World.Calls.{result_of_request}
 use Rattle.merge_model.specs.World.{Saying}
 use Rattle.merge_typed.specs.Outside.{ChangeIsTyped, SayingIsTyped}
 use Rattle.merge_typed.specs.Typed.{MomentFits}
@@ -44,7 +44,7 @@ unless_refused p (Ok done) = done.0
 unless_refused p (Err refusal) = p
 
 abbrev pub after_call : Publication → PublisherTables → Call → PublisherTables
-after_call publication p (Receives says tallies now m) = unless_refused p (handled publication says tallies now m p)
+after_call publication p (Receives says tallies now m) = unless_refused p (result_of_request publication says tallies now m p)
 after_call publication p (Changes now change) = unless_refused p (local publication (by_numbers p) now change p)
 after_call publication p (ClosesAt now) = unless_refused p (close_generation now p)
 after_call publication p (PurgesAt now) = (purge publication now p).0

@@ -21,11 +21,11 @@ use Rattle.merge_batch.specs.declared.request.UploadItem.{UploadItem}
 use Rattle.merge_schema.specs.declared.publication.Publication.{Publication}
 use Rattle.merge_gens.specs.Entries.{entry_cmp}
 use Rattle.merge_gens.specs.Index.{entries_after_all}
-use Rattle.merge_gens.specs.Book.{Book, closed_now, forgotten, forgotten_if_any}
+use Rattle.merge_gens.specs.Book.{Book, book_after_forgetting, closed_now, forgotten_if_any}
 use Rattle.merge_gens.specs.Book as gens
-use Rattle.merge_gens.specs.Filling.{closed}
+use Rattle.merge_gens.specs.Filling.{filling_after_close}
 use Rattle.merge_gens.specs.declared.filling.Filling.{Filling}
-use Rattle.merge_gens.specs.Plan.{IsPrepared, settled}
+use Rattle.merge_gens.specs.Plan.{IsPrepared, book_after_plan}
 use Rattle.merge_gens.specs.Book.{BookWithRoom}
 use Rattle.merge_gens.specs.declared.plan.GenerationPlan.{GenerationPlan}
 use Rattle.merge_gens.specs.declared.index.IndexEntry.{IndexEntry}
@@ -37,7 +37,7 @@ use Rattle.merge_conflict.specs.declared.row.ConflictRow.{ConflictRow}
 use Rattle.merge_conflict.proofs.RisingRows.{go_on_above}
 use Rattle.merge_ident.specs.Holders.{Holder}
 use Rattle.merge_model.specs.Tables.Keys.{row_at, same_key}
-use Rattle.merge_model.specs.Subscriber.Reinit.{made_anew}
+use Rattle.merge_model.specs.Subscriber.Reinit.{tables_made_anew}
 use Rattle.merge_model.specs.Publisher.{later}
 use Rattle.merge_model.specs.Subscriber.{subscriber_at_moment, subscriber_closed}
 use Rattle.merge_model.proofs.Lists.{all-append}
@@ -155,17 +155,17 @@ none-above last (closing ∷ closings) all =
     let out : nat_lt last closing.generation ≡ false = (let low = all.0 in grind (arith, nat_tests, low)) in
     rw out (none-above last closings all.1)
 
-emptied-book : (book : Book) → gens.IsSound book → (last : ℕ) → last ≡ book.filling.last_closed → forgotten book last ≡ record book { closings = [] }
+emptied-book : (book : Book) → gens.IsSound book → (last : ℕ) → last ≡ book.filling.last_closed → book_after_forgetting book last ≡ record book { closings = [] }
 emptied-book book sound last is = rw is (ap (λ (closings : List Closing). (let b : Book = record { filling = book.filling; closings = closings } in b)) (none-above book.filling.last_closed book.closings (recursion_from_All _ _ sound.closed)))
 
 -- The step of the machine.
 
-pub emptied : (s : SubscriberTables) (now : Moment) (lost : List ConflictRow) (c : Changes) → settled s.gens c.gens ≡ closed_now s.gens (record { 0 = s.changes }) → gens.IsSound (settled s.gens c.gens) → (last : ℕ) → last ≡ (closed s.gens.filling).last_closed
+pub emptied : (s : SubscriberTables) (now : Moment) (lost : List ConflictRow) (c : Changes) → book_after_plan s.gens c.gens ≡ closed_now s.gens (record { 0 = s.changes }) → gens.IsSound (book_after_plan s.gens c.gens) → (last : ℕ) → last ≡ (filling_after_close s.gens.filling).last_closed
     → c.state ≡ record { changes = s.changes; conflict_count = s.conflict_count + length lost; latest = later now s.latest; seq = s.seq; outstanding = None; received = last; watermark = 0; is_joined = false } → c.done ≡ Some last
-    → c.rows ≡ dropped_rows s.rows → c.held ≡ [] → c.conflicts.rows ≡ lost → after c s ≡ made_anew lost (subscriber_closed (subscriber_at_moment now s))
+    → c.rows ≡ dropped_rows s.rows → c.held ≡ [] → c.conflicts.rows ≡ lost → after c s ≡ tables_made_anew lost (subscriber_closed (subscriber_at_moment now s))
 emptied s now lost c closes sound last is state done rows held conflicts =
-    let book : forgotten (settled s.gens c.gens) last ≡ record (closed_now s.gens (record { 0 = s.changes })) { closings = [] } =
-    emptied-book (settled s.gens c.gens) sound last (is ∙ ap (λ (b : Book). b.filling.last_closed) (sym closes)) ∙ ap (λ (b : Book). (let e : Book = record b { closings = [] } in e)) closes in
+    let book : book_after_forgetting (book_after_plan s.gens c.gens) last ≡ record (closed_now s.gens (record { 0 = s.changes })) { closings = [] } =
+    emptied-book (book_after_plan s.gens c.gens) sound last (is ∙ ap (λ (b : Book). b.filling.last_closed) (sym closes)) ∙ ap (λ (b : Book). (let e : Book = record b { closings = [] } in e)) closes in
     rw (state, done, rows, held, conflicts, book, rows-dropped s.rows, is) refl
 
 pub emptied-sound : (publication : Publication) (s : SubscriberTables) (entries : set.FinSet entry_cmp) → IsSound publication s entries → (made : SubscriberTables) → made.rows ≡ [] → made.held ≡ s.held → made.received ≤ made.gens.filling.last_closed → made.gens.filling.last_closed ≤ number_limit → AreNumbered made.conflict_count made.conflicts
@@ -205,11 +205,11 @@ anew-numbered h now view sound d items lost is =
 
 pub emptied-draft : (h now : Held) → h ≡ now → (moment : Moment) (lost : List ConflictRow) (d : Changes) (plan : GenerationPlan) (last : ℕ) (rows : List (Edit RowKey SubscriberRow)) (kept : ConflictPlan)
     → d ≡ record { state = record { changes = h.state.changes; conflict_count = h.state.conflict_count + length lost; latest = later moment h.state.latest; seq = h.state.seq; outstanding = None; received = last; watermark = 0; is_joined = false }; gens = plan; done = Some last; rows = rows; held = []; conflicts = kept }
-    → settled h.gens.book plan ≡ closed_now h.gens.book (record { 0 = h.state.changes }) → (prepared : BookWithRoom) → prepared.book ≡ h.gens.book → IsPrepared prepared plan
-    → last ≡ (closed h.gens.book.filling).last_closed → rows ≡ dropped_rows h.rows.rows → kept.rows ≡ lost → after d (tables_of now) ≡ made_anew lost (subscriber_closed (subscriber_at_moment moment (tables_of now)))
+    → book_after_plan h.gens.book plan ≡ closed_now h.gens.book (record { 0 = h.state.changes }) → (prepared : BookWithRoom) → prepared.book ≡ h.gens.book → IsPrepared prepared plan
+    → last ≡ (filling_after_close h.gens.book.filling).last_closed → rows ≡ dropped_rows h.rows.rows → kept.rows ≡ lost → after d (tables_of now) ≡ tables_made_anew lost (subscriber_closed (subscriber_at_moment moment (tables_of now)))
 emptied-draft h now view moment lost d plan last rows kept is closes prepared same ready last_is dropped lost_is =
-    let sound : gens.IsSound (settled h.gens.book plan) = subst (λ (b : Book). gens.IsSound (settled b plan)) same ready.sound in
-    subst (λ (x : Held). after d (tables_of x) ≡ made_anew lost (subscriber_closed (subscriber_at_moment moment (tables_of x)))) view
+    let sound : gens.IsSound (book_after_plan h.gens.book plan) = subst (λ (b : Book). gens.IsSound (book_after_plan b plan)) same ready.sound in
+    subst (λ (x : Held). after d (tables_of x) ≡ tables_made_anew lost (subscriber_closed (subscriber_at_moment moment (tables_of x)))) view
     (rw is (emptied (tables_of h) moment lost (record { state = record { changes = h.state.changes; conflict_count = h.state.conflict_count + length lost; latest = later moment h.state.latest; seq = h.state.seq; outstanding = None; received = last; watermark = 0; is_joined = false }; gens = plan; done = Some last; rows = rows; held = []; conflicts = kept })
     closes sound last last_is refl refl dropped refl lost_is))
 
@@ -224,9 +224,9 @@ emptied-ready old now view sound h same lost numbered d count counted all rows h
     subst (λ (n : ℕ). AreNumbered n (old.conflicts.rows ++ d.conflicts.rows)) (sym counts) (subst (λ (more : List ConflictRow). AreNumbered (old.state.conflict_count + length lost) (old.conflicts.rows ++ more)) (sym conflicts) before) in
     let none : rows_after_all key_cmp old.rows.rows d.rows ≡ [] = ap (λ (edits : List (Edit RowKey SubscriberRow)). rows_after_all key_cmp old.rows.rows edits) rows ∙ rows-dropped old.rows.rows in
     let ranges : rows_after_all nat_cmp old.held.rows d.held ≡ old.held.rows = ap (λ (edits : List (Edit ℕ Holder)). rows_after_all nat_cmp old.held.rows edits) held in
-    let last : (forgotten_if_any (settled old.gens.book d.gens) d.done).filling.last_closed ≡ d.gens.filling.last_closed = ap (λ (filling : Filling). filling.last_closed) (forgotten-filling (settled old.gens.book d.gens) d.done) in
-    let within : d.state.received ≤ (forgotten_if_any (settled old.gens.book d.gens) d.done).filling.last_closed = omega (arith, received, last) in
-    let limited : (forgotten_if_any (settled old.gens.book d.gens) d.done).filling.last_closed ≤ number_limit = omega (arith, last, closes.limited sound.limited) in
+    let last : (forgotten_if_any (book_after_plan old.gens.book d.gens) d.done).filling.last_closed ≡ d.gens.filling.last_closed = ap (λ (filling : Filling). filling.last_closed) (forgotten-filling (book_after_plan old.gens.book d.gens) d.done) in
+    let within : d.state.received ≤ (forgotten_if_any (book_after_plan old.gens.book d.gens) d.done).filling.last_closed = omega (arith, received, last) in
+    let limited : (forgotten_if_any (book_after_plan old.gens.book d.gens) d.done).filling.last_closed ≤ number_limit = omega (arith, last, closes.limited sound.limited) in
     let there : IsSound old.publication (after d (tables_of old)) (entries_after_all old.unsent.entries (dropped_entries old.rows.rows)) = emptied-sound old.publication (tables_of old) old.unsent.entries sound (after d (tables_of old)) none ranges within limited behind in
     subst (λ (i : List (Edit IndexEntry (Unit {0}))). IsSound old.publication (after d (tables_of h)) (entries_after_all old.unsent.entries i)) (sym is)
     (subst (λ (s : SubscriberTables). IsSound old.publication (after d s) (entries_after_all old.unsent.entries (dropped_entries old.rows.rows))) (sym same) there)

@@ -7,7 +7,7 @@ use Rattle.std.proofs.lemmas.List.{append-nil}
 use Rattle.std.proofs.lemmas.List.Elements.{recursion_from_All}
 use Rattle.merge_types.specs.declared.identifiers.Moment.{Moment}
 use Rattle.merge_gens.specs.Book.{Book, IsSound, closed_now, closing_at, closings_between, moment_of}
-use Rattle.merge_gens.specs.Filling.{closed}
+use Rattle.merge_gens.specs.Filling.{filling_after_close}
 use Rattle.merge_gens.specs.declared.closings.Closing.{Closing}
 use Rattle.merge_gens.specs.declared.filling.Filling.{Filling}
 
@@ -44,7 +44,7 @@ pub through_closed : (book : Book) (changes to : ℕ) → IsSound book → to �
 through_closed book changes to sound is some =
     let moment : Moment = record { 0 = changes } in
     let filled : (book.filling.filled == 0) ≡ false = grind (arith, nat_tests, some) in
-    let closings : closings_between book.filling.last_closed (closed book.filling).last_closed moment ≡ closing_at moment (book.filling.last_closed + 1) ∷ [] =
+    let closings : closings_between book.filling.last_closed (filling_after_close book.filling).last_closed moment ≡ closing_at moment (book.filling.last_closed + 1) ∷ [] =
     ap (λ (b : Bool). closings_between book.filling.last_closed (closed_with b book.filling).last_closed moment) filled ∙ between-one book.filling.last_closed moment in
     let here : is_generation to (closing_at moment (book.filling.last_closed + 1)) ≡ true = grind (arith, nat_tests, is) in
     ap (λ (more : List Closing). option_map (λ (c : Closing). c.moment.0) (find (is_generation to) (book.closings ++ more))) closings

@@ -14,7 +14,7 @@ use Rattle.merge_units.specs.declared.version.Version.{Version}
 use Rattle.merge_batch.specs.declared.request.UploadItem.{UploadItem}
 use Rattle.merge_conflict.specs.declared.row.ConflictRow.{ConflictRow}
 use Rattle.merge_model.specs.Judge.ByNumbers.{by_rows, is_unsent_by_rows, last_between}
-use Rattle.merge_model.specs.Subscriber.Reinit.{discarded, made_anew, numbered_from, reinitialise}
+use Rattle.merge_model.specs.Subscriber.Reinit.{discarded_rows_from, discarded_versions, reinitialise, tables_made_anew}
 use Rattle.merge_model.specs.Publisher.{later}
 use Rattle.merge_model.specs.Tables.Refusals.{counter_end}
 use Rattle.merge_model.specs.Subscriber.{subscriber_at_moment, subscriber_closed, subscriber_counters}
@@ -49,9 +49,9 @@ abbrev unsent_at : SubscriberTables → ℕ → RowKey → Option UploadItem
 unsent_at s closed = item_at s.rows s.received (closed + 1)
 
 number-step : (s t : SubscriberTables) (closed number : ℕ) (row : RowKey × SubscriberRow) (rows : Rows) (last : Option ℕ) (unsent : Bool) → unsent ≡ is_some last
-    → ((n : ℕ) → lost_from (discarding t) n (filter_map (unsent_at s closed) (keys_of rows)) ≡ numbered_from t n (filter_map (discarded_version s) rows))
+    → ((n : ℕ) → lost_from (discarding t) n (filter_map (unsent_at s closed) (keys_of rows)) ≡ discarded_rows_from t n (filter_map (discarded_version s) rows))
     → lost_from (discarding t) number (cons_option (option_map (row_item row.0 row.1) last) (filter_map (unsent_at s closed) (keys_of rows)))
-    ≡ numbered_from t number (let kept : Option (RowKey × Version) = if unsent then Some (row.0, row.1.version) else None in cons_option kept (filter_map (discarded_version s) rows))
+    ≡ discarded_rows_from t number (let kept : Option (RowKey × Version) = if unsent then Some (row.0, row.1.version) else None in cons_option kept (filter_map (discarded_version s) rows))
 number-step s t closed number row rows None true is more = absurd cc
 number-step s t closed number row rows None false is more = more number
 number-step s t closed number row rows (Some generation) true is more = ap (λ (rest : List ConflictRow). lost_row (discarding t) number (row_item row.0 row.1 generation) ∷ rest) (more (number + 1))
@@ -59,7 +59,7 @@ number-step s t closed number row rows (Some generation) false is more = absurd 
 
 -- the rows that are unsent, numbered in the order of their keys
 lost-numbered : (s t : SubscriberTables) (closed : ℕ) → KeepOpened closed s.rows → (rows : Rows) → AreFound s.rows rows → (number : ℕ)
-    → lost_from (discarding t) number (filter_map (unsent_at s closed) (keys_of rows)) ≡ numbered_from t number (filter_map (discarded_version s) rows)
+    → lost_from (discarding t) number (filter_map (unsent_at s closed) (keys_of rows)) ≡ discarded_rows_from t number (filter_map (discarded_version s) rows)
 unfolding KeepOpened
 lost-numbered s t closed opened [] found number = refl
 lost-numbered s t closed opened (row ∷ rows) found number =
@@ -72,10 +72,10 @@ lost-numbered s t closed opened (row ∷ rows) found number =
 
 anew-made : (s : SubscriberTables) (now : Moment) → counter_end (subscriber_counters s) ≡ None → IsStrictlySortedBy key_cmp (keys_of s.rows) → (closed : ℕ) → KeepOpened closed s.rows → (latest : Moment) → latest ≡ later now s.latest
     → (items : List UploadItem) → items ≡ filter_map (unsent_at s closed) (keys_of s.rows) → (lost : List ConflictRow) → lost ≡ lost_from (record { site = s.site; latest = latest }) (s.conflict_count + 1) items
-    → (made : SubscriberTables) → made ≡ made_anew lost (subscriber_closed (subscriber_at_moment now s)) → (count : ℕ) → count ≡ length lost
+    → (made : SubscriberTables) → made ≡ tables_made_anew lost (subscriber_closed (subscriber_at_moment now s)) → (count : ℕ) → count ≡ length lost
     → reinitialise (by_rows s) now s ≡ Ok (made, count)
 anew-made s now below sorted closed opened latest late items unsent lost is made done count all =
-    let numbered : lost ≡ numbered_from (subscriber_at_moment now s) (s.conflict_count + 1) (discarded (by_rows s) (subscriber_at_moment now s)) =
+    let numbered : lost ≡ discarded_rows_from (subscriber_at_moment now s) (s.conflict_count + 1) (discarded_versions (by_rows s) (subscriber_at_moment now s)) =
     is
     ∙ ap (λ (m : Moment). lost_from (record { site = s.site; latest = m }) (s.conflict_count + 1) items) late
     ∙ ap (λ (xs : List UploadItem). lost_from (record { site = s.site; latest = later now s.latest }) (s.conflict_count + 1) xs) unsent
@@ -86,7 +86,7 @@ pub anew-done : (h now : Held) → h ≡ now → (moment : Moment) → counter_e
     → (latest : Moment) → latest ≡ later moment h.state.latest
     → (items : List UploadItem) → items ≡ filter_map (item_at h.rows.rows h.state.received (h.gens.book.filling.last_closed + 1)) (keys_of h.rows.rows)
     → (lost : List ConflictRow) → lost ≡ lost_from (record { site = h.site; latest = latest }) (h.state.conflict_count + 1) items
-    → (made : SubscriberTables) → made ≡ made_anew lost (subscriber_closed (subscriber_at_moment moment (tables_of now))) → (count : ℕ) → count ≡ length lost → reinitialise (by_rows (tables_of now)) moment (tables_of now) ≡ Ok (made, count)
+    → (made : SubscriberTables) → made ≡ tables_made_anew lost (subscriber_closed (subscriber_at_moment moment (tables_of now))) → (count : ℕ) → count ≡ length lost → reinitialise (by_rows (tables_of now)) moment (tables_of now) ≡ Ok (made, count)
 anew-done h now view moment below sorted sound latest late items unsent lost is made done count all =
     anew-made (tables_of now) moment below (subst (λ (x : Held). IsStrictlySortedBy key_cmp (keys_of x.rows.rows)) view sorted)
     now.gens.book.filling.last_closed (subst (λ (x : Held). KeepOpened x.gens.book.filling.last_closed x.rows.rows) view sound.opened)

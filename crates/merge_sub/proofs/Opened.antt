@@ -6,8 +6,8 @@ use Rattle.merge_types.specs.declared.identifiers.Moment.{Moment}
 use Rattle.merge_types.specs.declared.row_key.RowKey.{RowKey}
 use Rattle.merge_units.specs.declared.site_row.SubscriberRow.{SubscriberRow}
 use Rattle.merge_gens.specs.Book.{Book, closed_now, forgotten_if_any}
-use Rattle.merge_gens.specs.Filling.{closed}
-use Rattle.merge_gens.specs.Plan.{settled}
+use Rattle.merge_gens.specs.Filling.{filling_after_close}
+use Rattle.merge_gens.specs.Plan.{book_after_plan}
 use Rattle.merge_gens.specs.declared.filling.Filling.{Filling}
 use Rattle.merge_gens.specs.declared.plan.GenerationPlan.{GenerationPlan}
 use Rattle.merge_model.proofs.Lists.{all-append}
@@ -73,14 +73,14 @@ closed-step : (filling : Filling) (empty : Bool) → filling.last_closed < count
 closed-step filling true below = record { rises = omega arith; limited = λ low. low }
 closed-step filling false below = record { rises = omega arith; limited = λ low. omega (arith, below) }
 
-pub closing-goes-on : (h now : Held) → h ≡ now → (moment : Moment) (plan : GenerationPlan) → now.gens.book.filling.last_closed < counter_limit → settled h.gens.book plan ≡ closed_now h.gens.book moment
+pub closing-goes-on : (h now : Held) → h ≡ now → (moment : Moment) (plan : GenerationPlan) → now.gens.book.filling.last_closed < counter_limit → book_after_plan h.gens.book plan ≡ closed_now h.gens.book moment
     → GoesOn h.gens.book.filling.last_closed plan.filling.last_closed
 closing-goes-on h now view moment plan below is =
     let low : h.gens.book.filling.last_closed < counter_limit = subst (λ (x : Held). x.gens.book.filling.last_closed < counter_limit) (sym view) below in
     subst (λ (b : Book). GoesOn h.gens.book.filling.last_closed b.filling.last_closed) (sym is) (closed-step h.gens.book.filling (h.gens.book.filling.filled == 0) low)
 
 -- where nothing changes
-pub still-goes-on : (book : Book) (plan : GenerationPlan) → settled book plan ≡ book → GoesOn book.filling.last_closed plan.filling.last_closed
+pub still-goes-on : (book : Book) (plan : GenerationPlan) → book_after_plan book plan ≡ book → GoesOn book.filling.last_closed plan.filling.last_closed
 still-goes-on book plan is =
     let same : plan.filling.last_closed ≡ book.filling.last_closed = ap (λ (b : Book). b.filling.last_closed) is in
     record { rises = omega (arith, same); limited = λ low. omega (arith, same, low) }
@@ -89,7 +89,7 @@ still-goes-on book plan is =
 pub entry-goes-on : (closed filled : ℕ) → closed < counter_limit → filled < entry_limit → GoesOn closed (closed + (filled + 1) / entry_limit)
 entry-goes-on closed filled below unfilled = record { rises = omega arith; limited = λ low. omega (arith, below, unfilled) }
 
-pub closing-last : (book : Book) (moment : Moment) (plan : GenerationPlan) → settled book plan ≡ closed_now book moment → (last : ℕ) → last ≡ (closed book.filling).last_closed → last ≡ plan.filling.last_closed
+pub closing-last : (book : Book) (moment : Moment) (plan : GenerationPlan) → book_after_plan book plan ≡ closed_now book moment → (last : ℕ) → last ≡ (filling_after_close book.filling).last_closed → last ≡ plan.filling.last_closed
 closing-last book moment plan is last closes = closes ∙ ap (λ (b : Book). b.filling.last_closed) (sym is)
 
 pub forgotten-filling : (book : Book) (up_to : Option ℕ) → (forgotten_if_any book up_to).filling ≡ book.filling

@@ -29,7 +29,7 @@ use Rattle.merge_model.specs.Judge.{SubscriberJudge}
 use Rattle.merge_model.specs.Publisher.{later}
 use Rattle.merge_model.specs.Tables.Refusals.{unless}
 use Rattle.merge_model.specs.Tables.{SubscriberTables}
-use Rattle.merge_model.specs.Subscriber.Taking.{after_reply, met_by, seq_of, take_reply, taken}
+use Rattle.merge_model.specs.Subscriber.Taking.{after_reply, met_by, seq_of, tables_after_reply, take_reply}
 use Rattle.merge_model.specs.declared.outcome.Taken.{Taken}
 use Rattle.merge_model.specs.declared.outcome.Taken.TheVariants.{Acted, Missed}
 use Rattle.merge_model.proofs.Lists.Tests.{if-true}
@@ -141,18 +141,18 @@ met publication judge now (reply.Downloaded m) s seq is = (refl, (let same : m.s
 met publication judge now (reply.Refused number values) s seq is = absurd cc
 
 reply-here : (publication : Publication) (judge : SubscriberJudge) (now : Moment) (m : Reply) (s : SubscriberTables) (seq own : ℕ) (sent : Outstanding) → answered_seq m ≡ Some seq → s.outstanding ≡ Some (own, sent) → own ≡ seq
-    → take_reply publication judge now m s ≡ unless (reply_fault publication sent m s) (taken judge now m s, Acted)
+    → take_reply publication judge now m s ≡ unless (reply_fault publication sent m s) (tables_after_reply judge now m s, Acted)
 reply-here publication judge now m s seq own sent is out same =
     let meets = met publication judge now m s seq is in
     let here : (own == seq_of m) ≡ true = (let number : own ≡ seq_of m = same ∙ sym meets.1 in grind (arith, nat_tests, number)) in
     meets.0 ∙ ap (met_by publication judge now m s) out
-    ∙ if-true (own == seq_of m) (unless (reply_fault publication sent m s) (taken judge now m s, Acted)) (Ok (s, Missed (seq_of m) own)) here
+    ∙ if-true (own == seq_of m) (unless (reply_fault publication sent m s) (tables_after_reply judge now m s, Acted)) (Ok (s, Missed (seq_of m) own)) here
 
 reply-taken : (publication : Publication) (judge : SubscriberJudge) (now : Moment) (m : Reply) (s : SubscriberTables) (seq own : ℕ) (sent : Outstanding) → answered_seq m ≡ Some seq → s.outstanding ≡ Some (own, sent) → own ≡ seq
     → reply_fault publication sent m s ≡ None → (latest : Moment) → latest ≡ later now s.latest → (made : SubscriberTables) → made ≡ after_reply judge m (answered latest s) → take_reply publication judge now m s ≡ Ok (made, Acted)
 reply-taken publication judge now m s seq own sent is out same fits latest late made done =
     reply-here publication judge now m s seq own sent is out same
-    ∙ ap (λ (why : Option Refusal). unless why (taken judge now m s, Acted)) fits
+    ∙ ap (λ (why : Option Refusal). unless why (tables_after_reply judge now m s, Acted)) fits
     ∙ ap (λ (t : SubscriberTables). (let did : Result (SubscriberTables × Taken) Refusal = Ok (t, Acted) in did)) (sym (done ∙ ap (λ (moment : Moment). after_reply judge m (answered moment s)) late))
 
 -- The same for what is held.
@@ -179,20 +179,20 @@ taken_in (Ok done) = done.1
 taken_in (Err why) = Acted
 
 module _ (old now : Held) (view : old ≡ now) (moment : Moment) (m : Reply) (seq own : ℕ) (sent : Outstanding) (is : answered_seq m ≡ Some seq) (out : old.state.outstanding ≡ Some (own, sent)) (same : own ≡ seq) where
-  reply-meets : take_reply now.publication (by_rows (tables_of now)) moment m (tables_of now) ≡ unless (reply_fault now.publication sent m (tables_of now)) (taken (by_rows (tables_of now)) moment m (tables_of now), Acted)
+  reply-meets : take_reply now.publication (by_rows (tables_of now)) moment m (tables_of now) ≡ unless (reply_fault now.publication sent m (tables_of now)) (tables_after_reply (by_rows (tables_of now)) moment m (tables_of now), Acted)
   reply-meets = reply-here now.publication (by_rows (tables_of now)) moment m (tables_of now) seq own sent is (subst (λ (x : Held). x.state.outstanding ≡ Some (own, sent)) view out) same
 
   -- one that fits and answers the outstanding message acts
   pub reply-commits : reply_fault now.publication sent m (tables_of now) ≡ None → (s : SubscriberTables) (done : Taken) → take_reply now.publication (by_rows (tables_of now)) moment m (tables_of now) ≡ Ok (s, done) → reply_commits m done ≡ true
   reply-commits fits s done took =
-      let acts : take_reply now.publication (by_rows (tables_of now)) moment m (tables_of now) ≡ Ok (taken (by_rows (tables_of now)) moment m (tables_of now), Acted) =
-      reply-meets ∙ ap (λ (why : Option Refusal). unless why (taken (by_rows (tables_of now)) moment m (tables_of now), Acted)) fits in
+      let acts : take_reply now.publication (by_rows (tables_of now)) moment m (tables_of now) ≡ Ok (tables_after_reply (by_rows (tables_of now)) moment m (tables_of now), Acted) =
+      reply-meets ∙ ap (λ (why : Option Refusal). unless why (tables_after_reply (by_rows (tables_of now)) moment m (tables_of now), Acted)) fits in
       subst (λ (t : Taken). reply_commits m t ≡ true) (ap taken_in (sym acts ∙ took)) (acted-commits m seq is)
 
   -- and one that does not fit is not taken
   pub reply-broken : (why : Refusal) → reply_fault now.publication sent m (tables_of now) ≡ Some why → (s : SubscriberTables) (done : Taken) → take_reply now.publication (by_rows (tables_of now)) moment m (tables_of now) ≡ Ok (s, done) → ⊥
   reply-broken why broken s done took =
       let breaks : take_reply now.publication (by_rows (tables_of now)) moment m (tables_of now) ≡ Err why =
-      reply-meets ∙ ap (λ (other : Option Refusal). unless other (taken (by_rows (tables_of now)) moment m (tables_of now), Acted)) broken in
+      reply-meets ∙ ap (λ (other : Option Refusal). unless other (tables_after_reply (by_rows (tables_of now)) moment m (tables_of now), Acted)) broken in
       let no = sym took ∙ breaks in
       cc

@@ -14,7 +14,7 @@ use Rattle.merge_table.specs.declared.edit.Edit.{Edit}
 use Rattle.merge_units.specs.declared.site_row.SubscriberRow.{SubscriberRow}
 use Rattle.merge_gens.specs.Entries.{entry_cmp}
 use Rattle.merge_gens.specs.Index.{entries_after_all}
-use Rattle.merge_gens.specs.Plan.{settled}
+use Rattle.merge_gens.specs.Plan.{book_after_plan}
 use Rattle.merge_gens.specs.declared.index.IndexEntry.{IndexEntry}
 use Rattle.merge_gens.specs.declared.plan.GenerationPlan.{GenerationPlan}
 use Rattle.merge_conflict.specs.declared.table.ConflictPlan.{ConflictPlan}
@@ -109,7 +109,7 @@ orders-sound publication s entries sound state changes counts within keys keepin
 -- the changes of such a reply
 pub record AreTaken (s : SubscriberTables) (state : State) (keys : List RowKey) (items : List DownloadItem) (c : Changes) : Type 0 where
   pub own : c.state ≡ state
-  pub gens : settled s.gens c.gens ≡ s.gens
+  pub gens : book_after_plan s.gens c.gens ≡ s.gens
   pub done : c.done ≡ Some state.received
   pub rows : c.rows ≡ edits_by s.rows state.received keys items
   pub held : c.held ≡ []
@@ -125,7 +125,7 @@ taken-after s state keys items c are keeping =
 
 pub record AreGranted (s : SubscriberTables) (state : State) (ranged : Ranged) (c : Changes) : Type 0 where
   pub own : c.state ≡ state
-  pub gens : settled s.gens c.gens ≡ s.gens
+  pub gens : book_after_plan s.gens c.gens ≡ s.gens
   pub done : c.done ≡ None
   pub rows : c.rows ≡ []
   pub held : c.held ≡ filter_map (granted s.held) ranged.grants

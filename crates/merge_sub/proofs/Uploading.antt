@@ -5,8 +5,8 @@ use Rattle.std.proofs.lemmas.List.{append-nil}
 use Rattle.merge_types.specs.declared.identifiers.Moment.{Moment}
 use Rattle.merge_types.specs.declared.row_key.RowKey.{RowKey}
 use Rattle.merge_gens.specs.Book.{closed_now, moment_of}
-use Rattle.merge_gens.specs.Filling.{closed}
-use Rattle.merge_gens.specs.Plan.{settled}
+use Rattle.merge_gens.specs.Filling.{filling_after_close}
+use Rattle.merge_gens.specs.Plan.{book_after_plan}
 use Rattle.merge_gens.specs.declared.plan.GenerationPlan.{GenerationPlan}
 use Rattle.merge_batch.specs.declared.refusal.Refusal.{Refusal}
 use Rattle.merge_batch.specs.declared.request.Outstanding.TheVariants as ask
@@ -28,22 +28,22 @@ use Rattle.merge_sub.specs.declared.changes.Changes.{Changes}
 use Rattle.merge_sub.specs.declared.changes.Draft.{Draft}
 
 sent-by : (s : SubscriberTables) (moment : Moment) (draft : Draft) (plan : GenerationPlan) (last to : ℕ) (keys : List RowKey) (items : List UploadItem) (through : ℕ)
-    → last ≡ (closed s.gens.filling).last_closed → to ≡ batch_end (changed_count s.rows s.received) s.received last → AreChanged s.rows s.received to keys
+    → last ≡ (filling_after_close s.gens.filling).last_closed → to ≡ batch_end (changed_count s.rows s.received) s.received last → AreChanged s.rows s.received to keys
     → items ≡ filter_map (item_at s.rows s.received to) keys → through ≡ unwrap_or (moment_of (closed_now s.gens (record { 0 = s.changes })).closings to) 0
     → draft.changes ≡ still_changes (record { changes = s.changes; conflict_count = s.conflict_count; latest = later moment s.latest; seq = s.seq + 1; outstanding = Some (s.seq + 1, ask.Upload s.received to); received = s.received; watermark = s.watermark; is_joined = s.is_joined }) plan
-    → settled s.gens plan ≡ closed_now s.gens (record { 0 = s.changes })
+    → book_after_plan s.gens plan ≡ closed_now s.gens (record { 0 = s.changes })
     → drafted s (draft, record { site = s.site; seq = s.seq + 1; from = s.received; to = to; through = through; items = items }) ≡ upload_sent (by_rows s) (subscriber_closed (subscriber_at_moment moment s))
 sent-by s moment draft plan last to keys items through last_is end changed items_are through_is changes closes =
     let all : items ≡ filter_map (upload_item s) (changed_between_by_rows s s.received to) = items_are ∙ sym (sent-items s s.received to keys changed) in
     let no_more : s.conflicts ++ [] ≡ s.conflicts = append-nil s.conflicts in
-    let ends : to ≡ batch_end (changed_count s.rows s.received) s.received (closed s.gens.filling).last_closed = end ∙ ap (batch_end (changed_count s.rows s.received) s.received) last_is in
+    let ends : to ≡ batch_end (changed_count s.rows s.received) s.received (filling_after_close s.gens.filling).last_closed = end ∙ ap (batch_end (changed_count s.rows s.received) s.received) last_is in
     rw (changes, closes, all, through_is, no_more, ends) refl
 
 pub upload-sent : (h now : Held) → h ≡ now → (moment : Moment) (draft : Draft) (plan : GenerationPlan) (last to : ℕ) (keys : List RowKey) (items : List UploadItem) (through : ℕ)
-    → last ≡ (closed h.gens.book.filling).last_closed → to ≡ batch_end (changed_count h.rows.rows h.state.received) h.state.received last → AreChanged h.rows.rows h.state.received to keys
+    → last ≡ (filling_after_close h.gens.book.filling).last_closed → to ≡ batch_end (changed_count h.rows.rows h.state.received) h.state.received last → AreChanged h.rows.rows h.state.received to keys
     → items ≡ filter_map (item_at h.rows.rows h.state.received to) keys → through ≡ unwrap_or (moment_of (closed_now h.gens.book (record { 0 = h.state.changes })).closings to) 0
     → draft.changes ≡ still_changes (record { changes = h.state.changes; conflict_count = h.state.conflict_count; latest = later moment h.state.latest; seq = h.state.seq + 1; outstanding = Some (h.state.seq + 1, ask.Upload h.state.received to); received = h.state.received; watermark = h.state.watermark; is_joined = h.state.is_joined }) plan
-    → settled h.gens.book plan ≡ closed_now h.gens.book (record { 0 = h.state.changes })
+    → book_after_plan h.gens.book plan ≡ closed_now h.gens.book (record { 0 = h.state.changes })
     → drafted (tables_of now) (draft, record { site = h.site; seq = h.state.seq + 1; from = h.state.received; to = to; through = through; items = items }) ≡ upload_sent (by_rows (tables_of now)) (subscriber_closed (subscriber_at_moment moment (tables_of now)))
 upload-sent h now view moment draft plan last to keys items through last_is end changed items_are through_is changes closes =
     subst (λ (x : Held). drafted (tables_of x) (draft, record { site = h.site; seq = h.state.seq + 1; from = h.state.received; to = to; through = through; items = items }) ≡ upload_sent (by_rows (tables_of x)) (subscriber_closed (subscriber_at_moment moment (tables_of x)))) view

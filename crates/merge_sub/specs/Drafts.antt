@@ -6,7 +6,7 @@ use Rattle.merge_table.specs.Edits.{IsReady, rows_after_all}
 use Rattle.merge_gens.specs.Book.{forgotten_if_any}
 use Rattle.merge_gens.specs.Entries.{entry_cmp}
 use Rattle.merge_gens.specs.Index.{entries_after_all}
-use Rattle.merge_gens.specs.Plan.{IsPrepared, settled}
+use Rattle.merge_gens.specs.Plan.{IsPrepared, book_after_plan}
 use Rattle.merge_conflict.specs.Table as conflicts
 use Rattle.merge_model.specs.Tables.{SubscriberTables}
 use Rattle.merge_sub.specs.Held.{Held, IsSound, tables_of}
@@ -18,7 +18,7 @@ abbrev pub after : Changes → SubscriberTables → SubscriberTables
 after c s = record {
   site = s.site;
   changes = c.state.changes;
-  gens = forgotten_if_any (settled s.gens c.gens) c.done;
+  gens = forgotten_if_any (book_after_plan s.gens c.gens) c.done;
   conflict_count = c.state.conflict_count;
   latest = c.state.latest;
   seq = c.state.seq;

@@ -7,7 +7,7 @@ use Rattle.merge_types.specs.declared.values.Value.{Value}
 use Rattle.merge_table.specs.declared.edit.Edit.{Edit}
 use Rattle.merge_table.specs.declared.edit.Edit.TheVariants.{Put, Take}
 use Rattle.merge_units.specs.declared.site_row.SubscriberRow.{SubscriberRow}
-use Rattle.merge_gens.specs.Book.{entered}
+use Rattle.merge_gens.specs.Book.{book_after_entries}
 use Rattle.merge_gens.specs.declared.index.IndexEntry.{IndexEntry}
 use Rattle.merge_ident.specs.Holders.{Holder}
 use Rattle.merge_schema.specs.declared.publication.Publication.{Publication}
@@ -29,7 +29,7 @@ with_change key row held latest s = record s {
   changes = s.changes + 1;
   latest = latest;
   rows = put_row s.rows key row;
-  gens = entered s.gens 1 (record { 0 = s.changes + 1 });
+  gens = book_after_entries s.gens 1 (record { 0 = s.changes + 1 });
   held = held;
 }
 

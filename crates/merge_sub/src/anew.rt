@@ -5,7 +5,7 @@ ghost use Rattle.merge_batch.specs.declared.refusal.Refusal.{Refusal as OneRefus
 ghost use Rattle.merge_batch.specs.declared.refusal.Refusal.TheVariants.{NoMemory as no_memory};
 ghost use Rattle.merge_conflict.specs.Rising.{AreRising};
 ghost use Rattle.merge_model.specs.Judge.ByNumbers.{by_rows};
-ghost use Rattle.merge_model.specs.Subscriber.Reinit.{made_anew, reinitialise};
+ghost use Rattle.merge_model.specs.Subscriber.Reinit.{reinitialise, tables_made_anew};
 ghost use Rattle.merge_model.specs.Subscriber.{subscriber_at_moment, subscriber_closed};
 ghost use Rattle.merge_sub.specs.Anew.{dropped_entries, dropped_rows, lost_from, lost_row};
 ghost use Rattle.merge_sub.specs.Drafts.{IsDrafted, after, drafted};
@@ -141,7 +141,7 @@ impl Subscriber {
         requires few { length lost < 2 ^ 63 }
         requires rising { AreRising (self.old.conflicts.rows ++ lost) }
         requires numbered { AreNumbered (self.old.state.conflict_count + length lost) (self.old.conflicts.rows ++ lost) }
-        ensures made { IfOk result (λ draft. after draft.changes (tables_of self.old) ≡ made_anew lost (subscriber_closed (subscriber_at_moment now (tables_of self.old)))) }
+        ensures made { IfOk result (λ draft. after draft.changes (tables_of self.old) ≡ tables_made_anew lost (subscriber_closed (subscriber_at_moment now (tables_of self.old)))) }
         ensures ready { IfOk result (λ draft. IsDrafted self.new draft) }
         ensures same { tables_of self.new ≡ tables_of self.old }
         ensures publication { self.new.publication ≡ self.old.publication }

@@ -3,9 +3,9 @@ use Rattle.std.proofs.Common.{Err, List, Ok, Option, Result, inl, inr, ℕ, ◌�
 use Rattle.merge_types.specs.declared.identifiers.SiteId.{SiteId}
 use Rattle.merge_schema.specs.declared.publication.Publication.{Publication}
 use Rattle.merge_agent.specs.declared.fault.Done.{Done}
-use Rattle.merge_sync.specs.Ends.{Ends, Undone}
+use Rattle.merge_sync.specs.Ends.{Ends, SessionStops}
 use Rattle.merge_sync.specs.Stops.{done_text}
-use Rattle.merge_sync.specs.Stores.{Around, Held}
+use Rattle.merge_sync.specs.Stores.{Around, SessionIsHeld}
 use Rattle.merge_sync.specs.Written.{IsUnwritten}
 use Rattle.merge_sync.specs.declared.stop.Stop.{Stop}
 use Rattle.merge_sync.specs.declared.stop.Stop.TheVariants as stop
@@ -15,7 +15,7 @@ module _ (address : List ℕ) (publication : Publication) (site : SiteId) (aroun
   EndsSo r = Ends address publication site around was written writes refused r
 
   -- it was not done, and nothing was written
-  pub not-done : (s : Stop) → Undone address publication site around s → written ≡ was → EndsSo (Err s)
+  pub not-done : (s : Stop) → SessionStops address publication site around s → written ≡ was → EndsSo (Err s)
   not-done stop.WriteFault p silent = absurd p
   not-done stop.NoMemory p silent = (silent, inl p)
   not-done stop.StoreFault p silent = (silent, p)
@@ -26,7 +26,7 @@ module _ (address : List ℕ) (publication : Publication) (site : SiteId) (aroun
   not-done (stop.Refused number) p silent = (silent, p)
 
   -- it was done, and its line was not written whole
-  pub not-written : (done : Done) → Held address publication site around (Ok done) → (s : Stop) → IsUnwritten s (done_text done) was written writes refused → EndsSo (Err s)
+  pub not-written : (done : Done) → SessionIsHeld address publication site around (Ok done) → (s : Stop) → IsUnwritten s (done_text done) was written writes refused → EndsSo (Err s)
   not-written done held stop.WriteFault p = ((done, held, p.0), p.1)
   not-written done held stop.NoMemory p = (p, inr (done, held))
   not-written done held stop.StoreFault p = absurd p

@@ -21,15 +21,15 @@ use Rattle.merge_agent.specs.Sessions.{Syncs}
 use Rattle.merge_agent.specs.declared.fault.Done.{Done}
 use Rattle.merge_agent.specs.declared.fault.SessionFault.{SessionFault}
 use Rattle.merge_agent.specs.declared.fault.SessionFault.TheVariants as session
-use Rattle.merge_sync.specs.Ends.{Meets, Undone}
+use Rattle.merge_sync.specs.Ends.{Meets, SessionStops}
 use Rattle.merge_sync.specs.Stops.{met_by}
-use Rattle.merge_sync.specs.Stores.{Around, Begins, Held, IsUnstarted}
+use Rattle.merge_sync.specs.Stores.{Around, Begins, IsUnstarted, SessionIsHeld}
 use Rattle.merge_sync.specs.declared.stop.Stop.{Stop}
 use Rattle.merge_sync.specs.declared.stop.Stop.TheVariants as stop
 
 module _ (address : List ℕ) (publication : Publication) (site : SiteId) (around : Around) where
   abbrev HeldSo : Result Done SessionFault → Type 0
-  HeldSo r = Held address publication site around r
+  HeldSo r = SessionIsHeld address publication site around r
 
   -- faults of the link, and of the store, in a session
 
@@ -73,7 +73,7 @@ module _ (address : List ℕ) (publication : Publication) (site : SiteId) (aroun
     }
 
     -- no session was held, and the link was given back
-    undone-by : (s : Stop) → IsUnstarted publication site s around.stored around.stores around.stores_after → around.kept ≡ around.stored → IfSome around.carried (λ (e : List Exchange). e ≡ []) → around.peer ≡ Some address → Undone address publication site around s
+    undone-by : (s : Stop) → IsUnstarted publication site s around.stored around.stores around.stores_after → around.kept ≡ around.stored → IfSome around.carried (λ (e : List Exchange). e ≡ []) → around.peer ≡ Some address → SessionStops address publication site around s
     undone-by stop.StoreFault p same unasked reached = (p, inl (record { same = same; unasked = unasked; reached = reached }))
     undone-by (stop.Damaged table key) p same unasked reached = (p, record { same = same; unasked = unasked; reached = reached })
     undone-by stop.NoMemory p same unasked reached = inl (inr (record { same = same; unasked = unasked; reached = reached }))
@@ -81,7 +81,7 @@ module _ (address : List ℕ) (publication : Publication) (site : SiteId) (aroun
 
     pub undone-so : (s : Stop) (stored : Option Map) → stored ≡ around.stored → (before after : ℕ) → before ≡ around.stores → after ≡ around.stores_after → IsUnstarted own site s stored before after
         → around.kept ≡ stored → (exchanges : Option (List Exchange)) → around.carried ≡ exchanges → IfSome exchanges (λ (e : List Exchange). e ≡ []) → around.peer ≡ Some address
-        → Undone address publication site around s
+        → SessionStops address publication site around s
     undone-so s stored told before after first last p same exchanges carried unasked reached = undone-by s
         (subst (λ (q : Publication). IsUnstarted q site s around.stored around.stores around.stores_after) copied
         (subst (λ (n : ℕ). IsUnstarted own site s around.stored around.stores n) last

@@ -9,33 +9,33 @@ use Rattle.merge_ports.specs.Parts.{AppendsFront}
 use Rattle.merge_agent.specs.declared.fault.Done.{Done}
 use Rattle.merge_agent.specs.declared.fault.SessionFault.TheVariants as session
 use Rattle.merge_sync.specs.Stops.{done_text}
-use Rattle.merge_sync.specs.Stores.{Around, Held, IsDamagedAs, Unheld, Unsent}
+use Rattle.merge_sync.specs.Stores.{Around, IsDamagedAs, LinkCarriesNothing, NoSessionIsHeld, SessionIsHeld}
 use Rattle.merge_sync.specs.declared.stop.Stop.{Stop}
 use Rattle.merge_sync.specs.declared.stop.Stop.TheVariants.{BadReply, Damaged, Expired, LinkFault, NoMemory, Refused, StoreFault, WriteFault}
 
 -- why a session was not done
-abbrev pub Undone : (address : List ℕ) → Publication → SiteId → Around → Stop → Type 0
-Undone address publication site around StoreFault = Rose around.stores around.stores_after × (Unheld address around ⊎ Held address publication site around (Err session.StoreFault))
-Undone address publication site around (Damaged table key) = IsDamagedAs publication site around.stored (refusal.Damaged table key) × Unheld address around
-Undone address publication site around LinkFault = Rose around.links around.links_after × Held address publication site around (Err session.LinkFault)
-Undone address publication site around (Expired last_sync now) = Held address publication site around (Err (session.Expired last_sync now))
-Undone address publication site around (BadReply place) = Held address publication site around (Err (session.BadReply place))
-Undone address publication site around (Refused number) = Held address publication site around (Err (session.Refused number))
-Undone address publication site around WriteFault = ⊥
-Undone address publication site around NoMemory = Unsent address around ⊎ Held address publication site around (Err session.NoMemory)
+abbrev pub SessionStops : (address : List ℕ) → Publication → SiteId → Around → Stop → Type 0
+SessionStops address publication site around StoreFault = Rose around.stores around.stores_after × (LinkCarriesNothing address around ⊎ SessionIsHeld address publication site around (Err session.StoreFault))
+SessionStops address publication site around (Damaged table key) = IsDamagedAs publication site around.stored (refusal.Damaged table key) × LinkCarriesNothing address around
+SessionStops address publication site around LinkFault = Rose around.links around.links_after × SessionIsHeld address publication site around (Err session.LinkFault)
+SessionStops address publication site around (Expired last_sync now) = SessionIsHeld address publication site around (Err (session.Expired last_sync now))
+SessionStops address publication site around (BadReply place) = SessionIsHeld address publication site around (Err (session.BadReply place))
+SessionStops address publication site around (Refused number) = SessionIsHeld address publication site around (Err (session.Refused number))
+SessionStops address publication site around WriteFault = ⊥
+SessionStops address publication site around NoMemory = NoSessionIsHeld address around ⊎ SessionIsHeld address publication site around (Err session.NoMemory)
 
 -- a session was done, or it was not
 abbrev pub Meets : (address : List ℕ) → Publication → SiteId → Around → Result Done Stop → Type 0
-Meets address publication site around (Ok done) = Held address publication site around (Ok done)
-Meets address publication site around (Err stop) = Undone address publication site around stop
+Meets address publication site around (Ok done) = SessionIsHeld address publication site around (Ok done)
+Meets address publication site around (Err stop) = SessionStops address publication site around stop
 
 -- A session was done and its line was written whole, or to a front of it, since a write failed, or not at all, since memory was
 -- wanting. Or it was not done, and nothing was written.
 abbrev pub Ends : (address : List ℕ) → Publication → SiteId → Around → (was written : Option (List ℕ)) → (writes refused : ℕ) → Result Unit Stop → Type 0
 Ends address publication site around was written writes refused (Ok told) =
-    (done : Done) × Held address publication site around (Ok done) × Appends was written (done_text done)
+    (done : Done) × SessionIsHeld address publication site around (Ok done) × Appends was written (done_text done)
 Ends address publication site around was written writes refused (Err WriteFault) =
-    ((done : Done) × Held address publication site around (Ok done) × AppendsFront was written (done_text done)) × Rose writes refused
+    ((done : Done) × SessionIsHeld address publication site around (Ok done) × AppendsFront was written (done_text done)) × Rose writes refused
 Ends address publication site around was written writes refused (Err NoMemory) =
-    (written ≡ was) × (Undone address publication site around NoMemory ⊎ ((done : Done) × Held address publication site around (Ok done)))
-Ends address publication site around was written writes refused (Err stop) = (written ≡ was) × Undone address publication site around stop
+    (written ≡ was) × (SessionStops address publication site around NoMemory ⊎ ((done : Done) × SessionIsHeld address publication site around (Ok done)))
+Ends address publication site around was written writes refused (Err stop) = (written ≡ was) × SessionStops address publication site around stop

@@ -13,29 +13,29 @@ use Rattle.merge_sync.specs.declared.stop.Stop.{Stop}
 use Rattle.merge_sync.specs.declared.stop.Stop.TheVariants.{BadReply, Damaged, Expired, LinkFault, NoMemory, Refused, StoreFault}
 
 -- the store is not opened
-abbrev pub unopened : OpenFault → Stop
-unopened opening.Failed = StoreFault
-unopened opening.NoMemory = NoMemory
+abbrev pub stop_of_opening : OpenFault → Stop
+stop_of_opening opening.Failed = StoreFault
+stop_of_opening opening.NoMemory = NoMemory
 
 -- the site does not start for its store, or for want of memory
-abbrev pub unstarted : Refusal → Stop
-unstarted refusal.StoreFault = StoreFault
-unstarted (refusal.Damaged table key) = Damaged table key
-unstarted other = NoMemory
+abbrev pub stop_of_start : Refusal → Stop
+stop_of_start refusal.StoreFault = StoreFault
+stop_of_start (refusal.Damaged table key) = Damaged table key
+stop_of_start other = NoMemory
 
 -- the session is not done
-abbrev pub undone : SessionFault → Stop
-undone session.LinkFault = LinkFault
-undone session.StoreFault = StoreFault
-undone (session.Expired last_sync now) = Expired last_sync now
-undone (session.BadReply place) = BadReply place
-undone (session.Refused number) = Refused number
-undone session.NoMemory = NoMemory
+abbrev pub stop_of_fault : SessionFault → Stop
+stop_of_fault session.LinkFault = LinkFault
+stop_of_fault session.StoreFault = StoreFault
+stop_of_fault (session.Expired last_sync now) = Expired last_sync now
+stop_of_fault (session.BadReply place) = BadReply place
+stop_of_fault (session.Refused number) = Refused number
+stop_of_fault session.NoMemory = NoMemory
 
 -- what came of a session
 abbrev pub met_by : Result Done SessionFault → Result Done Stop
 met_by (Ok done) = Ok done
-met_by (Err fault) = Err (undone fault)
+met_by (Err fault) = Err (stop_of_fault fault)
 
 -- the line of a session that was done
 abbrev pub done_text : Done → List ℕ

@@ -57,7 +57,7 @@ pub record Leaves (around : Around) (m : Meeting) : Type 0 where
   pub links : around.links_after ≡ min (around.links + m.links) (2 ^ 64 - 1)
 
 -- a session was held so, over a link to the address, and this came of it
-pub record Held (address : List ℕ) (publication : Publication) (site : SiteId) (around : Around) (result : Result Done SessionFault) : Type 0 where
+pub record SessionIsHeld (address : List ℕ) (publication : Publication) (site : SiteId) (around : Around) (result : Result Done SessionFault) : Type 0 where
   pub began : Meeting
   pub ended : Meeting
   pub begins : Begins publication site around began
@@ -77,16 +77,16 @@ IsUnstarted publication site NoMemory stored before after = Unit {0}
 IsUnstarted publication site other stored before after = ⊥
 
 -- no session was held: the store is told as before, and the link was one to the address, and carried nothing
-pub record Unheld (address : List ℕ) (around : Around) : Type 0 where
+pub record LinkCarriesNothing (address : List ℕ) (around : Around) : Type 0 where
   pub same : around.kept ≡ around.stored
   pub unasked : IfSome around.carried (λ exchanges. exchanges ≡ [])
   pub reached : around.peer ≡ Some address
 
 -- no link was given back
-pub record Unlinked (around : Around) : Type 0 where
+pub record NoLinkIsGiven (around : Around) : Type 0 where
   pub uncarried : around.carried ≡ around.was_carried
   pub unreached : around.peer ≡ around.was_peer
 
 -- no session was held, and there may have been no link: the store is told as before, and no link was given back
-abbrev pub Unsent : (address : List ℕ) → Around → Type 0
-Unsent address around = ((around.kept ≡ around.stored) × Unlinked around) ⊎ Unheld address around
+abbrev pub NoSessionIsHeld : (address : List ℕ) → Around → Type 0
+NoSessionIsHeld address around = ((around.kept ≡ around.stored) × NoLinkIsGiven around) ⊎ LinkCarriesNothing address around

@@ -1,6 +1,6 @@
 //! Why a session at a store was not told as done.
 ghost use Rattle.std.specs.Prelude.{◌≡◌};
-ghost use Rattle.merge_sync.specs.Stops.{undone, unopened, unstarted};
+ghost use Rattle.merge_sync.specs.Stops.{stop_of_fault, stop_of_opening, stop_of_start};
 
 use merge_agent::SessionFault;
 use merge_batch::Refusal;
@@ -51,7 +51,7 @@ impl From<Failed> for Stop {
 
 /// How a session stops by a store that cannot be opened.
 pub(crate) fn unopened(fault: OpenFault) -> Stop
-    ensures { result ≡ unopened fault }
+    ensures { result ≡ stop_of_opening fault }
 {
     match fault {
         OpenFault::Failed => Stop::StoreFault,
@@ -61,7 +61,7 @@ pub(crate) fn unopened(fault: OpenFault) -> Stop
 
 /// How a session stops by a site that does not start. That is for its store, or for want of memory.
 pub(crate) fn unstarted(why: Refusal) -> Stop
-    ensures { result ≡ unstarted why }
+    ensures { result ≡ stop_of_start why }
 {
     match why {
         Refusal::StoreFault => Stop::StoreFault,
@@ -72,7 +72,7 @@ pub(crate) fn unstarted(why: Refusal) -> Stop
 
 /// How a session stops by what ended it.
 pub(crate) fn undone(fault: SessionFault) -> Stop
-    ensures { result ≡ undone fault }
+    ensures { result ≡ stop_of_fault fault }
 {
     match fault {
         SessionFault::LinkFault => Stop::LinkFault,

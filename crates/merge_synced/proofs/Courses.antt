@@ -22,23 +22,23 @@ use Rattle.merge_model.specs.Subscriber.Taking.{take_reply, with_grant as receiv
 use Rattle.merge_model.specs.Subscriber.{subscriber_last_closed}
 use Rattle.merge_model.specs.Tables.Publications.{rules_of}
 use Rattle.merge_model.specs.Tables.{PublisherTables, SubscriberTables}
-use Rattle.merge_model.specs.World.Calls.{handled, questions_on}
+use Rattle.merge_model.specs.World.Calls.{questions_on, result_of_request}
 use Rattle.merge_model.specs.World.Events.{machine}
-use Rattle.merge_model.specs.World.Session.{Session as ModelSession, Stepping, after_download, as_it_is, asking_ranges, brings_generations, downloaded_in, downloading, exchange, has_grant, last_message, range_asks, unsent_generations, uploading, with_answer, with_download, with_upload}
+use Rattle.merge_model.specs.World.Session.{Session as ModelSession, Stepping, after_download, as_it_is, brings_generations, downloaded_in, downloads_up_to, exchange, has_grant, last_message, range_asks, range_requests_up_to, unsent_generations, uploads_up_to, with_answer, with_download, with_upload}
 use Rattle.merge_model.specs.World.Steps.{SendDownload, SendJoin, SendRanges, SendUpload, Sending}
 use Rattle.merge_model.specs.World.Faults.{heard_by}
 use Rattle.merge_model.specs.World.{Saying, World, subscriber_at}
 use Rattle.merge_model.specs.declared.outcome.Taken.TheVariants.{Acted}
 use Rattle.merge_model.specs.declared.letter.Message.{Message}
 use Rattle.merge_model.specs.declared.letter.Message.TheVariants.{Replies}
-use Rattle.merge_world.specs.Messages.{requested}
+use Rattle.merge_world.specs.Messages.{request_of_sending}
 use Rattle.merge_world.specs.Sessions.{brings_found, download_in, grants, one_if}
 use Rattle.merge_laws.proofs.Received.Subscribing.{filling-rises}
 use Rattle.merge_owed.proofs.HeldThresholds.{AreThresholds}
 use Rattle.merge_owed.proofs.RangeAnswers.{brought, planned}
-use Rattle.merge_agent.specs.Sessions.{Asks, Downloads, IsUnderWay, Joins, Over, Session, Stage, Uploads, answered, at, passed, sending_in, stage_to}
+use Rattle.merge_agent.specs.Sessions.{Asks, Downloads, IsUnderWay, Joins, Over, Session, Stage, Uploads, at, sending_in, session_at_next_stage, session_behind_reply, stage_to}
 use Rattle.merge_synced.specs.Answering.{Serving, serving_in}
-use Rattle.merge_synced.specs.Courses.{Asking, Course, Done, Downloading, Fetching, Joining, Uploading, left_of, past_join, past_ranges, past_uploads, stage_of, under}
+use Rattle.merge_synced.specs.Courses.{Asking, Course, Done, Downloading, Fetching, Joining, Uploading, left_of, past_join, past_ranges, past_uploads, session_with_counts, stage_of}
 use Rattle.merge_synced.proofs.Granting.{AllGo, all-begin, all-go, none-left}
 use Rattle.merge_synced.proofs.Made.{closes-one, none-unsent, ranges-refused, sent-site, taken-site, upload-made}
 use Rattle.merge_synced.proofs.Stands.{IsBehind, behind-step}
@@ -111,7 +111,7 @@ module _ (publication : Publication) (says : Saying) (site : SiteId) (now : Mome
     pub here : StandsAt publication site now world t.tables
     pub enough : Enough publication site course world t.tables
     pub serving : serving_in world ≡ q
-    pub same : rest c (under v i j) ≡ rest course (under world t.uploads t.downloads)
+    pub same : rest c (session_with_counts v i j) ≡ rest course (session_with_counts world t.uploads t.downloads)
 
   -- at the beginning of uploads there are enough
   pub sends-begin : (v : World) (s : SubscriberTables) → subscriber_at v site ≡ Some s → AreThresholds s.held → Sends (unsent_generations M site v) s
@@ -124,7 +124,7 @@ module _ (publication : Publication) (says : Saying) (site : SiteId) (now : Mome
   grants-begin v s thresholds = record { left = suc (suc (length v.publisher.grants)); go = all-begin (rules_of publication) site v.publisher.grants s.held thresholds; enough = omega arith }
 
   -- where the bound is used up there is nothing to send
-  nothing-left : (s sent : SubscriberTables) (q : Request) → Sends zero s → requested SendUpload now s ≡ Ok (Some (sent, q)) → ⊥
+  nothing-left : (s sent : SubscriberTables) (q : Request) → Sends zero s → request_of_sending SendUpload now s ≡ Ok (Some (sent, q)) → ⊥
   nothing-left s sent q sends made =
       let up = sends.enough in
       let low = filling-rises s.gens.filling in
@@ -141,11 +141,11 @@ module _ (publication : Publication) (says : Saying) (site : SiteId) (now : Mome
     next-site : new.site ≡ site
     next-site = taken-site publication (by_rows t.sent) now r t.sent new t.taken ∙ keyed
 
-    made-here : requested sending v.moment s ≡ Ok (Some (t.sent, t.request))
-    made-here = subst (λ (x : Moment). requested sending x s ≡ Ok (Some (t.sent, t.request))) (sym h.moment) t.made
+    made-here : request_of_sending sending v.moment s ≡ Ok (Some (t.sent, t.request))
+    made-here = subst (λ (x : Moment). request_of_sending sending x s ≡ Ok (Some (t.sent, t.request))) (sym h.moment) t.made
 
-    answer-here : handled publication says v.tallies v.moment t.request v.publisher ≡ Ok (t.after, r)
-    answer-here = subst (λ (x : Moment). handled publication says v.tallies x t.request v.publisher ≡ Ok (t.after, r)) (sym h.moment) t.answer
+    answer-here : result_of_request publication says v.tallies v.moment t.request v.publisher ≡ Ok (t.after, r)
+    answer-here = subst (λ (x : Moment). result_of_request publication says v.tallies x t.request v.publisher ≡ Ok (t.after, r)) (sym h.moment) t.answer
 
     taken-here : take_reply publication (by_rows t.sent) v.moment r t.sent ≡ Ok (new, Acted)
     taken-here = subst (λ (x : Moment). take_reply publication (by_rows t.sent) x r t.sent ≡ Ok (new, Acted)) (sym h.moment) t.taken
@@ -161,8 +161,8 @@ module _ (publication : Publication) (says : Saying) (site : SiteId) (now : Mome
         (ap (λ (x : Moment). tallies_after v.tallies (questions_on publication x t.request v.publisher)) h.moment ∙ sym t.tallies)
 
     turn-is : (i j : ℕ) (counted next : ModelSession World → ModelSession World)
-        → exchange M site sending counted next (under v i j) ≡ next (record (counted (under (replied_world publication site t.request t.after r (sent_world site t.sent t.request v)) i j)) { world = next_world })
-    turn-is i j counted next = exchange-is publication says site sending v s t.sent t.request h.here h.own made-here t.after r answer-here keyed new (under v i j) counted next taken-here refl
+        → exchange M site sending counted next (session_with_counts v i j) ≡ next (record (counted (session_with_counts (replied_world publication site t.request t.after r (sent_world site t.sent t.request v)) i j)) { world = next_world })
+    turn-is i j counted next = exchange-is publication says site sending v s t.sent t.request h.here h.own made-here t.after r answer-here keyed new (session_with_counts v i j) counted next taken-here refl
 
     last-is : last_message M site next_world ≡ Some (Replies r)
     last-is = told-last publication site t.sent t.request t.after r new v
@@ -173,25 +173,25 @@ module _ (publication : Publication) (says : Saying) (site : SiteId) (now : Mome
       last-download = ap (λ (found : Option Message). downloaded_in M site found) (last-is ∙ ap (λ (x : Reply). Some (Replies x)) is)
 
       counted-is : (i j : ℕ) → (let before : World = replied_world publication site t.request t.after r (sent_world site t.sent t.request v) in
-          with_answer M site (under before i j) ≡ under before i (j + one_if (brings_found (Some d))))
+          with_answer M site (session_with_counts before i j) ≡ session_with_counts before i (j + one_if (brings_found (Some d))))
       counted-is i j =
           let before : World = replied_world publication site t.request t.after r (sent_world site t.sent t.request v) in
-          ap (λ (found : Option Downloaded). (let x : ModelSession World = elim found [ None ↦ under before i j | Some m ↦ with_download M site m (under before i j) ] in x)) last-download
-          ∙ ap (λ (n : ℕ). under before i n) (one-more (brings_generations M site d) j)
+          ap (λ (found : Option Downloaded). (let x : ModelSession World = elim found [ None ↦ session_with_counts before i j | Some m ↦ with_download M site m (session_with_counts before i j) ] in x)) last-download
+          ∙ ap (λ (n : ℕ). session_with_counts before i n) (one-more (brings_generations M site d) j)
 
       fetched-is : (i j : ℕ) (next : Downloaded → ModelSession World → ModelSession World)
-          → exchange M site sending (with_answer M site) (after_download M site next) (under v i j) ≡ next d (under next_world i (j + one_if (brings_found (Some d))))
+          → exchange M site sending (with_answer M site) (after_download M site next) (session_with_counts v i j) ≡ next d (session_with_counts next_world i (j + one_if (brings_found (Some d))))
       fetched-is i j next =
           turn-is i j (with_answer M site) (after_download M site next)
           ∙ ap (λ (x : ModelSession World). after_download M site next (record x { world = next_world })) (counted-is i j)
-          ∙ ap (λ (found : Option Downloaded). (let x : ModelSession World = elim found [ None ↦ under next_world i (j + one_if (brings_found (Some d))) | Some m ↦ next m (under next_world i (j + one_if (brings_found (Some d)))) ] in x)) last-download
+          ∙ ap (λ (found : Option Downloaded). (let x : ModelSession World = elim found [ None ↦ session_with_counts next_world i (j + one_if (brings_found (Some d))) | Some m ↦ next m (session_with_counts next_world i (j + one_if (brings_found (Some d)))) ] in x)) last-download
 
       -- the counts of the agent
       told-found : download_in (Some (Replies r)) ≡ Some d
       told-found = ap (λ (x : Reply). download_in (Some (Replies x))) is
 
   join-on : (v : World) (s new : SubscriberTables) (r : Reply) (i j : ℕ) (q : Serving) → StandsAt publication site now v s → AreThresholds s.held → Turned publication says now SendJoin s new r (serving_in v) q
-      → Onward Joining v i j (answered (at Joins s i j) new r Joins) q
+      → Onward Joining v i j (session_behind_reply (at Joins s i j) new r Joins) q
   join-on v s new r i j q h thresholds t =
       let w : World = next_world SendJoin v s new r q h t in
       let after : StandsAt publication site now w new = next-here SendJoin v s new r q h t in
@@ -206,7 +206,7 @@ module _ (publication : Publication) (says : Saying) (site : SiteId) (now : Mome
       }
 
   upload-on : (count : ℕ) (v : World) (s new : SubscriberTables) (r : Reply) (i j : ℕ) (q : Serving) → StandsAt publication site now v s → Sends count s → Turned publication says now SendUpload s new r (serving_in v) q
-      → Onward (Uploading count) v i j (answered (at Uploads s i j) new r Uploads) q
+      → Onward (Uploading count) v i j (session_behind_reply (at Uploads s i j) new r Uploads) q
   upload-on zero v s new r i j q h sends t = absurd (nothing-left s t.sent t.request sends t.made)
   upload-on (suc count) v s new r i j q h sends t =
       let took : UploadTook s new = upload-took publication says now s new r (serving_in v) q t in
@@ -218,7 +218,7 @@ module _ (publication : Publication) (says : Saying) (site : SiteId) (now : Mome
         here = next-here SendUpload v s new r q h t;
         enough = record { thresholds = subst AreThresholds (sym took.held) sends.thresholds; enough = omega (arith, up, more, same) };
         serving = next-serving SendUpload v s new r q h t;
-        same = ap after_uploads (turn-is SendUpload v s new r q h t i j (with_upload M site) (uploading M site count));
+        same = ap after_uploads (turn-is SendUpload v s new r q h t i j (with_upload M site) (uploads_up_to M site count));
       }
 
   -- Ranges: each reply that brings one comes nearer to the end.
@@ -239,7 +239,7 @@ module _ (publication : Publication) (says : Saying) (site : SiteId) (now : Mome
       }
 
   asked-by : (b : Bool) (count : ℕ) (v : World) (s new : SubscriberTables) (r : Reply) (i j : ℕ) (q : Serving) (h : StandsAt publication site now v s) → RangesLeft publication site (suc count) v s → (t : Turned publication says now SendRanges s new r (serving_in v) q)
-      → (took : RangesTook publication s new r v.publisher.grants (next_world SendRanges v s new r q h t).publisher.grants) → nat_lt 0 (length took.told.grants) ≡ b → Onward (Asking (suc count)) v i j (answered (at Asks s i j) new r Asks) q
+      → (took : RangesTook publication s new r v.publisher.grants (next_world SendRanges v s new r q h t).publisher.grants) → nat_lt 0 (length took.told.grants) ≡ b → Onward (Asking (suc count)) v i j (session_behind_reply (at Asks s i j) new r Asks) q
   asked-by true count v s new r i j q h g t took is =
       let w : World = next_world SendRanges v s new r q h t in
       let told : grants (Some (Replies r)) ≡ true = ap (λ (x : Reply). grants (Some (Replies x))) took.replied ∙ is in
@@ -251,8 +251,8 @@ module _ (publication : Publication) (says : Saying) (site : SiteId) (now : Mome
         here = next-here SendRanges v s new r q h t;
         enough = granted-on g.left v w s new r count h.own took is g.go g.enough;
         serving = next-serving SendRanges v s new r q h t;
-        same = ap after_ranges (turn-is SendRanges v s new r q h t i j (as_it_is M site) (λ (x : ModelSession World). if has_grant M site (last_message M site x.world) then asking_ranges M site count x else x)
-            ∙ ap (λ (b : Bool). (let x : ModelSession World = if b then asking_ranges M site count (under w i j) else under w i j in x)) last);
+        same = ap after_ranges (turn-is SendRanges v s new r q h t i j (as_it_is M site) (λ (x : ModelSession World). if has_grant M site (last_message M site x.world) then range_requests_up_to M site count x else x)
+            ∙ ap (λ (b : Bool). (let x : ModelSession World = if b then range_requests_up_to M site count (session_with_counts w i j) else session_with_counts w i j in x)) last);
       }
   asked-by false count v s new r i j q h g t took is =
       let w : World = next_world SendRanges v s new r q h t in
@@ -265,12 +265,12 @@ module _ (publication : Publication) (says : Saying) (site : SiteId) (now : Mome
         here = next-here SendRanges v s new r q h t;
         enough = tt;
         serving = next-serving SendRanges v s new r q h t;
-        same = ap after_ranges (turn-is SendRanges v s new r q h t i j (as_it_is M site) (λ (x : ModelSession World). if has_grant M site (last_message M site x.world) then asking_ranges M site count x else x)
-            ∙ ap (λ (b : Bool). (let x : ModelSession World = if b then asking_ranges M site count (under w i j) else under w i j in x)) last);
+        same = ap after_ranges (turn-is SendRanges v s new r q h t i j (as_it_is M site) (λ (x : ModelSession World). if has_grant M site (last_message M site x.world) then range_requests_up_to M site count x else x)
+            ∙ ap (λ (b : Bool). (let x : ModelSession World = if b then range_requests_up_to M site count (session_with_counts w i j) else session_with_counts w i j in x)) last);
       }
 
   ask-on : (count : ℕ) (v : World) (s new : SubscriberTables) (r : Reply) (i j : ℕ) (q : Serving) → StandsAt publication site now v s → RangesLeft publication site count v s → Turned publication says now SendRanges s new r (serving_in v) q
-      → Onward (Asking count) v i j (answered (at Asks s i j) new r Asks) q
+      → Onward (Asking count) v i j (session_behind_reply (at Asks s i j) new r Asks) q
   ask-on zero v s new r i j q h g t = (let enough = g.enough in absurd (omega (arith, enough)))
   ask-on (suc count) v s new r i j q h g t =
       let took : RangesTook publication s new r v.publisher.grants (next_world SendRanges v s new r q h t).publisher.grants =
@@ -292,8 +292,8 @@ module _ (publication : Publication) (says : Saying) (site : SiteId) (now : Mome
   -- where there is nothing behind what was asked for, the session is over
   over-on : (c : Course) (target : Option ℕ) (v : World) (s new : SubscriberTables) (r : Reply) (i j last : ℕ) (q : Serving) (h : StandsAt publication site now v s) (t : Turned publication says now SendDownload s new r (serving_in v) q) (d : Downloaded)
       → r ≡ reply.Downloaded d → unwrap_or target d.last ≡ last → nat_le last d.from ≡ true
-      → rest c (under v i j) ≡ under (next_world SendDownload v s new r q h t) i (j + one_if (brings_found (Some d)))
-      → Onward c v i j (answered (at (Downloads target) s i j) new r (Downloads target)) q
+      → rest c (session_with_counts v i j) ≡ session_with_counts (next_world SendDownload v s new r q h t) i (j + one_if (brings_found (Some d)))
+      → Onward c v i j (session_behind_reply (at (Downloads target) s i j) new r (Downloads target)) q
   over-on c target v s new r i j last q h t d is aim past same =
       let found : download_in (Some (Replies r)) ≡ Some d = told-found SendDownload v s new r q h t d is in
       let w : World = next_world SendDownload v s new r q h t in
@@ -305,14 +305,14 @@ module _ (publication : Publication) (says : Saying) (site : SiteId) (now : Mome
         here = next-here SendDownload v s new r q h t;
         enough = tt;
         serving = next-serving SendDownload v s new r q h t;
-        same = same ∙ ap (λ (x : Option Downloaded). under w i (j + one_if (brings_found x))) (sym found);
+        same = same ∙ ap (λ (x : Option Downloaded). session_with_counts w i (j + one_if (brings_found x))) (sym found);
       }
 
   -- and else it goes on to the target
   more-on : (c : Course) (target : Option ℕ) (v : World) (s new : SubscriberTables) (r : Reply) (i j last count : ℕ) (q : Serving) (h : StandsAt publication site now v s) (t : Turned publication says now SendDownload s new r (serving_in v) q) (d : Downloaded)
       → r ≡ reply.Downloaded d → unwrap_or target d.last ≡ last → nat_le last d.from ≡ false → Fetches count last (next_world SendDownload v s new r q h t) new
-      → rest c (under v i j) ≡ downloading M site count last (under (next_world SendDownload v s new r q h t) i (j + one_if (brings_found (Some d))))
-      → Onward c v i j (answered (at (Downloads target) s i j) new r (Downloads target)) q
+      → rest c (session_with_counts v i j) ≡ downloads_up_to M site count last (session_with_counts (next_world SendDownload v s new r q h t) i (j + one_if (brings_found (Some d))))
+      → Onward c v i j (session_behind_reply (at (Downloads target) s i j) new r (Downloads target)) q
   more-on c target v s new r i j last count q h t d is aim past fetches same =
       let found : download_in (Some (Replies r)) ≡ Some d = told-found SendDownload v s new r q h t d is in
       let w : World = next_world SendDownload v s new r q h t in
@@ -324,49 +324,49 @@ module _ (publication : Publication) (says : Saying) (site : SiteId) (now : Mome
         here = next-here SendDownload v s new r q h t;
         enough = fetches;
         serving = next-serving SendDownload v s new r q h t;
-        same = same ∙ ap (λ (x : Option Downloaded). downloading M site count last (under w i (j + one_if (brings_found x)))) (sym found);
+        same = same ∙ ap (λ (x : Option Downloaded). downloads_up_to M site count last (session_with_counts w i (j + one_if (brings_found x)))) (sym found);
       }
 
   fetch-by : (b : Bool) (v : World) (s new : SubscriberTables) (r : Reply) (i j : ℕ) (q : Serving) (h : StandsAt publication site now v s) (t : Turned publication says now SendDownload s new r (serving_in v) q)
-      → (took : DownloadTook s new r v.publisher (next_world SendDownload v s new r q h t).publisher) → nat_le took.told.last took.told.from ≡ b → Onward Fetching v i j (answered (at (Downloads None) s i j) new r (Downloads None)) q
+      → (took : DownloadTook s new r v.publisher (next_world SendDownload v s new r q h t).publisher) → nat_le took.told.last took.told.from ≡ b → Onward Fetching v i j (session_behind_reply (at (Downloads None) s i j) new r (Downloads None)) q
   fetch-by true v s new r i j q h t took past =
       let w : World = next_world SendDownload v s new r q h t in
       let d : Downloaded = took.told in
-      let next : Downloaded → ModelSession World → ModelSession World = λ (m : Downloaded) (x : ModelSession World). if nat_le m.last m.from then x else downloading M site (m.last + 1 - m.from) m.last x in
+      let next : Downloaded → ModelSession World → ModelSession World = λ (m : Downloaded) (x : ModelSession World). if nat_le m.last m.from then x else downloads_up_to M site (m.last + 1 - m.from) m.last x in
       over-on Fetching None v s new r i j d.last q h t d took.replied refl past
       (fetched-is SendDownload v s new r q h t d took.replied i j next
-      ∙ ap (λ (b : Bool). (let x : ModelSession World = under w i (j + one_if (brings_found (Some d))) in let y : ModelSession World = if b then x else downloading M site (d.last + 1 - d.from) d.last x in y)) past)
+      ∙ ap (λ (b : Bool). (let x : ModelSession World = session_with_counts w i (j + one_if (brings_found (Some d))) in let y : ModelSession World = if b then x else downloads_up_to M site (d.last + 1 - d.from) d.last x in y)) past)
   fetch-by false v s new r i j q h t took past =
       let w : World = next_world SendDownload v s new r q h t in
       let d : Downloaded = took.told in
-      let next : Downloaded → ModelSession World → ModelSession World = λ (m : Downloaded) (x : ModelSession World). if nat_le m.last m.from then x else downloading M site (m.last + 1 - m.from) m.last x in
+      let next : Downloaded → ModelSession World → ModelSession World = λ (m : Downloaded) (x : ModelSession World). if nat_le m.last m.from then x else downloads_up_to M site (m.last + 1 - m.from) m.last x in
       let low = less d.last d.from past in let onward = took.onward low in let held = took.held in let within = took.within in
       more-on Fetching None v s new r i j d.last (d.last + 1 - d.from) q h t d took.replied refl past
       (record { closed = sym took.last; empty = took.empty; marks = omega (arith, held, within); enough = omega (arith, low, onward, held) })
       (fetched-is SendDownload v s new r q h t d took.replied i j next
-      ∙ ap (λ (b : Bool). (let x : ModelSession World = under w i (j + one_if (brings_found (Some d))) in let y : ModelSession World = if b then x else downloading M site (d.last + 1 - d.from) d.last x in y)) past)
+      ∙ ap (λ (b : Bool). (let x : ModelSession World = session_with_counts w i (j + one_if (brings_found (Some d))) in let y : ModelSession World = if b then x else downloads_up_to M site (d.last + 1 - d.from) d.last x in y)) past)
 
   took-here : (v : World) (s new : SubscriberTables) (r : Reply) (q : Serving) (h : StandsAt publication site now v s) (t : Turned publication says now SendDownload s new r (serving_in v) q) → DownloadTook s new r v.publisher (next_world SendDownload v s new r q h t).publisher
   took-here v s new r q h t = subst (λ (x : PublisherTables). DownloadTook s new r v.publisher x) t.tables (download-took publication says now s new r (serving_in v) q t)
 
-  fetch-on : (v : World) (s new : SubscriberTables) (r : Reply) (i j : ℕ) (q : Serving) → StandsAt publication site now v s → Turned publication says now SendDownload s new r (serving_in v) q → Onward Fetching v i j (answered (at (Downloads None) s i j) new r (Downloads None)) q
+  fetch-on : (v : World) (s new : SubscriberTables) (r : Reply) (i j : ℕ) (q : Serving) → StandsAt publication site now v s → Turned publication says now SendDownload s new r (serving_in v) q → Onward Fetching v i j (session_behind_reply (at (Downloads None) s i j) new r (Downloads None)) q
   fetch-on v s new r i j q h t =
       let took : DownloadTook s new r v.publisher (next_world SendDownload v s new r q h t).publisher = took-here v s new r q h t in
       fetch-by (nat_le took.told.last took.told.from) v s new r i j q h t took refl
 
   download-by : (b : Bool) (count target : ℕ) (v : World) (s new : SubscriberTables) (r : Reply) (i j : ℕ) (q : Serving) (h : StandsAt publication site now v s) → Fetches (suc count) target v s → (t : Turned publication says now SendDownload s new r (serving_in v) q)
-      → (took : DownloadTook s new r v.publisher (next_world SendDownload v s new r q h t).publisher) → nat_le target took.told.from ≡ b → Onward (Downloading (suc count) target) v i j (answered (at (Downloads (Some target)) s i j) new r (Downloads (Some target))) q
+      → (took : DownloadTook s new r v.publisher (next_world SendDownload v s new r q h t).publisher) → nat_le target took.told.from ≡ b → Onward (Downloading (suc count) target) v i j (session_behind_reply (at (Downloads (Some target)) s i j) new r (Downloads (Some target))) q
   download-by true count target v s new r i j q h f t took past =
       let w : World = next_world SendDownload v s new r q h t in
       let d : Downloaded = took.told in
-      let next : Downloaded → ModelSession World → ModelSession World = λ (m : Downloaded) (x : ModelSession World). if nat_le target m.from then x else downloading M site count target x in
+      let next : Downloaded → ModelSession World → ModelSession World = λ (m : Downloaded) (x : ModelSession World). if nat_le target m.from then x else downloads_up_to M site count target x in
       over-on (Downloading (suc count) target) (Some target) v s new r i j target q h t d took.replied refl past
       (fetched-is SendDownload v s new r q h t d took.replied i j next
-      ∙ ap (λ (b : Bool). (let x : ModelSession World = under w i (j + one_if (brings_found (Some d))) in let y : ModelSession World = if b then x else downloading M site count target x in y)) past)
+      ∙ ap (λ (b : Bool). (let x : ModelSession World = session_with_counts w i (j + one_if (brings_found (Some d))) in let y : ModelSession World = if b then x else downloads_up_to M site count target x in y)) past)
   download-by false count target v s new r i j q h f t took past =
       let w : World = next_world SendDownload v s new r q h t in
       let d : Downloaded = took.told in
-      let next : Downloaded → ModelSession World → ModelSession World = λ (m : Downloaded) (x : ModelSession World). if nat_le target m.from then x else downloading M site count target x in
+      let next : Downloaded → ModelSession World → ModelSession World = λ (m : Downloaded) (x : ModelSession World). if nat_le target m.from then x else downloads_up_to M site count target x in
       let closed : last_closed w.publisher ≡ target = took.still f.empty ∙ f.closed in
       let last : d.last ≡ target = took.last ∙ closed in
       let low = less target d.from past in let held = took.held in let within = took.within in let from = took.from in let enough = f.enough in
@@ -374,13 +374,13 @@ module _ (publication : Publication) (says : Saying) (site : SiteId) (now : Mome
       more-on (Downloading (suc count) target) (Some target) v s new r i j target count q h t d took.replied refl past
       (record { closed = closed; empty = took.empty; marks = omega (arith, held, within, last); enough = omega (arith, onward, held, from, enough) })
       (fetched-is SendDownload v s new r q h t d took.replied i j next
-      ∙ ap (λ (b : Bool). (let x : ModelSession World = under w i (j + one_if (brings_found (Some d))) in let y : ModelSession World = if b then x else downloading M site count target x in y)) past)
+      ∙ ap (λ (b : Bool). (let x : ModelSession World = session_with_counts w i (j + one_if (brings_found (Some d))) in let y : ModelSession World = if b then x else downloads_up_to M site count target x in y)) past)
 
   never-fetches : (target : ℕ) (v : World) (s : SubscriberTables) → Fetches zero target v s → ⊥
   never-fetches target v s f = (let marks = f.marks in let enough = f.enough in omega (arith, marks, enough))
 
   download-on : (count target : ℕ) (v : World) (s new : SubscriberTables) (r : Reply) (i j : ℕ) (q : Serving) → StandsAt publication site now v s → Fetches count target v s → Turned publication says now SendDownload s new r (serving_in v) q
-      → Onward (Downloading count target) v i j (answered (at (Downloads (Some target)) s i j) new r (Downloads (Some target))) q
+      → Onward (Downloading count target) v i j (session_behind_reply (at (Downloads (Some target)) s i j) new r (Downloads (Some target))) q
   download-on zero target v s new r i j q h f t = absurd (never-fetches target v s f)
   download-on (suc count) target v s new r i j q h f t =
       let took : DownloadTook s new r v.publisher (next_world SendDownload v s new r q h t).publisher = took-here v s new r q h t in
@@ -388,7 +388,7 @@ module _ (publication : Publication) (says : Saying) (site : SiteId) (now : Mome
 
   -- A turn in any stage.
   pub turn-on : (c : Course) (v : World) (s new : SubscriberTables) (r : Reply) (i j : ℕ) (q : Serving) → StandsAt publication site now v s → Enough publication site c v s → IsUnderWay (stage_of c)
-      → Turned publication says now (sending_in (stage_of c)) s new r (serving_in v) q → Onward c v i j (answered (at (stage_of c) s i j) new r (stage_of c)) q
+      → Turned publication says now (sending_in (stage_of c)) s new r (serving_in v) q → Onward c v i j (session_behind_reply (at (stage_of c) s i j) new r (stage_of c)) q
   turn-on Joining v s new r i j q h e going t = join-on v s new r i j q h e t
   turn-on (Uploading count) v s new r i j q h e going t = upload-on count v s new r i j q h e t
   turn-on (Asking count) v s new r i j q h e going t = ask-on count v s new r i j q h e t
@@ -398,19 +398,19 @@ module _ (publication : Publication) (says : Saying) (site : SiteId) (now : Mome
 
   -- There is no message to make.
 
-  none-is : (sending : Sending) (v : World) (s : SubscriberTables) (i j : ℕ) (counted next : ModelSession World → ModelSession World) → StandsAt publication site now v s → requested sending now s ≡ Ok None → exchange M site sending counted next (under v i j) ≡ under v i j
-  none-is sending v s i j counted next h none = none-sent publication says site sending v s (under v i j) counted next h.here (subst (λ (x : Moment). requested sending x s ≡ Ok None) (sym h.moment) none) refl
+  none-is : (sending : Sending) (v : World) (s : SubscriberTables) (i j : ℕ) (counted next : ModelSession World → ModelSession World) → StandsAt publication site now v s → request_of_sending sending now s ≡ Ok None → exchange M site sending counted next (session_with_counts v i j) ≡ session_with_counts v i j
+  none-is sending v s i j counted next h none = none-sent publication says site sending v s (session_with_counts v i j) counted next h.here (subst (λ (x : Moment). request_of_sending sending x s ≡ Ok None) (sym h.moment) none) refl
 
-  uploads-past : (count : ℕ) (v : World) (s : SubscriberTables) (i j : ℕ) → StandsAt publication site now v s → requested SendUpload now s ≡ Ok None → uploading M site count (under v i j) ≡ under v i j
+  uploads-past : (count : ℕ) (v : World) (s : SubscriberTables) (i j : ℕ) → StandsAt publication site now v s → request_of_sending SendUpload now s ≡ Ok None → uploads_up_to M site count (session_with_counts v i j) ≡ session_with_counts v i j
   uploads-past zero v s i j h none = refl
-  uploads-past (suc count) v s i j h none = none-is SendUpload v s i j (with_upload M site) (uploading M site count) h none
+  uploads-past (suc count) v s i j h none = none-is SendUpload v s i j (with_upload M site) (uploads_up_to M site count) h none
 
-  ranges-past : (count : ℕ) (v : World) (s : SubscriberTables) (i j : ℕ) → StandsAt publication site now v s → requested SendRanges now s ≡ Ok None → asking_ranges M site count (under v i j) ≡ under v i j
+  ranges-past : (count : ℕ) (v : World) (s : SubscriberTables) (i j : ℕ) → StandsAt publication site now v s → request_of_sending SendRanges now s ≡ Ok None → range_requests_up_to M site count (session_with_counts v i j) ≡ session_with_counts v i j
   ranges-past zero v s i j h none = refl
-  ranges-past (suc count) v s i j h none = none-is SendRanges v s i j (as_it_is M site) (λ (x : ModelSession World). if has_grant M site (last_message M site x.world) then asking_ranges M site count x else x) h none
+  ranges-past (suc count) v s i j h none = none-is SendRanges v s i j (as_it_is M site) (λ (x : ModelSession World). if has_grant M site (last_message M site x.world) then range_requests_up_to M site count x else x) h none
 
-  pub skip-on : (c : Course) (v : World) (s : SubscriberTables) (i j : ℕ) → StandsAt publication site now v s → Enough publication site c v s → IsUnderWay (stage_of c) → requested (sending_in (stage_of c)) now s ≡ Ok None
-      → Onward c v i j (passed (at (stage_of c) s i j)) (serving_in v)
+  pub skip-on : (c : Course) (v : World) (s : SubscriberTables) (i j : ℕ) → StandsAt publication site now v s → Enough publication site c v s → IsUnderWay (stage_of c) → request_of_sending (sending_in (stage_of c)) now s ≡ Ok None
+      → Onward c v i j (session_at_next_stage (at (stage_of c) s i j)) (serving_in v)
   skip-on Joining v s i j h e going none = record {
     course = Uploading (unsent_generations M site v);
     world = v;
@@ -447,41 +447,41 @@ module _ (publication : Publication) (says : Saying) (site : SiteId) (now : Mome
   abbrev pub stopped : World → ℕ → ℕ → Refusal → ModelSession World
   stopped v i j why = record { world = v; uploads = i; downloads = j; stop = Some why }
 
-  module _ (v : World) (s sent : SubscriberTables) (q : Request) (i j : ℕ) (why : Refusal) (h : StandsAt publication site now v s) (refused : handled publication says v.tallies now q v.publisher ≡ Err why) where
-    refused-by : (sending : Sending) (counted next : ModelSession World → ModelSession World) → requested sending now s ≡ Ok (Some (sent, q)) → exchange M site sending counted next (under v i j) ≡ stopped (sent_world site sent q v) i j why
-    refused-by sending counted next made = refused-is publication says site sending v s sent q h.here h.own (subst (λ (x : Moment). requested sending x s ≡ Ok (Some (sent, q))) (sym h.moment) made) why (under v i j) counted next
-        (subst (λ (x : Moment). handled publication says v.tallies x q v.publisher ≡ Err why) (sym h.moment) refused) refl
+  module _ (v : World) (s sent : SubscriberTables) (q : Request) (i j : ℕ) (why : Refusal) (h : StandsAt publication site now v s) (refused : result_of_request publication says v.tallies now q v.publisher ≡ Err why) where
+    refused-by : (sending : Sending) (counted next : ModelSession World → ModelSession World) → request_of_sending sending now s ≡ Ok (Some (sent, q)) → exchange M site sending counted next (session_with_counts v i j) ≡ stopped (sent_world site sent q v) i j why
+    refused-by sending counted next made = refused-is publication says site sending v s sent q h.here h.own (subst (λ (x : Moment). request_of_sending sending x s ≡ Ok (Some (sent, q))) (sym h.moment) made) why (session_with_counts v i j) counted next
+        (subst (λ (x : Moment). result_of_request publication says v.tallies x q v.publisher ≡ Err why) (sym h.moment) refused) refl
 
-    pub refuse-on : (c : Course) → Enough publication site c v s → IsUnderWay (stage_of c) → requested (sending_in (stage_of c)) now s ≡ Ok (Some (sent, q)) → rest c (under v i j) ≡ stopped (sent_world site sent q v) i j why
+    pub refuse-on : (c : Course) → Enough publication site c v s → IsUnderWay (stage_of c) → request_of_sending (sending_in (stage_of c)) now s ≡ Ok (Some (sent, q)) → rest c (session_with_counts v i j) ≡ stopped (sent_world site sent q v) i j why
     refuse-on Joining e going made = ap after_join (refused-by SendJoin (as_it_is M site) (as_it_is M site) made)
     refuse-on (Uploading zero) e going made = absurd (nothing-left s sent q e made)
-    refuse-on (Uploading (suc count)) e going made = ap after_uploads (refused-by SendUpload (with_upload M site) (uploading M site count) made)
+    refuse-on (Uploading (suc count)) e going made = ap after_uploads (refused-by SendUpload (with_upload M site) (uploads_up_to M site count) made)
     refuse-on (Asking zero) e going made = (let enough = e.enough in absurd (omega (arith, enough)))
-    refuse-on (Asking (suc count)) e going made = ap after_ranges (refused-by SendRanges (as_it_is M site) (λ (x : ModelSession World). if has_grant M site (last_message M site x.world) then asking_ranges M site count x else x) made)
-    refuse-on Fetching e going made = refused-by SendDownload (with_answer M site) (after_download M site (λ (m : Downloaded) (x : ModelSession World). if nat_le m.last m.from then x else downloading M site (m.last + 1 - m.from) m.last x)) made
+    refuse-on (Asking (suc count)) e going made = ap after_ranges (refused-by SendRanges (as_it_is M site) (λ (x : ModelSession World). if has_grant M site (last_message M site x.world) then range_requests_up_to M site count x else x) made)
+    refuse-on Fetching e going made = refused-by SendDownload (with_answer M site) (after_download M site (λ (m : Downloaded) (x : ModelSession World). if nat_le m.last m.from then x else downloads_up_to M site (m.last + 1 - m.from) m.last x)) made
     refuse-on (Downloading zero target) e going made = absurd (never-fetches target v s e)
-    refuse-on (Downloading (suc count) target) e going made = refused-by SendDownload (with_answer M site) (after_download M site (λ (m : Downloaded) (x : ModelSession World). if nat_le target m.from then x else downloading M site count target x)) made
+    refuse-on (Downloading (suc count) target) e going made = refused-by SendDownload (with_answer M site) (after_download M site (λ (m : Downloaded) (x : ModelSession World). if nat_le target m.from then x else downloads_up_to M site count target x)) made
     refuse-on Done e going made = absurd going
 
   -- The site refuses to make a message.
 
   module _ (v : World) (s : SubscriberTables) (i j : ℕ) (why : Refusal) (h : StandsAt publication site now v s) where
-    unmade-by : (sending : Sending) (counted next : ModelSession World → ModelSession World) → requested sending now s ≡ Err why → exchange M site sending counted next (under v i j) ≡ stopped v i j why
-    unmade-by sending counted next refused = unmade-is publication says site sending v s why (under v i j) counted next h.here (subst (λ (x : Moment). requested sending x s ≡ Err why) (sym h.moment) refused) refl
+    unmade-by : (sending : Sending) (counted next : ModelSession World → ModelSession World) → request_of_sending sending now s ≡ Err why → exchange M site sending counted next (session_with_counts v i j) ≡ stopped v i j why
+    unmade-by sending counted next refused = unmade-is publication says site sending v s why (session_with_counts v i j) counted next h.here (subst (λ (x : Moment). request_of_sending sending x s ≡ Err why) (sym h.moment) refused) refl
 
-    ranges-unmade : (count : ℕ) → 1 ≤ count → requested SendRanges now s ≡ Err why → asking_ranges M site count (under v i j) ≡ stopped v i j why
+    ranges-unmade : (count : ℕ) → 1 ≤ count → request_of_sending SendRanges now s ≡ Err why → range_requests_up_to M site count (session_with_counts v i j) ≡ stopped v i j why
     ranges-unmade zero some refused = absurd (omega (arith, some))
-    ranges-unmade (suc count) some refused = unmade-by SendRanges (as_it_is M site) (λ (x : ModelSession World). if has_grant M site (last_message M site x.world) then asking_ranges M site count x else x) refused
+    ranges-unmade (suc count) some refused = unmade-by SendRanges (as_it_is M site) (λ (x : ModelSession World). if has_grant M site (last_message M site x.world) then range_requests_up_to M site count x else x) refused
 
     -- where it refuses an upload, it refuses a request for ranges too
-    pub unmade-on : (c : Course) → Enough publication site c v s → IsUnderWay (stage_of c) → requested (sending_in (stage_of c)) now s ≡ Err why → rest c (under v i j) ≡ stopped v i j why
+    pub unmade-on : (c : Course) → Enough publication site c v s → IsUnderWay (stage_of c) → request_of_sending (sending_in (stage_of c)) now s ≡ Err why → rest c (session_with_counts v i j) ≡ stopped v i j why
     unmade-on Joining e going refused = ap after_join (unmade-by SendJoin (as_it_is M site) (as_it_is M site) refused)
     unmade-on (Uploading zero) e going refused = ap after_ranges (ranges-unmade (range_asks M site v) (omega arith) (ranges-refused now s why refused))
-    unmade-on (Uploading (suc count)) e going refused = ap after_uploads (unmade-by SendUpload (with_upload M site) (uploading M site count) refused)
+    unmade-on (Uploading (suc count)) e going refused = ap after_uploads (unmade-by SendUpload (with_upload M site) (uploads_up_to M site count) refused)
     unmade-on (Asking count) e going refused = (let enough = e.enough in ap after_ranges (ranges-unmade count (omega (arith, enough)) refused))
-    unmade-on Fetching e going refused = unmade-by SendDownload (with_answer M site) (after_download M site (λ (m : Downloaded) (x : ModelSession World). if nat_le m.last m.from then x else downloading M site (m.last + 1 - m.from) m.last x)) refused
+    unmade-on Fetching e going refused = unmade-by SendDownload (with_answer M site) (after_download M site (λ (m : Downloaded) (x : ModelSession World). if nat_le m.last m.from then x else downloads_up_to M site (m.last + 1 - m.from) m.last x)) refused
     unmade-on (Downloading zero target) e going refused = absurd (never-fetches target v s e)
-    unmade-on (Downloading (suc count) target) e going refused = unmade-by SendDownload (with_answer M site) (after_download M site (λ (m : Downloaded) (x : ModelSession World). if nat_le target m.from then x else downloading M site count target x)) refused
+    unmade-on (Downloading (suc count) target) e going refused = unmade-by SendDownload (with_answer M site) (after_download M site (λ (m : Downloaded) (x : ModelSession World). if nat_le target m.from then x else downloads_up_to M site count target x)) refused
     unmade-on Done e going refused = absurd going
 
   -- The site refuses a reply, which the model's session counts all the same.
@@ -494,42 +494,42 @@ module _ (publication : Publication) (says : Saying) (site : SiteId) (now : Mome
   same-download (reply.Refused number values) = refl
 
   counted-or : (w : World) (i j : ℕ) (why : Refusal) (found : Option Downloaded)
-      → (let x : ModelSession World = elim found [ None ↦ under w i j | Some m ↦ with_download M site m (under w i j) ] in let y : ModelSession World = record x { world = w; stop = Some why } in y) ≡ stopped w i (j + one_if (brings_found found)) why
+      → (let x : ModelSession World = elim found [ None ↦ session_with_counts w i j | Some m ↦ with_download M site m (session_with_counts w i j) ] in let y : ModelSession World = record x { world = w; stop = Some why } in y) ≡ stopped w i (j + one_if (brings_found found)) why
   counted-or w i j why None = (let same : j ≡ j + 0 = omega arith in ap (λ (n : ℕ). stopped w i n why) same)
   counted-or w i j why (Some m) = ap (λ (n : ℕ). stopped w i n why) (one-more (brings_generations M site m) j)
 
   module _ (v : World) (s sent : SubscriberTables) (q : Request) (p : PublisherTables) (r : Reply) (i j : ℕ) (why : Refusal) (h : StandsAt publication site now v s) (keyed : sent.site ≡ site)
-      (answer : handled publication says v.tallies now q v.publisher ≡ Ok (p, r)) (untaken : take_reply publication (by_rows sent) now r sent ≡ Err why) where
+      (answer : result_of_request publication says v.tallies now q v.publisher ≡ Ok (p, r)) (untaken : take_reply publication (by_rows sent) now r sent ≡ Err why) where
     abbrev told_world : World
     told_world = replied_world publication site q p r (sent_world site sent q v)
 
-    untaken-by : (sending : Sending) (counted next : ModelSession World → ModelSession World) → requested sending now s ≡ Ok (Some (sent, q))
-        → exchange M site sending counted next (under v i j) ≡ record (counted (under told_world i j)) { world = told_world; stop = Some why }
-    untaken-by sending counted next made = untaken-is publication says site sending v s sent q h.here h.own (subst (λ (x : Moment). requested sending x s ≡ Ok (Some (sent, q))) (sym h.moment) made)
-        p r (subst (λ (x : Moment). handled publication says v.tallies x q v.publisher ≡ Ok (p, r)) (sym h.moment) answer) keyed
-        why (under v i j) counted next (subst (λ (x : Moment). take_reply publication (by_rows sent) x r sent ≡ Err why) (sym h.moment) untaken) refl
+    untaken-by : (sending : Sending) (counted next : ModelSession World → ModelSession World) → request_of_sending sending now s ≡ Ok (Some (sent, q))
+        → exchange M site sending counted next (session_with_counts v i j) ≡ record (counted (session_with_counts told_world i j)) { world = told_world; stop = Some why }
+    untaken-by sending counted next made = untaken-is publication says site sending v s sent q h.here h.own (subst (λ (x : Moment). request_of_sending sending x s ≡ Ok (Some (sent, q))) (sym h.moment) made)
+        p r (subst (λ (x : Moment). result_of_request publication says v.tallies x q v.publisher ≡ Ok (p, r)) (sym h.moment) answer) keyed
+        why (session_with_counts v i j) counted next (subst (λ (x : Moment). take_reply publication (by_rows sent) x r sent ≡ Err why) (sym h.moment) untaken) refl
 
     last-told : downloaded_in M site (last_message M site told_world) ≡ download_in (Some (Replies r))
     last-told = ap (λ (found : Option Message). downloaded_in M site found) (last-posted None (sent_world site sent q v).pool (record { site = site; message = Replies r })) ∙ same-download r
 
-    fetch-untaken : (next : ModelSession World → ModelSession World) → requested SendDownload now s ≡ Ok (Some (sent, q))
-        → exchange M site SendDownload (with_answer M site) next (under v i j) ≡ stopped told_world i (j + one_if (brings_found (download_in (Some (Replies r))))) why
+    fetch-untaken : (next : ModelSession World → ModelSession World) → request_of_sending SendDownload now s ≡ Ok (Some (sent, q))
+        → exchange M site SendDownload (with_answer M site) next (session_with_counts v i j) ≡ stopped told_world i (j + one_if (brings_found (download_in (Some (Replies r))))) why
     fetch-untaken next made =
         untaken-by SendDownload (with_answer M site) next made
-        ∙ ap (λ (found : Option Downloaded). (let x : ModelSession World = elim found [ None ↦ under told_world i j | Some m ↦ with_download M site m (under told_world i j) ] in let y : ModelSession World = record x { world = told_world; stop = Some why } in y)) last-told
+        ∙ ap (λ (found : Option Downloaded). (let x : ModelSession World = elim found [ None ↦ session_with_counts told_world i j | Some m ↦ with_download M site m (session_with_counts told_world i j) ] in let y : ModelSession World = record x { world = told_world; stop = Some why } in y)) last-told
         ∙ counted-or told_world i j why (download_in (Some (Replies r)))
 
     abbrev counted_in : Stage → Session
-    counted_in stage = answered (at stage s i j) sent r stage
+    counted_in stage = session_behind_reply (at stage s i j) sent r stage
 
-    pub untaken-on : (c : Course) → Enough publication site c v s → IsUnderWay (stage_of c) → requested (sending_in (stage_of c)) now s ≡ Ok (Some (sent, q))
-        → rest c (under v i j) ≡ stopped told_world (counted_in (stage_of c)).uploads (counted_in (stage_of c)).downloads why
+    pub untaken-on : (c : Course) → Enough publication site c v s → IsUnderWay (stage_of c) → request_of_sending (sending_in (stage_of c)) now s ≡ Ok (Some (sent, q))
+        → rest c (session_with_counts v i j) ≡ stopped told_world (counted_in (stage_of c)).uploads (counted_in (stage_of c)).downloads why
     untaken-on Joining e going made = ap after_join (untaken-by SendJoin (as_it_is M site) (as_it_is M site) made)
     untaken-on (Uploading zero) e going made = absurd (nothing-left s sent q e made)
-    untaken-on (Uploading (suc count)) e going made = ap after_uploads (untaken-by SendUpload (with_upload M site) (uploading M site count) made)
+    untaken-on (Uploading (suc count)) e going made = ap after_uploads (untaken-by SendUpload (with_upload M site) (uploads_up_to M site count) made)
     untaken-on (Asking zero) e going made = (let enough = e.enough in absurd (omega (arith, enough)))
-    untaken-on (Asking (suc count)) e going made = ap after_ranges (untaken-by SendRanges (as_it_is M site) (λ (x : ModelSession World). if has_grant M site (last_message M site x.world) then asking_ranges M site count x else x) made)
-    untaken-on Fetching e going made = fetch-untaken (after_download M site (λ (m : Downloaded) (x : ModelSession World). if nat_le m.last m.from then x else downloading M site (m.last + 1 - m.from) m.last x)) made
+    untaken-on (Asking (suc count)) e going made = ap after_ranges (untaken-by SendRanges (as_it_is M site) (λ (x : ModelSession World). if has_grant M site (last_message M site x.world) then range_requests_up_to M site count x else x) made)
+    untaken-on Fetching e going made = fetch-untaken (after_download M site (λ (m : Downloaded) (x : ModelSession World). if nat_le m.last m.from then x else downloads_up_to M site (m.last + 1 - m.from) m.last x)) made
     untaken-on (Downloading zero target) e going made = absurd (never-fetches target v s e)
-    untaken-on (Downloading (suc count) target) e going made = fetch-untaken (after_download M site (λ (m : Downloaded) (x : ModelSession World). if nat_le target m.from then x else downloading M site count target x)) made
+    untaken-on (Downloading (suc count) target) e going made = fetch-untaken (after_download M site (λ (m : Downloaded) (x : ModelSession World). if nat_le target m.from then x else downloads_up_to M site count target x)) made
     untaken-on Done e going made = absurd going

@@ -31,9 +31,9 @@ use Rattle.merge_model.specs.History.Model.{Model, model_step}
 use Rattle.merge_model.specs.Judge.ByHistory.{by_made}
 use Rattle.merge_model.specs.Judge.{SubscriberJudge}
 use Rattle.merge_model.specs.Publisher.{holder_for}
-use Rattle.merge_model.specs.Subscriber.Reinit.{reinitialised}
+use Rattle.merge_model.specs.Subscriber.Reinit.{result_of_reinit}
 use Rattle.merge_model.specs.Subscriber.Sending.{upload_sent, with_message}
-use Rattle.merge_model.specs.Subscriber.Taking.{taken, with_grant}
+use Rattle.merge_model.specs.Subscriber.Taking.{tables_after_reply, with_grant}
 use Rattle.merge_model.specs.Subscriber.{subscriber_at_moment, subscriber_closed, subscriber_drawn, subscriber_made_locally, taken_value, with_version_if}
 use Rattle.merge_model.specs.Tables.Keys.{at_number, put_number}
 use Rattle.merge_model.specs.Tables.Publications.{identity_of}
@@ -120,7 +120,7 @@ granted : (grants : List RangeGrant) (held : List (ℕ × Holder)) → Rises 0 h
 granted [] held few = few
 granted (grant ∷ grants) held few = granted grants (with_grant held grant) (found-granted held grant (at_number held grant.article) refl few)
 
-reply-held : (judge : SubscriberJudge) (w : World) (m : Reply) (s : SubscriberTables) → Rises 0 s.held → Rises 0 (taken judge w.moment m s).held
+reply-held : (judge : SubscriberJudge) (w : World) (m : Reply) (s : SubscriberTables) → Rises 0 s.held → Rises 0 (tables_after_reply judge w.moment m s).held
 reply-held judge w (reply.Joined m) s few = few
 reply-held judge w (reply.Uploaded m) s few = few
 reply-held judge w (reply.Ranged m) s few = granted m.grants s.held few
@@ -144,7 +144,7 @@ few-keep publication says = record {
   subscriber_change = λ w h s change d g p at named fine is. on-subscriber w h (subscriber_made_locally publication change d (subscriber_at_moment w.moment s)).0 p
       (subst (λ (held : List (ℕ × Holder)). Rises 0 held) (sym (version-held _ _ _)) (subst (λ (draw : Result (Value × List (ℕ × Holder)) Refusal). IfOk draw (λ x. Rises 0 x.1)) is (draw-keeps s change (p s.site.0 s at))));
   subscriber_closing = λ w h s g p at. on-subscriber w h (subscriber_closed (subscriber_at_moment w.moment s)) p (p s.site.0 s at);
-  anew = λ w h s g p at. on-subscriber w h (reinitialised (by_made h s.site) (subscriber_at_moment w.moment s)).0 p (p s.site.0 s at);
+  anew = λ w h s g p at. on-subscriber w h (result_of_reinit (by_made h s.site) (subscriber_at_moment w.moment s)).0 p (p s.site.0 s at);
   sends_join = λ w h s g p at joining. on-subscriber w h (with_message ask.Join s) p (p s.site.0 s at);
   sends_upload = λ w h s g p at fine. on-subscriber w h (upload_sent (by_made h s.site) (subscriber_closed (subscriber_at_moment w.moment s))).0 p (p s.site.0 s at);
   sends_ranges = λ w h s g p at fine. on-subscriber w h (with_message ask.Ranges s) p (p s.site.0 s at);
@@ -155,7 +155,7 @@ few-keep publication says = record {
   uploads_again = λ w h number m g p at none. p;
   answers_ranges = λ w h site m g p. p;
   answers_ask = λ w h number site m g p at fine. p;
-  replies = λ w h s number m sent g p at there out none. on-subscriber w h (taken (by_made h s.site) w.moment m s) p (reply-held (by_made h s.site) w m s (p s.site.0 s at));
+  replies = λ w h s number m sent g p at there out none. on-subscriber w h (tables_after_reply (by_made h s.site) w.moment m s) p (reply-held (by_made h s.site) w m s (p s.site.0 s at));
 }
 
 pub few-step : (publication : Publication) (says : Saying) (m : Model) (action : Action) → Ground publication m.world m.history → HaveFew m.world m.history → (let n : Model = (model_step publication says m action).0 in HaveFew n.world n.history)

@@ -7,9 +7,9 @@ use Rattle.merge_types.specs.declared.identifiers.SiteId.{SiteId}
 use Rattle.merge_schema.specs.declared.publication.Publication.{Publication}
 use Rattle.merge_batch.specs.declared.request.Request.{Request}
 use Rattle.merge_model.specs.World.{Saying, World}
-use Rattle.merge_world.specs.Messages.{requested}
+use Rattle.merge_world.specs.Messages.{request_of_sending}
 use Rattle.merge_wire.specs.Written.{IsVisible}
-use Rattle.merge_agent.specs.Sessions.{Does, Follows, IsUnderWay, Session, Skip, Stage, Step, Take, answered, at as standing, exchanges_of, moments_of, passed, sending_in}
+use Rattle.merge_agent.specs.Sessions.{Does, Follows, IsUnderWay, Session, Skip, Stage, Step, Take, at as standing, exchanges_of, moments_of, sending_in, session_at_next_stage, session_behind_reply}
 use Rattle.merge_agent.specs.Turns.{Turn}
 use Rattle.merge_synced.specs.Answering.{Answers, AreRead, AreTold, Serving, behind, reply_by, serving_in}
 use Rattle.merge_synced.specs.Courses.{Course, stage_of}
@@ -26,9 +26,9 @@ module _ (publication : Publication) (says : Saying) (site : SiteId) (now : Mome
   skipped : (c : Course) (v : World) (a mid : Session) (made : Moment) → a.stage ≡ stage_of c → StandsAt publication site now v a.tables → Enough publication site c v a.tables → IsUnderWay a.stage → made ≡ now → Does publication address (Skip made) a mid
       → Goes c v a.uploads a.downloads mid (serving_in v)
   skipped c v a mid made is h e going at does =
-      let none : requested (sending_in (stage_of c)) now a.tables ≡ Ok None =
-      subst (λ (x : Stage). requested (sending_in x) now a.tables ≡ Ok None) is (subst (λ (x : Moment). requested (sending_in a.stage) x a.tables ≡ Ok None) at does.0) in
-      let there : mid ≡ passed (standing (stage_of c) a.tables a.uploads a.downloads) = does.1 ∙ ap (λ (x : Stage). passed (standing x a.tables a.uploads a.downloads)) is in
+      let none : request_of_sending (sending_in (stage_of c)) now a.tables ≡ Ok None =
+      subst (λ (x : Stage). request_of_sending (sending_in x) now a.tables ≡ Ok None) is (subst (λ (x : Moment). request_of_sending (sending_in a.stage) x a.tables ≡ Ok None) at does.0) in
+      let there : mid ≡ session_at_next_stage (standing (stage_of c) a.tables a.uploads a.downloads) = does.1 ∙ ap (λ (x : Stage). session_at_next_stage (standing x a.tables a.uploads a.downloads)) is in
       subst (λ (x : Session). Goes c v a.uploads a.downloads x (serving_in v)) (sym there)
       (skip-on publication says site now c v a.tables a.uploads a.downloads h e (subst IsUnderWay is going) none)
 
@@ -39,8 +39,8 @@ module _ (publication : Publication) (says : Saying) (site : SiteId) (now : Mome
       let t : Turned publication says now (sending_in a.stage) a.tables does.tables does.reply (serving_in v) (behind publication says now r (serving_in v)) =
       turned publication says now address visible (sending_in a.stage) made turn a.tables does.tables does.reply (serving_in v) r at then does.takes
       (λ sent q asked. made-short (sending_in a.stage) now a.tables sent q (behind-short publication v site a.tables h.behind h.here) asked) read tells in
-      let there : mid ≡ answered (standing (stage_of c) a.tables a.uploads a.downloads) does.tables does.reply (stage_of c) =
-      does.next ∙ ap (λ (x : Stage). answered (standing x a.tables a.uploads a.downloads) does.tables does.reply x) is in
+      let there : mid ≡ session_behind_reply (standing (stage_of c) a.tables a.uploads a.downloads) does.tables does.reply (stage_of c) =
+      does.next ∙ ap (λ (x : Stage). session_behind_reply (standing x a.tables a.uploads a.downloads) does.tables does.reply x) is in
       subst (λ (x : Session). Goes c v a.uploads a.downloads x (behind publication says now r (serving_in v))) (sym there)
       (turn-on publication says site now c v a.tables does.tables does.reply a.uploads a.downloads (behind publication says now r (serving_in v)) h e (subst IsUnderWay is going)
       (subst (λ (x : Stage). Turned publication says now (sending_in x) a.tables does.tables does.reply (serving_in v) (behind publication says now r (serving_in v))) is t))

@@ -23,7 +23,7 @@ use Rattle.merge_model.specs.Tables.Keys.{row_at}
 use Rattle.merge_model.specs.Tables.{SubscriberTables}
 use Rattle.merge_model.specs.World.Steps.{SendDownload, SendJoin, SendRanges, SendUpload, Sending}
 use Rattle.merge_model.proofs.Lists.{OfSome, all-filter_map, all-unit}
-use Rattle.merge_world.specs.Messages.{requested}
+use Rattle.merge_world.specs.Messages.{request_of_sending}
 use Rattle.merge_honest.proofs.Batches.{batch-holds}
 use Rattle.merge_honest.proofs.SentUploads.{items-short}
 use Rattle.merge_synced.proofs.Made.{download-made, join-made, ranges-made, upload-made}
@@ -93,7 +93,7 @@ closed-short now s short = record { rows = short.rows; ranges = short.ranges }
 as-made : (q r : Request) → q ≡ r → IsShortRequest q → IsShortRequest r
 as-made q r same short = subst (λ (x : Request). IsShortRequest x) same short
 
-pub made-short : (sending : Sending) (now : Moment) (s sent : SubscriberTables) (q : Request) → AreShort s → requested sending now s ≡ Ok (Some (sent, q)) → IsShortRequest q
+pub made-short : (sending : Sending) (now : Moment) (s sent : SubscriberTables) (q : Request) → AreShort s → request_of_sending sending now s ≡ Ok (Some (sent, q)) → IsShortRequest q
 made-short SendJoin now s sent q short e = (let m = join-made now s sent q e in as-made (request.Join (join_of s)) q m.asks tt)
 made-short SendUpload now s sent q short e =
     let m = upload-made now s sent q e in

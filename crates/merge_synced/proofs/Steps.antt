@@ -23,10 +23,10 @@ use Rattle.merge_model.specs.Subscriber.Sending.{make_ask, make_join, make_range
 use Rattle.merge_model.specs.Subscriber.Taking.{take_reply}
 use Rattle.merge_model.specs.Tables.Keys.{at_number, put_number}
 use Rattle.merge_model.specs.Tables.{PublisherTables, SubscriberTables}
-use Rattle.merge_model.specs.World.Calls.{as_reply, handled, questions_on}
+use Rattle.merge_model.specs.World.Calls.{as_reply, questions_on, result_of_request}
 use Rattle.merge_model.specs.World.Events.{machine}
-use Rattle.merge_model.specs.World.Session.{Session, answered_as, arrived, ask, exchange, then_deliver}
-use Rattle.merge_model.specs.World.Steps.{Action, Deliver, Send, SendDownload, SendJoin, SendRanges, SendUpload, Sending, after_upload, answered, deliver_letter, deliver_reply, deliver_request, kept_decisions, post, posted, send_from, unless_refused, upload_questions}
+use Rattle.merge_model.specs.World.Session.{Session, answered_as, ask, exchange, session_after_reply, then_deliver}
+use Rattle.merge_model.specs.World.Steps.{Action, Deliver, Send, SendDownload, SendJoin, SendRanges, SendUpload, Sending, after_upload, deliver_letter, deliver_reply, deliver_request, kept_decisions, post, post_if_made, post_reply, send_from, unless_refused, upload_questions}
 use Rattle.merge_model.specs.World.{Saying, World, by_tables, letter_at, subscriber_at, with_publisher, with_subscriber}
 use Rattle.merge_model.specs.declared.letter.Letter.{Letter}
 use Rattle.merge_model.specs.declared.letter.Message.{Message}
@@ -37,7 +37,7 @@ use Rattle.merge_model.specs.declared.outcome.Taken.{Taken}
 use Rattle.merge_model.specs.declared.outcome.Taken.TheVariants.{Acted}
 use Rattle.merge_model.proofs.Lists.Finding.{at_put_same}
 use Rattle.merge_laws.proofs.Walking.{letter-last as last-there}
-use Rattle.merge_world.specs.Messages.{always, as_request, requested}
+use Rattle.merge_world.specs.Messages.{as_request, request_of_sending, some_if_made}
 
 -- the world with a request more in the pool, and with a reply
 abbrev pub sent_world : SiteId → SubscriberTables → Request → World → World
@@ -61,21 +61,21 @@ last-posted before (other ∷ pool) letter = last-posted (Some other.message) po
 -- A message that is made, by what its call gives.
 
 sent-by : {A : Type 0} (site : SiteId) (message : A → Request) (w : World) (made : Result (Option (SubscriberTables × A)) Refusal) (sent : SubscriberTables) (q : Request) → as_request message made ≡ Ok (Some (sent, q))
-    → unless_refused w made (posted site message w) ≡ (sent_world site sent q w, Posted (length w.pool + 1))
+    → unless_refused w made (post_if_made site message w) ≡ (sent_world site sent q w, Posted (length w.pool + 1))
 sent-by site message w (Ok (Some made)) sent q e =
     let pair : (let both : SubscriberTables × Request = (made.0, message made.1) in both) ≡ (sent, q) = cc in
     ap (λ (both : SubscriberTables × Request). post site (Asks both.1) (with_subscriber both.0 w)) pair
 sent-by site message w (Ok None) sent q e = absurd cc
 sent-by site message w (Err why) sent q e = absurd cc
 
-sent-always : (site : SiteId) (w : World) (made : Result (SubscriberTables × Download) Refusal) (sent : SubscriberTables) (q : Request) → as_request request.Download (always made) ≡ Ok (Some (sent, q))
+sent-always : (site : SiteId) (w : World) (made : Result (SubscriberTables × Download) Refusal) (sent : SubscriberTables) (q : Request) → as_request request.Download (some_if_made made) ≡ Ok (Some (sent, q))
     → unless_refused w made (λ (done : SubscriberTables × Download). post site (Asks (request.Download done.1)) (with_subscriber done.0 w)) ≡ (sent_world site sent q w, Posted (length w.pool + 1))
 sent-always site w (Ok made) sent q e =
     let pair : (let both : SubscriberTables × Request = (made.0, request.Download made.1) in both) ≡ (sent, q) = cc in
     ap (λ (both : SubscriberTables × Request). post site (Asks both.1) (with_subscriber both.0 w)) pair
 sent-always site w (Err why) sent q e = absurd cc
 
-sending-is : (sending : Sending) (w : World) (s sent : SubscriberTables) (q : Request) → requested sending w.moment s ≡ Ok (Some (sent, q))
+sending-is : (sending : Sending) (w : World) (s sent : SubscriberTables) (q : Request) → request_of_sending sending w.moment s ≡ Ok (Some (sent, q))
     → send_from (by_tables w) sending w s ≡ (sent_world s.site sent q w, Posted (length w.pool + 1))
 sending-is SendJoin w s sent q e = sent-by s.site request.Join w (make_join s) sent q e
 sending-is SendUpload w s sent q e = sent-by s.site request.Upload w (make_upload (by_rows s) w.moment s) sent q e
@@ -84,16 +84,16 @@ sending-is SendDownload w s sent q e = sent-always s.site w (make_ask s) sent q 
 
 -- where there is none to make
 
-none-by : {A : Type 0} (site : SiteId) (message : A → Request) (w : World) (made : Result (Option (SubscriberTables × A)) Refusal) → as_request message made ≡ Ok None → unless_refused w made (posted site message w) ≡ (w, NoPost)
+none-by : {A : Type 0} (site : SiteId) (message : A → Request) (w : World) (made : Result (Option (SubscriberTables × A)) Refusal) → as_request message made ≡ Ok None → unless_refused w made (post_if_made site message w) ≡ (w, NoPost)
 none-by site message w (Ok (Some made)) e = absurd cc
 none-by site message w (Ok None) e = refl
 none-by site message w (Err why) e = absurd cc
 
-none-never : (made : Result (SubscriberTables × Download) Refusal) → as_request request.Download (always made) ≡ Ok None → ⊥
+none-never : (made : Result (SubscriberTables × Download) Refusal) → as_request request.Download (some_if_made made) ≡ Ok None → ⊥
 none-never (Ok made) e = absurd cc
 none-never (Err why) e = absurd cc
 
-none-is : (sending : Sending) (w : World) (s : SubscriberTables) → requested sending w.moment s ≡ Ok None → send_from (by_tables w) sending w s ≡ (w, NoPost)
+none-is : (sending : Sending) (w : World) (s : SubscriberTables) → request_of_sending sending w.moment s ≡ Ok None → send_from (by_tables w) sending w s ≡ (w, NoPost)
 none-is SendJoin w s e = none-by s.site request.Join w (make_join s) e
 none-is SendUpload w s e = none-by s.site request.Upload w (make_upload (by_rows s) w.moment s) e
 none-is SendRanges w s e = none-by s.site request.Ranges w (make_ranges s) e
@@ -101,35 +101,35 @@ none-is SendDownload w s e = absurd (none-never (make_ask s) e)
 
 -- and where the site refuses to make it
 
-not-by : {A : Type 0} (site : SiteId) (message : A → Request) (w : World) (made : Result (Option (SubscriberTables × A)) Refusal) (why : Refusal) → as_request message made ≡ Err why → unless_refused w made (posted site message w) ≡ (w, Refuses why)
+not-by : {A : Type 0} (site : SiteId) (message : A → Request) (w : World) (made : Result (Option (SubscriberTables × A)) Refusal) (why : Refusal) → as_request message made ≡ Err why → unless_refused w made (post_if_made site message w) ≡ (w, Refuses why)
 not-by site message w (Ok made) why e = absurd cc
 not-by site message w (Err other) why e = let same : other ≡ why = cc in ap (λ (x : Refusal). (let done : World × Outcome = (w, Refuses x) in done)) same
 
-not-always : (site : SiteId) (w : World) (made : Result (SubscriberTables × Download) Refusal) (why : Refusal) → as_request request.Download (always made) ≡ Err why
+not-always : (site : SiteId) (w : World) (made : Result (SubscriberTables × Download) Refusal) (why : Refusal) → as_request request.Download (some_if_made made) ≡ Err why
     → unless_refused w made (λ (done : SubscriberTables × Download). post site (Asks (request.Download done.1)) (with_subscriber done.0 w)) ≡ (w, Refuses why)
 not-always site w (Ok made) why e = absurd cc
 not-always site w (Err other) why e = let same : other ≡ why = cc in ap (λ (x : Refusal). (let done : World × Outcome = (w, Refuses x) in done)) same
 
-not-made : (sending : Sending) (w : World) (s : SubscriberTables) (why : Refusal) → requested sending w.moment s ≡ Err why → send_from (by_tables w) sending w s ≡ (w, Refuses why)
+not-made : (sending : Sending) (w : World) (s : SubscriberTables) (why : Refusal) → request_of_sending sending w.moment s ≡ Err why → send_from (by_tables w) sending w s ≡ (w, Refuses why)
 not-made SendJoin w s why e = not-by s.site request.Join w (make_join s) why e
 not-made SendUpload w s why e = not-by s.site request.Upload w (make_upload (by_rows s) w.moment s) why e
 not-made SendRanges w s why e = not-by s.site request.Ranges w (make_ranges s) why e
 not-made SendDownload w s why e = not-always s.site w (make_ask s) why e
 
 -- a site always has an ask to make
-pub asks-always : (s : SubscriberTables) → as_request request.Download (always (make_ask s)) ≡ Ok None → ⊥
+pub asks-always : (s : SubscriberTables) → as_request request.Download (some_if_made (make_ask s)) ≡ Ok None → ⊥
 asks-always s e = none-never (make_ask s) e
 
 -- What the publisher answers.
 
 reply-by : {A : Type 0} (site : SiteId) (message : A → Reply) (w : World) (done : Result (PublisherTables × A) Refusal) (p : PublisherTables) (r : Reply) → as_reply message done ≡ Ok (p, r)
-    → answered site message w done ≡ ((post site (Replies r) (with_publisher p w)).0, Posted (length w.pool + 1))
+    → post_reply site message w done ≡ ((post site (Replies r) (with_publisher p w)).0, Posted (length w.pool + 1))
 reply-by site message w (Ok done) p r e =
     let pair : (let both : PublisherTables × Reply = (done.0, message done.1) in both) ≡ (p, r) = cc in
     ap (λ (both : PublisherTables × Reply). post site (Replies both.1) (with_publisher both.0 w)) pair
 reply-by site message w (Err why) p r e = absurd cc
 
-refused-by : {A : Type 0} (site : SiteId) (message : A → Reply) (w : World) (done : Result (PublisherTables × A) Refusal) (why : Refusal) → as_reply message done ≡ Err why → answered site message w done ≡ (w, Refuses why)
+refused-by : {A : Type 0} (site : SiteId) (message : A → Reply) (w : World) (done : Result (PublisherTables × A) Refusal) (why : Refusal) → as_reply message done ≡ Err why → post_reply site message w done ≡ (w, Refuses why)
 refused-by site message w (Ok done) why e = absurd cc
 refused-by site message w (Err other) why e = let same : other ≡ why = cc in ap (λ (x : Refusal). (let done : World × Outcome = (w, Refuses x) in done)) same
 
@@ -145,14 +145,14 @@ module _ (publication : Publication) (says : Saying) where
   no-upload-by site m w (Ok done) why e = absurd cc
   no-upload-by site m w (Err other) why e = let same : other ≡ why = cc in ap (λ (x : Refusal). (let done : World × Outcome = (w, Refuses x) in done)) same
 
-  pub answer-is : (site : SiteId) (q : Request) (w : World) (p : PublisherTables) (r : Reply) → handled publication says w.tallies w.moment q w.publisher ≡ Ok (p, r)
+  pub answer-is : (site : SiteId) (q : Request) (w : World) (p : PublisherTables) (r : Reply) → result_of_request publication says w.tallies w.moment q w.publisher ≡ Ok (p, r)
       → deliver_request publication says (by_numbers w.publisher) site q w ≡ (replied_world publication site q p r w, Posted (length w.pool + 1))
   answer-is site (request.Join m) w p r e = reply-by site reply.Joined w (join publication w.moment m w.publisher) p r e
   answer-is site (request.Upload m) w p r e = upload-by site m w (upload publication (by_numbers w.publisher) w.moment m (kept_decisions says w.tallies (upload_questions publication (by_numbers w.publisher) w.moment m w.publisher)) w.publisher) p r e
   answer-is site (request.Ranges m) w p r e = reply-by site reply.Ranged w (ranges publication (by_numbers w.publisher) w.moment m w.publisher) p r e
   answer-is site (request.Download m) w p r e = reply-by site reply.Downloaded w (download publication (by_numbers w.publisher) w.moment m w.publisher) p r e
 
-  pub refusal-is : (site : SiteId) (q : Request) (w : World) (why : Refusal) → handled publication says w.tallies w.moment q w.publisher ≡ Err why → deliver_request publication says (by_numbers w.publisher) site q w ≡ (w, Refuses why)
+  pub refusal-is : (site : SiteId) (q : Request) (w : World) (why : Refusal) → result_of_request publication says w.tallies w.moment q w.publisher ≡ Err why → deliver_request publication says (by_numbers w.publisher) site q w ≡ (w, Refuses why)
   refusal-is site (request.Join m) w why e = refused-by site reply.Joined w (join publication w.moment m w.publisher) why e
   refusal-is site (request.Upload m) w why e = no-upload-by site m w (upload publication (by_numbers w.publisher) w.moment m (kept_decisions says w.tallies (upload_questions publication (by_numbers w.publisher) w.moment m w.publisher)) w.publisher) why e
   refusal-is site (request.Ranges m) w why e = refused-by site reply.Ranged w (ranges publication (by_numbers w.publisher) w.moment m w.publisher) why e
@@ -187,7 +187,7 @@ module _ (publication : Publication) (says : Saying) where
       (ap (λ (x : Result (SubscriberTables × Taken) Refusal). took_by w x) is))
 
   -- An exchange that went through, or that one of both refused.
-  module _ (site : SiteId) (sending : Sending) (w : World) (s sent : SubscriberTables) (q : Request) (here : subscriber_at w site ≡ Some s) (own : s.site ≡ site) (made : requested sending w.moment s ≡ Ok (Some (sent, q))) where
+  module _ (site : SiteId) (sending : Sending) (w : World) (s sent : SubscriberTables) (q : Request) (here : subscriber_at w site ≡ Some s) (own : s.site ≡ site) (made : request_of_sending sending w.moment s ≡ Ok (Some (sent, q))) where
     pub send-is : act w (Send site sending) ≡ (sent_world site sent q w, Posted (length w.pool + 1))
     send-is = sent-at site sending w s (sent_world site sent q w, Posted (length w.pool + 1)) here
         (sending-is sending w s sent q made ∙ ap (λ (x : SiteId). (let done : World × Outcome = (sent_world x sent q w, Posted (length w.pool + 1)) in done)) own)
@@ -195,18 +195,18 @@ module _ (publication : Publication) (says : Saying) where
     pub request-there : letter_at (sent_world site sent q w) (length w.pool + 1) ≡ Some (record { site = site; message = Asks q })
     request-there = letter-last w.pool (record { site = site; message = Asks q }) (sent_world site sent q w) refl
 
-    ask-refused : (why : Refusal) → handled publication says w.tallies w.moment q w.publisher ≡ Err why → ask (machine publication says) site sending w ≡ (sent_world site sent q w, Refuses why)
+    ask-refused : (why : Refusal) → result_of_request publication says w.tallies w.moment q w.publisher ≡ Err why → ask (machine publication says) site sending w ≡ (sent_world site sent q w, Refuses why)
     ask-refused why e = ap (λ (done : World × Outcome). then_deliver (machine publication says) site done) send-is
         ∙ comes (length w.pool + 1) (sent_world site sent q w) (record { site = site; message = Asks q }) (sent_world site sent q w, Refuses why) request-there (refusal-is site q (sent_world site sent q w) why e)
 
-    pub refused-is : (why : Refusal) (x : Session World) (counted next : Session World → Session World) → handled publication says w.tallies w.moment q w.publisher ≡ Err why → x.world ≡ w
+    pub refused-is : (why : Refusal) (x : Session World) (counted next : Session World → Session World) → result_of_request publication says w.tallies w.moment q w.publisher ≡ Err why → x.world ≡ w
         → exchange (machine publication says) site sending counted next x ≡ record x { world = sent_world site sent q w; stop = Some why }
     refused-is why x counted next e is =
         ap (λ (v : World). answered_as (machine publication says) site counted next x (ask (machine publication says) site sending v)) is
         ∙ ap (λ (done : World × Outcome). answered_as (machine publication says) site counted next x done) (ask-refused why e)
 
     -- the publisher answered
-    module _ (p : PublisherTables) (r : Reply) (answer : handled publication says w.tallies w.moment q w.publisher ≡ Ok (p, r)) (keyed : sent.site ≡ site) where
+    module _ (p : PublisherTables) (r : Reply) (answer : result_of_request publication says w.tallies w.moment q w.publisher ≡ Ok (p, r)) (keyed : sent.site ≡ site) where
       abbrev replied : World
       replied = replied_world publication site q p r (sent_world site sent q w)
 
@@ -217,11 +217,11 @@ module _ (publication : Publication) (says : Saying) where
 
       -- and this came of its reply
       came-is : (done : Result (SubscriberTables × Taken) Refusal) (x : Session World) (counted next : Session World → Session World) → take_reply publication (by_rows sent) w.moment r sent ≡ done → x.world ≡ w
-          → exchange (machine publication says) site sending counted next x ≡ arrived (machine publication says) site next (counted (record x { world = replied })) (took_by replied done)
+          → exchange (machine publication says) site sending counted next x ≡ session_after_reply (machine publication says) site next (counted (record x { world = replied })) (took_by replied done)
       came-is done x counted next taken is =
           ap (λ (v : World). answered_as (machine publication says) site counted next x (ask (machine publication says) site sending v)) is
           ∙ ap (λ (made : World × Outcome). answered_as (machine publication says) site counted next x made) ask-answered
-          ∙ ap (λ (made : World × Outcome). arrived (machine publication says) site next (counted (record x { world = replied })) made)
+          ∙ ap (λ (made : World × Outcome). session_after_reply (machine publication says) site next (counted (record x { world = replied })) made)
           (came-back (length (sent_world site sent q w).pool + 1) replied site r sent done
           (letter-last (sent_world site sent q w).pool (record { site = site; message = Replies r }) replied refl) (sent-has site sent q w keyed) taken)
 
@@ -245,13 +245,13 @@ module _ (publication : Publication) (says : Saying) where
           (letter-last (sent_world site sent q w).pool (record { site = site; message = Replies r }) replied refl) (sent-has site sent q w keyed) taken)
           (keeps replied (Deliver (length (sent_world site sent q w).pool + 1)) told)
 
-  pub none-sent : (site : SiteId) (sending : Sending) (w : World) (s : SubscriberTables) (x : Session World) (counted next : Session World → Session World) → subscriber_at w site ≡ Some s → requested sending w.moment s ≡ Ok None
+  pub none-sent : (site : SiteId) (sending : Sending) (w : World) (s : SubscriberTables) (x : Session World) (counted next : Session World → Session World) → subscriber_at w site ≡ Some s → request_of_sending sending w.moment s ≡ Ok None
       → x.world ≡ w → exchange (machine publication says) site sending counted next x ≡ record x { world = w }
   none-sent site sending w s x counted next here none is =
       ap (λ (v : World). answered_as (machine publication says) site counted next x (ask (machine publication says) site sending v)) is
       ∙ ap (λ (done : World × Outcome). answered_as (machine publication says) site counted next x (then_deliver (machine publication says) site done)) (sent-at site sending w s (w, NoPost) here (none-is sending w s none))
 
-  pub unmade-is : (site : SiteId) (sending : Sending) (w : World) (s : SubscriberTables) (why : Refusal) (x : Session World) (counted next : Session World → Session World) → subscriber_at w site ≡ Some s → requested sending w.moment s ≡ Err why
+  pub unmade-is : (site : SiteId) (sending : Sending) (w : World) (s : SubscriberTables) (why : Refusal) (x : Session World) (counted next : Session World → Session World) → subscriber_at w site ≡ Some s → request_of_sending sending w.moment s ≡ Err why
       → x.world ≡ w → exchange (machine publication says) site sending counted next x ≡ record x { world = w; stop = Some why }
   unmade-is site sending w s why x counted next here refused is =
       ap (λ (v : World). answered_as (machine publication says) site counted next x (ask (machine publication says) site sending v)) is

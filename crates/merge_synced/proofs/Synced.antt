@@ -13,26 +13,26 @@ use Rattle.merge_model.specs.Failing.Runs.{world_behind_actions}
 use Rattle.merge_model.specs.Judge.ByNumbers.{by_rows}
 use Rattle.merge_model.specs.Subscriber.Taking.{take_reply}
 use Rattle.merge_model.specs.Tables.{PublisherTables, SubscriberTables}
-use Rattle.merge_model.specs.World.Calls.{handled, questions_on}
+use Rattle.merge_model.specs.World.Calls.{questions_on, result_of_request}
 use Rattle.merge_model.specs.World.Events.{machine}
 use Rattle.merge_model.specs.World.Session.{Session as ModelSession, as_it_is, exchange, is_joined_in, session, unsent_generations}
 use Rattle.merge_model.specs.World.Steps.{Deliver, SendJoin}
 use Rattle.merge_model.specs.World.{Saying, World, subscriber_at}
-use Rattle.merge_world.specs.Messages.{requested}
+use Rattle.merge_world.specs.Messages.{request_of_sending}
 use Rattle.merge_laws.proofs.Lineages.LineagesAlways.{actions-same}
 use Rattle.merge_owed.proofs.HeldThresholds.{AreThresholds, thresholds-by-actions}
 use Rattle.merge_agent.specs.Answers.{Tells}
 use Rattle.merge_agent.specs.Faults.{with_fault}
-use Rattle.merge_agent.specs.Sessions.{IsUnderWay, Joins, Over, Session, Stage, Step, Uploads, answered as counted, at, begun, sending_in}
+use Rattle.merge_agent.specs.Sessions.{IsUnderWay, Joins, Over, Session, Stage, Step, Uploads, at, sending_in, session_at_start, session_behind_reply as counted}
 use Rattle.merge_agent.specs.Turns.{HasMessage, IsLeft, Turn, Untakes, reply_taken, taken_by}
 use Rattle.merge_agent.specs.declared.answer.Told.{Told}
 use Rattle.merge_agent.specs.declared.answer.Told.TheVariants.{Replied}
 use Rattle.merge_agent.specs.declared.fault.SessionFault.{SessionFault}
 use Rattle.merge_agent.specs.declared.fault.SessionFault.TheVariants as fault
-use Rattle.merge_desk.specs.Replay.{answered, told as told_as}
+use Rattle.merge_desk.specs.Replay.{reply_of_refusal as told_as, tables_and_reply}
 use Rattle.merge_synced.specs.Answering.{AreTold, Serving, behind, counted_by, made_of, serving_in}
 use Rattle.merge_synced.specs.Synced.{DoneIsTheModels, IsRefused, IsUntaken, Met, OfEveryValidWorld, RefusedIsTheModels, SiteStops, StandsAs, UnmadeIsTheModels, UntakenIsTheModels, WouldAct}
-use Rattle.merge_synced.specs.Courses.{Asking, Course, Done, Downloading, Fetching, Joining, Uploading, stage_of, under}
+use Rattle.merge_synced.specs.Courses.{Asking, Course, Done, Downloading, Fetching, Joining, Uploading, session_with_counts, stage_of}
 use Rattle.merge_synced.specs.Cut.{CutIsAPart, IsCut, PassesBy, Stands, StepsAreAPart}
 use Rattle.merge_synced.proofs.Courses.{Enough, Onward, after_join, refuse-on, rest, sends-begin, unmade-on, untaken-on}
 use Rattle.merge_synced.proofs.Delivered.{taken-there}
@@ -57,9 +57,9 @@ module _ (publication : Publication) (says : Saying) (w : World) (s : Subscriber
   -- where a session begins
   record Begins : Type 0 where
     pub course : Course
-    pub stage : (begun s).stage ≡ stage_of course
+    pub stage : (session_at_start s).stage ≡ stage_of course
     pub enough : Enough publication s.site course w s
-    pub same : session (machine publication says) s.site w ≡ rest publication says s.site w.moment course (under w 0 0)
+    pub same : session (machine publication says) s.site w ≡ rest publication says s.site w.moment course (session_with_counts w 0 0)
 
   joined-is : is_joined_in (machine publication says) s.site w ≡ s.is_joined
   joined-is = ap (λ (found : Option SubscriberTables). unwrap_or (option_map (λ (x : SubscriberTables). x.is_joined) found) true) here
@@ -69,13 +69,13 @@ module _ (publication : Publication) (says : Saying) (w : World) (s : Subscriber
     course = Uploading (unsent_generations (machine publication says) s.site w);
     stage = ap (λ (b : Bool). (let x : Stage = if b then Uploads else Joins in x)) is;
     enough = sends-begin publication says s.site w.moment w s here thresholds;
-    same = ap (λ (b : Bool). after_join publication says s.site w.moment (if b then under w 0 0 else exchange (machine publication says) s.site SendJoin (as_it_is (machine publication says) s.site) (as_it_is (machine publication says) s.site) (under w 0 0))) (joined-is ∙ is);
+    same = ap (λ (b : Bool). after_join publication says s.site w.moment (if b then session_with_counts w 0 0 else exchange (machine publication says) s.site SendJoin (as_it_is (machine publication says) s.site) (as_it_is (machine publication says) s.site) (session_with_counts w 0 0))) (joined-is ∙ is);
   }
   begins-by false is = record {
     course = Joining;
     stage = ap (λ (b : Bool). (let x : Stage = if b then Uploads else Joins in x)) is;
     enough = thresholds;
-    same = ap (λ (b : Bool). after_join publication says s.site w.moment (if b then under w 0 0 else exchange (machine publication says) s.site SendJoin (as_it_is (machine publication says) s.site) (as_it_is (machine publication says) s.site) (under w 0 0))) (joined-is ∙ is);
+    same = ap (λ (b : Bool). after_join publication says s.site w.moment (if b then session_with_counts w 0 0 else exchange (machine publication says) s.site SendJoin (as_it_is (machine publication says) s.site) (as_it_is (machine publication says) s.site) (session_with_counts w 0 0))) (joined-is ∙ is);
   }
 
   begins : Begins
@@ -83,10 +83,10 @@ module _ (publication : Publication) (says : Saying) (w : World) (s : Subscriber
 
   -- and where the steps lead
   goes : (address : List ℕ) (steps : List Step) (last : Session) (p : Serving) → Met publication says w address s steps last p → Onward publication says s.site w.moment begins.course w 0 0 last p
-  goes address steps last p met = led publication says s.site w.moment address met.visible steps begins.course w (begun s) last p begins.stage (record { here = here; own = refl; moment = refl; behind = behind-actions }) begins.enough met.follows met.now met.answers
+  goes address steps last p met = led publication says s.site w.moment address met.visible steps begins.course w (session_at_start s) last p begins.stage (record { here = here; own = refl; moment = refl; behind = behind-actions }) begins.enough met.follows met.now met.answers
 
   -- what a site makes behind them is within the limits of the product
-  short-made : (last : Session) (t : SubscriberTables) (p : Serving) (q : Request) → Onward publication says s.site w.moment begins.course w 0 0 last p → requested (sending_in last.stage) w.moment last.tables ≡ Ok (Some (t, q)) → IsShortRequest q
+  short-made : (last : Session) (t : SubscriberTables) (p : Serving) (q : Request) → Onward publication says s.site w.moment begins.course w 0 0 last p → request_of_sending (sending_in last.stage) w.moment last.tables ≡ Ok (Some (t, q)) → IsShortRequest q
   short-made last t p q o made = made-short (sending_in last.stage) w.moment last.tables t q (behind-short publication o.world s.site last.tables o.here.behind o.here.here) made
 
   stands : (t : SubscriberTables) (i j : ℕ) (stop : Option Refusal) (p : Serving) (v : World) (done : ModelSession World) → done ≡ record { world = v; uploads = i; downloads = j; stop = stop } → subscriber_at v s.site ≡ Some t → serving_in v ≡ p
@@ -97,7 +97,7 @@ module _ (publication : Publication) (says : Saying) (w : World) (s : Subscriber
   done-stands address t steps i j p met =
       let o : Onward publication says s.site w.moment begins.course w 0 0 (at Over t i j) p = goes address steps (at Over t i j) p met in
       stands t i j None p o.world (session (machine publication says) s.site w)
-      (begins.same ∙ o.same ∙ ap (λ (c : Course). rest publication says s.site w.moment c (under o.world i j)) (ended o.course o.stage))
+      (begins.same ∙ o.same ∙ ap (λ (c : Course). rest publication says s.site w.moment c (session_with_counts o.world i j)) (ended o.course o.stage))
       o.here.here o.serving
 
   -- The model's session passes where the steps lead.
@@ -117,12 +117,12 @@ module _ (publication : Publication) (says : Saying) (w : World) (s : Subscriber
       (o.world, passes-by last p o)
 
   -- there it sends the message that had no response
-  cut-stands : (address : List ℕ) (steps : List Step) (last : Session) (p : Serving) (t : SubscriberTables) (q : Request) → Met publication says w address s steps last p → requested (sending_in last.stage) w.moment last.tables ≡ Ok (Some (t, q))
+  cut-stands : (address : List ℕ) (steps : List Step) (last : Session) (p : Serving) (t : SubscriberTables) (q : Request) → Met publication says w address s steps last p → request_of_sending (sending_in last.stage) w.moment last.tables ≡ Ok (Some (t, q))
       → IsCut publication says s.site w last p t q
   cut-stands address steps last p t q met made =
       let o : Onward publication says s.site w.moment begins.course w 0 0 last p = goes address steps last p met in
-      let made_there : requested (sending_in last.stage) o.world.moment last.tables ≡ Ok (Some (t, q)) =
-      subst (λ (x : Moment). requested (sending_in last.stage) x last.tables ≡ Ok (Some (t, q))) (sym o.here.moment) made in
+      let made_there : request_of_sending (sending_in last.stage) o.world.moment last.tables ≡ Ok (Some (t, q)) =
+      subst (λ (x : Moment). request_of_sending (sending_in last.stage) x last.tables ≡ Ok (Some (t, q))) (sym o.here.moment) made in
       let keyed : t.site ≡ s.site = sent-site (sending_in last.stage) w.moment last.tables t q made ∙ o.here.own in
       let told : World = ((machine publication says).act (sent_world s.site t q o.world) (Deliver (length o.world.pool + 1))).0 in
       record {
@@ -146,30 +146,30 @@ module _ (publication : Publication) (says : Saying) (w : World) (s : Subscriber
       let breaks : Untakes publication address (sending_in last.stage) w.moment turn last.tables t why = r.breaks in
       let q : Request = breaks.request in
       let same : r.request ≡ q = same-read publication says w.moment address met.visible turn.carried.request q r.request breaks.text breaks.readable (short-made last t p q o breaks.is_made) r.read in
-      let refused : handled publication says o.world.tallies w.moment q o.world.publisher ≡ Err refusal =
+      let refused : result_of_request publication says o.world.tallies w.moment q o.world.publisher ≡ Err refusal =
       subst (λ (x : Serving). made_of publication says w.moment q x ≡ Err refusal) (sym o.serving) (subst (λ (x : Request). made_of publication says w.moment x p ≡ Err refusal) same r.refused) in
-      let made : requested (sending_in (stage_of o.course)) w.moment last.tables ≡ Ok (Some (t, q)) = subst (λ (x : Stage). requested (sending_in x) w.moment last.tables ≡ Ok (Some (t, q))) o.stage breaks.is_made in
+      let made : request_of_sending (sending_in (stage_of o.course)) w.moment last.tables ≡ Ok (Some (t, q)) = subst (λ (x : Stage). request_of_sending (sending_in x) w.moment last.tables ≡ Ok (Some (t, q))) o.stage breaks.is_made in
       stands t last.uploads last.downloads (Some refusal) p (sent_world s.site t q o.world) (session (machine publication says) s.site w)
       (begins.same ∙ o.same ∙ refuse-on publication says s.site w.moment o.world last.tables t q last.uploads last.downloads refusal o.here refused o.course o.enough (subst IsUnderWay o.stage r.under_way) made)
       (sent-has s.site t q o.world (sent-site (sending_in (stage_of o.course)) w.moment last.tables t q made ∙ o.here.own)) o.serving
 
   -- The site refuses to make its next message.
 
-  unmade-stands : (address : List ℕ) (steps : List Step) (last : Session) (p : Serving) (refusal : Refusal) → Met publication says w address s steps last p → IsUnderWay last.stage → requested (sending_in last.stage) w.moment last.tables ≡ Err refusal
+  unmade-stands : (address : List ℕ) (steps : List Step) (last : Session) (p : Serving) (refusal : Refusal) → Met publication says w address s steps last p → IsUnderWay last.stage → request_of_sending (sending_in last.stage) w.moment last.tables ≡ Err refusal
       → StandsAs s.site last.tables last.uploads last.downloads (Some refusal) p (session (machine publication says) s.site w)
   unmade-stands address steps last p refusal met going refused =
       let o : Onward publication says s.site w.moment begins.course w 0 0 last p = goes address steps last p met in
       stands last.tables last.uploads last.downloads (Some refusal) p o.world (session (machine publication says) s.site w)
       (begins.same ∙ o.same ∙ unmade-on publication says s.site w.moment o.world last.tables last.uploads last.downloads refusal o.here o.course o.enough (subst IsUnderWay o.stage going)
-      (subst (λ (x : Stage). requested (sending_in x) w.moment last.tables ≡ Err refusal) o.stage refused))
+      (subst (λ (x : Stage). request_of_sending (sending_in x) w.moment last.tables ≡ Err refusal) o.stage refused))
       o.here.here o.serving
 
   unmade-by : (address : List ℕ) (t : SubscriberTables) (steps : List Step) (last : Session) (p : Serving) (why : SessionFault) → Met publication says w address s steps last p → IsUnderWay last.stage → t ≡ last.tables
-      → (with_fault (requested (sending_in last.stage) w.moment last.tables) ≡ Err why) ⊎ ((why ≡ fault.NoMemory) ⊎ (why ≡ fault.StoreFault) × HasMessage (sending_in last.stage) w.moment last.tables)
+      → (with_fault (request_of_sending (sending_in last.stage) w.moment last.tables) ≡ Err why) ⊎ ((why ≡ fault.NoMemory) ⊎ (why ≡ fault.StoreFault) × HasMessage (sending_in last.stage) w.moment last.tables)
       → SiteStops publication says w s.site t last.uploads last.downloads p why ⊎ ((why ≡ fault.NoMemory) ⊎ (why ≡ fault.StoreFault) × HasMessage (sending_in last.stage) w.moment last.tables)
   unmade-by address t steps last p why met going same (inr failed) = inr failed
   unmade-by address t steps last p why met going same (inl told) =
-      let r : Refusing (requested (sending_in last.stage) w.moment last.tables) why = refusing (requested (sending_in last.stage) w.moment last.tables) why told in
+      let r : Refusing (request_of_sending (sending_in last.stage) w.moment last.tables) why = refusing (request_of_sending (sending_in last.stage) w.moment last.tables) why told in
       inl (record {
         refusal = r.refusal;
         fault = r.fault;
@@ -188,14 +188,14 @@ module _ (publication : Publication) (says : Saying) (w : World) (s : Subscriber
     same-request : u.request ≡ breaks.request
     same-request = same-read publication says w.moment address met.visible turn.carried.request breaks.request u.request breaks.text breaks.readable (short-made last t p breaks.request onward breaks.is_made) u.read
 
-    answer : handled publication says p.tallies w.moment breaks.request p.publisher ≡ Ok (u.after, r)
+    answer : result_of_request publication says p.tallies w.moment breaks.request p.publisher ≡ Ok (u.after, r)
     answer = subst (λ (x : Request). made_of publication says w.moment x p ≡ Ok (u.after, r)) same-request u.made
 
-    answer-here : handled publication says onward.world.tallies w.moment breaks.request onward.world.publisher ≡ Ok (u.after, r)
+    answer-here : result_of_request publication says onward.world.tallies w.moment breaks.request onward.world.publisher ≡ Ok (u.after, r)
     answer-here = subst (λ (x : Serving). made_of publication says w.moment breaks.request x ≡ Ok (u.after, r)) (sym onward.serving) answer
 
-    made : requested (sending_in (stage_of onward.course)) w.moment last.tables ≡ Ok (Some (t, breaks.request))
-    made = subst (λ (x : Stage). requested (sending_in x) w.moment last.tables ≡ Ok (Some (t, breaks.request))) onward.stage breaks.is_made
+    made : request_of_sending (sending_in (stage_of onward.course)) w.moment last.tables ≡ Ok (Some (t, breaks.request))
+    made = subst (λ (x : Stage). request_of_sending (sending_in x) w.moment last.tables ≡ Ok (Some (t, breaks.request))) onward.stage breaks.is_made
 
     keyed : t.site ≡ s.site
     keyed = sent-site (sending_in (stage_of onward.course)) w.moment last.tables t breaks.request made ∙ onward.here.own
@@ -204,7 +204,7 @@ module _ (publication : Publication) (says : Saying) (w : World) (s : Subscriber
     served =
         ap (λ (x : Moment). (let q : Serving = record { publisher = u.after; tallies = tallies_after onward.world.tallies (questions_on publication x breaks.request onward.world.publisher) } in q)) onward.here.moment
         ∙ ap (λ (x : Serving). (let q : Serving = record { publisher = u.after; tallies = tallies_after x.tallies (questions_on publication w.moment breaks.request x.publisher) } in q)) onward.serving
-        ∙ sym (ap (λ (x : Result (PublisherTables × Reply) Refusal). (let q : Serving = record { publisher = (answered p.publisher x).0; tallies = counted_by x (questions_on publication w.moment breaks.request p.publisher) p.tallies } in q)) answer)
+        ∙ sym (ap (λ (x : Result (PublisherTables × Reply) Refusal). (let q : Serving = record { publisher = (tables_and_reply p.publisher x).0; tallies = counted_by x (questions_on publication w.moment breaks.request p.publisher) p.tallies } in q)) answer)
         ∙ ap (λ (x : Request). behind publication says w.moment x p) (sym same-request)
 
     untaken-stands : (refusal : Refusal) → take_reply publication (by_rows t) w.moment r t ≡ Err refusal
@@ -213,7 +213,7 @@ module _ (publication : Publication) (says : Saying) (w : World) (s : Subscriber
         let told : World = replied_world publication s.site breaks.request u.after r (sent_world s.site t breaks.request onward.world) in
         stands t (counted last t r last.stage).uploads (counted last t r last.stage).downloads (Some refusal) (behind publication says w.moment u.request p) told (session (machine publication says) s.site w)
         (begins.same ∙ onward.same
-        ∙ subst (λ (x : Stage). rest publication says s.site w.moment onward.course (under onward.world last.uploads last.downloads) ≡ record { world = told; uploads = (counted (at x last.tables last.uploads last.downloads) t r x).uploads; downloads = (counted (at x last.tables last.uploads last.downloads) t r x).downloads; stop = Some refusal }) (sym onward.stage)
+        ∙ subst (λ (x : Stage). rest publication says s.site w.moment onward.course (session_with_counts onward.world last.uploads last.downloads) ≡ record { world = told; uploads = (counted (at x last.tables last.uploads last.downloads) t r x).uploads; downloads = (counted (at x last.tables last.uploads last.downloads) t r x).downloads; stop = Some refusal }) (sym onward.stage)
         (untaken-on publication says s.site w.moment onward.world last.tables t breaks.request u.after r last.uploads last.downloads refusal onward.here keyed answer-here untaken onward.course onward.enough (subst IsUnderWay onward.stage u.under_way) made))
         (sent-has s.site t breaks.request onward.world keyed) served
 

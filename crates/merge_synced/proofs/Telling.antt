@@ -19,7 +19,7 @@ use Rattle.merge_wire.specs.declared.message.Message.{Message}
 use Rattle.merge_wire.proofs.NoFault.{response_at_no_fault}
 use Rattle.merge_wire.proofs.OneMessage.{one_request as one_message, one_response}
 use Rattle.merge_model.specs.Judge.ByNumbers.{by_rows}
-use Rattle.merge_model.specs.Subscriber.Taking.{met_by, seq_of, take_reply, taken}
+use Rattle.merge_model.specs.Subscriber.Taking.{met_by, seq_of, tables_after_reply, take_reply}
 use Rattle.merge_model.specs.Tables.Refusals.{unless}
 use Rattle.merge_model.specs.Tables.{SubscriberTables}
 use Rattle.merge_model.specs.World.Faults.{reply_fault}
@@ -31,7 +31,7 @@ use Rattle.merge_agent.specs.Turns.{reply_taken, taken_as}
 use Rattle.merge_agent.specs.declared.answer.Told.{Told}
 use Rattle.merge_agent.specs.declared.answer.Told.TheVariants.{Declined, Replied, Spoiled}
 use Rattle.merge_agent.specs.declared.fault.SessionFault.{SessionFault}
-use Rattle.merge_desk.specs.Replay.{told as told_as}
+use Rattle.merge_desk.specs.Replay.{reply_of_refusal as told_as}
 use Rattle.merge_serve.specs.Answers.{reply_status}
 use Rattle.merge_synced.specs.Answering.{AreRead, AreTold}
 use Rattle.merge_synced.proofs.Made.{met-numbered}
@@ -127,7 +127,7 @@ met-or : (publication : Publication) (now : Moment) (m : Reply) (s : SubscriberT
 met-or publication now m s why number message out same e =
     let is = met-numbered publication (by_rows s) now m s number message out same in
     subst (λ (done : Result (SubscriberTables × Taken) Refusal). Refusing done why) (sym is)
-    (acted-or m why (reply_fault publication message m s) (taken (by_rows s) now m s) (subst (λ (done : Result (SubscriberTables × Taken) Refusal). taken_as m done ≡ Err why) is e))
+    (acted-or m why (reply_fault publication message m s) (tables_after_reply (by_rows s) now m s) (subst (λ (done : Result (SubscriberTables × Taken) Refusal). taken_as m done ≡ Err why) is e))
 
 pub reply-refused : (publication : Publication) (now : Moment) (asked : Kind) (m : Reply) (s : SubscriberTables) (why : SessionFault) (number : ℕ) (message : Outstanding) → s.outstanding ≡ Some (number, message) → number ≡ seq_of m → asked ≡ answered_kind m → (asked ≡ kind.Refused → ⊥)
     → reply_taken publication now m s ≡ Err why → Refusing (take_reply publication (by_rows s) now m s) why

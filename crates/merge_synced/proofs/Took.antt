@@ -3,7 +3,7 @@ use Rattle.std.specs.List.{fold, list_all}
 use Rattle.std.specs.Prelude.{List, Ok, [], map, refl, true, ℕ, ◌+◌, ◌<◌, ◌≡◌, ◌≤◌}
 use Rattle.std.proofs.Common.{ap, arith, subst, sym, ◌∙◌}
 use Rattle.merge_types.specs.declared.identifiers.Moment.{Moment}
-use Rattle.merge_gens.specs.Filling.{closed as closed_filling}
+use Rattle.merge_gens.specs.Filling.{filling_after_close as closed_filling}
 use Rattle.merge_gens.specs.declared.filling.Filling.{Filling}
 use Rattle.merge_ident.specs.Answers.{grants_with_all}
 use Rattle.merge_ident.specs.declared.grants.Grant.{Grant}
@@ -21,15 +21,15 @@ use Rattle.merge_batch.specs.declared.request.Request.{Request}
 use Rattle.merge_batch.specs.declared.request.Request.TheVariants as request
 use Rattle.merge_batch.specs.declared.request.Upload.{Upload}
 use Rattle.merge_model.specs.Judge.ByNumbers.{by_numbers, by_rows}
-use Rattle.merge_model.specs.Publisher.PublisherDownload.{asked, reply_to}
-use Rattle.merge_model.specs.Publisher.PublisherRanges.{plans, ranged}
+use Rattle.merge_model.specs.Publisher.PublisherDownload.{reply_to, tables_after_download}
+use Rattle.merge_model.specs.Publisher.PublisherRanges.{plans, reply_to_ranges}
 use Rattle.merge_model.specs.Publisher.{at_moment, last_closed}
 use Rattle.merge_model.specs.Subscriber.Sending.{join_of, unsent_rows, upload_sent, want_of, with_message}
 use Rattle.merge_model.specs.Subscriber.Taking.{take_reply, with_grant as receives}
 use Rattle.merge_model.specs.Subscriber.{subscriber_at_moment, subscriber_closed}
 use Rattle.merge_model.specs.Tables.Publications.{rules_of}
 use Rattle.merge_model.specs.Tables.{PublisherTables, SubscriberTables}
-use Rattle.merge_model.specs.World.Calls.{handled}
+use Rattle.merge_model.specs.World.Calls.{result_of_request}
 use Rattle.merge_model.specs.World.Faults.{heard_by}
 use Rattle.merge_model.specs.World.Steps.{SendDownload, SendJoin, SendRanges, SendUpload}
 use Rattle.merge_model.specs.World.{Saying}
@@ -79,7 +79,7 @@ module _ (publication : Publication) (says : Saying) (now : Moment) (s new : Sub
       let u : SubscriberTables = with_message ask.Join s in
       let m : JoinMade s t.sent t.request = join-made now s t.sent t.request t.made in
       let a = join-answered publication says p.tallies now p.publisher t.after r (join_of s)
-      (subst (λ (x : Request). handled publication says p.tallies now x p.publisher ≡ Ok (t.after, r)) (sym m.asks) t.answer) in
+      (subst (λ (x : Request). result_of_request publication says p.tallies now x p.publisher ≡ Ok (t.after, r)) (sym m.asks) t.answer) in
       let took : take_reply publication (by_rows u) now r u ≡ Ok (new, Acted) = subst (λ (x : SubscriberTables). take_reply publication (by_rows x) now r x ≡ Ok (new, Acted)) (sym m.tables) t.taken in
       let fit : Fit publication now (by_rows u) (reply.Joined a.0) ask.Join u new = met-out publication (by_rows u) now (reply.Joined a.0) u new (s.seq + 1) ask.Join refl
       (subst (λ (x : Reply). take_reply publication (by_rows u) now x u ≡ Ok (new, Acted)) (sym a.1) took) in
@@ -93,7 +93,7 @@ module _ (publication : Publication) (says : Saying) (now : Moment) (s new : Sub
       let asks : request.Upload made.1 ≡ t.request = ap (λ (both : SubscriberTables × Upload). request.Upload both.1) m.made ∙ m.asks in
       let tables : u ≡ t.sent = ap (λ (both : SubscriberTables × Upload). both.0) m.made in
       let a : UploadAnswered made.1 r = upload-answered publication says p.tallies now p.publisher t.after r made.1
-      (subst (λ (x : Request). handled publication says p.tallies now x p.publisher ≡ Ok (t.after, r)) (sym asks) t.answer) in
+      (subst (λ (x : Request). result_of_request publication says p.tallies now x p.publisher ≡ Ok (t.after, r)) (sym asks) t.answer) in
       let took : take_reply publication (by_rows u) now r u ≡ Ok (new, Acted) = subst (λ (x : SubscriberTables). take_reply publication (by_rows x) now r x ≡ Ok (new, Acted)) (sym tables) t.taken in
       let fit : Fit publication now (by_rows u) (reply.Uploaded a.told) (ask.Upload s.received made.1.to) u new = met-out publication (by_rows u) now (reply.Uploaded a.told) u new (s.seq + 1) (ask.Upload s.received made.1.to) refl
       (subst (λ (x : Reply). take_reply publication (by_rows u) now x u ≡ Ok (new, Acted)) (sym a.replied) took) in
@@ -112,10 +112,10 @@ module _ (publication : Publication) (says : Saying) (now : Moment) (s new : Sub
   ranges-took t =
       let u : SubscriberTables = with_message ask.Ranges s in
       let asks : RangeAsk = record { site = s.site; seq = s.seq + 1; wants = map want_of s.held } in
-      let told : Ranged = ranged asks (plans publication asks p.publisher) in
+      let told : Ranged = reply_to_ranges asks (plans publication asks p.publisher) in
       let m : RangesMade s t.sent t.request = ranges-made now s t.sent t.request t.made in
       let a : RangesAnswered publication now asks p.publisher t.after r = ranges-answered publication says p.tallies now p.publisher t.after r asks
-      (subst (λ (x : Request). handled publication says p.tallies now x p.publisher ≡ Ok (t.after, r)) (sym m.asks) t.answer) in
+      (subst (λ (x : Request). result_of_request publication says p.tallies now x p.publisher ≡ Ok (t.after, r)) (sym m.asks) t.answer) in
       let took : take_reply publication (by_rows u) now r u ≡ Ok (new, Acted) = subst (λ (x : SubscriberTables). take_reply publication (by_rows x) now r x ≡ Ok (new, Acted)) (sym m.tables) t.taken in
       let fit : Fit publication now (by_rows u) (reply.Ranged told) ask.Ranges u new = met-out publication (by_rows u) now (reply.Ranged told) u new (s.seq + 1) ask.Ranges refl
       (subst (λ (x : Reply). take_reply publication (by_rows u) now x u ≡ Ok (new, Acted)) (sym a.replied) took) in
@@ -133,11 +133,11 @@ module _ (publication : Publication) (says : Saying) (now : Moment) (s new : Sub
   download-took t =
       let u : SubscriberTables = with_message (ask.Download s.watermark) s in
       let asks : Download = record { site = s.site; seq = s.seq + 1; from = s.watermark } in
-      let after : PublisherTables = asked asks (at_moment now p.publisher) in
+      let after : PublisherTables = tables_after_download asks (at_moment now p.publisher) in
       let told : Downloaded = reply_to publication (by_numbers p.publisher) asks after in
       let m : AskMade s t.sent t.request = download-made now s t.sent t.request t.made in
       let a : AskAnswered publication now asks p.publisher t.after r = download-answered publication says p.tallies now p.publisher t.after r asks
-      (subst (λ (x : Request). handled publication says p.tallies now x p.publisher ≡ Ok (t.after, r)) (sym m.asks) t.answer) in
+      (subst (λ (x : Request). result_of_request publication says p.tallies now x p.publisher ≡ Ok (t.after, r)) (sym m.asks) t.answer) in
       let took : take_reply publication (by_rows u) now r u ≡ Ok (new, Acted) = subst (λ (x : SubscriberTables). take_reply publication (by_rows x) now r x ≡ Ok (new, Acted)) (sym m.tables) t.taken in
       let fit : Fit publication now (by_rows u) (reply.Downloaded told) (ask.Download s.watermark) u new = met-out publication (by_rows u) now (reply.Downloaded told) u new (s.seq + 1) (ask.Download s.watermark) refl
       (subst (λ (x : Reply). take_reply publication (by_rows u) now x u ≡ Ok (new, Acted)) (sym a.replied) took) in

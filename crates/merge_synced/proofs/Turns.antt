@@ -16,17 +16,17 @@ use Rattle.merge_json.specs.Limits.{IsShortRequest}
 use Rattle.merge_model.specs.Judge.ByNumbers.{by_rows}
 use Rattle.merge_model.specs.Subscriber.Taking.{take_reply}
 use Rattle.merge_model.specs.Tables.{PublisherTables, SubscriberTables}
-use Rattle.merge_model.specs.World.Calls.{handled, questions_on}
+use Rattle.merge_model.specs.World.Calls.{questions_on, result_of_request}
 use Rattle.merge_model.specs.World.Steps.{Sending}
 use Rattle.merge_model.specs.World.{Saying}
 use Rattle.merge_model.specs.declared.outcome.Taken.TheVariants.{Acted}
-use Rattle.merge_world.specs.Messages.{requested}
+use Rattle.merge_world.specs.Messages.{request_of_sending}
 use Rattle.merge_wire.specs.Written.{IsVisible}
 use Rattle.merge_agent.specs.Texts.{IsReadable, request_text}
 use Rattle.merge_agent.specs.Turns.{Takes, Turn, taken_by}
 use Rattle.merge_agent.specs.declared.answer.Told.{Told}
 use Rattle.merge_agent.specs.declared.answer.Told.TheVariants.{Replied}
-use Rattle.merge_desk.specs.Replay.{answered, told as told_as}
+use Rattle.merge_desk.specs.Replay.{reply_of_refusal as told_as, tables_and_reply}
 use Rattle.merge_synced.specs.Answering.{AreRead, AreTold, Serving, behind, counted_by, made_of, reply_by}
 use Rattle.merge_synced.proofs.Made.{answers-kind}
 use Rattle.merge_synced.proofs.Telling.{Fits, one-read, one-told, refused-fits, refused-stops, replied-acts}
@@ -37,8 +37,8 @@ pub record Turned (publication : Publication) (says : Saying) (now : Moment) (se
   pub sent : SubscriberTables
   pub request : Request
   pub after : PublisherTables
-  pub made : requested sending now s ≡ Ok (Some (sent, request))
-  pub answer : handled publication says p.tallies now request p.publisher ≡ Ok (after, r)
+  pub made : request_of_sending sending now s ≡ Ok (Some (sent, request))
+  pub answer : result_of_request publication says p.tallies now request p.publisher ≡ Ok (after, r)
   pub taken : take_reply publication (by_rows sent) now r sent ≡ Ok (new, Acted)
   pub tables : q.publisher ≡ after
   pub tallies : q.tallies ≡ tallies_after p.tallies (questions_on publication now request p.publisher)
@@ -63,10 +63,10 @@ module _ (publication : Publication) (says : Saying) (now : Moment) (address : L
   same-read bytes q r text readable short read = one-read (request_text address q) r q (subst (λ (x : List ℕ). AreRead x r) text read) (requests-are-read address q visible readable.sent_as (readable.fits short))
 
   turned-by : (sending : Sending) (turn : Turn) (s sent new : SubscriberTables) (request : Request) (told : Told) (other : Reply) (p : Serving) (done : Result (PublisherTables × Reply) Refusal)
-      → requested sending now s ≡ Ok (Some (sent, request)) → handled publication says p.tallies now request p.publisher ≡ done → AreTold turn.carried.response (answered p.publisher done).1
+      → request_of_sending sending now s ≡ Ok (Some (sent, request)) → result_of_request publication says p.tallies now request p.publisher ≡ done → AreTold turn.carried.response (tables_and_reply p.publisher done).1
       → ((r : Reply) → Fits (kind_of request) r → AreTold turn.carried.response r → told ≡ Replied r)
       → taken_by publication now told sent ≡ Ok (new, other)
-      → Turned publication says now sending s new other p (record { publisher = (answered p.publisher done).0; tallies = counted_by done (questions_on publication now request p.publisher) p.tallies })
+      → Turned publication says now sending s new other p (record { publisher = (tables_and_reply p.publisher done).0; tallies = counted_by done (questions_on publication now request p.publisher) p.tallies })
   turned-by sending turn s sent new request told other p (Err why) made handling tells is taken =
       let said = is (told_as why) (refused-fits (kind_of request) why) tells in
       absurd (refused-stops publication now why other sent new (subst (λ (t : Told). taken_by publication now t sent ≡ Ok (new, other)) said taken))
@@ -77,12 +77,12 @@ module _ (publication : Publication) (says : Saying) (now : Moment) (address : L
       (record { sent = sent; request = request; after = after; made = made; answer = handling; taken = acts.0; tables = refl; tallies = refl })
 
   pub turned : (sending : Sending) (made : Moment) (turn : Turn) (s new : SubscriberTables) (m : Reply) (p : Serving) (r : Request) → made ≡ now → turn.now ≡ now → Takes publication address sending made turn s new m
-      → ((sent : SubscriberTables) (q : Request) → requested sending now s ≡ Ok (Some (sent, q)) → IsShortRequest q)
+      → ((sent : SubscriberTables) (q : Request) → request_of_sending sending now s ≡ Ok (Some (sent, q)) → IsShortRequest q)
       → AreRead turn.carried.request r → AreTold turn.carried.response (reply_by publication says now r p)
       → Turned publication says now sending s new m p (behind publication says now r p)
   turned sending made turn s new m p r at then takes short read tells =
       let q : Request = takes.meets.request in
-      let asked : requested sending now s ≡ Ok (Some (takes.sent, q)) = subst (λ (x : Moment). requested sending x s ≡ Ok (Some (takes.sent, q))) at takes.meets.is_made in
+      let asked : request_of_sending sending now s ≡ Ok (Some (takes.sent, q)) = subst (λ (x : Moment). request_of_sending sending x s ≡ Ok (Some (takes.sent, q))) at takes.meets.is_made in
       let same : r ≡ q = same-read turn.carried.request q r takes.meets.text takes.meets.readable (short takes.sent q asked) read in
       subst (λ (x : Request). Turned publication says now sending s new m p (behind publication says now x p)) (sym same)
       (turned-by sending turn s takes.sent new q takes.told m p (made_of publication says now q p) asked refl

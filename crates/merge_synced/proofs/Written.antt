@@ -15,7 +15,7 @@ use Rattle.merge_json.specs.Requests.{path_of}
 use Rattle.merge_wire.specs.Written.{IsVisible, is_status}
 use Rattle.merge_wire.proofs.ResponseWritten.{response_reads_back}
 use Rattle.merge_wire.proofs.WrittenLemmas.{request_reads_back}
-use Rattle.merge_agent.specs.Texts.{posted, request_text}
+use Rattle.merge_agent.specs.Texts.{message_of_request, request_text}
 use Rattle.merge_serve.specs.Answers.{reply_status, response_of}
 use Rattle.merge_serve.specs.declared.answer.Answer.TheVariants as answer
 use Rattle.merge_synced.specs.Synced.{RepliesAreTold, RequestsAreRead}
@@ -51,7 +51,7 @@ known-status (reply.Refused number values) = refl
 pub requests-are-read : RequestsAreRead
 unfolding request_text
 requests-are-read address r host sent short =
-    (record (posted address r) { host = [] }, request_reads_back (posted address r) (record { status = refl; method = refl; path = visible r; host = host }) short, sent)
+    (record (message_of_request address r) { host = [] }, request_reads_back (message_of_request address r) (record { status = refl; method = refl; path = visible r; host = host }) short, sent)
 
 pub replies-are-told : RepliesAreTold
 replies-are-told r body tells short =

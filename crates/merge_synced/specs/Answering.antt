@@ -13,10 +13,10 @@ use Rattle.merge_json.specs.Messages.{IsAnswered, IsSent}
 use Rattle.merge_wire.specs.Messages.{IsRequest, IsResponse}
 use Rattle.merge_wire.specs.declared.message.Message.{Message}
 use Rattle.merge_model.specs.Tables.{PublisherTables}
-use Rattle.merge_model.specs.World.Calls.{handled, questions_on}
+use Rattle.merge_model.specs.World.Calls.{questions_on, result_of_request}
 use Rattle.merge_model.specs.World.{Saying, World}
 use Rattle.merge_link.specs.declared.link.Exchange.{Exchange}
-use Rattle.merge_desk.specs.Replay.{answered}
+use Rattle.merge_desk.specs.Replay.{tables_and_reply}
 use Rattle.merge_serve.specs.Answers.{reply_status}
 
 -- bytes that are read as this request: they are a message over HTTP, whose path and body tell it
@@ -43,16 +43,16 @@ counted_by (Err why) questions tallies = tallies
 -- All of it at one moment.
 module _ (publication : Publication) (says : Saying) (now : Moment) where
   abbrev pub made_of : Request → Serving → Result (PublisherTables × Reply) Refusal
-  made_of r p = handled publication says p.tallies now r p.publisher
+  made_of r p = result_of_request publication says p.tallies now r p.publisher
 
   -- the reply to a request, which may tell a refusal
   abbrev pub reply_by : Request → Serving → Reply
-  reply_by r p = (answered p.publisher (made_of r p)).1
+  reply_by r p = (tables_and_reply p.publisher (made_of r p)).1
 
   -- and how the publisher stands behind it
   abbrev pub behind : Request → Serving → Serving
   behind r p = record {
-    publisher = (answered p.publisher (made_of r p)).0;
+    publisher = (tables_and_reply p.publisher (made_of r p)).0;
     tallies = counted_by (made_of r p) (questions_on publication now r p.publisher) p.tallies;
   }
 

@@ -3,7 +3,7 @@ use Rattle.std.specs.Prelude.{None, Some, ℕ}
 use Rattle.merge_types.specs.declared.identifiers.SiteId.{SiteId}
 use Rattle.merge_schema.specs.declared.publication.Publication.{Publication}
 use Rattle.merge_model.specs.World.Events.{machine}
-use Rattle.merge_model.specs.World.Session.{Session as ModelSession, all_downloads, all_ranges, all_uploads, as_it_is, asking_ranges, downloading, exchange, unless_stopped, uploading}
+use Rattle.merge_model.specs.World.Session.{Session as ModelSession, all_downloads, all_ranges, all_uploads, as_it_is, downloads_up_to, exchange, range_requests_up_to, unless_stopped, uploads_up_to}
 use Rattle.merge_model.specs.World.Steps.{SendJoin}
 use Rattle.merge_model.specs.World.{Saying, World}
 use Rattle.merge_agent.specs.Sessions.{Asks, Downloads, Joins, Over, Stage, Uploads}
@@ -28,8 +28,8 @@ stage_of (Downloading count target) = Downloads (Some target)
 stage_of Done = Over
 
 -- it counted so many uploads and downloads, and nothing was refused
-abbrev pub under : World → ℕ → ℕ → ModelSession World
-under v uploads downloads = record { world = v; uploads = uploads; downloads = downloads; stop = None }
+abbrev pub session_with_counts : World → ℕ → ℕ → ModelSession World
+session_with_counts v uploads downloads = record { world = v; uploads = uploads; downloads = downloads; stop = None }
 
 module _ (publication : Publication) (says : Saying) (site : SiteId) where
   -- what comes where the ranges, the uploads and the join are past
@@ -45,8 +45,8 @@ module _ (publication : Publication) (says : Saying) (site : SiteId) where
   -- where it ends that is at this
   abbrev pub left_of : Course → ModelSession World → ModelSession World
   left_of Joining x = past_join (exchange (machine publication says) site SendJoin (as_it_is (machine publication says) site) (as_it_is (machine publication says) site) x)
-  left_of (Uploading count) x = past_uploads (uploading (machine publication says) site count x)
-  left_of (Asking count) x = past_ranges (asking_ranges (machine publication says) site count x)
+  left_of (Uploading count) x = past_uploads (uploads_up_to (machine publication says) site count x)
+  left_of (Asking count) x = past_ranges (range_requests_up_to (machine publication says) site count x)
   left_of Fetching x = all_downloads (machine publication says) site x
-  left_of (Downloading count target) x = downloading (machine publication says) site count target x
+  left_of (Downloading count target) x = downloads_up_to (machine publication says) site count target x
   left_of Done x = x

@@ -14,7 +14,7 @@ use Rattle.merge_agent.specs.Sessions.{IsUnderWay, Session, Step, sending_in}
 use Rattle.merge_agent.specs.Turns.{Breaks, IsMade, Unanswered}
 use Rattle.merge_agent.specs.declared.fault.SessionFault.{SessionFault}
 use Rattle.merge_synced.specs.Answering.{Serving, behind, serving_in}
-use Rattle.merge_synced.specs.Courses.{Course, left_of, stage_of, under}
+use Rattle.merge_synced.specs.Courses.{Course, left_of, session_with_counts, stage_of}
 use Rattle.merge_synced.specs.Synced.{Met}
 
 -- the site has these tables in the world, and the publisher stands so
@@ -29,7 +29,7 @@ pub record PassesBy (publication : Publication) (says : Saying) (site : SiteId) 
   pub stage : last.stage ≡ stage_of course
   pub stands : Stands site last.tables p v
   pub moment : v.moment ≡ w.moment
-  pub same : session (machine publication says) site w ≡ left_of publication says site course (under v last.uploads last.downloads)
+  pub same : session (machine publication says) site w ≡ left_of publication says site course (session_with_counts v last.uploads last.downloads)
 
 -- Whatever ends a session, the model's passes where its steps led.
 abbrev pub StepsAreAPart : Publication → Saying → World → Type 0

@@ -25,13 +25,13 @@ use Rattle.merge_model.specs.World.Steps.{Action}
 use Rattle.merge_model.specs.World.{Saying, World, subscriber_at}
 use Rattle.merge_model.specs.declared.outcome.Taken.TheVariants.{Acted}
 use Rattle.merge_agent.specs.Faults.{fault_of}
-use Rattle.merge_agent.specs.Sessions.{Follows, IsUnderWay, Over, Session, Step, answered, at, begun, exchanges_of, moments_of, sending_in}
+use Rattle.merge_agent.specs.Sessions.{Follows, IsUnderWay, Over, Session, Step, at, exchanges_of, moments_of, sending_in, session_at_start, session_behind_reply}
 use Rattle.merge_agent.specs.Texts.{request_text}
 use Rattle.merge_agent.specs.Turns.{Breaks, HasMessage, Turn, Unmade, Untaken, taken_by}
 use Rattle.merge_agent.specs.declared.answer.Told.TheVariants.{Replied}
 use Rattle.merge_agent.specs.declared.fault.SessionFault.{SessionFault}
 use Rattle.merge_agent.specs.declared.fault.SessionFault.TheVariants as fault
-use Rattle.merge_desk.specs.Replay.{told as told_as}
+use Rattle.merge_desk.specs.Replay.{reply_of_refusal as told_as}
 use Rattle.merge_serve.specs.Answers.{response_of}
 use Rattle.merge_serve.specs.declared.answer.Answer.TheVariants as answer
 use Rattle.merge_synced.specs.Answering.{Answers, AreRead, AreTold, Serving, behind, made_of, serving_in}
@@ -39,7 +39,7 @@ use Rattle.merge_synced.specs.Answering.{Answers, AreRead, AreTold, Serving, beh
 -- These steps of a session of the site, all at the moment of the world, met the world's publisher behind the link.
 pub record Met (publication : Publication) (says : Saying) (w : World) (address : List ℕ) (s : SubscriberTables) (steps : List Step) (last : Session) (p : Serving) : Type 0 where
   pub here : subscriber_at w s.site ≡ Some s
-  pub follows : Follows publication address steps (begun s) last
+  pub follows : Follows publication address steps (session_at_start s) last
   pub now : All (λ (moment : Moment). moment ≡ w.moment) (flat_map moments_of steps)
   -- the address can be written
   pub visible : IsVisible address
@@ -109,7 +109,7 @@ WouldAct publication now r t = (new : SubscriberTables) × (take_reply publicati
 abbrev pub UntakenIsTheModels : Publication → Saying → World → Type 0
 UntakenIsTheModels publication says w = (address : List ℕ) (s t : SubscriberTables) (steps : List Step) (last : Session) (p : Serving) (turn : Turn) (r : Reply) (why : SessionFault)
     → Met publication says w address s steps last p → (u : IsUntaken publication says w address last p t turn r why)
-    → SiteStops publication says w s.site t (answered last t r last.stage).uploads (answered last t r last.stage).downloads (behind publication says w.moment u.request p) why
+    → SiteStops publication says w s.site t (session_behind_reply last t r last.stage).uploads (session_behind_reply last t r last.stage).downloads (behind publication says w.moment u.request p) why
     ⊎ ((why ≡ fault.NoMemory) ⊎ (why ≡ fault.StoreFault) × WouldAct publication w.moment r t)
 
 -- in every world behind actions, whatever steps fail in it, of a publication that a file can say

@@ -28,7 +28,7 @@ use Rattle.merge_model.specs.Tables.Keys.{at_number}
 use Rattle.merge_model.specs.History.Model.{Model, empty_model, model, model_step}
 use Rattle.merge_model.specs.Tables.Publications.{by_site, identities, rules_of}
 use Rattle.merge_model.specs.Publisher.{holder_for, new_holders}
-use Rattle.merge_model.specs.Publisher.PublisherLocal.{Drawn, drawn}
+use Rattle.merge_model.specs.Publisher.PublisherLocal.{Drawn, draw_for_change}
 use Rattle.merge_model.specs.Subscriber.Reinit.{reinitialise}
 use Rattle.merge_model.specs.Failing.Runs.{model_behind}
 use Rattle.merge_model.specs.World.Steps.{Action, Pass, kept_decisions, upload_questions}
@@ -112,8 +112,8 @@ module _ (publication : Publication) (rules : All IsRule (rules_of publication))
     of_anew = λ judge now s low r. ranges-anew s r judge now;
   }
 
-  own-value : (p : PublisherTables) (change : Change) → Ranges p → IfOk (drawn publication p change) (λ d. IsValue d.value)
-  own-value p change r = ok-weaker (Drew publication typed) (λ (d : Drawn). IsValue d.value) (λ d drew. drew.value) (drawn publication p change) (draws publication typed p change r)
+  own-value : (p : PublisherTables) (change : Change) → Ranges p → IfOk (draw_for_change publication p change) (λ d. IsValue d.value)
+  own-value p change r = ok-weaker (Drew publication typed) (λ (d : Drawn). IsValue d.value) (λ d drew. drew.value) (draw_for_change publication p change) (draws publication typed p change r)
 
   sub-value : (s : SubscriberTables) (change : Change) → SubscriberRanges s → IfOk (subscriber_drawn s change) (λ d. IsValue d.0)
   sub-value s change r = ok-weaker SubscriberDrew (λ (d : Value × List (ℕ × Holder)). IsValue d.0) (λ d drew. drew.value) (subscriber_drawn s change) (sub-draws s change r)

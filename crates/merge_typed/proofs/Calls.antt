@@ -14,11 +14,11 @@ use Rattle.merge_batch.specs.declared.request.Outstanding.{Outstanding}
 use Rattle.merge_model.specs.World.Faults.{reply_fault}
 use Rattle.merge_model.specs.Judge.{PublisherJudge, SubscriberJudge}
 use Rattle.merge_model.specs.Publisher.{at_moment}
-use Rattle.merge_model.specs.Publisher.PublisherLocal.{Drawn, drawn, local, local_refusal, made_locally}
+use Rattle.merge_model.specs.Publisher.PublisherLocal.{Drawn, draw_for_change, local, local_refusal, made_locally}
 use Rattle.merge_model.specs.Tables.Refusals.{unless}
 use Rattle.merge_model.specs.Subscriber.{subscriber_at_moment, subscriber_drawn, subscriber_local, subscriber_local_refusal, subscriber_made_locally}
 use Rattle.merge_model.specs.Tables.{PublisherTables, SubscriberTables}
-use Rattle.merge_model.specs.Subscriber.Taking.{met_by, seq_of, take_reply, taken}
+use Rattle.merge_model.specs.Subscriber.Taking.{met_by, seq_of, tables_after_reply, take_reply}
 use Rattle.merge_model.specs.declared.outcome.Taken.{Taken}
 use Rattle.merge_model.specs.declared.outcome.Taken.TheVariants.{Acted, Missed}
 
@@ -48,12 +48,12 @@ module _ (publication : Publication) (judge : PublisherJudge) (now : Moment) (ch
   drawn-ok (Err refusal) each = tt
   drawn-ok (Ok d) each = each d refl
 
-  refused-ok : (found : Option Refusal) → (found ≡ None → (d : Drawn) → drawn publication p change ≡ Ok d → P (made_locally publication judge change d (at_moment now p)).0)
-      → (let done : Result (PublisherTables × RowId) Refusal = elim found [ Some refusal ↦ Err refusal | None ↦ elim (drawn publication p change) [ Err refusal ↦ Err refusal | Ok d ↦ Ok (made_locally publication judge change d (at_moment now p)) ] ] in IfOk done (λ x. P x.0))
+  refused-ok : (found : Option Refusal) → (found ≡ None → (d : Drawn) → draw_for_change publication p change ≡ Ok d → P (made_locally publication judge change d (at_moment now p)).0)
+      → (let done : Result (PublisherTables × RowId) Refusal = elim found [ Some refusal ↦ Err refusal | None ↦ elim (draw_for_change publication p change) [ Err refusal ↦ Err refusal | Ok d ↦ Ok (made_locally publication judge change d (at_moment now p)) ] ] in IfOk done (λ x. P x.0))
   refused-ok (Some refusal) each = tt
-  refused-ok None each = drawn-ok (drawn publication p change) (each refl)
+  refused-ok None each = drawn-ok (draw_for_change publication p change) (each refl)
 
-  pub local-ok : (local_refusal publication change p ≡ None → (d : Drawn) → drawn publication p change ≡ Ok d → P (made_locally publication judge change d (at_moment now p)).0) → IfOk (local publication judge now change p) (λ x. P x.0)
+  pub local-ok : (local_refusal publication change p ≡ None → (d : Drawn) → draw_for_change publication p change ≡ Ok d → P (made_locally publication judge change d (at_moment now p)).0) → IfOk (local publication judge now change p) (λ x. P x.0)
   local-ok each = refused-ok (local_refusal publication change p) each
 
 module _ (publication : Publication) (now : Moment) (change : Change) (s : SubscriberTables) (S : SubscriberTables → Type 0) where
@@ -72,16 +72,16 @@ module _ (publication : Publication) (now : Moment) (change : Change) (s : Subsc
 
 -- a reply acts where it answers what is outstanding and fits it
 module _ (publication : Publication) (judge : SubscriberJudge) (now : Moment) (s : SubscriberTables) (S : SubscriberTables → Type 0) (stays : S s) where
-  if-met : (b : Bool) (m : Reply) (sent : ℕ × Outstanding) (fault : Option Refusal) → (fault ≡ None → S (taken judge now m s))
-      → (let done : Result (SubscriberTables × Taken) Refusal = if b then unless fault (taken judge now m s, Acted) else Ok (s, Missed (seq_of m) sent.0) in IfOk done (λ x. S x.0))
-  if-met true m sent fault acts = unless-ok (λ (x : SubscriberTables × Taken). S x.0) fault (taken judge now m s, Acted) acts
+  if-met : (b : Bool) (m : Reply) (sent : ℕ × Outstanding) (fault : Option Refusal) → (fault ≡ None → S (tables_after_reply judge now m s))
+      → (let done : Result (SubscriberTables × Taken) Refusal = if b then unless fault (tables_after_reply judge now m s, Acted) else Ok (s, Missed (seq_of m) sent.0) in IfOk done (λ x. S x.0))
+  if-met true m sent fault acts = unless-ok (λ (x : SubscriberTables × Taken). S x.0) fault (tables_after_reply judge now m s, Acted) acts
   if-met false m sent fault acts = stays
 
-  met-ok : (m : Reply) (found : Option (ℕ × Outstanding)) → ((sent : Outstanding) → reply_fault publication sent m s ≡ None → S (taken judge now m s)) → IfOk (met_by publication judge now m s found) (λ x. S x.0)
+  met-ok : (m : Reply) (found : Option (ℕ × Outstanding)) → ((sent : Outstanding) → reply_fault publication sent m s ≡ None → S (tables_after_reply judge now m s)) → IfOk (met_by publication judge now m s found) (λ x. S x.0)
   met-ok m None acts = stays
   met-ok m (Some sent) acts = if-met (sent.0 == seq_of m) m sent (reply_fault publication sent.1 m s) (acts sent.1)
 
-  pub reply-ok : (m : Reply) → ((sent : Outstanding) → reply_fault publication sent m s ≡ None → S (taken judge now m s)) → IfOk (take_reply publication judge now m s) (λ x. S x.0)
+  pub reply-ok : (m : Reply) → ((sent : Outstanding) → reply_fault publication sent m s ≡ None → S (tables_after_reply judge now m s)) → IfOk (take_reply publication judge now m s) (λ x. S x.0)
   reply-ok (reply.Joined m) acts = met-ok (reply.Joined m) s.outstanding acts
   reply-ok (reply.Uploaded m) acts = met-ok (reply.Uploaded m) s.outstanding acts
   reply-ok (reply.Ranged m) acts = met-ok (reply.Ranged m) s.outstanding acts

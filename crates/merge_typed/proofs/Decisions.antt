@@ -10,10 +10,10 @@ use Rattle.merge_units.specs.declared.result.Decision.TheVariants.{Custom, KeepP
 use Rattle.merge_units.specs.declared.version.Body.{Body}
 use Rattle.merge_units.specs.declared.version.Body.TheVariants.{Dead, Live}
 use Rattle.merge_units.specs.declared.version.Cell.{Cell}
-use Rattle.merge_resolve.specs.Asked.{raised}
+use Rattle.merge_resolve.specs.Asked.{tallies_after_question}
 use Rattle.merge_resolve.specs.Columns.{body_value, cell_value, value_in}
 use Rattle.merge_resolve.specs.Counted.{counted_list, fit_all, fit_columns, fits_place, fits_some, is_by_row, is_within, own_placed, with_own, within_or_kept}
-use Rattle.merge_resolve.specs.Questions.{counted}
+use Rattle.merge_resolve.specs.Questions.{decision_for_question}
 use Rattle.merge_resolve.specs.declared.asking.Question.{Question}
 use Rattle.merge_resolve.specs.declared.case.CaseKind.{CaseKind}
 use Rattle.merge_resolve.specs.declared.case.CaseKind.TheVariants as kind
@@ -105,7 +105,7 @@ list-fits types identity sides c (Live ours) (Live theirs) values typed all =
 list-fits types identity sides c (Live ours) (Dead top) values typed all = tt
 list-fits types identity sides c (Dead top) theirs values typed all = tt
 
-counts-fit : (question : Question) (decision : Decision) → CaseIsTyped question.case → DecisionIsTyped decision → DecisionFits (counted question decision)
+counts-fit : (question : Question) (decision : Decision) → CaseIsTyped question.case → DecisionIsTyped decision → DecisionFits (decision_for_question question decision)
 counts-fit question KeepPublisher typed is = tt
 counts-fit question TakeSubscriber typed is = tt
 counts-fit question (Custom values) typed is = list-fits question.types question.identity question.sides question.case question.case.publisher question.case.incoming values typed.publisher is
@@ -119,5 +119,5 @@ pub answers-fit : (says : Saying) → SayingIsTyped says → (tallies : List ℕ
 answers-fit says typed tallies [] all = tt
 answers-fit says typed tallies (question ∷ questions) all = (
   answer-fits question (says question.place (slice_index tallies question.place) question.case) all.0 (typed question.place (slice_index tallies question.place) question.case all.0),
-  answers-fit says typed (raised tallies question.place) questions all.1,
+  answers-fit says typed (tallies_after_question tallies question.place) questions all.1,
 )

@@ -11,7 +11,7 @@ use Rattle.merge_types.specs.declared.row_key.RowKey.{RowKey as Key}
 use Rattle.merge_units.specs.declared.result.Decision.{Decision}
 use Rattle.merge_units.specs.declared.version.Version.{Version}
 use Rattle.merge_gens.specs.Book.{Book, closing_at, closings_between, moment_of, moved_to}
-use Rattle.merge_gens.specs.Filling.{closed as closed_filling, filled_by}
+use Rattle.merge_gens.specs.Filling.{filled_by, filling_after_close as closed_filling}
 use Rattle.merge_gens.specs.declared.closings.Closing.{Closing}
 use Rattle.merge_gens.specs.declared.filling.Filling.{Filling}
 use Rattle.merge_gens.specs.declared.sites.SiteState.{SiteState}
@@ -28,13 +28,13 @@ use Rattle.merge_model.specs.Publisher.Acts.{Act, acts_of}
 use Rattle.merge_model.specs.Publisher.Entries.{Changing, Entries, changed_by, changing_entries, entry_count, with_entries}
 use Rattle.merge_model.specs.Judge.{PublisherJudge}
 use Rattle.merge_model.specs.Tables.Keys.{at_number}
-use Rattle.merge_model.specs.Publisher.{at_moment, close_generation, closed, counters, last_closed, no_state, state_of, with_state}
-use Rattle.merge_model.specs.Publisher.PublisherDownload.{asked, download, download_refusal, in_step, reply_to, synced}
-use Rattle.merge_model.specs.Publisher.PublisherJoin.{join, join_acts, join_refusal, join_taken, joined, joined_state}
+use Rattle.merge_model.specs.Publisher.{at_moment, close_generation, counters, last_closed, no_state, state_of, tables_after_close, with_state}
+use Rattle.merge_model.specs.Publisher.PublisherDownload.{download, download_refusal, in_step, reply_to, state_after_download, tables_after_download}
+use Rattle.merge_model.specs.Publisher.PublisherJoin.{join, join_acts, join_refusal, join_taken, joined_state, tables_after_join}
 use Rattle.merge_model.specs.Publisher.PublisherLocal.{changing_locally, local, with_draw}
 use Rattle.merge_model.specs.Publisher.PublisherPurge.{purge}
-use Rattle.merge_model.specs.Publisher.PublisherRanges.{plans, ranged, ranges, ranges_refusal, with_grants}
-use Rattle.merge_model.specs.Publisher.PublisherUpload.{brings_news, changing_by, state_seeing, taken_in, upload, upload_refusal, uploaded, with_acts, with_taken}
+use Rattle.merge_model.specs.Publisher.PublisherRanges.{plans, ranges, ranges_refusal, reply_to_ranges, with_grants}
+use Rattle.merge_model.specs.Publisher.PublisherUpload.{brings_news, changing_by, state_seeing, tables_after_upload, taken_in, upload, upload_refusal, with_acts, with_taken}
 use Rattle.merge_model.specs.Tables.Refusals.{counter_end}
 use Rattle.merge_model.specs.Tables.{PublisherTables}
 use Rattle.merge_model.proofs.Lists.{OfSome, all-append, all-filter, all-map, all-unit, some-map}
@@ -72,7 +72,7 @@ entries-with entries versions p f = record { closings = moved-on p.gens (filled_
 changed-by : (publication : Publication) (judge : PublisherJudge) (changing : Changing) (p : PublisherTables) → OwnMoments p → OwnMoments (changed_by publication judge changing p)
 changed-by publication judge changing p f = entries-with (changing_entries publication judge changing p) changing.versions p f
 
-closes : (p : PublisherTables) → OwnMoments p → OwnMoments (closed p)
+closes : (p : PublisherTables) → OwnMoments p → OwnMoments (tables_after_close p)
 closes p f = record { closings = moved-on p.gens (closed_filling p.gens.filling) p.latest f.latest f.closings; sites = f.sites; latest = f.latest }
 
 -- an upload
@@ -116,12 +116,12 @@ step-low m p f = if-low ((m.from == last_closed p) && (p.gens.filling.filled == 
 state-fits : (p : PublisherTables) (site : SiteId) → SitesFit p.sites → StateFits (state_of p site)
 state-fits p site all = or-else StateFits (at_number p.sites site.0) no_state (values-found StateFits (is_at (nat_cmp site.0)) p.sites all) (omega arith)
 
-asks : (m : Download) (p : PublisherTables) → OwnMoments p → OwnMoments (asked m p)
+asks : (m : Download) (p : PublisherTables) → OwnMoments p → OwnMoments (tables_after_download m p)
 asks m p f =
     let state : SiteState = state_of p m.site in
-    closes (with_state m.site (synced m p state) p) (record {
+    closes (with_state m.site (state_after_download m p state) p) (record {
       closings = f.closings;
-      sites = values-put StateFits nat_cmp m.site.0 (synced m p state) p.sites (max-low state.last_sync (in_step m p) (state-fits p m.site f.sites) (step-low m p f)) f.sites;
+      sites = values-put StateFits nat_cmp m.site.0 (state_after_download m p state) p.sites (max-low state.last_sync (in_step m p) (state-fits p m.site f.sites) (step-low m p f)) f.sites;
       latest = f.latest;
     })
 
@@ -131,25 +131,25 @@ module _ (publication : Publication) (now : Moment) (p : PublisherTables) (low :
       (λ fine d is. (let g = at-moment now p low f in changed-by publication judge (changing_locally publication change d.value (at_moment now p)) (with_draw d (at_moment now p)) (record { closings = g.closings; sites = g.sites; latest = g.latest })))
 
   pub moments-closed : IfOk (close_generation now p) (λ done. OwnMoments done.0)
-  moments-closed = unless-ok (λ (done : PublisherTables × ℕ). OwnMoments done.0) (counter_end (counters p)) (closed (at_moment now p), last_closed (closed (at_moment now p))) (λ fine. closes (at_moment now p) (at-moment now p low f))
+  moments-closed = unless-ok (λ (done : PublisherTables × ℕ). OwnMoments done.0) (counter_end (counters p)) (tables_after_close (at_moment now p), last_closed (tables_after_close (at_moment now p))) (λ fine. closes (at_moment now p) (at-moment now p low f))
 
   pub moments-purged : OwnMoments (purge publication now p).0
   moments-purged = (let g = at-moment now p low f in record { closings = all-filter ClosingFits _ p.gens.closings f.closings; sites = g.sites; latest = g.latest })
 
   pub moments-joined : (m : Join) → IfOk (join publication now m p) (λ done. OwnMoments done.0 × Unit {0})
-  moments-joined m = unless-ok (λ (done : PublisherTables × Joined). OwnMoments done.0 × Unit {0}) (join_refusal publication m p) (joined m (at_moment now p), record { seq = m.seq }) (λ fine. (join-by m (at_moment now p) (join_acts m (at_moment now p)) (at-moment now p low f), tt))
+  moments-joined m = unless-ok (λ (done : PublisherTables × Joined). OwnMoments done.0 × Unit {0}) (join_refusal publication m p) (tables_after_join m (at_moment now p), record { seq = m.seq }) (λ fine. (join-by m (at_moment now p) (join_acts m (at_moment now p)) (at-moment now p low f), tt))
 
   pub moments-uploaded : (judge : PublisherJudge) (m : Upload) (decisions : List Decision) → IfOk (upload publication judge now m decisions p) (λ done. OwnMoments done.0 × Unit {0})
   moments-uploaded judge m decisions =
-      unless-ok (λ (done : PublisherTables × Uploaded). OwnMoments done.0 × Unit {0}) (upload_refusal publication judge now m p) (uploaded publication judge m decisions (at_moment now p), record { seq = m.seq; received = max m.to (judge.received m.site.0) })
+      unless-ok (λ (done : PublisherTables × Uploaded). OwnMoments done.0 × Unit {0}) (upload_refusal publication judge now m p) (tables_after_upload publication judge m decisions (at_moment now p), record { seq = m.seq; received = max m.to (judge.received m.site.0) })
       (λ fine. (upload-by publication judge m decisions (at_moment now p) (brings_news judge m) (at-moment now p low f), tt))
 
   pub moments-ranged : (judge : PublisherJudge) (m : RangeAsk) → IfOk (ranges publication judge now m p) (λ done. OwnMoments done.0 × Unit {0})
   moments-ranged judge m = (let g = at-moment now p low f in
-      unless-ok (λ (done : PublisherTables × Ranged). OwnMoments done.0 × Unit {0}) (ranges_refusal publication judge now m p) (with_grants (plans publication m p) (at_moment now p), ranged m (plans publication m p))
+      unless-ok (λ (done : PublisherTables × Ranged). OwnMoments done.0 × Unit {0}) (ranges_refusal publication judge now m p) (with_grants (plans publication m p) (at_moment now p), reply_to_ranges m (plans publication m p))
       (λ fine. (record { closings = g.closings; sites = g.sites; latest = g.latest }, tt)))
 
   pub moments-asked : (judge : PublisherJudge) (m : Download) → IfOk (download publication judge now m p) (λ done. OwnMoments done.0 × Unit {0})
   moments-asked judge m =
-      let after : PublisherTables = asked m (at_moment now p) in
+      let after : PublisherTables = tables_after_download m (at_moment now p) in
       unless-ok (λ (done : PublisherTables × Downloaded). OwnMoments done.0 × Unit {0}) (download_refusal publication now m p) (after, reply_to publication judge m after) (λ fine. (asks m (at_moment now p) (at-moment now p low f), tt))

@@ -40,13 +40,13 @@ use Rattle.merge_model.specs.Publisher.Acts.{acts_of}
 use Rattle.merge_model.specs.Judge.{PublisherJudge}
 use Rattle.merge_model.specs.Tables.Keys.{at_number, put_number}
 use Rattle.merge_model.specs.Tables.Publications.{rules_of}
-use Rattle.merge_model.specs.Publisher.{at_moment, close_generation, closed, counters, last_closed}
-use Rattle.merge_model.specs.Publisher.PublisherDownload.{asked, download, download_refusal, reply_to}
-use Rattle.merge_model.specs.Publisher.PublisherJoin.{join, join_acts, join_refusal, join_taken, joined}
-use Rattle.merge_model.specs.Publisher.PublisherLocal.{Drawn, after_answer, drawn, drawn_from, local, no_draw, own_ask, taken_from}
+use Rattle.merge_model.specs.Publisher.{at_moment, close_generation, counters, last_closed, tables_after_close}
+use Rattle.merge_model.specs.Publisher.PublisherDownload.{download, download_refusal, reply_to, tables_after_download}
+use Rattle.merge_model.specs.Publisher.PublisherJoin.{join, join_acts, join_refusal, join_taken, tables_after_join}
+use Rattle.merge_model.specs.Publisher.PublisherLocal.{Drawn, after_answer, draw_for_change, drawn_from, local, no_draw, own_ask, taken_from}
 use Rattle.merge_model.specs.Publisher.PublisherPurge.{purge}
-use Rattle.merge_model.specs.Publisher.PublisherRanges.{ask_by, granted_by, plans, ranged, ranges, ranges_refusal, with_grants}
-use Rattle.merge_model.specs.Publisher.PublisherUpload.{brings_news, taken_in, upload, upload_refusal, uploaded}
+use Rattle.merge_model.specs.Publisher.PublisherRanges.{ask_by, granted_by, plans, ranges, ranges_refusal, reply_to_ranges, with_grants}
+use Rattle.merge_model.specs.Publisher.PublisherUpload.{brings_news, tables_after_upload, taken_in, upload, upload_refusal}
 use Rattle.merge_model.specs.Tables.Refusals.{counter_end}
 use Rattle.merge_model.specs.Tables.{PublisherTables}
 use Rattle.merge_model.proofs.Entries.EntryLists.{all-put}
@@ -161,7 +161,7 @@ module _ (publication : Publication) (typed : AllByRecursion RuleIsTyped (rules_
   found-fits p article None own r = record { value = tt; ranges = r }
   found-fits p article (Some holder) own r = drawn-fits p article holder (answer_to_take holder) (value-fits holder own.fits) own r
 
-  pub draws : (p : PublisherTables) (change : Change) → OwnRanges p → IfOk (drawn publication p change) Drew
+  pub draws : (p : PublisherTables) (change : Change) → OwnRanges p → IfOk (draw_for_change publication p change) Drew
   draws p (Insert article settings) r = found-fits p article (at_number p.held article) (own-found p.grants p.held article r.held) r
   draws p (Update article row settings) r = record { value = tt; ranges = r }
   draws p (Delete article row) r = record { value = tt; ranges = r }
@@ -176,15 +176,15 @@ module _ (publication : Publication) (typed : AllByRecursion RuleIsTyped (rules_
   abbrev RangedIsTyped : Ranged → Type 0
   RangedIsTyped m = AllByRecursion ToldIsTyped m.grants
 
-  ranged-typed : (m : RangeAsk) (planned : List GrantPlan) → AllByRecursion (λ (plan : GrantPlan). AnswerIsTyped plan.answer) planned → RangedIsTyped (ranged m planned)
+  ranged-typed : (m : RangeAsk) (planned : List GrantPlan) → AllByRecursion (λ (plan : GrantPlan). AnswerIsTyped plan.answer) planned → RangedIsTyped (reply_to_ranges m planned)
   ranged-typed m planned all = all-filter_map (λ (plan : GrantPlan). AnswerIsTyped plan.answer) ToldIsTyped (λ (plan : GrantPlan). granted_by plan.ask.article plan.answer) (λ plan is. told-by plan.ask.article plan.answer is) planned all
 
   module _ (now : Moment) (p : PublisherTables) (r : OwnRanges p) where
     pub ranges-local : (judge : PublisherJudge) (change : Change) → IfOk (local publication judge now change p) (λ done. OwnRanges done.0)
-    ranges-local judge change = local-ok publication judge now change p OwnRanges (λ fine d is. (ok-of Drew (drawn publication p change) d (draws p change r) is).ranges)
+    ranges-local judge change = local-ok publication judge now change p OwnRanges (λ fine d is. (ok-of Drew (draw_for_change publication p change) d (draws p change r) is).ranges)
 
     pub ranges-closed : IfOk (close_generation now p) (λ done. OwnRanges done.0)
-    ranges-closed = unless-ok (λ (done : PublisherTables × ℕ). OwnRanges done.0) (counter_end (counters p)) (closed (at_moment now p), last_closed (closed (at_moment now p))) (λ fine. r)
+    ranges-closed = unless-ok (λ (done : PublisherTables × ℕ). OwnRanges done.0) (counter_end (counters p)) (tables_after_close (at_moment now p), last_closed (tables_after_close (at_moment now p))) (λ fine. r)
 
     pub ranges-purged : OwnRanges (purge publication now p).0
     ranges-purged = r
@@ -194,7 +194,7 @@ module _ (publication : Publication) (typed : AllByRecursion RuleIsTyped (rules_
     joined-by m q false is = is
 
     pub ranges-joined : (m : Join) → IfOk (join publication now m p) (λ done. OwnRanges done.0 × Unit {0})
-    ranges-joined m = unless-ok (λ (done : PublisherTables × Joined). OwnRanges done.0 × Unit {0}) (join_refusal publication m p) (joined m (at_moment now p), record { seq = m.seq }) (λ fine. (joined-by m (at_moment now p) (join_acts m (at_moment now p)) r, tt))
+    ranges-joined m = unless-ok (λ (done : PublisherTables × Joined). OwnRanges done.0 × Unit {0}) (join_refusal publication m p) (tables_after_join m (at_moment now p), record { seq = m.seq }) (λ fine. (joined-by m (at_moment now p) (join_acts m (at_moment now p)) r, tt))
 
     uploaded-by : (judge : PublisherJudge) (m : Upload) (decisions : List Decision) (q : PublisherTables) (b : Bool) → OwnRanges q → OwnRanges (if b then taken_in publication judge m (acts_of judge m decisions q) q else q)
     uploaded-by judge m decisions q true is = is
@@ -202,16 +202,16 @@ module _ (publication : Publication) (typed : AllByRecursion RuleIsTyped (rules_
 
     pub ranges-uploaded : (judge : PublisherJudge) (m : Upload) (decisions : List Decision) → IfOk (upload publication judge now m decisions p) (λ done. OwnRanges done.0 × Unit {0})
     ranges-uploaded judge m decisions =
-        unless-ok (λ (done : PublisherTables × Uploaded). OwnRanges done.0 × Unit {0}) (upload_refusal publication judge now m p) (uploaded publication judge m decisions (at_moment now p), record { seq = m.seq; received = max m.to (judge.received m.site.0) })
+        unless-ok (λ (done : PublisherTables × Uploaded). OwnRanges done.0 × Unit {0}) (upload_refusal publication judge now m p) (tables_after_upload publication judge m decisions (at_moment now p), record { seq = m.seq; received = max m.to (judge.received m.site.0) })
         (λ fine. (uploaded-by judge m decisions (at_moment now p) (brings_news judge m) r, tt))
 
     pub ranges-ranged : (judge : PublisherJudge) (m : RangeAsk) → IfOk (ranges publication judge now m p) (λ done. OwnRanges done.0 × RangedIsTyped done.1)
     ranges-ranged judge m =
         let on = all-go_on (rules_of publication) p.grants (map (ask_by m.site) m.wants) typed r.book in
-        unless-ok (λ (done : PublisherTables × Ranged). OwnRanges done.0 × RangedIsTyped done.1) (ranges_refusal publication judge now m p) (with_grants (plans publication m p) (at_moment now p), ranged m (plans publication m p))
+        unless-ok (λ (done : PublisherTables × Ranged). OwnRanges done.0 × RangedIsTyped done.1) (ranges_refusal publication judge now m p) (with_grants (plans publication m p) (at_moment now p), reply_to_ranges m (plans publication m p))
         (λ fine. (record { book = on.fits; held = more-own p.grants _ p.held on.rises r.held }, ranged-typed m (plans publication m p) on.told))
 
     pub ranges-asked : (judge : PublisherJudge) (m : Download) → IfOk (download publication judge now m p) (λ done. OwnRanges done.0 × Unit {0})
     ranges-asked judge m =
-        let after : PublisherTables = asked m (at_moment now p) in
+        let after : PublisherTables = tables_after_download m (at_moment now p) in
         unless-ok (λ (done : PublisherTables × Downloaded). OwnRanges done.0 × Unit {0}) (download_refusal publication now m p) (after, reply_to publication judge m after) (λ fine. (r, tt))

@@ -31,13 +31,13 @@ use Rattle.merge_model.specs.Publisher.Acts.{Act, acting_items, acts_of, lost_fr
 use Rattle.merge_model.specs.Publisher.Entries.{Changing, Entries, changed_by, changing_entries, with_entries, with_rows}
 use Rattle.merge_model.specs.Judge.{PublisherJudge}
 use Rattle.merge_model.specs.Tables.Keys.{put_row, row_at}
-use Rattle.merge_model.specs.Publisher.{at_moment, close_generation, closed, counters, last_closed}
-use Rattle.merge_model.specs.Publisher.PublisherDownload.{TouchedRow, asked, download, download_refusal, item_of, reply_to}
-use Rattle.merge_model.specs.Publisher.PublisherJoin.{join, join_acts, join_refusal, join_taken, joined}
-use Rattle.merge_model.specs.Publisher.PublisherLocal.{Drawn, changing_locally, drawn, local, local_refusal, made_locally, next_dot, version_at, with_draw}
+use Rattle.merge_model.specs.Publisher.{at_moment, close_generation, counters, last_closed, tables_after_close}
+use Rattle.merge_model.specs.Publisher.PublisherDownload.{TouchedRow, download, download_refusal, item_of, reply_to, tables_after_download}
+use Rattle.merge_model.specs.Publisher.PublisherJoin.{join, join_acts, join_refusal, join_taken, tables_after_join}
+use Rattle.merge_model.specs.Publisher.PublisherLocal.{Drawn, changing_locally, draw_for_change, local, local_refusal, made_locally, next_dot, version_at, with_draw}
 use Rattle.merge_model.specs.Publisher.PublisherPurge.{purge}
-use Rattle.merge_model.specs.Publisher.PublisherRanges.{plans, ranged, ranges, ranges_refusal, with_grants}
-use Rattle.merge_model.specs.Publisher.PublisherUpload.{brings_news, changing_by, taken_in, upload, upload_refusal, uploaded, with_acts}
+use Rattle.merge_model.specs.Publisher.PublisherRanges.{plans, ranges, ranges_refusal, reply_to_ranges, with_grants}
+use Rattle.merge_model.specs.Publisher.PublisherUpload.{brings_news, changing_by, tables_after_upload, taken_in, upload, upload_refusal, with_acts}
 use Rattle.merge_model.specs.Tables.Refusals.{counter_end}
 use Rattle.merge_model.specs.World.Steps.{kept_decisions, upload_questions}
 use Rattle.merge_model.specs.Tables.{PublisherTables}
@@ -137,18 +137,18 @@ join-by m q true v = record { rows = v.rows; conflicts = v.conflicts; latest = v
 join-by m q false v = v
 
 module _ (publication : Publication) (now : Moment) (p : PublisherTables) (low : MomentFits now) (v : OwnValues p) where
-  pub values-local : (judge : PublisherJudge) (change : Change) → ChangeIsTyped change → IfOk (drawn publication p change) (λ d. IsValue d.value) → IfOk (local publication judge now change p) (λ done. OwnValues done.0)
-  values-local judge change typed draw = local-ok publication judge now change p OwnValues (λ fine d is. own-change publication judge now change p d low typed (ok-of (λ (d : Drawn). IsValue d.value) (drawn publication p change) d draw is) fine v)
+  pub values-local : (judge : PublisherJudge) (change : Change) → ChangeIsTyped change → IfOk (draw_for_change publication p change) (λ d. IsValue d.value) → IfOk (local publication judge now change p) (λ done. OwnValues done.0)
+  values-local judge change typed draw = local-ok publication judge now change p OwnValues (λ fine d is. own-change publication judge now change p d low typed (ok-of (λ (d : Drawn). IsValue d.value) (draw_for_change publication p change) d draw is) fine v)
 
   pub values-closed : IfOk (close_generation now p) (λ done. OwnValues done.0)
   values-closed = (let w = moved now p low v in
-      unless-ok (λ (done : PublisherTables × ℕ). OwnValues done.0) (counter_end (counters p)) (closed (at_moment now p), last_closed (closed (at_moment now p))) (λ fine. record { rows = w.rows; conflicts = w.conflicts; latest = w.latest }))
+      unless-ok (λ (done : PublisherTables × ℕ). OwnValues done.0) (counter_end (counters p)) (tables_after_close (at_moment now p), last_closed (tables_after_close (at_moment now p))) (λ fine. record { rows = w.rows; conflicts = w.conflicts; latest = w.latest }))
 
   pub values-purged : OwnValues (purge publication now p).0
   values-purged = (let w = moved now p low v in record { rows = all-filter (λ (row : Key × PublisherRow). RowIsTyped row.1) _ p.rows v.rows; conflicts = w.conflicts; latest = w.latest })
 
   pub values-joined : (m : Join) → IfOk (join publication now m p) (λ done. OwnValues done.0 × Unit {0})
-  values-joined m = unless-ok (λ (done : PublisherTables × Joined). OwnValues done.0 × Unit {0}) (join_refusal publication m p) (joined m (at_moment now p), record { seq = m.seq }) (λ fine. (join-by m (at_moment now p) (join_acts m (at_moment now p)) (moved now p low v), tt))
+  values-joined m = unless-ok (λ (done : PublisherTables × Joined). OwnValues done.0 × Unit {0}) (join_refusal publication m p) (tables_after_join m (at_moment now p), record { seq = m.seq }) (λ fine. (join-by m (at_moment now p) (join_acts m (at_moment now p)) (moved now p low v), tt))
 
   pub values-uploaded : (says : Saying) → SayingIsTyped says → (judge : PublisherJudge) (m : Upload) (tallies : List ℕ) → AllByRecursion ItemIsTyped m.items
       → IfOk (upload publication judge now m (kept_decisions says tallies (upload_questions publication judge now m p)) p) (λ done. OwnValues done.0 × Unit {0})
@@ -157,17 +157,17 @@ module _ (publication : Publication) (now : Moment) (p : PublisherTables) (low :
       let w : OwnValues q = moved now p low v in
       let decisions : List Decision = kept_decisions says tallies (upload_questions publication judge now m p) in
       let fit : AllByRecursion DecisionFits decisions = answers-fit says typed tallies (upload_questions publication judge now m p) (questions-are publication judge m q w.latest w.rows items) in
-      unless-ok (λ (done : PublisherTables × Uploaded). OwnValues done.0 × Unit {0}) (upload_refusal publication judge now m p) (uploaded publication judge m decisions q, record { seq = m.seq; received = max m.to (judge.received m.site.0) })
+      unless-ok (λ (done : PublisherTables × Uploaded). OwnValues done.0 × Unit {0}) (upload_refusal publication judge now m p) (tables_after_upload publication judge m decisions q, record { seq = m.seq; received = max m.to (judge.received m.site.0) })
       (λ fine. (upload-by publication judge m decisions q (brings_news judge m) items fit w, tt))
 
   pub values-ranged : (judge : PublisherJudge) (m : RangeAsk) → IfOk (ranges publication judge now m p) (λ done. OwnValues done.0 × Unit {0})
   values-ranged judge m = (let w = moved now p low v in
-      unless-ok (λ (done : PublisherTables × Ranged). OwnValues done.0 × Unit {0}) (ranges_refusal publication judge now m p) (with_grants (plans publication m p) (at_moment now p), ranged m (plans publication m p))
+      unless-ok (λ (done : PublisherTables × Ranged). OwnValues done.0 × Unit {0}) (ranges_refusal publication judge now m p) (with_grants (plans publication m p) (at_moment now p), reply_to_ranges m (plans publication m p))
       (λ fine. (record { rows = w.rows; conflicts = w.conflicts; latest = w.latest }, tt)))
 
   pub values-asked : (judge : PublisherJudge) (m : Download) → IfOk (download publication judge now m p) (λ done. OwnValues done.0 × AllByRecursion (λ (item : DownloadItem). OrderIsTyped item.act) done.1.items)
   values-asked judge m =
-      let after : PublisherTables = asked m (at_moment now p) in
+      let after : PublisherTables = tables_after_download m (at_moment now p) in
       let w = moved now p low v in
       unless-ok (λ (done : PublisherTables × Downloaded). OwnValues done.0 × AllByRecursion (λ (item : DownloadItem). OrderIsTyped item.act) done.1.items) (download_refusal publication now m p) (after, reply_to publication judge m after)
       (λ fine. (record { rows = w.rows; conflicts = w.conflicts; latest = w.latest }, orders-are after _ w.rows))

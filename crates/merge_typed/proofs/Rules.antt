@@ -16,9 +16,9 @@ use Rattle.merge_units.specs.declared.version.Cell.{Cell}
 use Rattle.merge_resolve.specs.Choices.{choice_at, rule_of}
 use Rattle.merge_resolve.specs.Columns.{body_value, first_values, value_in, values_of}
 use Rattle.merge_resolve.specs.Counted.{is_by_row}
-use Rattle.merge_resolve.specs.Extremes.{beats, extreme_decision, judged, picked}
+use Rattle.merge_resolve.specs.Extremes.{answer_on_both, beats, decision_by_extreme, extreme_decision}
 use Rattle.merge_resolve.specs.Rules.{by_priority, or_priority, take_if}
-use Rattle.merge_resolve.specs.Sums.{column_after, is_i64, is_in_conflict, sum_of, summed, summed_or_priority, with_sum}
+use Rattle.merge_resolve.specs.Sums.{column_after, is_i64, is_in_conflict, sum_decision, sum_of, summed_or_priority, with_sum}
 use Rattle.merge_resolve.specs.declared.case.ConflictCase.{ConflictCase}
 use Rattle.merge_resolve.specs.declared.choice.ResolverChoice.{ResolverChoice}
 use Rattle.merge_resolve.specs.declared.choice.ResolverChoice.TheVariants as choice
@@ -58,7 +58,7 @@ or-typed : (c : ConflictCase) (found : Option Decision) → OfSome DecisionIsTyp
 or-typed c None is = priority-typed c
 or-typed c (Some decision) is = is
 
-picked-typed : (e : Extreme) (ours theirs : Value) → OfSome DecisionIsTyped (picked e ours theirs)
+picked-typed : (e : Extreme) (ours theirs : Value) → OfSome DecisionIsTyped (decision_by_extreme e ours theirs)
 picked-typed e Null Null = tt
 picked-typed e Null (Int their) = tt
 picked-typed e Null (Bit their) = tt
@@ -85,13 +85,13 @@ picked-typed e (Text our) theirs = tt
 picked-typed e (Guid our) theirs = tt
 picked-typed e (Bytes our) theirs = tt
 
-judged-typed : (e : Extreme) (ours theirs : Option Value) → OfSome DecisionIsTyped (judged (picked e) ours theirs)
+judged-typed : (e : Extreme) (ours theirs : Option Value) → OfSome DecisionIsTyped (answer_on_both (decision_by_extreme e) ours theirs)
 judged-typed e None theirs = tt
 judged-typed e (Some our) None = tt
 judged-typed e (Some our) (Some their) = picked-typed e our their
 
 extreme-typed : (e : Extreme) (c : ConflictCase) → DecisionIsTyped (extreme_decision e c)
-extreme-typed e c = or-typed c (judged (picked e) (body_value c.kind c.publisher c.column) (body_value c.kind c.incoming c.column)) (judged-typed e (body_value c.kind c.publisher c.column) (body_value c.kind c.incoming c.column))
+extreme-typed e c = or-typed c (answer_on_both (decision_by_extreme e) (body_value c.kind c.publisher c.column) (body_value c.kind c.incoming c.column)) (judged-typed e (body_value c.kind c.publisher c.column) (body_value c.kind c.incoming c.column))
 
 -- The sum.
 
@@ -126,7 +126,7 @@ sum-is (Day our) theirs is more = tt
 sum-is (Guid our) theirs is more = tt
 sum-is (Bytes our) theirs is more = tt
 
-judged-sum : (ours theirs : Option Value) → OfSome IsValue ours → OfSome IsValue theirs → OfSome IsValue (judged sum_of ours theirs)
+judged-sum : (ours theirs : Option Value) → OfSome IsValue ours → OfSome IsValue theirs → OfSome IsValue (answer_on_both sum_of ours theirs)
 judged-sum None theirs is more = tt
 judged-sum (Some our) None is more = tt
 judged-sum (Some our) (Some their) is more = sum-is our their is more
@@ -149,7 +149,7 @@ if-decided : (b : Bool) (one other : Decision) → DecisionIsTyped one → Decis
 if-decided true one other is more = is
 if-decided false one other is more = more
 
-summed-typed : (c : ConflictCase) (column : ℕ) (sum : Value) → CaseIsTyped c → IsValue sum → DecisionIsTyped (summed c column sum)
+summed-typed : (c : ConflictCase) (column : ℕ) (sum : Value) → CaseIsTyped c → IsValue sum → DecisionIsTyped (sum_decision c column sum)
 summed-typed c column sum typed is =
     let winner : List Cell = cells_of (winner_body (by_priority c) c.publisher c.incoming) in
     let values : List Value = with_sum c winner column sum in
@@ -166,7 +166,7 @@ rule-typed : (which : ResolverChoice) (c : ConflictCase) → CaseIsTyped c → D
 rule-typed choice.Priority c typed = priority-typed c
 rule-typed choice.Maximum c typed = extreme-typed extreme.Greatest c
 rule-typed choice.Minimum c typed = extreme-typed extreme.Least c
-rule-typed choice.Additive c typed = sum-typed c c.column (judged sum_of (body_value c.kind c.publisher c.column) (body_value c.kind c.incoming c.column)) typed
+rule-typed choice.Additive c typed = sum-typed c c.column (answer_on_both sum_of (body_value c.kind c.publisher c.column) (body_value c.kind c.incoming c.column)) typed
     (judged-sum (body_value c.kind c.publisher c.column) (body_value c.kind c.incoming c.column) (own-value c.kind c.publisher c.column typed.publisher) (own-value c.kind c.incoming c.column typed.incoming))
 rule-typed choice.SubscriberWins c typed = tt
 

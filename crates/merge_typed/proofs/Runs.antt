@@ -14,11 +14,11 @@ use Rattle.merge_resolve.specs.Asked.{tallies_after}
 use Rattle.merge_schema.specs.Places.{is_subscription}
 use Rattle.merge_schema.specs.declared.publication.Publication.{Publication}
 use Rattle.merge_batch.specs.declared.refusal.Refusal.TheVariants.{UnknownName, UnknownSite}
-use Rattle.merge_model.specs.World.Events.{acting, after, changing, happens, is_site, looking, syncing, where_site, where_subscriber}
-use Rattle.merge_model.specs.Failing.{Faulty, Slip, Slips, acting_with, failing, fails, is_allowed, questions_by, slip_if}
+use Rattle.merge_model.specs.World.Events.{after, answered_action, answered_change, answered_look, answered_sync, happens, is_site, where_site, where_subscriber}
+use Rattle.merge_model.specs.Failing.{Faulty, Slip, Slips, acting_with, fails, faulty_stepping, is_allowed, questions_by, slip_if}
 use Rattle.merge_model.specs.Tables.Keys.{at_number, put_number}
 use Rattle.merge_model.specs.Laws.{is_report}
-use Rattle.merge_model.specs.World.Naming.{and_then, article_by, column_place, delete_by, insert_by, placed, set_at, setting_of, settings_by, update_by}
+use Rattle.merge_model.specs.World.Naming.{and_then, article_by, column_place, delete_by, insert_by, set_at, setting_of, settings_by, update_by, values_at_places}
 use Rattle.merge_model.specs.Tables.Publications.{columns_at}
 use Rattle.merge_model.specs.World.Session.{Stepping}
 use Rattle.merge_model.specs.World.Steps.{Action, CloseAt, Deliver, Forget, Look, Make, MakeAnew, Pass, Send, SendDownload, SendJoin, SendRanges, SendUpload}
@@ -57,13 +57,13 @@ set-is : (others : List (ℕ × Value)) (named : NamedValue) (found : Option ℕ
 set-is others named None is typed = tt
 set-is others named (Some place) is typed = set-by others named place (at_number others place) is typed
 
-placed-are : (columns : List Column) (others : List (ℕ × Value)) (named : List NamedValue) → AllByRecursion NamedIsTyped named → PairsAreTyped others → IfOk (placed columns others named) PairsAreTyped
+placed-are : (columns : List Column) (others : List (ℕ × Value)) (named : List NamedValue) → AllByRecursion NamedIsTyped named → PairsAreTyped others → IfOk (values_at_places columns others named) PairsAreTyped
 placed-are columns others [] all typed = typed
-placed-are columns others (first ∷ named) all typed = then-is PairsAreTyped PairsAreTyped (set_at others first (column_place columns first.column)) (λ (more : List (ℕ × Value)). placed columns more named)
+placed-are columns others (first ∷ named) all typed = then-is PairsAreTyped PairsAreTyped (set_at others first (column_place columns first.column)) (λ (more : List (ℕ × Value)). values_at_places columns more named)
     (set-is others first (column_place columns first.column) all.0 typed) (λ more is. placed-are columns more named all.1 is)
 
 settings-are : (columns : List Column) (named : List NamedValue) → AllByRecursion NamedIsTyped named → IfOk (settings_by columns named) (λ settings. AllByRecursion SettingIsTyped settings)
-settings-are columns named all = then-is PairsAreTyped (λ (settings : List Setting). AllByRecursion SettingIsTyped settings) (placed columns [] named) (λ (pairs : List (ℕ × Value)). Ok (map setting_of pairs)) (placed-are columns [] named all tt)
+settings-are columns named all = then-is PairsAreTyped (λ (settings : List Setting). AllByRecursion SettingIsTyped settings) (values_at_places columns [] named) (λ (pairs : List (ℕ × Value)). Ok (map setting_of pairs)) (placed-are columns [] named all tt)
     (λ pairs is. all-map (λ (pair : ℕ × Value). ValueIsTyped pair.1) SettingIsTyped setting_of (λ pair typed. typed) pairs is)
 
 module _ (publication : Publication) (name : List ℕ) where
@@ -87,16 +87,16 @@ module _ {W : Type 0} (publication : Publication) (stepping : Stepping W) (P : �
     if-keeps true x y first second = first
     if-keeps false x y first second = second
 
-    looking-keeps : (w : W) (answer : W → Answer) → P latest w → P latest (looking publication stepping answer w).0
+    looking-keeps : (w : W) (answer : W → Answer) → P latest w → P latest (answered_look publication stepping answer w).0
     looking-keeps w answer h = subst (λ (v : W). P latest v) (sym (looking-leaves publication stepping answer w)) (of_act latest w Look low tt h)
 
     site-keeps : (site : SiteId) (w : W) (next : W → W × Answer) → P latest (next w).0 → P latest w → P latest (where_site publication stepping site w next).0
-    site-keeps site w next keeps h = if-keeps (is_site publication site) (next w) (looking publication stepping (λ (v : W). Refused (UnknownSite site)) w) keeps (looking-keeps w (λ (v : W). Refused (UnknownSite site)) h)
+    site-keeps site w next keeps h = if-keeps (is_site publication site) (next w) (answered_look publication stepping (λ (v : W). Refused (UnknownSite site)) w) keeps (looking-keeps w (λ (v : W). Refused (UnknownSite site)) h)
 
     subscriber-keeps : (site : SiteId) (w : W) (next : W → W × Answer) → P latest (next w).0 → P latest w → P latest (where_subscriber publication stepping site w next).0
-    subscriber-keeps site w next keeps h = if-keeps (is_subscription publication site.0) (next w) (looking publication stepping (λ (v : W). Refused (UnknownSite site)) w) keeps (looking-keeps w (λ (v : W). Refused (UnknownSite site)) h)
+    subscriber-keeps site w next keeps h = if-keeps (is_subscription publication site.0) (next w) (answered_look publication stepping (λ (v : W). Refused (UnknownSite site)) w) keeps (looking-keeps w (λ (v : W). Refused (UnknownSite site)) h)
 
-    changing-keeps : (site : SiteId) (w : W) (named : Result Change (List ℕ)) → IfOk named ChangeIsTyped → P latest w → P latest (changing publication stepping site w named).0
+    changing-keeps : (site : SiteId) (w : W) (named : Result Change (List ℕ)) → IfOk named ChangeIsTyped → P latest w → P latest (answered_change publication stepping site w named).0
     changing-keeps site w (Err name) typed h = looking-keeps w (λ (v : W). Refused (UnknownName name)) h
     changing-keeps site w (Ok change) typed h = of_act latest w (Make site change) low typed h
 
@@ -105,17 +105,17 @@ module _ {W : Type 0} (publication : Publication) (stepping : Stepping W) (P : �
 
     pub event-keeps : (w : W) (e : Event) → EventIsTyped e → P latest w → P (moment_after latest e) (happens publication stepping w e).0
     event-keeps w (event.Wait seconds) typed h = of_pass latest seconds w h
-    event-keeps w (event.Insert site article values) typed h = site-keeps site w (λ (v : W). changing publication stepping site v (insert_by publication article values)) (changing-keeps site w (insert_by publication article values) (inserted publication article values typed) h) h
-    event-keeps w (event.Update site article row values) typed h = site-keeps site w (λ (v : W). changing publication stepping site v (update_by publication article row values)) (changing-keeps site w (update_by publication article row values) (updated publication article row values typed) h) h
-    event-keeps w (event.Delete site article row) typed h = site-keeps site w (λ (v : W). changing publication stepping site v (delete_by publication article row)) (changing-keeps site w (delete_by publication article row) (deleted publication article row) h) h
-    event-keeps w (event.Close site) typed h = site-keeps site w (acting publication stepping 0 (CloseAt site)) (of_act latest w (CloseAt site) low tt h) h
-    event-keeps w (event.Sync site) typed h = subscriber-keeps site w (syncing publication stepping site) (session-keeps stepping (P latest) (λ v action is k. of_act latest v action low is k) site w h) h
-    event-keeps w (event.SendJoin site) typed h = subscriber-keeps site w (acting publication stepping 0 (Send site SendJoin)) (of_act latest w (Send site SendJoin) low tt h) h
-    event-keeps w (event.SendUpload site) typed h = subscriber-keeps site w (acting publication stepping 0 (Send site SendUpload)) (of_act latest w (Send site SendUpload) low tt h) h
-    event-keeps w (event.SendRanges site) typed h = subscriber-keeps site w (acting publication stepping 0 (Send site SendRanges)) (of_act latest w (Send site SendRanges) low tt h) h
-    event-keeps w (event.SendDownload site) typed h = subscriber-keeps site w (acting publication stepping 0 (Send site SendDownload)) (of_act latest w (Send site SendDownload) low tt h) h
+    event-keeps w (event.Insert site article values) typed h = site-keeps site w (λ (v : W). answered_change publication stepping site v (insert_by publication article values)) (changing-keeps site w (insert_by publication article values) (inserted publication article values typed) h) h
+    event-keeps w (event.Update site article row values) typed h = site-keeps site w (λ (v : W). answered_change publication stepping site v (update_by publication article row values)) (changing-keeps site w (update_by publication article row values) (updated publication article row values typed) h) h
+    event-keeps w (event.Delete site article row) typed h = site-keeps site w (λ (v : W). answered_change publication stepping site v (delete_by publication article row)) (changing-keeps site w (delete_by publication article row) (deleted publication article row) h) h
+    event-keeps w (event.Close site) typed h = site-keeps site w (answered_action publication stepping 0 (CloseAt site)) (of_act latest w (CloseAt site) low tt h) h
+    event-keeps w (event.Sync site) typed h = subscriber-keeps site w (answered_sync publication stepping site) (session-keeps stepping (P latest) (λ v action is k. of_act latest v action low is k) site w h) h
+    event-keeps w (event.SendJoin site) typed h = subscriber-keeps site w (answered_action publication stepping 0 (Send site SendJoin)) (of_act latest w (Send site SendJoin) low tt h) h
+    event-keeps w (event.SendUpload site) typed h = subscriber-keeps site w (answered_action publication stepping 0 (Send site SendUpload)) (of_act latest w (Send site SendUpload) low tt h) h
+    event-keeps w (event.SendRanges site) typed h = subscriber-keeps site w (answered_action publication stepping 0 (Send site SendRanges)) (of_act latest w (Send site SendRanges) low tt h) h
+    event-keeps w (event.SendDownload site) typed h = subscriber-keeps site w (answered_action publication stepping 0 (Send site SendDownload)) (of_act latest w (Send site SendDownload) low tt h) h
     event-keeps w (event.Deliver number) typed h = of_act latest w (Deliver number) low tt h
-    event-keeps w (event.Reinit site) typed h = subscriber-keeps site w (acting publication stepping 0 (MakeAnew site)) (of_act latest w (MakeAnew site) low tt h) h
+    event-keeps w (event.Reinit site) typed h = subscriber-keeps site w (answered_action publication stepping 0 (MakeAnew site)) (of_act latest w (MakeAnew site) low tt h) h
     event-keeps w event.Purge typed h = of_act latest w Forget low tt h
     event-keeps w (event.Restart site) typed h = report-keeps w (event.Restart site) refl h
     event-keeps w (event.Show site article) typed h = report-keeps w (event.Show site article) refl h
@@ -152,5 +152,5 @@ module _ {W : Type 0} (publication : Publication) (stepping : Stepping W) (P : �
   fails-keep latest f Forget low typed h = acting-keeps latest f.slips Forget f.world (stepping.act f.world Forget) h (of_act latest f.world Forget low typed h)
   fails-keep latest f Look low typed h = acting-keeps latest f.slips Look f.world (stepping.act f.world Look) h (of_act latest f.world Look low typed h)
 
-  pub runs-keep : (events : List Event) (latest : ℕ) (f : Faulty W) → latest < 2 ^ 64 → AllByRecursion EventIsTyped events → MomentsFit latest events → P latest f.world → (last : ℕ) × P last (after publication (failing publication stepping) f events).world
-  runs-keep events latest f low typed moments h = events-keep publication (failing publication stepping) (λ (n : ℕ) (g : Faulty W). P n g.world) fails-keep (λ n seconds g k. of_pass n seconds g.world k) events latest f low typed moments h
+  pub runs-keep : (events : List Event) (latest : ℕ) (f : Faulty W) → latest < 2 ^ 64 → AllByRecursion EventIsTyped events → MomentsFit latest events → P latest f.world → (last : ℕ) × P last (after publication (faulty_stepping publication stepping) f events).world
+  runs-keep events latest f low typed moments h = events-keep publication (faulty_stepping publication stepping) (λ (n : ℕ) (g : Faulty W). P n g.world) fails-keep (λ n seconds g k. of_pass n seconds g.world k) events latest f low typed moments h

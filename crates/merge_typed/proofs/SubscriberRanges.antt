@@ -37,7 +37,7 @@ use Rattle.merge_model.specs.World.Faults.{reply_fault}
 use Rattle.merge_model.specs.Judge.{SubscriberJudge}
 use Rattle.merge_model.specs.Tables.Keys.{at_number, put_number}
 use Rattle.merge_model.specs.Tables.Refusals.{counter_end}
-use Rattle.merge_model.specs.Subscriber.Reinit.{reinitialise, reinitialised}
+use Rattle.merge_model.specs.Subscriber.Reinit.{reinitialise, result_of_reinit}
 use Rattle.merge_model.specs.Subscriber.Sending.{join_made, join_of, make_ask, make_join, make_ranges, make_upload, ranges_made, sending_refusal, unsent_rows, upload_made, upload_sent, want_of, with_message}
 use Rattle.merge_model.specs.Subscriber.{close_subscriber_generation, subscriber_at_moment, subscriber_closed, subscriber_counters, subscriber_drawn, subscriber_last_closed, subscriber_local, subscriber_next_dot, subscriber_version_at, taken_value, with_version_if}
 use Rattle.merge_model.specs.Tables.{SubscriberTables}
@@ -194,4 +194,4 @@ module _ (s : SubscriberTables) (r : SubscriberRanges s) where
   ranges-reply publication judge now m is = reply-ok publication judge now s SubscriberRanges r m (λ sent fine. after publication judge sent m s (record (subscriber_at_moment now s) { outstanding = None }) refl fine is r)
 
   pub ranges-anew : (judge : SubscriberJudge) (now : Moment) → IfOk (reinitialise judge now s) (λ done. SubscriberRanges done.0)
-  ranges-anew judge now = unless-ok (λ (done : SubscriberTables × ℕ). SubscriberRanges done.0) (counter_end (subscriber_counters s)) (reinitialised judge (subscriber_at_moment now s)) (λ fine. r)
+  ranges-anew judge now = unless-ok (λ (done : SubscriberTables × ℕ). SubscriberRanges done.0) (counter_end (subscriber_counters s)) (result_of_reinit judge (subscriber_at_moment now s)) (λ fine. r)

@@ -28,7 +28,7 @@ use Rattle.merge_record.specs.Versions.{IsValue}
 use Rattle.merge_model.specs.Judge.{SubscriberJudge}
 use Rattle.merge_model.specs.Tables.Keys.{row_at}
 use Rattle.merge_model.specs.Tables.Refusals.{counter_end}
-use Rattle.merge_model.specs.Subscriber.Reinit.{discarded, numbered_from, reinitialise, reinitialised}
+use Rattle.merge_model.specs.Subscriber.Reinit.{discarded_rows_from, discarded_versions, reinitialise, result_of_reinit}
 use Rattle.merge_model.specs.Subscriber.Sending.{join_made, join_of, make_ask, make_join, make_ranges, make_upload, ranges_made, sending_refusal, unsent_rows, upload_item, upload_made, upload_sent, want_of, with_message}
 use Rattle.merge_model.specs.Subscriber.{close_subscriber_generation, is_joining, subscriber_at_moment, subscriber_closed, subscriber_counters, subscriber_drawn, subscriber_last_closed, subscriber_local, subscriber_local_refusal, subscriber_made_locally, subscriber_next_dot, subscriber_version_at, with_version_if}
 use Rattle.merge_model.specs.Tables.{SubscriberTables}
@@ -140,18 +140,18 @@ if-lost : (b : Bool) (row : Key × Version) → VersionIsTyped row.1 → OfSome 
 if-lost true row is = is
 if-lost false row is = tt
 
-discards-are : (judge : SubscriberJudge) (s : SubscriberTables) → SubscriberRowsAreTyped s.rows → AllByRecursion (λ (row : Key × Version). VersionIsTyped row.1) (discarded judge s)
+discards-are : (judge : SubscriberJudge) (s : SubscriberTables) → SubscriberRowsAreTyped s.rows → AllByRecursion (λ (row : Key × Version). VersionIsTyped row.1) (discarded_versions judge s)
 discards-are judge s rows = all-filter_map (λ (row : Key × SubscriberRow). SubscriberRowIsTyped row.1) (λ (row : Key × Version). VersionIsTyped row.1) (λ (row : Key × SubscriberRow). if judge.is_unsent s.received row.0 then Some (row.0, row.1.version) else None) (λ row is. if-lost (judge.is_unsent s.received row.0) (row.0, row.1.version) is) s.rows rows
 
-lost-are : (s : SubscriberTables) (number : ℕ) (rows : List (Key × Version)) → MomentFits s.latest → AllByRecursion (λ (row : Key × Version). VersionIsTyped row.1) rows → AllByRecursion LostIsTyped (numbered_from s number rows)
+lost-are : (s : SubscriberTables) (number : ℕ) (rows : List (Key × Version)) → MomentFits s.latest → AllByRecursion (λ (row : Key × Version). VersionIsTyped row.1) rows → AllByRecursion LostIsTyped (discarded_rows_from s number rows)
 lost-are s number [] low all = tt
 lost-are s number (row ∷ rows) low all = ((all.0, low), lost-are s (number + 1) rows low all.1)
 
-anew : (judge : SubscriberJudge) (s : SubscriberTables) → SubscriberValues s → SubscriberValues (reinitialised judge s).0
+anew : (judge : SubscriberJudge) (s : SubscriberTables) → SubscriberValues s → SubscriberValues (result_of_reinit judge s).0
 anew judge s v =
-    let rows : List ConflictRow = numbered_from s (s.conflict_count + 1) (discarded judge s) in record {
+    let rows : List ConflictRow = discarded_rows_from s (s.conflict_count + 1) (discarded_versions judge s) in record {
       rows = tt;
-      conflicts = all-append LostIsTyped s.conflicts rows v.conflicts (lost-are s (s.conflict_count + 1) (discarded judge s) v.latest (discards-are judge s v.rows));
+      conflicts = all-append LostIsTyped s.conflicts rows v.conflicts (lost-are s (s.conflict_count + 1) (discarded_versions judge s) v.latest (discards-are judge s v.rows));
       latest = v.latest;
     }
 
@@ -181,4 +181,4 @@ module _ (s : SubscriberTables) (v : SubscriberValues s) where
       reply-ok publication judge now s SubscriberValues v m (λ sent fits. after judge m (record (subscriber_at_moment now s) { outstanding = None }) is (record { rows = w.rows; conflicts = w.conflicts; latest = w.latest })))
 
   pub values-anew : (judge : SubscriberJudge) (now : Moment) → MomentFits now → IfOk (reinitialise judge now s) (λ done. SubscriberValues done.0)
-  values-anew judge now low = unless-ok (λ (done : SubscriberTables × ℕ). SubscriberValues done.0) (counter_end (subscriber_counters s)) (reinitialised judge (subscriber_at_moment now s)) (λ fine. anew judge (subscriber_at_moment now s) (moved now s low v))
+  values-anew judge now low = unless-ok (λ (done : SubscriberTables × ℕ). SubscriberValues done.0) (counter_end (subscriber_counters s)) (result_of_reinit judge (subscriber_at_moment now s)) (λ fine. anew judge (subscriber_at_moment now s) (moved now s low v))

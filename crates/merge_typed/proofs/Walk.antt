@@ -35,7 +35,7 @@ use Rattle.merge_model.specs.Publisher.PublisherRanges.{ranges}
 use Rattle.merge_model.specs.Publisher.PublisherUpload.{upload}
 use Rattle.merge_model.specs.Subscriber.Reinit.{reinitialise}
 use Rattle.merge_model.specs.Subscriber.Sending.{make_ask, make_join, make_ranges, make_upload}
-use Rattle.merge_model.specs.World.Steps.{Action, CloseAt, Deliver, Forget, Look, Make, MakeAnew, Pass, Send, SendDownload, SendJoin, SendRanges, SendUpload, Sending, after_upload, answered, at_subscriber, close_at, close_publisher, close_subscriber, deliver_letter, deliver_reply, deliver_request, kept_decisions, make_anew, make_at, make_at_publisher, make_at_subscriber, post, posted, send_from, step_by, unless_refused, upload_questions}
+use Rattle.merge_model.specs.World.Steps.{Action, CloseAt, Deliver, Forget, Look, Make, MakeAnew, Pass, Send, SendDownload, SendJoin, SendRanges, SendUpload, Sending, after_upload, at_subscriber, close_at, close_publisher, close_subscriber, deliver_letter, deliver_reply, deliver_request, kept_decisions, make_anew, make_at, make_at_publisher, make_at_subscriber, post, post_if_made, post_reply, send_from, step_by, unless_refused, upload_questions}
 use Rattle.merge_model.specs.Subscriber.{close_subscriber_generation, subscriber_local}
 use Rattle.merge_model.specs.Tables.{PublisherTables, SubscriberTables}
 use Rattle.merge_model.specs.Subscriber.Taking.{take_reply}
@@ -133,15 +133,15 @@ module _ (publication : Publication) (says : Saying) (A P : PublisherTables → 
       there-fits : (site : SiteId) (act : SubscriberTables → World × Outcome) → ((s : SubscriberTables) → B s → S s → Fits latest (act s).0) → Fits latest (at_subscriber site w act).0
       there-fits site act each = found-fits site (subscriber_at w site) act refl each
 
-      posted-fits : {X : Type 0} (site : SiteId) (message : X → Request) (made : Option (SubscriberTables × X)) → IfSome made (λ x. S x.0 × Q (message x.1)) → Fits latest (posted site message w made).0
+      posted-fits : {X : Type 0} (site : SiteId) (message : X → Request) (made : Option (SubscriberTables × X)) → IfSome made (λ x. S x.0 × Q (message x.1)) → Fits latest (post_if_made site message w made).0
       posted-fits site message None new = f
       posted-fits site message (Some made) new = letter-goes (with_subscriber made.0 w) site (Asks (message made.1)) new.1 (subscriber-goes w made.0 new.0 f)
 
-      sent-fits : {X : Type 0} (site : SiteId) (message : X → Request) (done : Result (Option (SubscriberTables × X)) Refusal) → IfOk done (λ made. IfSome made (λ x. S x.0 × Q (message x.1))) → Fits latest (unless_refused w done (posted site message w)).0
+      sent-fits : {X : Type 0} (site : SiteId) (message : X → Request) (done : Result (Option (SubscriberTables × X)) Refusal) → IfOk done (λ made. IfSome made (λ x. S x.0 × Q (message x.1))) → Fits latest (unless_refused w done (post_if_made site message w)).0
       sent-fits site message (Err refusal) new = f
       sent-fits site message (Ok made) new = posted-fits site message made new
 
-      answered-fits : {X : Type 0} (site : SiteId) (message : X → Reply) (done : Result (PublisherTables × X) Refusal) → IfOk done (λ a. P a.0 × R (message a.1)) → Fits latest (answered site message w done).0
+      answered-fits : {X : Type 0} (site : SiteId) (message : X → Reply) (done : Result (PublisherTables × X) Refusal) → IfOk done (λ a. P a.0 × R (message a.1)) → Fits latest (post_reply site message w done).0
       answered-fits site message (Err refusal) new = f
       answered-fits site message (Ok made) new = letter-goes (with_publisher made.0 w) site (Replies (message made.1)) new.1 (publisher-goes w made.0 new.0 f)
 

@@ -4,7 +4,7 @@ use Rattle.merge_types.specs.declared.values.ColumnType.TheVariants as ty
 use Rattle.merge_types.specs.declared.changes.Tracking.TheVariants as tracking
 use Rattle.merge_schema.specs.declared.publication.Publication.{Publication}
 use Rattle.merge_schema.specs.declared.publication.SubscriptionKind.TheVariants as kind
-use Rattle.merge_worked.specs.Worked.{Worked}
+use Rattle.merge_worked.specs.Worked.{WorkedScript}
 
 abbrev publication : Publication
 publication = record {
@@ -24,7 +24,7 @@ publication = record {
   subscriptions = (record { site = record { 0 = 1 }; host = record { 0 = codes "h1" }; kind = kind.Client; priority = 0 } ∷ record { site = record { 0 = 2 }; host = record { 0 = codes "h2" }; kind = kind.Client; priority = 0 } ∷ []);
 }
 
-abbrev pub both_changes_sum : Worked
+abbrev pub both_changes_sum : WorkedScript
 both_changes_sum = record {
   publication = publication;
   input = codes "---\ninsert 0 stock n=1\nsync 1\nsync 2\nupdate 1 stock 0.1 n=5\nupdate 2 stock 0.1 n=7\nsync 1\nsync 2\nshow 2 stock\nconflicts 0\n";

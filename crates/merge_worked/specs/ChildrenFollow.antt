@@ -1,9 +1,9 @@
 -- A row leaves for the partition of another site, and the rows that join to it follow through two articles.
 use Rattle.std.specs.Prelude.{codes}
 use Rattle.merge_worked.specs.Publications.{orders_for_two}
-use Rattle.merge_worked.specs.Worked.{Worked}
+use Rattle.merge_worked.specs.Worked.{WorkedScript}
 
-abbrev pub children_follow : Worked
+abbrev pub children_follow : WorkedScript
 children_follow = record {
   publication = orders_for_two;
   input = codes "---\ninsert 0 customer id=1 region=\"north\"\ninsert 0 orders id=10 cust=1\ninsert 0 line ord=10 qty=5\nsync 1\nsync 2\nupdate 0 customer 0.1 region=\"south\"\ngenerations 0\nsync 1\ncount 1\nsync 2\ncount 2\n";

@@ -1,9 +1,9 @@
 -- With column tracking, an update that came first stays against a delete.
 use Rattle.std.specs.Prelude.{codes}
 use Rattle.merge_worked.specs.Publications.{part_for_two}
-use Rattle.merge_worked.specs.Worked.{Worked}
+use Rattle.merge_worked.specs.Worked.{WorkedScript}
 
-abbrev pub column_update_stays : Worked
+abbrev pub column_update_stays : WorkedScript
 column_update_stays = record {
   publication = part_for_two;
   input = codes "---\ninsert 0 part a=1 b=1\nsync 1\nsync 2\nupdate 1 part 0.1 a=2\ndelete 2 part 0.1\nsync 1\nsync 2\nconflicts 0\nshow 2 part\n";

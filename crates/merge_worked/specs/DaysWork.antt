@@ -7,7 +7,7 @@ use Rattle.merge_filter.specs.declared.tree.Operand.TheVariants as operand
 use Rattle.merge_filter.specs.declared.word.Sign.TheVariants as sign
 use Rattle.merge_schema.specs.declared.publication.Publication.{Publication}
 use Rattle.merge_schema.specs.declared.publication.SubscriptionKind.TheVariants as kind
-use Rattle.merge_worked.specs.Worked.{Worked}
+use Rattle.merge_worked.specs.Worked.{WorkedScript}
 
 abbrev publication : Publication
 publication = record {
@@ -36,7 +36,7 @@ publication = record {
   subscriptions = (record { site = record { 0 = 1 }; host = record { 0 = codes "r0" }; kind = kind.Client; priority = 0 } ∷ record { site = record { 0 = 2 }; host = record { 0 = codes "r1" }; kind = kind.Client; priority = 0 } ∷ record { site = record { 0 = 3 }; host = record { 0 = codes "r2" }; kind = kind.Client; priority = 0 } ∷ []);
 }
 
-abbrev pub days_work : Worked
+abbrev pub days_work : WorkedScript
 days_work = record {
   publication = publication;
   input = codes "---\ninsert 0 customer id=1 region=\"r1\"\ninsert 0 customer id=2 region=\"r2\"\ninsert 0 customer id=3 region=\"r0\"\ninsert 0 customer id=4 region=\"r1\"\ninsert 0 customer id=5 region=\"r2\"\ninsert 0 customer id=6 region=\"r0\"\ninsert 0 orders id=1 cust=1\ninsert 0 orders id=2 cust=1\ninsert 0 orders id=3 cust=2\ninsert 0 orders id=4 cust=2\ninsert 0 orders id=5 cust=3\ninsert 0 orders id=6 cust=3\ninsert 0 orders id=7 cust=4\ninsert 0 orders id=8 cust=4\ninsert 0 orders id=9 cust=5\ninsert 0 orders id=10 cust=5\ninsert 0 orders id=11 cust=6\ninsert 0 orders id=12 cust=6\nsync 1\nsync 2\nsync 3\nupdate 2 customer 0.1 credit=1\nupdate 3 customer 0.2 credit=1\nupdate 1 customer 0.3 credit=1\nupdate 2 customer 0.4 credit=1\nupdate 3 customer 0.5 credit=1\nupdate 1 customer 0.6 credit=1\nsend 1 upload\ndeliver 19\nsync 1\nsend 2 upload\nsync 2\nsync 3\nsync 1\nsync 2\ncount 1\ncount 2\ncount 3\nconflicts 0\n";

@@ -2,9 +2,9 @@
 use Rattle.std.specs.Prelude.{[], ◌∷◌, codes}
 use Rattle.merge_schema.specs.declared.publication.SubscriptionKind.TheVariants as kind
 use Rattle.merge_worked.specs.Publications.{item_for_one}
-use Rattle.merge_worked.specs.Worked.{Worked}
+use Rattle.merge_worked.specs.Worked.{WorkedScript}
 
-abbrev pub equal_priorities : Worked
+abbrev pub equal_priorities : WorkedScript
 equal_priorities = record {
   publication = record item_for_one { subscriptions = (record { site = record { 0 = 1 }; host = record { 0 = codes "h1" }; kind = kind.Server; priority = 5000 } ∷ record { site = record { 0 = 2 }; host = record { 0 = codes "h2" }; kind = kind.Server; priority = 5000 } ∷ []) };
   input = codes "---\ninsert 0 item qty=1\nsync 1\nsync 2\nupdate 1 item 0.1 qty=10\nupdate 2 item 0.1 qty=20\nsync 2\nsync 1\nsync 2\nshow 1 item\nconflicts 0\n";

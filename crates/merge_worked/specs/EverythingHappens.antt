@@ -10,7 +10,7 @@ use Rattle.merge_schema.specs.declared.publication.Publication.{Publication}
 use Rattle.merge_schema.specs.declared.publication.SubscriptionKind.TheVariants as kind
 use Rattle.merge_model.specs.History.Model.{Model}
 use Rattle.merge_worked.specs.Happened.{model_after}
-use Rattle.merge_worked.specs.Worked.{Worked}
+use Rattle.merge_worked.specs.Worked.{WorkedScript}
 
 -- Conflicts of stock are decided by the resolver that adds up column n.
 abbrev pub stock : Article
@@ -156,7 +156,7 @@ scenes = before_purge ++ tombstones_are_purged ∷ reports ∷ []
 abbrev input_of : List Scene → List ℕ
 input_of parts = codes "---\n" ++ flat_map (λ (scene : Scene). scene.script) parts
 
-abbrev pub everything_happens : Worked
+abbrev pub everything_happens : WorkedScript
 everything_happens = record {
   publication = publication;
   input = input_of scenes;

@@ -1,9 +1,9 @@
 -- A site expires behind the retention, and a generation is forgotten one day later.
 use Rattle.std.specs.Prelude.{codes}
 use Rattle.merge_worked.specs.Publications.{item_for_one}
-use Rattle.merge_worked.specs.Worked.{Worked}
+use Rattle.merge_worked.specs.Worked.{WorkedScript}
 
-abbrev pub expired_site : Worked
+abbrev pub expired_site : WorkedScript
 expired_site = record {
   publication = item_for_one;
   input = codes "---\nsync 1\ninsert 0 item qty=1\nwait 1209600\nsync 1\nwait 1209601\nsync 1\nwait 86399\npurge\nwait 1\npurge\nreinit 1\nsync 1\n";

@@ -1,9 +1,9 @@
 -- Two subscribers update one row. Among clients the update that comes first stays.
 use Rattle.std.specs.Prelude.{codes}
 use Rattle.merge_worked.specs.Publications.{item_for_two}
-use Rattle.merge_worked.specs.Worked.{Worked}
+use Rattle.merge_worked.specs.Worked.{WorkedScript}
 
-abbrev pub first_update_stays : Worked
+abbrev pub first_update_stays : WorkedScript
 first_update_stays = record {
   publication = item_for_two;
   input = codes "---\ninsert 0 item qty=1\nsync 1\nsync 2\nupdate 1 item 0.1 qty=10\nupdate 2 item 0.1 qty=20\nsync 2\nsync 1\nsync 2\nshow 1 item\nconflicts 0\n";

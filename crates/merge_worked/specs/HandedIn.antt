@@ -4,7 +4,7 @@ use Rattle.merge_types.specs.declared.values.ColumnType.TheVariants as ty
 use Rattle.merge_types.specs.declared.changes.Tracking.TheVariants as tracking
 use Rattle.merge_schema.specs.declared.publication.Publication.{Publication}
 use Rattle.merge_schema.specs.declared.publication.SubscriptionKind.TheVariants as kind
-use Rattle.merge_worked.specs.Worked.{Worked}
+use Rattle.merge_worked.specs.Worked.{WorkedScript}
 use Rattle.merge_types.specs.declared.values.Value.{Value}
 use Rattle.merge_types.specs.declared.values.Value.TheVariants.{Int}
 use Rattle.merge_units.specs.declared.result.Decision.TheVariants.{Custom}
@@ -41,14 +41,14 @@ one_value = saying (Int (pos 42) ∷ [])
 abbrev pub two_values : Saying
 two_values = saying (Int (pos 42) ∷ Int (pos 43) ∷ [])
 
-abbrev pub decided_by_one_value : Worked
+abbrev pub decided_by_one_value : WorkedScript
 decided_by_one_value = record {
   publication = publication;
   input = codes "---\ninsert 0 item qty=1\nsync 1\nsync 2\nupdate 1 item 0.1 qty=10\nupdate 2 item 0.1 qty=20\nsync 2\nsync 1\nshow 0 item\nconflicts 0\n";
   answers = codes "row 00000000-0000-8000-8000-000000000001\ndone 0 1 1\ndone 0 1 1\nok\nok\ndone 1 1 2\ndone 1 1 3\n00000000-0000-8000-8000-000000000001 42\nrows 1\n1 item 00000000-0000-8000-8000-000000000001 1 0 custom 0 live 20\n2 item 00000000-0000-8000-8000-000000000001 1 1 custom 0 live 10\nconflicts 2\n";
 }
 
-abbrev pub decided_by_two_values : Worked
+abbrev pub decided_by_two_values : WorkedScript
 decided_by_two_values = record {
   publication = publication;
   input = codes "---\ninsert 0 item qty=1\nsync 1\nsync 2\nupdate 1 item 0.1 qty=10\nupdate 2 item 0.1 qty=20\nsync 2\nsync 1\nshow 0 item\nconflicts 0\n";

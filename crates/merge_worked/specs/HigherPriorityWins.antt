@@ -1,9 +1,9 @@
 -- Two subscribers with priorities update one row. The higher priority wins.
 use Rattle.std.specs.Prelude.{codes}
 use Rattle.merge_worked.specs.Publications.{item_for_servers}
-use Rattle.merge_worked.specs.Worked.{Worked}
+use Rattle.merge_worked.specs.Worked.{WorkedScript}
 
-abbrev pub higher_priority_wins : Worked
+abbrev pub higher_priority_wins : WorkedScript
 higher_priority_wins = record {
   publication = item_for_servers;
   input = codes "---\ninsert 0 item qty=1\nsync 1\nsync 2\nupdate 1 item 0.1 qty=10\nupdate 2 item 0.1 qty=20\nsync 2\nsync 1\nsync 2\nshow 1 item\nconflicts 0\n";

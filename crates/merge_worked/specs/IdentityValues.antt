@@ -1,9 +1,9 @@
 -- Identity values come from granted ranges, and run out at the greatest.
 use Rattle.std.specs.Prelude.{codes}
 use Rattle.merge_worked.specs.Publications.{ticket_for_one}
-use Rattle.merge_worked.specs.Worked.{Worked}
+use Rattle.merge_worked.specs.Worked.{WorkedScript}
 
-abbrev pub identity_values : Worked
+abbrev pub identity_values : WorkedScript
 identity_values = record {
   publication = ticket_for_one;
   input = codes "---\nsync 1\ninsert 1 ticket note=\"a\"\ninsert 1 ticket note=\"a\"\ninsert 1 ticket note=\"a\"\ninsert 1 ticket note=\"a\"\ninsert 1 ticket note=\"a\"\ninsert 0 ticket note=\"b\"\nshow 0 ticket\nsync 1\ninsert 1 ticket note=\"a\"\ninsert 1 ticket note=\"a\"\ninsert 1 ticket note=\"a\"\ninsert 1 ticket no=3\nranges 0\n";

@@ -1,9 +1,9 @@
 -- A grant whose reply was lost is granted again, and not anew.
 use Rattle.std.specs.Prelude.{codes}
 use Rattle.merge_worked.specs.Publications.{ticket_for_one}
-use Rattle.merge_worked.specs.Worked.{Worked}
+use Rattle.merge_worked.specs.Worked.{WorkedScript}
 
-abbrev pub lost_grant : Worked
+abbrev pub lost_grant : WorkedScript
 lost_grant = record {
   publication = ticket_for_one;
   input = codes "---\nsend 1 join\ndeliver 1\ndeliver 2\nsend 1 ranges\ndeliver 3\ndeliver 3\nsend 1 ranges\ndeliver 6\ndeliver 7\nranges 1\nranges 0\ndeliver 99\n";

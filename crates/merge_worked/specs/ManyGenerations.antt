@@ -1,9 +1,9 @@
 -- A batch has at most a hundred generations.
 use Rattle.std.specs.Prelude.{codes}
 use Rattle.merge_worked.specs.Publications.{item_for_one}
-use Rattle.merge_worked.specs.Worked.{Worked}
+use Rattle.merge_worked.specs.Worked.{WorkedScript}
 
-abbrev pub many_generations : Worked
+abbrev pub many_generations : WorkedScript
 many_generations = record {
   publication = item_for_one;
   input = codes "---\nsync 1\ninsert 1 item qty=0\nclose 1\ninsert 1 item qty=1\nclose 1\ninsert 1 item qty=2\nclose 1\ninsert 1 item qty=3\nclose 1\ninsert 1 item qty=4\nclose 1\ninsert 1 item qty=5\nclose 1\ninsert 1 item qty=6\nclose 1\ninsert 1 item qty=7\nclose 1\ninsert 1 item qty=8\nclose 1\ninsert 1 item qty=9\nclose 1\ninsert 1 item qty=10\nclose 1\ninsert 1 item qty=11\nclose 1\ninsert 1 item qty=12\nclose 1\ninsert 1 item qty=13\nclose 1\ninsert 1 item qty=14\nclose 1\ninsert 1 item qty=15\nclose 1\ninsert 1 item qty=16\nclose 1\ninsert 1 item qty=17\nclose 1\ninsert 1 item qty=18\nclose 1\ninsert 1 item qty=19\nclose 1\ninsert 1 item qty=20\nclose 1\ninsert 1 item qty=21\nclose 1\ninsert 1 item qty=22\nclose 1\ninsert 1 item qty=23\nclose 1\ninsert 1 item qty=24\nclose 1\ninsert 1 item qty=25\nclose 1\ninsert 1 item qty=26\nclose 1\ninsert 1 item qty=27\nclose 1\ninsert 1 item qty=28\nclose 1\ninsert 1 item qty=29\nclose 1\ninsert 1 item qty=30\nclose 1\ninsert 1 item qty=31\nclose 1\ninsert 1 item qty=32\nclose 1\ninsert 1 item qty=33\nclose 1\ninsert 1 item qty=34\nclose 1\ninsert 1 item qty=35\nclose 1\ninsert 1 item qty=36\nclose 1\ninsert 1 item qty=37\nclose 1\ninsert 1 item qty=38\nclose 1\ninsert 1 item qty=39\nclose 1\ninsert 1 item qty=40\nclose 1\ninsert 1 item qty=41\nclose 1\ninsert 1 item qty=42\nclose 1\ninsert 1 item qty=43\nclose 1\ninsert 1 item qty=44\nclose 1\ninsert 1 item qty=45\nclose 1\ninsert 1 item qty=46\nclose 1\ninsert 1 item qty=47\nclose 1\ninsert 1 item qty=48\nclose 1\ninsert 1 item qty=49\nclose 1\ninsert 1 item qty=50\nclose 1\ninsert 1 item qty=51\nclose 1\ninsert 1 item qty=52\nclose 1\ninsert 1 item qty=53\nclose 1\ninsert 1 item qty=54\nclose 1\ninsert 1 item qty=55\nclose 1\ninsert 1 item qty=56\nclose 1\ninsert 1 item qty=57\nclose 1\ninsert 1 item qty=58\nclose 1\ninsert 1 item qty=59\nclose 1\ninsert 1 item qty=60\nclose 1\ninsert 1 item qty=61\nclose 1\ninsert 1 item qty=62\nclose 1\ninsert 1 item qty=63\nclose 1\ninsert 1 item qty=64\nclose 1\ninsert 1 item qty=65\nclose 1\ninsert 1 item qty=66\nclose 1\ninsert 1 item qty=67\nclose 1\ninsert 1 item qty=68\nclose 1\ninsert 1 item qty=69\nclose 1\ninsert 1 item qty=70\nclose 1\ninsert 1 item qty=71\nclose 1\ninsert 1 item qty=72\nclose 1\ninsert 1 item qty=73\nclose 1\ninsert 1 item qty=74\nclose 1\ninsert 1 item qty=75\nclose 1\ninsert 1 item qty=76\nclose 1\ninsert 1 item qty=77\nclose 1\ninsert 1 item qty=78\nclose 1\ninsert 1 item qty=79\nclose 1\ninsert 1 item qty=80\nclose 1\ninsert 1 item qty=81\nclose 1\ninsert 1 item qty=82\nclose 1\ninsert 1 item qty=83\nclose 1\ninsert 1 item qty=84\nclose 1\ninsert 1 item qty=85\nclose 1\ninsert 1 item qty=86\nclose 1\ninsert 1 item qty=87\nclose 1\ninsert 1 item qty=88\nclose 1\ninsert 1 item qty=89\nclose 1\ninsert 1 item qty=90\nclose 1\ninsert 1 item qty=91\nclose 1\ninsert 1 item qty=92\nclose 1\ninsert 1 item qty=93\nclose 1\ninsert 1 item qty=94\nclose 1\ninsert 1 item qty=95\nclose 1\ninsert 1 item qty=96\nclose 1\ninsert 1 item qty=97\nclose 1\ninsert 1 item qty=98\nclose 1\ninsert 1 item qty=99\nclose 1\ninsert 1 item qty=100\nclose 1\nsync 1\n";

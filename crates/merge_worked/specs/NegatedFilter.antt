@@ -7,7 +7,7 @@ use Rattle.merge_filter.specs.declared.tree.Operand.TheVariants as operand
 use Rattle.merge_filter.specs.declared.word.Sign.TheVariants as sign
 use Rattle.merge_schema.specs.declared.publication.Publication.{Publication}
 use Rattle.merge_schema.specs.declared.publication.SubscriptionKind.TheVariants as kind
-use Rattle.merge_worked.specs.Worked.{Worked}
+use Rattle.merge_worked.specs.Worked.{WorkedScript}
 
 abbrev publication : Publication
 publication = record {
@@ -27,7 +27,7 @@ publication = record {
   subscriptions = (record { site = record { 0 = 1 }; host = record { 0 = codes "north" }; kind = kind.Client; priority = 0 } ∷ []);
 }
 
-abbrev pub negated_filter : Worked
+abbrev pub negated_filter : WorkedScript
 negated_filter = record {
   publication = publication;
   input = codes "---\ninsert 0 customer region=null\ninsert 0 customer region=\"north\"\npartition 1\n";

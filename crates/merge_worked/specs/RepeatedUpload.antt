@@ -1,9 +1,9 @@
 -- An upload that comes three times acts once.
 use Rattle.std.specs.Prelude.{codes}
 use Rattle.merge_worked.specs.Publications.{item_for_one}
-use Rattle.merge_worked.specs.Worked.{Worked}
+use Rattle.merge_worked.specs.Worked.{WorkedScript}
 
-abbrev pub repeated_upload : Worked
+abbrev pub repeated_upload : WorkedScript
 repeated_upload = record {
   publication = item_for_one;
   input = codes "---\nsync 1\ninsert 1 item qty=5\nsend 1 upload\ndeliver 5\ndeliver 5\ndeliver 5\ndeliver 8\ndeliver 6\ngenerations 0\n";

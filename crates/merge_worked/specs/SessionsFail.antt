@@ -13,10 +13,10 @@ use Rattle.merge_model.specs.Failing.Runs.{world_behind}
 use Rattle.merge_model.specs.Script.Reading.{events_of}
 use Rattle.merge_model.specs.Script.Resolvers.{rules_say}
 use Rattle.merge_worked.specs.StepsFail.{no_slip, store_fails, wants_memory}
-use Rattle.merge_worked.specs.Worked.{Worked}
+use Rattle.merge_worked.specs.Worked.{WorkedScript}
 
 -- how often each resolver was asked in a run with slips
-abbrev pub tallies_with : Slips → Worked → List ℕ
+abbrev pub tallies_with : Slips → WorkedScript → List ℕ
 tallies_with slips worked = (world_behind worked.publication rules_say (0 ∷ 0 ∷ 0 ∷ 0 ∷ 0 ∷ []) slips (events_of (lines_of (script_of worked.input)))).tallies
 
 -- What becomes of each step, one after the other.
@@ -69,7 +69,7 @@ publication = record {
 }
 
 -- The conflict stands in the conflict table once.
-abbrev pub sessions_fail : Worked
+abbrev pub sessions_fail : WorkedScript
 sessions_fail = record {
   publication = publication;
   input = codes "---\ninsert 0 stock n=1\nsync 1\nupdate 0 stock 0.1 n=5\nupdate 1 stock 0.1 n=7\nsync 1\nsync 1\nsync 1\nsync 1\nsync 1\nshow 1 stock\nconflicts 0\n";

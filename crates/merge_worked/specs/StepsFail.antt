@@ -13,13 +13,13 @@ use Rattle.merge_model.specs.Script.Reading.{events_of}
 use Rattle.merge_model.specs.Script.Resolvers.{rules_say}
 use Rattle.merge_model.specs.Failing.Runs.{machine_says, model_says}
 use Rattle.merge_model.specs.Script.Text.{texts_of}
-use Rattle.merge_worked.specs.Worked.{Worked}
+use Rattle.merge_worked.specs.Worked.{WorkedScript}
 
 -- the answers of a run with slips, by the machine and by the model
-abbrev pub IsPlayedWith : Slips → Worked → Type 0
+abbrev pub IsPlayedWith : Slips → WorkedScript → Type 0
 IsPlayedWith slips worked = texts_of (names_of worked.publication) (machine_says worked.publication rules_say (0 ∷ 0 ∷ 0 ∷ 0 ∷ 0 ∷ []) slips (events_of (lines_of (script_of worked.input)))) ≡ worked.answers
 
-abbrev pub IsToldWith : Slips → Worked → Type 0
+abbrev pub IsToldWith : Slips → WorkedScript → Type 0
 IsToldWith slips worked = texts_of (names_of worked.publication) (model_says worked.publication rules_say (0 ∷ 0 ∷ 0 ∷ 0 ∷ 0 ∷ []) slips (events_of (lines_of (script_of worked.input)))) ≡ worked.answers
 
 -- What becomes of each step, one after the other.
@@ -80,7 +80,7 @@ publication = record {
 }
 
 -- A session counts an upload that was answered, and a reply with generations that came, also where the site did not take them.
-abbrev pub steps_fail : Worked
+abbrev pub steps_fail : WorkedScript
 steps_fail = record {
   publication = publication;
   input = codes "---\ninsert 0 item qty=1\ninsert 0 item qty=1\nsync 1\nsync 1\nsync 1\nupdate 1 item 0.1 qty=2\nsync 1\ngenerations 0\nsync 1\nsync 1\nshow 1 item\n";

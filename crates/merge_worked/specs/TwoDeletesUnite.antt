@@ -1,9 +1,9 @@
 -- Both subscribers deleted the row, which is no conflict.
 use Rattle.std.specs.Prelude.{codes}
 use Rattle.merge_worked.specs.Publications.{item_for_two}
-use Rattle.merge_worked.specs.Worked.{Worked}
+use Rattle.merge_worked.specs.Worked.{WorkedScript}
 
-abbrev pub two_deletes_unite : Worked
+abbrev pub two_deletes_unite : WorkedScript
 two_deletes_unite = record {
   publication = item_for_two;
   input = codes "---\ninsert 0 item qty=1\nsync 1\nsync 2\nupdate 1 item 0.1 qty=10\ndelete 1 item 0.1\ndelete 2 item 0.1\nsync 2\nsync 1\nconflicts 0\n";

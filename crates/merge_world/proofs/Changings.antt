@@ -6,7 +6,7 @@ use Rattle.merge_types.specs.declared.identifiers.SiteId.{SiteId}
 use Rattle.merge_schema.specs.declared.publication.Publication.{Publication}
 use Rattle.merge_batch.specs.declared.refusal.Refusal.{Refusal}
 use Rattle.merge_batch.specs.declared.refusal.Refusal.TheVariants as refusal
-use Rattle.merge_model.specs.World.Events.{change_answer, changing, happens, is_site, where_site}
+use Rattle.merge_model.specs.World.Events.{answered_change, change_answer, happens, is_site, where_site}
 use Rattle.merge_model.specs.Failing.{Faulty, faulty}
 use Rattle.merge_model.specs.World.Naming.{delete_by, insert_by, update_by}
 use Rattle.merge_model.specs.Failing.Reach.{stepping}
@@ -21,16 +21,16 @@ use Rattle.merge_model.specs.declared.outcome.Outcome.{Outcome}
 use Rattle.merge_model.specs.declared.outcome.Outcome.TheVariants.{Refuses}
 use Rattle.merge_world.proofs.Happenings.{does-happen-as, looks-happen, looks-want, so-refused, unknown-site, where-if}
 use Rattle.merge_world.proofs.Locals.{wants-room}
-use Rattle.merge_world.specs.Happenings.{Changed, Happened, seconds_of}
+use Rattle.merge_world.specs.Happenings.{ChangeIsAnswered, Happened, seconds_of}
 use Rattle.merge_world.specs.Naming.{IsUnnamed}
 use Rattle.merge_world.specs.Views.{Does, HandedView, SitesView, world_of}
 
 -- An event that names a change.
 module _ (e : Event) (site : SiteId) (named : Result Change (List ℕ)) (u : SitesView) (none : seconds_of e ≡ 0)
     (same : (says : Saying) (w : Faulty World) → happens u.publication (stepping u.publication says) w e
-    ≡ where_site u.publication (stepping u.publication says) site w (λ (v : Faulty World). changing u.publication (stepping u.publication says) site v named)) where
+    ≡ where_site u.publication (stepping u.publication says) site w (λ (v : Faulty World). answered_change u.publication (stepping u.publication says) site v named)) where
   abbrev change-of : Saying → Faulty World → Result Change (List ℕ) → Faulty World × Answer
-  change-of says w by = changing u.publication (stepping u.publication says) site w by
+  change-of says w by = answered_change u.publication (stepping u.publication says) site w by
 
   here : is_site u.publication site ≡ true → (by : Result Change (List ℕ)) → named ≡ by → (says : Saying) (w : Faulty World) → happens u.publication (stepping u.publication says) w e ≡ change-of says w by
   here is by so says w = same says w ∙ (ap (where-if u.publication says site w (λ (v : Faulty World). change-of says v named)) is ∙ ap (change-of says w) so)
@@ -38,7 +38,7 @@ module _ (e : Event) (site : SiteId) (named : Result Change (List ℕ)) (u : Sit
   change-happens : is_site u.publication site ≡ true → (change : Change) → named ≡ Ok change → (v : SitesView) (outcome : Outcome) → Does (Make site change) u v outcome → (h : HandedView) → Happened e u v h h (change_answer change outcome)
   change-happens is change so v outcome does h = does-happen-as e (Make site change) (change_answer change) u v outcome none (here is (Ok change) so) does h
 
-  pub change-made : is_site u.publication site ≡ true → (change : Change) → named ≡ Ok change → (v : SitesView) (answer : Answer) → Changed site change u v answer → (h : HandedView) → Happened e u v h h answer
+  pub change-made : is_site u.publication site ≡ true → (change : Change) → named ≡ Ok change → (v : SitesView) (answer : Answer) → ChangeIsAnswered site change u v answer → (h : HandedView) → Happened e u v h h answer
   change-made is change so v answer changed h = subst (λ (a : Answer). Happened e u v h h a) (sym changed.answered) (change-happens is change so v changed.outcome changed.does h)
 
   change-wants : is_site u.publication site ≡ true → (by : Result Change (List ℕ)) → named ≡ by → (h : HandedView) → Happened e u u h h (Refused refusal.NoMemory)
@@ -60,7 +60,7 @@ module _ (u : SitesView) (site : SiteId) (p : Publication) (same : p ≡ u.publi
     insert-same : insert_by p name given ≡ insert_by u.publication name values
     insert-same = ap (λ (q : Publication). insert_by q name given) same ∙ ap (λ (l : List NamedValue). insert_by u.publication name l) all
 
-    pub insert-made : is_site u.publication site ≡ true → (change : Change) → insert_by p name given ≡ Ok change → (v : SitesView) (answer : Answer) → Changed site change u v answer → (h : HandedView)
+    pub insert-made : is_site u.publication site ≡ true → (change : Change) → insert_by p name given ≡ Ok change → (v : SitesView) (answer : Answer) → ChangeIsAnswered site change u v answer → (h : HandedView)
         → Happened (event.Insert site name values) u v h h answer
     insert-made is change so v answer changed h = change-made (event.Insert site name values) site (insert_by u.publication name values) u refl (λ says w. refl) is change (sym insert-same ∙ so) v answer changed h
 
@@ -72,7 +72,7 @@ module _ (u : SitesView) (site : SiteId) (p : Publication) (same : p ≡ u.publi
       update-same : update_by p name row given ≡ update_by u.publication name row values
       update-same = ap (λ (q : Publication). update_by q name row given) same ∙ ap (λ (l : List NamedValue). update_by u.publication name row l) all
 
-      pub update-made : is_site u.publication site ≡ true → (change : Change) → update_by p name row given ≡ Ok change → (v : SitesView) (answer : Answer) → Changed site change u v answer → (h : HandedView)
+      pub update-made : is_site u.publication site ≡ true → (change : Change) → update_by p name row given ≡ Ok change → (v : SitesView) (answer : Answer) → ChangeIsAnswered site change u v answer → (h : HandedView)
           → Happened (event.Update site name row values) u v h h answer
       update-made is change so v answer changed h = change-made (event.Update site name row values) site (update_by u.publication name row values) u refl (λ says w. refl) is change (sym update-same ∙ so) v answer changed h
 
@@ -84,7 +84,7 @@ module _ (u : SitesView) (site : SiteId) (p : Publication) (same : p ≡ u.publi
     delete-same : delete_by p name row ≡ delete_by u.publication name row
     delete-same = ap (λ (q : Publication). delete_by q name row) same
 
-    pub delete-made : is_site u.publication site ≡ true → (change : Change) → delete_by p name row ≡ Ok change → (v : SitesView) (answer : Answer) → Changed site change u v answer → (h : HandedView)
+    pub delete-made : is_site u.publication site ≡ true → (change : Change) → delete_by p name row ≡ Ok change → (v : SitesView) (answer : Answer) → ChangeIsAnswered site change u v answer → (h : HandedView)
         → Happened (event.Delete site name row) u v h h answer
     delete-made is change so v answer changed h = change-made (event.Delete site name row) site (delete_by u.publication name row) u refl (λ says w. refl) is change (sym delete-same ∙ so) v answer changed h
 

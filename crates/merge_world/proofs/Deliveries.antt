@@ -12,8 +12,8 @@ use Rattle.merge_batch.specs.declared.reply.Reply.{Reply}
 use Rattle.merge_batch.specs.declared.reply.Reply.TheVariants as reply
 use Rattle.merge_batch.specs.declared.request.Request.{Request}
 use Rattle.merge_model.specs.Judge.ByNumbers.{by_rows}
-use Rattle.merge_model.specs.World.Calls.{Counted, handled, questions_on, reply_commits, request_commits, taken_commits}
-use Rattle.merge_model.specs.World.Parts.{pooled}
+use Rattle.merge_model.specs.World.Calls.{Counted, questions_on, reply_commits, request_commits, result_of_request, taken_commits}
+use Rattle.merge_model.specs.World.Parts.{letter_in_pool}
 use Rattle.merge_model.specs.World.Steps.{Action, Deliver, deliver_letter, deliver_reply, step, unless_refused}
 use Rattle.merge_model.specs.Tables.{SubscriberTables}
 use Rattle.merge_model.specs.Subscriber.Taking.{take_reply}
@@ -44,11 +44,11 @@ moves-so action u v v' h h' outcome outcome' e f moves = subst (λ (x : SitesVie
 same-says : (f g : Saying) → ((k n : ℕ) (asked : ConflictCase) → f k n asked ≡ g k n asked) → f ≡ g
 same-says f g each = fun_ext (λ k. fun_ext (λ n. fun_ext (λ asked. each k n asked)))
 
-letter-of : (v : SitesView) (tallies : List ℕ) (number : ℕ) → letter_at (world_of v tallies) number ≡ pooled v.pool number
+letter-of : (v : SitesView) (tallies : List ℕ) (number : ℕ) → letter_at (world_of v tallies) number ≡ letter_in_pool v.pool number
 letter-of v tallies zero = refl
 letter-of v tallies (suc number) = refl
 
-letter-is : (v : SitesView) (tallies : List ℕ) (number : ℕ) (letter : Letter) (message : Message) → Some letter ≡ pooled v.pool number → letter.message ≡ message
+letter-is : (v : SitesView) (tallies : List ℕ) (number : ℕ) (letter : Letter) (message : Message) → Some letter ≡ letter_in_pool v.pool number → letter.message ≡ message
     → letter_at (world_of v tallies) number ≡ Some (record { site = letter.site; message = message })
 letter-is v tallies number letter message found is = letter-of v tallies number ∙ (sym found ∙ ap (λ (x : Message). let there : Letter = record { site = letter.site; message = x } in Some there) is)
 
@@ -57,9 +57,9 @@ module _ (ss : List SubscriberView) (pool : List Letter) (moment : Moment) (p p'
   abbrev old : SitesView
   old = sites_view p ss pool moment
 
-  pub handles : (same : p'.publication ≡ p.publication) → ((k n : ℕ) (asked : ConflictCase) → h'.says k n asked ≡ h.says k n asked) → Some letter ≡ pooled pool number → letter.message ≡ Asks m
-      → (done : Reply) → PublisherCall (handled p.publication h.says h.tallies moment m p.tables) (request_commits p.publication moment m p.tables) p p' (Ok done)
-      → Counted (handled p.publication h.says h.tallies moment m p.tables) (questions_on p.publication moment m p.tables) h.tallies h'.tallies (Ok done)
+  pub handles : (same : p'.publication ≡ p.publication) → ((k n : ℕ) (asked : ConflictCase) → h'.says k n asked ≡ h.says k n asked) → Some letter ≡ letter_in_pool pool number → letter.message ≡ Asks m
+      → (done : Reply) → PublisherCall (result_of_request p.publication h.says h.tallies moment m p.tables) (request_commits p.publication moment m p.tables) p p' (Ok done)
+      → Counted (result_of_request p.publication h.says h.tallies moment m p.tables) (questions_on p.publication moment m p.tables) h.tallies h'.tallies (Ok done)
       → Moves (Deliver number) old (sites_view p' ss (pool ++ record { site = letter.site; message = Replies done } ∷ []) moment) h h' (Posted (length pool + 1))
   handles same steady found asks done called counted = record {
     acts = acts-all p.publication h.says (Deliver number) (world_of old h.tallies) (world_of (sites_view p' ss (pool ++ record { site = letter.site; message = Replies done } ∷ []) moment) h'.tallies) (Posted (length pool + 1))
@@ -68,9 +68,9 @@ module _ (ss : List SubscriberView) (pool : List Letter) (moment : Moment) (p p'
     keeps = record { stays = record { publication = same; sites = refl; publications = refl; moment = refl }; says = same-says h'.says h.says steady };
   }
 
-  pub handling-fails : (same : p'.publication ≡ p.publication) → ((k n : ℕ) (asked : ConflictCase) → h'.says k n asked ≡ h.says k n asked) → Some letter ≡ pooled pool number → letter.message ≡ Asks m
-      → (why : Refusal) → PublisherCall (handled p.publication h.says h.tallies moment m p.tables) (request_commits p.publication moment m p.tables) p p' (Err why)
-      → Counted (handled p.publication h.says h.tallies moment m p.tables) (questions_on p.publication moment m p.tables) h.tallies h'.tallies (Err why)
+  pub handling-fails : (same : p'.publication ≡ p.publication) → ((k n : ℕ) (asked : ConflictCase) → h'.says k n asked ≡ h.says k n asked) → Some letter ≡ letter_in_pool pool number → letter.message ≡ Asks m
+      → (why : Refusal) → PublisherCall (result_of_request p.publication h.says h.tallies moment m p.tables) (request_commits p.publication moment m p.tables) p p' (Err why)
+      → Counted (result_of_request p.publication h.says h.tallies moment m p.tables) (questions_on p.publication moment m p.tables) h.tallies h'.tallies (Err why)
       → Moves (Deliver number) old (sites_view p' ss pool moment) h h' (Refuses why)
   handling-fails same steady found asks why called counted = record {
     acts = acts-all p.publication h.says (Deliver number) (world_of old h.tallies) (world_of (sites_view p' ss pool moment) h'.tallies) (Refuses why)
@@ -108,7 +108,7 @@ module _ {S : Type 0} (f : S → SubscriberView) (p : PublisherView) (pool : Lis
       → step p.publication says w (Deliver number) ≡ unless_refused w (take_reply p.publication (by_rows t) w.moment m t) (λ (done : SubscriberTables × Taken). (with_subscriber done.0 w, Took done.1))
   taking-step w m t says found at = ap (delivered p.publication says w number) found ∙ ap (replied-found p.publication w m letter.site) at
 
-  pub takes-here : (m : Reply) (i : ℕ) (s s' : S) → IsOrdered here → Some letter ≡ pooled pool number → letter.message ≡ Replies m → Some i ≡ position (is_of f letter.site.0) items → s ≡ get_or items i s
+  pub takes-here : (m : Reply) (i : ℕ) (s s' : S) → IsOrdered here → Some letter ≡ letter_in_pool pool number → letter.message ≡ Replies m → Some i ≡ position (is_of f letter.site.0) items → s ≡ get_or items i s
       → (f s').tables.site ≡ (f s).tables.site → (f s').publication ≡ (f s).publication
       → (r : Result Taken Refusal) → SubscriberCall (take_reply (f s).publication (by_rows (f s).tables) moment m (f s).tables) (reply_commits m) (f s) (f s') r
       → Moves (Deliver number) here (sites_view p (map f (set items i s')) pool moment) h h (outcome_by Took r)
@@ -124,7 +124,7 @@ module _ {S : Type 0} (f : S → SubscriberView) (p : PublisherView) (pool : Lis
       → step p.publication says w (Deliver number) ≡ (w, Refuses (UnknownSite letter.site))
   taking-nowhere w m says found none = ap (delivered p.publication says w number) found ∙ ap (replied-found p.publication w m letter.site) none
 
-  pub takes-nowhere : (m : Reply) → Some letter ≡ pooled pool number → letter.message ≡ Replies m → None ≡ position (is_of f letter.site.0) items
+  pub takes-nowhere : (m : Reply) → Some letter ≡ letter_in_pool pool number → letter.message ≡ Replies m → None ≡ position (is_of f letter.site.0) items
       → Moves (Deliver number) here here h h (Refuses (UnknownSite letter.site))
   takes-nowhere m found is none = does-moves (Deliver number) here here h (Refuses (UnknownSite letter.site)) (made-here (Deliver number) refl here (Refuses (UnknownSite letter.site))
       (λ says tallies. taking-nowhere (world_of here tallies) m says (letter-is here tallies number letter (Replies m) found is) (unfound f p pool moment items letter.site tallies none)))
@@ -133,7 +133,7 @@ lost-step : (p : Publication) (says : Saying) (w : World) (number : ℕ) → let
 lost-step p says w number none = ap (delivered p says w number) none
 
 -- no message has the number
-pub has-no-letter : (v : SitesView) (number : ℕ) (h : HandedView) → None ≡ pooled v.pool number → Moves (Deliver number) v v h h NoLetter
+pub has-no-letter : (v : SitesView) (number : ℕ) (h : HandedView) → None ≡ letter_in_pool v.pool number → Moves (Deliver number) v v h h NoLetter
 has-no-letter v number h none = does-moves (Deliver number) v v h NoLetter (made-here (Deliver number) refl v NoLetter
     (λ says tallies. lost-step v.publication says (world_of v tallies) number (letter-of v tallies number ∙ sym none)))
 

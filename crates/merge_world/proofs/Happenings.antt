@@ -6,7 +6,7 @@ use Rattle.merge_schema.specs.declared.publication.Publication.{Publication}
 use Rattle.merge_schema.specs.Places.{is_subscription}
 use Rattle.merge_batch.specs.declared.refusal.Refusal.{Refusal}
 use Rattle.merge_batch.specs.declared.refusal.Refusal.TheVariants.{NoMemory, UnknownSite}
-use Rattle.merge_model.specs.World.Events.{acting, answered_by, happens, is_site, looked, looking, outcome_answer, session_answer, syncing, where_site, where_subscriber}
+use Rattle.merge_model.specs.World.Events.{answered_action, answered_by, answered_look, answered_sync, answered_unless_refused, happens, is_site, outcome_answer, session_answer, where_site, where_subscriber}
 use Rattle.merge_model.specs.Failing.{Faulty, Slips, faulty}
 use Rattle.merge_model.specs.Failing.Reach.{Acts, Reaches, at, stepping, with_outcome}
 use Rattle.merge_model.specs.World.Steps.{Action, CloseAt, Deliver, Forget, Look, MakeAnew, Send, SendDownload, SendJoin, SendRanges, SendUpload}
@@ -25,7 +25,7 @@ use Rattle.merge_world.proofs.Doing.{same-count}
 use Rattle.merge_world.proofs.Locals.{stays-same}
 use Rattle.merge_world.specs.Happenings.{Comes, Happened, Proceeds, seconds_of, send_event}
 use Rattle.merge_world.specs.Messages.{sending_of}
-use Rattle.merge_world.specs.Sessions.{Synced, Syncs, watermark_at}
+use Rattle.merge_world.specs.Sessions.{SitesSync, Syncs, watermark_at}
 use Rattle.merge_world.specs.Views.{Does, HandedView, Moves, PublisherView, SitesView, Stays, SubscriberView, sites_view, tables_at, world_of}
 use Rattle.merge_world.specs.declared.sending.Sending.{Sending as Told}
 use Rattle.merge_world.specs.declared.sending.Sending.TheVariants as told
@@ -40,17 +40,17 @@ module _ (p : Publication) (says : Saying) (e : Event) (action : Action) (answer
 
 -- An event that looks and changes nothing.
 module _ (p : Publication) (says : Saying) (e : Event) (answer : Faulty World → Answer) (w : World) (said : Answer) (same : (l : Slips) → answer (faulty w l) ≡ said)
-    (is : (l : Slips) → happens p (stepping p says) (faulty w l) e ≡ looking p (stepping p says) answer (faulty w l)) where
-  by-look : (v : World) (outcome : Outcome) (told : Answer) → ((l : Slips) → looked p (stepping p says) answer (faulty v l, outcome) ≡ (faulty v l, told)) → (a b : ℕ) → Acts p says Look w v outcome a b → Comes p says w e v told a b
+    (is : (l : Slips) → happens p (stepping p says) (faulty w l) e ≡ answered_look p (stepping p says) answer (faulty w l)) where
+  by-look : (v : World) (outcome : Outcome) (told : Answer) → ((l : Slips) → answered_unless_refused p (stepping p says) answer (faulty v l, outcome) ≡ (faulty v l, told)) → (a b : ℕ) → Acts p says Look w v outcome a b → Comes p says w e v told a b
   unfolding Acts Comes
-  by-look v outcome told tells a b acts = same-start (λ l. happens p (stepping p says) (faulty w l) e) (λ l. looking p (stepping p says) answer (faulty w l)) (λ l. (faulty v l, told)) a b is
+  by-look v outcome told tells a b acts = same-start (λ l. happens p (stepping p says) (faulty w l) e) (λ l. answered_look p (stepping p says) answer (faulty w l)) (λ l. (faulty v l, told)) a b is
       (same-end-here v outcome told tells a b acts)
     where
-      same-end-here : (v : World) (outcome : Outcome) (told : Answer) → ((l : Slips) → looked p (stepping p says) answer (faulty v l, outcome) ≡ (faulty v l, told)) → (a b : ℕ) → Reaches (λ l. (stepping p says).act (faulty w l) Look) (with_outcome p says v outcome) a b
-          → Reaches (λ l. looking p (stepping p says) answer (faulty w l)) (λ l. (faulty v l, told)) a b
+      same-end-here : (v : World) (outcome : Outcome) (told : Answer) → ((l : Slips) → answered_unless_refused p (stepping p says) answer (faulty v l, outcome) ≡ (faulty v l, told)) → (a b : ℕ) → Reaches (λ l. (stepping p says).act (faulty w l) Look) (with_outcome p says v outcome) a b
+          → Reaches (λ l. answered_look p (stepping p says) answer (faulty w l)) (λ l. (faulty v l, told)) a b
       same-end-here v outcome told tells a b r = record {
         slips = r.slips;
-        goes = λ rest. ap (looked p (stepping p says) answer) (r.goes rest) ∙ tells rest;
+        goes = λ rest. ap (answered_unless_refused p (stepping p says) answer) (r.goes rest) ∙ tells rest;
         few = r.few;
       }
 
@@ -75,12 +75,12 @@ does-happen-as e action answer u v outcome none is does h = record {
 }
 
 pub does-happen : (e : Event) (action : Action) (n : ℕ) (u v : SitesView) (outcome : Outcome) → seconds_of e ≡ 0
-    → ((says : Saying) (w : Faulty World) → happens u.publication (stepping u.publication says) w e ≡ acting u.publication (stepping u.publication says) n action w)
+    → ((says : Saying) (w : Faulty World) → happens u.publication (stepping u.publication says) w e ≡ answered_action u.publication (stepping u.publication says) n action w)
     → Does action u v outcome → (h : HandedView) → Happened e u v h h (outcome_answer n outcome)
 does-happen e action n u v outcome none is does h = does-happen-as e action (outcome_answer n) u v outcome none is does h
 
 pub moves-happen : (e : Event) (action : Action) (n : ℕ) (u v : SitesView) (g h : HandedView) (outcome : Outcome) → seconds_of e ≡ 0
-    → ((w : Faulty World) → happens u.publication (stepping u.publication g.says) w e ≡ acting u.publication (stepping u.publication g.says) n action w)
+    → ((w : Faulty World) → happens u.publication (stepping u.publication g.says) w e ≡ answered_action u.publication (stepping u.publication g.says) n action w)
     → Moves action u v g h outcome → Happened e u v g h (outcome_answer n outcome)
 moves-happen e action n u v g h outcome none is moves = record {
   comes = acted u.publication g.says e action (outcome_answer n) is (world_of u g.tallies) (world_of v h.tallies) outcome u.faults v.faults moves.acts;
@@ -94,7 +94,7 @@ moves-happen e action n u v g h outcome none is moves = record {
 -- an event that looks at sites, and says of them what it says of any such world
 module _ (e : Event) (u : SitesView) (said : Answer) (none : seconds_of e ≡ 0) (answer : Saying → Faulty World → Answer)
     (same : (says : Saying) (tallies : List ℕ) (l : Slips) → answer says (faulty (world_of u tallies) l) ≡ said)
-    (is : (says : Saying) (tallies : List ℕ) (l : Slips) → happens u.publication (stepping u.publication says) (faulty (world_of u tallies) l) e ≡ looking u.publication (stepping u.publication says) (answer says) (faulty (world_of u tallies) l)) where
+    (is : (says : Saying) (tallies : List ℕ) (l : Slips) → happens u.publication (stepping u.publication says) (faulty (world_of u tallies) l) e ≡ answered_look u.publication (stepping u.publication says) (answer says) (faulty (world_of u tallies) l)) where
   -- their tables stay as they are
   module _ (v : SitesView) (unchanged : (tallies : List ℕ) → world_of v tallies ≡ world_of u tallies) (le : u.faults ≤ v.faults) (stays : Stays u v) (h : HandedView) where
     comes-so : (told : Answer) → Comes u.publication h.says (world_of u h.tallies) e (world_of u h.tallies) told u.faults v.faults → Happened e u v h h told
@@ -124,7 +124,7 @@ module _ (e : Event) (u : SitesView) (said : Answer) (none : seconds_of e ≡ 0)
 -- a site that there is not
 pub unknown-site : (e : Event) (v : SitesView) (site : SiteId) → seconds_of e ≡ 0
     → ((says : Saying) (tallies : List ℕ) (l : Slips) → happens v.publication (stepping v.publication says) (faulty (world_of v tallies) l) e
-    ≡ looking v.publication (stepping v.publication says) (λ (w : Faulty World). Refused (UnknownSite site)) (faulty (world_of v tallies) l))
+    ≡ answered_look v.publication (stepping v.publication says) (λ (w : Faulty World). Refused (UnknownSite site)) (faulty (world_of v tallies) l))
     → (h : HandedView) → Happened e v v h h (Refused (UnknownSite site))
 unknown-site e v site none is h = looks-happen e v (Refused (UnknownSite site)) none (λ says w. Refused (UnknownSite site)) (λ says tallies l. refl) is h
 
@@ -143,7 +143,7 @@ module _ (site : SiteId) (u v : SitesView) (g h : HandedView) (x y : ℕ) (is : 
   told-as None = refl
   told-as (Some refusal) = refl
 
-  pub sync-happens : (stop : Option Refusal) → Synced site u v g h x y stop → Happened (event.Sync site) u v g h (told-so stop)
+  pub sync-happens : (stop : Option Refusal) → SitesSync site u v g h x y stop → Happened (event.Sync site) u v g h (told-so stop)
   sync-happens stop synced = record {
     comes = subst (λ (a : Answer). Comes u.publication g.says (world_of u g.tallies) (event.Sync site) (world_of v h.tallies) a u.faults v.faults) (told-as stop)
         (sync-comes u.publication g.says site (world_of u g.tallies) (world_of v h.tallies) x y stop u.faults v.faults is synced.syncs);
@@ -156,28 +156,28 @@ module _ (site : SiteId) (u v : SitesView) (g h : HandedView) (x y : ℕ) (is : 
 
 -- Events of a site that there must be.
 abbrev pub where-if : (p : Publication) (says : Saying) (site : SiteId) (w : Faulty World) → (Faulty World → Faulty World × Answer) → Bool → Faulty World × Answer
-where-if p says site w next there = if there then next w else looking p (stepping p says) (λ (v : Faulty World). Refused (UnknownSite site)) w
+where-if p says site w next there = if there then next w else answered_look p (stepping p says) (λ (v : Faulty World). Refused (UnknownSite site)) w
 
 module _ (e : Event) (site : SiteId) (action : Action) (u : SitesView) (none : seconds_of e ≡ 0) where
   -- one that is no publisher
-  module _ (same : (says : Saying) (w : Faulty World) → happens u.publication (stepping u.publication says) w e ≡ where_subscriber u.publication (stepping u.publication says) site w (acting u.publication (stepping u.publication says) 0 action)) where
+  module _ (same : (says : Saying) (w : Faulty World) → happens u.publication (stepping u.publication says) w e ≡ where_subscriber u.publication (stepping u.publication says) site w (answered_action u.publication (stepping u.publication says) 0 action)) where
     pub subscriber-acts : is_subscription u.publication site.0 ≡ true → (v : SitesView) (outcome : Outcome) → Does action u v outcome → (h : HandedView) → Happened e u v h h (outcome_answer 0 outcome)
     subscriber-acts is v outcome does h = does-happen e action 0 u v outcome none
-        (λ says w. same says w ∙ ap (where-if u.publication says site w (acting u.publication (stepping u.publication says) 0 action)) is) does h
+        (λ says w. same says w ∙ ap (where-if u.publication says site w (answered_action u.publication (stepping u.publication says) 0 action)) is) does h
 
     pub no-subscriber : is_subscription u.publication site.0 ≡ false → (h : HandedView) → Happened e u u h h (Refused (UnknownSite site))
     no-subscriber is h = unknown-site e u site none
-        (λ says tallies l. same says (faulty (world_of u tallies) l) ∙ ap (where-if u.publication says site (faulty (world_of u tallies) l) (acting u.publication (stepping u.publication says) 0 action)) is) h
+        (λ says tallies l. same says (faulty (world_of u tallies) l) ∙ ap (where-if u.publication says site (faulty (world_of u tallies) l) (answered_action u.publication (stepping u.publication says) 0 action)) is) h
 
   -- any
-  module _ (same : (says : Saying) (w : Faulty World) → happens u.publication (stepping u.publication says) w e ≡ where_site u.publication (stepping u.publication says) site w (acting u.publication (stepping u.publication says) 0 action)) where
+  module _ (same : (says : Saying) (w : Faulty World) → happens u.publication (stepping u.publication says) w e ≡ where_site u.publication (stepping u.publication says) site w (answered_action u.publication (stepping u.publication says) 0 action)) where
     pub site-acts : is_site u.publication site ≡ true → (v : SitesView) (outcome : Outcome) → Does action u v outcome → (h : HandedView) → Happened e u v h h (outcome_answer 0 outcome)
     site-acts is v outcome does h = does-happen e action 0 u v outcome none
-        (λ says w. same says w ∙ ap (where-if u.publication says site w (acting u.publication (stepping u.publication says) 0 action)) is) does h
+        (λ says w. same says w ∙ ap (where-if u.publication says site w (answered_action u.publication (stepping u.publication says) 0 action)) is) does h
 
     pub no-site : is_site u.publication site ≡ false → (h : HandedView) → Happened e u u h h (Refused (UnknownSite site))
     no-site is h = unknown-site e u site none
-        (λ says tallies l. same says (faulty (world_of u tallies) l) ∙ ap (where-if u.publication says site (faulty (world_of u tallies) l) (acting u.publication (stepping u.publication says) 0 action)) is) h
+        (λ says tallies l. same says (faulty (world_of u tallies) l) ∙ ap (where-if u.publication says site (faulty (world_of u tallies) l) (answered_action u.publication (stepping u.publication says) 0 action)) is) h
 
 pub so-answered : (e : Event) (u v : SitesView) (g h : HandedView) (answer answer' : Answer) → answer ≡ answer' → Happened e u v g h answer' → Happened e u v g h answer
 so-answered e u v g h answer answer' same happened = subst (λ (a : Answer). Happened e u v g h a) (sym same) happened
@@ -220,7 +220,7 @@ module _ (site : SiteId) (u : SitesView) where
   close-refused is h = no-site (event.Close site) site (CloseAt site) u refl (λ says w. refl) is h
 
   abbrev sync-if : (says : Saying) → Faulty World → Bool → Faulty World × Answer
-  sync-if says w there = if there then syncing u.publication (stepping u.publication says) site w else looking u.publication (stepping u.publication says) (λ (v : Faulty World). Refused (UnknownSite site)) w
+  sync-if says w there = if there then answered_sync u.publication (stepping u.publication says) site w else answered_look u.publication (stepping u.publication says) (λ (v : Faulty World). Refused (UnknownSite site)) w
 
   pub sync-refused : is_subscription u.publication site.0 ≡ false → (h : HandedView) → Happened (event.Sync site) u u h h (Refused (UnknownSite site))
   sync-refused is h = unknown-site (event.Sync site) u site refl (λ says tallies l. ap (sync-if says (faulty (world_of u tallies) l)) is) h

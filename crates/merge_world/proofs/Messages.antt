@@ -17,7 +17,7 @@ use Rattle.merge_model.specs.World.Calls.{message_commits, message_or_none}
 use Rattle.merge_model.specs.Tables.Keys.{put_number}
 use Rattle.merge_model.specs.Failing.Reach.{Acts}
 use Rattle.merge_model.specs.Subscriber.Sending.{make_ask, make_join, make_ranges, make_upload}
-use Rattle.merge_model.specs.World.Steps.{Action, Send, SendDownload, SendJoin, SendRanges, SendUpload, Sending, post, posted, send_from, step, unless_refused}
+use Rattle.merge_model.specs.World.Steps.{Action, Send, SendDownload, SendJoin, SendRanges, SendUpload, Sending, post, post_if_made, send_from, step, unless_refused}
 use Rattle.merge_model.specs.Tables.{SubscriberTables}
 use Rattle.merge_model.specs.World.{Saying, World, by_tables, subscriber_at, with_subscriber}
 use Rattle.merge_model.specs.declared.letter.Letter.{Letter}
@@ -25,7 +25,7 @@ use Rattle.merge_model.specs.declared.letter.Message.TheVariants.{Asks}
 use Rattle.merge_model.specs.declared.outcome.Outcome.{Outcome}
 use Rattle.merge_model.specs.declared.outcome.Outcome.TheVariants.{NoPost, Posted, Refuses}
 use Rattle.merge_model.proofs.Failing.Calling.{acts-all, sends-message}
-use Rattle.merge_world.specs.Messages.{always, as_request, requested}
+use Rattle.merge_world.specs.Messages.{as_request, request_of_sending, some_if_made}
 use Rattle.merge_world.specs.Views.{Does, IsOrdered, PublisherView, SitesView, SubscriberCall, SubscriberView, entry_of, sites_view, world_of}
 use Rattle.merge_world.proofs.Doing.{faults-at, put-at, put-back, stays-at}
 use Rattle.merge_world.proofs.Finding.{at-place, found-place, is_of, placed, unfound, within}
@@ -36,17 +36,17 @@ abbrev itself : Request → Request
 itself m = m
 
 as-sent : {A : Type 0} (message : A → Request) (w : World) (site : SiteId) (by : Result (Option (SubscriberTables × A)) Refusal)
-    → unless_refused w by (posted site message w) ≡ unless_refused w (as_request message by) (posted site itself w)
+    → unless_refused w by (post_if_made site message w) ≡ unless_refused w (as_request message by) (post_if_made site itself w)
 as-sent message w site (Ok None) = refl
 as-sent message w site (Ok (Some made)) = refl
 as-sent message w site (Err why) = refl
 
 as-asked : {A : Type 0} (message : A → Request) (w : World) (site : SiteId) (by : Result (SubscriberTables × A) Refusal)
-    → unless_refused w by (λ (made : SubscriberTables × A). post site (Asks (message made.1)) (with_subscriber made.0 w)) ≡ unless_refused w (as_request message (always by)) (posted site itself w)
+    → unless_refused w by (λ (made : SubscriberTables × A). post site (Asks (message made.1)) (with_subscriber made.0 w)) ≡ unless_refused w (as_request message (some_if_made by)) (post_if_made site itself w)
 as-asked message w site (Ok made) = refl
 as-asked message w site (Err why) = refl
 
-sent-alike : (sending : Sending) (w : World) (t : SubscriberTables) → send_from (by_tables w) sending w t ≡ unless_refused w (requested sending w.moment t) (posted t.site itself w)
+sent-alike : (sending : Sending) (w : World) (t : SubscriberTables) → send_from (by_tables w) sending w t ≡ unless_refused w (request_of_sending sending w.moment t) (post_if_made t.site itself w)
 sent-alike SendJoin w t = as-sent (λ (m : Join). request.Join m) w t.site (make_join t)
 sent-alike SendUpload w t = as-sent (λ (m : Upload). request.Upload m) w t.site (make_upload (by_rows t) w.moment t)
 sent-alike SendRanges w t = as-sent (λ (m : RangeAsk). request.Ranges m) w t.site (make_ranges t)
@@ -98,7 +98,7 @@ module _ {S : Type 0} (f : S → SubscriberView) (p : PublisherView) (pool : Lis
     put-list : (tallies : List ℕ) → put_number (map entry_of lists) (f s').tables.site.0 (f s').tables ≡ map entry_of (set lists i (f s'))
     put-list tallies = put-at p pool moment lists i (f s) (f s') ordered lt at-list same_site
 
-    acts-after : (says : Saying) (tallies : List ℕ) (r : Result (Option Request) Refusal) → SubscriberCall (message_or_none (f s).tables (requested sending moment (f s).tables)) message_commits (f s) (f s') r
+    acts-after : (says : Saying) (tallies : List ℕ) (r : Result (Option Request) Refusal) → SubscriberCall (message_or_none (f s).tables (request_of_sending sending moment (f s).tables)) message_commits (f s) (f s') r
         → (pool' : List Letter) (outcome : Outcome)
         → ((l : List (ℕ × SubscriberTables)) → l ≡ map entry_of (set lists i (f s')) → Acts p.publication says (Send site sending) (world_of here tallies) (record (world_of here tallies) { subscribers = l; pool = pool' }) outcome (f s).faults (f s').faults)
         → Acts p.publication says (Send site sending) (world_of here tallies) (world_of (after pool') tallies) outcome here.faults (after pool').faults
@@ -116,34 +116,34 @@ module _ {S : Type 0} (f : S → SubscriberView) (p : PublisherView) (pool : Lis
     back-list : put_number (map entry_of lists) (f s).tables.site.0 (f s).tables ≡ map entry_of lists
     back-list = put-back p pool moment lists i (f s) ordered lt at-list
 
-    as-made : (made like : Option Request) → made ≡ like → SubscriberCall (message_or_none (f s).tables (requested sending moment (f s).tables)) message_commits (f s) (f s') (Ok made)
-        → SubscriberCall (message_or_none (f s).tables (requested sending moment (f s).tables)) message_commits (f s) (f s') (Ok like)
-    as-made made like e called = subst (λ (x : Option Request). SubscriberCall (message_or_none (f s).tables (requested sending moment (f s).tables)) message_commits (f s) (f s') (Ok x)) e called
+    as-made : (made like : Option Request) → made ≡ like → SubscriberCall (message_or_none (f s).tables (request_of_sending sending moment (f s).tables)) message_commits (f s) (f s') (Ok made)
+        → SubscriberCall (message_or_none (f s).tables (request_of_sending sending moment (f s).tables)) message_commits (f s) (f s') (Ok like)
+    as-made made like e called = subst (λ (x : Option Request). SubscriberCall (message_or_none (f s).tables (request_of_sending sending moment (f s).tables)) message_commits (f s) (f s') (Ok x)) e called
 
-    pub posts : (made : Option Request) (m : Request) → made ≡ Some m → SubscriberCall (message_or_none (f s).tables (requested sending moment (f s).tables)) message_commits (f s) (f s') (Ok made)
+    pub posts : (made : Option Request) (m : Request) → made ≡ Some m → SubscriberCall (message_or_none (f s).tables (request_of_sending sending moment (f s).tables)) message_commits (f s) (f s') (Ok made)
         → Does (Send site sending) here (behind i s' (pool ++ record { site = site; message = Asks m } ∷ [])) (Posted (length pool + 1))
     posts made m is_some called_so = let called = as-made made (Some m) is_some called_so in does-after (pool ++ record { site = site; message = Asks m } ∷ []) (Posted (length pool + 1))
         (λ says tallies. acts-after says tallies (Ok (Some m)) called (pool ++ record { site = site; message = Asks m } ∷ []) (Posted (length pool + 1))
         (λ l is. subst (λ (x : SiteId). Acts p.publication says (Send site sending) (world_of here tallies) (record (world_of here tallies) { subscribers = l; pool = pool ++ record { site = x; message = Asks m } ∷ [] }) (Posted (length pool + 1)) (f s).faults (f s').faults) (sym site-is)
         (subst (λ (k : List (ℕ × SubscriberTables)). Acts p.publication says (Send site sending) (world_of here tallies) (record (world_of here tallies) { subscribers = k; pool = pool ++ record { site = (f s).tables.site; message = Asks m } ∷ [] }) (Posted (length pool + 1)) (f s).faults (f s').faults) (put-list tallies ∙ sym is)
-        (sends-message p.publication says sending itself (world_of here tallies) site (f s).tables (f s').tables (requested sending moment (f s).tables) (found-list tallies) back-list
+        (sends-message p.publication says sending itself (world_of here tallies) site (f s).tables (f s').tables (request_of_sending sending moment (f s).tables) (found-list tallies) back-list
         (sent-alike sending (world_of here tallies) (f s).tables) (f s).faults (f s').faults (Ok (Some m)) called))))
 
-    pub has-none : (made : Option Request) → made ≡ None → SubscriberCall (message_or_none (f s).tables (requested sending moment (f s).tables)) message_commits (f s) (f s') (Ok made)
+    pub has-none : (made : Option Request) → made ≡ None → SubscriberCall (message_or_none (f s).tables (request_of_sending sending moment (f s).tables)) message_commits (f s) (f s') (Ok made)
         → Does (Send site sending) here (behind i s' pool) NoPost
-    has-none made is_none called_so = let called = as-made made None is_none called_so in let kept = none-kept (f s).tables (f s').tables (requested sending moment (f s).tables) called.0 in does-after pool NoPost
+    has-none made is_none called_so = let called = as-made made None is_none called_so in let kept = none-kept (f s).tables (f s').tables (request_of_sending sending moment (f s).tables) called.0 in does-after pool NoPost
         (λ says tallies. acts-after says tallies (Ok None) called pool NoPost
         (λ l is. subst (λ (k : List (ℕ × SubscriberTables)). Acts p.publication says (Send site sending) (world_of here tallies) (record (world_of here tallies) { subscribers = k }) NoPost (f s).faults (f s').faults)
         (sym back-list ∙ (ap (λ (t : SubscriberTables). put_number (map entry_of lists) t.site.0 t) (sym kept) ∙ (put-list tallies ∙ sym is)))
-        (sends-message p.publication says sending itself (world_of here tallies) site (f s).tables (f s').tables (requested sending moment (f s).tables) (found-list tallies) back-list
+        (sends-message p.publication says sending itself (world_of here tallies) site (f s).tables (f s').tables (request_of_sending sending moment (f s).tables) (found-list tallies) back-list
         (sent-alike sending (world_of here tallies) (f s).tables) (f s).faults (f s').faults (Ok None) called)))
 
-    pub send-fails : (why : Refusal) → SubscriberCall (message_or_none (f s).tables (requested sending moment (f s).tables)) message_commits (f s) (f s') (Err why) → Does (Send site sending) here (behind i s' pool) (Refuses why)
+    pub send-fails : (why : Refusal) → SubscriberCall (message_or_none (f s).tables (request_of_sending sending moment (f s).tables)) message_commits (f s) (f s') (Err why) → Does (Send site sending) here (behind i s' pool) (Refuses why)
     send-fails why called = does-after pool (Refuses why)
         (λ says tallies. acts-after says tallies (Err why) called pool (Refuses why)
         (λ l is. subst (λ (k : List (ℕ × SubscriberTables)). Acts p.publication says (Send site sending) (world_of here tallies) (record (world_of here tallies) { subscribers = k }) (Refuses why) (f s).faults (f s').faults)
         (put-list tallies ∙ sym is)
-        (sends-message p.publication says sending itself (world_of here tallies) site (f s).tables (f s').tables (requested sending moment (f s).tables) (found-list tallies) back-list
+        (sends-message p.publication says sending itself (world_of here tallies) site (f s).tables (f s').tables (request_of_sending sending moment (f s).tables) (found-list tallies) back-list
         (sent-alike sending (world_of here tallies) (f s).tables) (f s).faults (f s').faults (Err why) called)))
 
   abbrev sent-found : World → SiteId → Sending → Option SubscriberTables → World × Outcome

@@ -10,7 +10,7 @@ use Rattle.merge_types.specs.declared.identifiers.Moment.{Moment}
 use Rattle.merge_types.specs.declared.identifiers.SiteId.{SiteId}
 use Rattle.merge_batch.specs.declared.refusal.Refusal.{Refusal}
 use Rattle.merge_batch.specs.declared.refusal.Refusal.TheVariants.{Damaged, NoMemory, UnknownSite}
-use Rattle.merge_model.specs.World.Events.{happens, is_site, looking}
+use Rattle.merge_model.specs.World.Events.{answered_look, happens, is_site}
 use Rattle.merge_model.specs.Failing.{Faulty, Slips, faulty}
 use Rattle.merge_model.specs.Failing.Reach.{stepping}
 use Rattle.merge_model.specs.Tables.{PublisherTables, SubscriberTables}
@@ -26,7 +26,7 @@ use Rattle.merge_world.proofs.Finding.{at-place, is_of, placed, within}
 use Rattle.merge_world.proofs.Happenings.{looks-on, so-refused, unknown-site, wants-on, where-if}
 use Rattle.merge_world.proofs.Locals.{stays-same}
 use Rattle.merge_world.specs.Happenings.{Happened, Proceeds}
-use Rattle.merge_world.specs.Restarts.{IsDamagedAt, IsLost, Restarted}
+use Rattle.merge_world.specs.Restarts.{IsDamagedAt, IsLost, RestartEnds}
 use Rattle.merge_world.specs.Resuming.{EndsRun, Resumes}
 use Rattle.merge_world.specs.Views.{HandedView, PublisherView, SitesView, SubscriberView, entry_of, faults_of, sites_view, world_of}
 
@@ -35,12 +35,12 @@ lost-among : (why : Refusal) (a b c d : ℕ) → b + c ≤ a + d → IsLost why 
 lost-among why a b c d le (inl (is, more)) = inl (is, omega (arith, le, more))
 lost-among why a b c d le (inr (is, more)) = inr (is, omega (arith, le, more))
 
-restarted-among : {T U : Type 0} (old new : T) (old' new' : U) → (new ≡ old → new' ≡ old') → (a b c d : ℕ) → b + c ≡ a + d → (r : Result Unit Refusal) → Restarted old new a b r → Restarted old' new' c d r
+restarted-among : {T U : Type 0} (old new : T) (old' new' : U) → (new ≡ old → new' ≡ old') → (a b c d : ℕ) → b + c ≡ a + d → (r : Result Unit Refusal) → RestartEnds old new a b r → RestartEnds old' new' c d r
 restarted-among old new old' new' same a b c d all (Ok done) (is, still) = (same is, omega (arith, all, still))
 restarted-among old new old' new' same a b c d all (Err why) (is, inl (wants, still)) = (same is, inl (wants, omega (arith, all, still)))
 restarted-among old new old' new' same a b c d all (Err why) (is, inr lost) = (same is, inr (lost-among why a b c d (omega (arith, all)) lost))
 
-pub resumes-publisher : (ss : List SubscriberView) (pool : List Letter) (moment : Moment) (p p' : PublisherView) → p'.publication ≡ p.publication → (r : Result Unit Refusal) → Restarted p.tables p'.tables p.faults p'.faults r
+pub resumes-publisher : (ss : List SubscriberView) (pool : List Letter) (moment : Moment) (p p' : PublisherView) → p'.publication ≡ p.publication → (r : Result Unit Refusal) → RestartEnds p.tables p'.tables p.faults p'.faults r
     → Resumes (sites_view p ss pool moment) (sites_view p' ss pool moment) r
 resumes-publisher ss pool moment p p' same r restarted = record {
   restarted = λ tallies. restarted-among p.tables p'.tables (world_of (sites_view p ss pool moment) tallies) (world_of (sites_view p' ss pool moment) tallies)
@@ -60,7 +60,7 @@ module _ (p : PublisherView) (pool : List Letter) (moment : Moment) where
   entry-same t t' same = ap (λ (s : SubscriberTables). (s.site.0, s)) same
 
   among : (ss : List SubscriberView) (i : ℕ) (t t' : SubscriberView) → i < length ss → t ≡ get_or ss i t → t'.tables.site ≡ t.tables.site → t'.publication ≡ t.publication
-      → (r : Result Unit Refusal) → Restarted t.tables t'.tables t.faults t'.faults r → Resumes (all ss) (all (set ss i t')) r
+      → (r : Result Unit Refusal) → RestartEnds t.tables t'.tables t.faults t'.faults r → Resumes (all ss) (all (set ss i t')) r
   among ss i t t' lt here same_site same_publication r restarted = record {
     restarted = λ tallies. restarted-among t.tables t'.tables (world_of (all ss) tallies) (world_of (all (set ss i t')) tallies)
         (λ same. ap (λ (l : List (ℕ × SubscriberTables)). record (world_of (all ss) tallies) { subscribers = l }) (map-set_same entry_of ss i t' t (entry-same t t' same ∙ ap entry_of here)))
@@ -70,7 +70,7 @@ module _ (p : PublisherView) (pool : List Letter) (moment : Moment) where
 
 module _ {S : Type 0} (f : S → SubscriberView) (p : PublisherView) (pool : List Letter) (moment : Moment) (items : List S) where
   pub resumes-subscriber : (i : ℕ) (s s' : S) (site : ℕ) → Some i ≡ position (is_of f site) items → s ≡ get_or items i s → (f s').tables.site ≡ (f s).tables.site → (f s').publication ≡ (f s).publication
-      → (r : Result Unit Refusal) → Restarted (f s).tables (f s').tables (f s).faults (f s').faults r → Resumes (sites_view p (map f items) pool moment) (sites_view p (map f (set items i s')) pool moment) r
+      → (r : Result Unit Refusal) → RestartEnds (f s).tables (f s').tables (f s).faults (f s').faults r → Resumes (sites_view p (map f items) pool moment) (sites_view p (map f (set items i s')) pool moment) r
   resumes-subscriber i s s' site found at same_site same_publication r restarted =
       let place = placed f items i s site found at in
       subst (λ (l : List SubscriberView). Resumes (sites_view p (map f items) pool moment) (sites_view p l pool moment) r) (sym (map-set f items i s'))
@@ -102,13 +102,13 @@ restarts-same e a b one other = ap (λ (x : Event). restarted_in x a) (sym other
 -- As events.
 module _ (site : SiteId) (u v : SitesView) where
   at-known : is_site u.publication site ≡ true → (says : Saying) (tallies : List ℕ) (l : Slips) → happens u.publication (stepping u.publication says) (faulty (world_of u tallies) l) (event.Restart site)
-      ≡ looking u.publication (stepping u.publication says) (λ (w : Faulty World). Fine) (faulty (world_of u tallies) l)
-  at-known known says tallies l = ap (where-if u.publication says site (faulty (world_of u tallies) l) (looking u.publication (stepping u.publication says) (λ (w : Faulty World). Fine))) known
+      ≡ answered_look u.publication (stepping u.publication says) (λ (w : Faulty World). Fine) (faulty (world_of u tallies) l)
+  at-known known says tallies l = ap (where-if u.publication says site (faulty (world_of u tallies) l) (answered_look u.publication (stepping u.publication says) (λ (w : Faulty World). Fine))) known
 
   pub restart-fine : Resumes u v (Ok tt) → is_site u.publication site ≡ true → (h : HandedView) → Happened (event.Restart site) u v h h Fine
   restart-fine resumes known h = looks-on (event.Restart site) u Fine refl (λ says w. Fine) (λ says tallies l. refl) (at-known known) v (λ tallies. (resumes.restarted tallies).0) (stayed u.faults v.faults (resumes.restarted []).1) resumes.stays h
 
-  wanted : {T : Type 0} (old new : T) (a b : ℕ) (why : Refusal) → why ≡ NoMemory → Restarted old new a b (Err why) → (new ≡ old) × (a ≤ b)
+  wanted : {T : Type 0} (old new : T) (a b : ℕ) (why : Refusal) → why ≡ NoMemory → RestartEnds old new a b (Err why) → (new ≡ old) × (a ≤ b)
   wanted old new a b why wants (same, inl (is, still)) = (same, stayed a b still)
   wanted old new a b why wants (same, inr (inl (is, more))) = absurd (cc (is, wants))
   wanted old new a b why wants (same, inr (inr ((table, key, is), later))) = absurd (cc (is, wants))
@@ -120,7 +120,7 @@ module _ (site : SiteId) (u v : SitesView) where
   restart-wants why wants resumes known h = wants-on (event.Restart site) u Fine refl (λ says w. Fine) (λ says tallies l. refl) (at-known known) v
       (λ tallies. (want-of tallies why wants resumes).0) (want-of [] why wants resumes).1 resumes.stays h
 
-  lost-of : {T : Type 0} (old new : T) (a b : ℕ) (why : Refusal) → (why ≡ NoMemory → ⊥) → Restarted old new a b (Err why) → IsLost why a b
+  lost-of : {T : Type 0} (old new : T) (a b : ℕ) (why : Refusal) → (why ≡ NoMemory → ⊥) → RestartEnds old new a b (Err why) → IsLost why a b
   lost-of old new a b why other (same, inl (is, still)) = absurd (other is)
   lost-of old new a b why other (same, inr lost) = lost
 
@@ -141,4 +141,4 @@ module _ (site : SiteId) (u v : SitesView) where
 
 pub restart-nowhere : (u : SitesView) (site : SiteId) (why : Refusal) → why ≡ UnknownSite site → is_site u.publication site ≡ false → (h : HandedView) → Happened (event.Restart site) u u h h (Refused why)
 restart-nowhere u site why is off h = so-refused (event.Restart site) u h site why is (unknown-site (event.Restart site) u site refl
-    (λ says tallies l. ap (where-if u.publication says site (faulty (world_of u tallies) l) (looking u.publication (stepping u.publication says) (λ (w : Faulty World). Fine))) off) h)
+    (λ says tallies l. ap (where-if u.publication says site (faulty (world_of u tallies) l) (answered_look u.publication (stepping u.publication says) (λ (w : Faulty World). Fine))) off) h)

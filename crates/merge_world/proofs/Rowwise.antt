@@ -15,7 +15,7 @@ use Rattle.merge_model.specs.World.Reports.{counts_of, is_of_article, shown_rows
 use Rattle.merge_model.specs.Tables.{PublisherTables, SubscriberTables}
 use Rattle.merge_model.specs.declared.answer.Answer.TheVariants as answer
 use Rattle.merge_model.specs.declared.answer.ShownRow.{ShownRow}
-use Rattle.merge_world.specs.Reports.{alive, live_in, publisher_told, subscriber_told}
+use Rattle.merge_world.specs.Reports.{live_in, publisher_told, row_if_alive, subscriber_told}
 use Rattle.merge_world.specs.declared.reports.Report.{Report}
 use Rattle.merge_world.specs.declared.reports.Report.TheVariants.{Counts}
 
@@ -27,7 +27,7 @@ module _ (article : ℕ) where
   chosen true row rest = refl
   chosen false row rest = refl
 
-  shown-first : (row : Option LiveRow) (rest : List LiveRow) → shown_rows article (cons_option row rest) ≡ shown_rows article (alive row) ++ shown_rows article rest
+  shown-first : (row : Option LiveRow) (rest : List LiveRow) → shown_rows article (cons_option row rest) ≡ shown_rows article (row_if_alive row) ++ shown_rows article rest
   shown-first None rest = refl
   shown-first (Some row) rest = chosen (is_of_article article row) row (filter (is_of_article article) rest)
 
@@ -42,21 +42,21 @@ module _ (article : ℕ) where
       let none : sum_by test [] ≡ 0 = refl in
       omega (arith, all, alone, none)
 
-  counted-first : (row : Option LiveRow) (rest : List LiveRow) → count_by (is_of_article article) (cons_option row rest) ≡ count_by (is_of_article article) (alive row) + count_by (is_of_article article) rest
+  counted-first : (row : Option LiveRow) (rest : List LiveRow) → count_by (is_of_article article) (cons_option row rest) ≡ count_by (is_of_article article) (row_if_alive row) + count_by (is_of_article article) rest
   counted-first None rest = omega arith
   counted-first (Some row) rest = counted-one row rest
 
-  few : (row : Option LiveRow) → count_by (is_of_article article) (alive row) ≤ 1
+  few : (row : Option LiveRow) → count_by (is_of_article article) (row_if_alive row) ≤ 1
   few None = omega arith
   few (Some row) = count_by-le-length (is_of_article article) (row ∷ [])
 
   module _ {R : Type 0} (version : R → Version) where
     -- what one row has for the report
     abbrev pub part : RowKey × R → List ShownRow
-    part row = shown_rows article (alive (live_row row.0 (version row.1).body))
+    part row = shown_rows article (row_if_alive (live_row row.0 (version row.1).body))
 
     abbrev pub one : RowKey × R → ℕ
-    one row = count_by (is_of_article article) (alive (live_row row.0 (version row.1).body))
+    one row = count_by (is_of_article article) (row_if_alive (live_row row.0 (version row.1).body))
 
     shown-all : (rows : List (RowKey × R)) → flat_map part rows ≡ shown_rows article (live_in version rows)
     shown-all [] = refl
@@ -85,11 +85,11 @@ module _ (article : ℕ) where
         omega (arith, so_far, all, last)
 
     pub counted-fits : (count more limit : ℕ) (key : RowKey) (row : R) (v : Version) (left next rows held : List (RowKey × R)) → count + sum_by one left ≡ sum_by one rows → left ≡ (key, row) ∷ next → v ≡ version row
-        → more ≡ count_by (is_of_article article) (alive (live_row key v.body)) → held ≡ rows → length held < limit → count + more < limit
+        → more ≡ count_by (is_of_article article) (row_if_alive (live_row key v.body)) → held ≡ rows → length held < limit → count + more < limit
     counted-fits count more limit key row v left next rows held so_far is same counted at fits =
         let few = counted-few rows in
         let now : sum_by one left ≡ one (key, row) + sum_by one next = ap (λ (l : List (RowKey × R)). sum_by one l) is ∙ sum_by-cons one (key, row) next in
-        let this : more ≡ one (key, row) = counted ∙ ap (λ (x : Version). count_by (is_of_article article) (alive (live_row key x.body))) same in
+        let this : more ≡ one (key, row) = counted ∙ ap (λ (x : Version). count_by (is_of_article article) (row_if_alive (live_row key x.body))) same in
         let long = ap (λ (l : List (RowKey × R)). length l) at in
         omega (arith, so_far, few, now, this, long, fits)
 

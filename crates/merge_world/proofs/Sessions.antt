@@ -5,7 +5,7 @@ use Rattle.merge_schema.specs.declared.publication.Publication.{Publication}
 use Rattle.merge_batch.specs.declared.refusal.Refusal.{Refusal}
 use Rattle.merge_model.specs.Failing.{Slips, faulty}
 use Rattle.merge_model.specs.Failing.Reach.{Acts, Asks, at, stepping}
-use Rattle.merge_model.specs.World.Session.{answered_as, arrived, exchange}
+use Rattle.merge_model.specs.World.Session.{answered_as, exchange, session_after_reply}
 use Rattle.merge_model.specs.World.Steps.{Deliver, Send, Sending}
 use Rattle.merge_model.specs.World.{Saying, World}
 use Rattle.merge_model.specs.declared.outcome.Outcome.{Outcome}
@@ -13,7 +13,7 @@ use Rattle.merge_model.specs.declared.outcome.Outcome.TheVariants.{Closes, Disca
 use Rattle.merge_model.specs.declared.outcome.Taken.{Taken as Reply}
 use Rattle.merge_model.proofs.Failing.Reached.{same-end}
 use Rattle.merge_model.proofs.Failing.ReachedSessions.{acts-by, answers, arrives, asked, asked-other}
-use Rattle.merge_world.specs.Sessions.{Exchanges, Met, Part, Reports, brings_found, download_in, last_in}
+use Rattle.merge_world.specs.Sessions.{Exchanges, Part, Reports, SitesExchange, brings_found, download_in, last_in}
 use Rattle.merge_world.specs.Views.{Does, HandedView, IsOrdered, Keeps, Moves, SitesView, Stays, world_of}
 use Rattle.merge_world.specs.declared.exchange.Exchanged.TheVariants.{Answered, Taken, Unanswered}
 
@@ -73,7 +73,7 @@ module _ (p : Publication) (says : Saying) (site : SiteId) where
   past-ask counted next w v x y l (Refuses refusal) posted refused = absurd (refused refusal refl)
 
   past-arrival : (next : Part) (w v : World) (x y : ℕ) (l : Slips) (c : Outcome) → ((taken : Reply) → c ≡ Took taken → ⊥) → ((refusal : Refusal) → c ≡ Refuses refusal → ⊥)
-      → arrived (stepping p says) site next (at p says w x y None []) (faulty v l, c) ≡ at p says v x y None l
+      → session_after_reply (stepping p says) site next (at p says w x y None []) (faulty v l, c) ≡ at p says v x y None l
   past-arrival next w v x y l Passed took refused = refl
   past-arrival next w v x y l (Made row) took refused = refl
   past-arrival next w v x y l (Closes generation) took refused = refl
@@ -97,7 +97,7 @@ module _ (p : Publication) (says : Saying) (site : SiteId) where
     pub exchange-stray : (k : Outcome) → ((taken : Reply) → k ≡ Took taken → ⊥) → ((refusal : Refusal) → k ≡ Refuses refusal → ⊥) → Acts p says (Deliver number) v u k b c → Exchanges p says site sending w u (Answered flag None) a c
     unfolding Exchanges
     exchange-stray k took refused second = λ counted next x y i j counts. same-end (λ l. exchange (stepping p says) site sending counted next (at p says w x y None l))
-        (λ l. arrived (stepping p says) site next (at p says v i j None []) (faulty u l, k)) (at p says u i j None) a c (λ l. past-arrival next v u i j l k took refused)
+        (λ l. session_after_reply (stepping p says) site next (at p says v i j None []) (faulty u l, k)) (at p says u i j None) a c (λ l. past-arrival next v u i j l k took refused)
         (arrives p says site counted next sending w v u x y i j number k a b c (λ l. counts v l (sym bringing)) first second)
 
   module _ (sending : Sending) (w v : World) (a b : ℕ) where
@@ -117,32 +117,32 @@ module _ (site : SiteId) (sending : Sending) (u v w : SitesView) (f g h : Handed
     carried : (outcome : Outcome) → Moves (Deliver number) v w g h outcome → Acts u.publication f.says (Deliver number) (world_of v g.tallies) (world_of w h.tallies) outcome v.faults w.faults
     carried outcome second = acts-by v.publication u.publication g.says f.says first.keeps.stays.publication first.keeps.says (Deliver number) (world_of v g.tallies) (world_of w h.tallies) outcome v.faults w.faults second.acts
 
-    pub meets-taken : (taken : Reply) → Moves (Deliver number) v w g h (Took taken) → Met site sending u w f h (Taken flag)
+    pub meets-taken : (taken : Reply) → Moves (Deliver number) v w g h (Took taken) → SitesExchange site sending u w f h (Taken flag)
     meets-taken taken second = record {
       goes = exchange-taken u.publication f.says site sending (world_of u f.tallies) (world_of v g.tallies) (world_of w h.tallies) flag bringing number u.faults v.faults w.faults first.asks taken (carried (Took taken) second);
       keeps = keeps-then u v w f g h first.keeps second.keeps;
     }
 
-    pub meets-refused : (refusal : Refusal) → Moves (Deliver number) v w g h (Refuses refusal) → Met site sending u w f h (Answered flag (Some refusal))
+    pub meets-refused : (refusal : Refusal) → Moves (Deliver number) v w g h (Refuses refusal) → SitesExchange site sending u w f h (Answered flag (Some refusal))
     meets-refused refusal second = record {
       goes = exchange-refused u.publication f.says site sending (world_of u f.tallies) (world_of v g.tallies) (world_of w h.tallies) flag bringing number u.faults v.faults w.faults first.asks refusal (carried (Refuses refusal) second);
       keeps = keeps-then u v w f g h first.keeps second.keeps;
     }
 
-    pub meets-stray : (k : Outcome) → ((taken : Reply) → k ≡ Took taken → ⊥) → ((refusal : Refusal) → k ≡ Refuses refusal → ⊥) → Moves (Deliver number) v w g h k → Met site sending u w f h (Answered flag None)
+    pub meets-stray : (k : Outcome) → ((taken : Reply) → k ≡ Took taken → ⊥) → ((refusal : Refusal) → k ≡ Refuses refusal → ⊥) → Moves (Deliver number) v w g h k → SitesExchange site sending u w f h (Answered flag None)
     meets-stray k took refused second = record {
       goes = exchange-stray u.publication f.says site sending (world_of u f.tallies) (world_of v g.tallies) (world_of w h.tallies) flag bringing number u.faults v.faults w.faults first.asks k took refused (carried k second);
       keeps = keeps-then u v w f g h first.keeps second.keeps;
     }
 
 module _ (site : SiteId) (sending : Sending) (u v : SitesView) (f g : HandedView) where
-  pub meets-unmade : (refusal : Refusal) → Reports site sending u v f g (Refuses refusal) → Met site sending u v f g (Unanswered (Some refusal))
+  pub meets-unmade : (refusal : Refusal) → Reports site sending u v f g (Refuses refusal) → SitesExchange site sending u v f g (Unanswered (Some refusal))
   meets-unmade refusal first = record {
     goes = exchange-unmade u.publication f.says site sending (world_of u f.tallies) (world_of v g.tallies) u.faults v.faults refusal first.asks;
     keeps = first.keeps;
   }
 
-  pub meets-past : (k : Outcome) → ((number : ℕ) → k ≡ Posted number → ⊥) → ((refusal : Refusal) → k ≡ Refuses refusal → ⊥) → Reports site sending u v f g k → Met site sending u v f g (Unanswered None)
+  pub meets-past : (k : Outcome) → ((number : ℕ) → k ≡ Posted number → ⊥) → ((refusal : Refusal) → k ≡ Refuses refusal → ⊥) → Reports site sending u v f g k → SitesExchange site sending u v f g (Unanswered None)
   meets-past k posted refused first = record {
     goes = exchange-past u.publication f.says site sending (world_of u f.tallies) (world_of v g.tallies) u.faults v.faults k posted refused first.asks;
     keeps = first.keeps;

@@ -9,7 +9,7 @@ use Rattle.merge_batch.specs.declared.refusal.Refusal.{Refusal}
 use Rattle.merge_batch.specs.declared.refusal.Refusal.TheVariants as refusal
 use Rattle.merge_batch.specs.declared.refusal.Refusal.TheVariants.{UnknownName, UnknownSite}
 use Rattle.merge_model.specs.Tables.Changes.{is_insert}
-use Rattle.merge_model.specs.World.Events.{acting, answered_by, change_answer, changing, happens, is_site, looked, looking, outcome_answer, refused_change, reported, reporting, session_answer, taken_answer, where_site, where_subscriber}
+use Rattle.merge_model.specs.World.Events.{answered_action, answered_by, answered_change, answered_look, answered_report, answered_unless_refused, change_answer, happens, is_site, outcome_answer, refused_change, report_of_site, session_answer, taken_answer, where_site, where_subscriber}
 use Rattle.merge_model.specs.Failing.{Faulty, faulty}
 use Rattle.merge_model.specs.Failing.Reach.{stepping}
 use Rattle.merge_model.specs.Publisher.Entries.{live_rows}
@@ -90,7 +90,7 @@ change-proper change (Forgot forgotten) = tt
 change-proper change (Refuses why) = refused-proper change why
 
 module _ (p : Publication) (says : Saying) where
-  looked-proper : (answer : Faulty World → Answer) (w : Faulty World) (outcome : Outcome) → IsProperAnswer (answer w) → IsProperAnswer (looked p (stepping p says) answer (w, outcome)).1
+  looked-proper : (answer : Faulty World → Answer) (w : Faulty World) (outcome : Outcome) → IsProperAnswer (answer w) → IsProperAnswer (answered_unless_refused p (stepping p says) answer (w, outcome)).1
   looked-proper answer w Passed proper = proper
   looked-proper answer w (Made row) proper = proper
   looked-proper answer w (Closes generation) proper = proper
@@ -102,16 +102,16 @@ module _ (p : Publication) (says : Saying) where
   looked-proper answer w (Forgot forgotten) proper = proper
   looked-proper answer w (Refuses why) proper = tt
 
-  looking-proper : (answer : Faulty World → Answer) (f : Faulty World) → ((w : Faulty World) → IsProperAnswer (answer w)) → IsProperAnswer (looking p (stepping p says) answer f).1
+  looking-proper : (answer : Faulty World → Answer) (f : Faulty World) → ((w : Faulty World) → IsProperAnswer (answer w)) → IsProperAnswer (answered_look p (stepping p says) answer f).1
   looking-proper answer f proper = by ((stepping p says).act f Look)
     where
-      by : (done : Faulty World × Outcome) → IsProperAnswer (looked p (stepping p says) answer done).1
+      by : (done : Faulty World × Outcome) → IsProperAnswer (answered_unless_refused p (stepping p says) answer done).1
       by (w, outcome) = looked-proper answer w outcome (proper w)
 
-  refusing : (why : Refusal) (f : Faulty World) → IsProperAnswer (looking p (stepping p says) (λ (v : Faulty World). Refused why) f).1
+  refusing : (why : Refusal) (f : Faulty World) → IsProperAnswer (answered_look p (stepping p says) (λ (v : Faulty World). Refused why) f).1
   refusing why f = looking-proper (λ (v : Faulty World). Refused why) f (λ w. tt)
 
-  changing-proper : (site : SiteId) (f : Faulty World) (named : Result Change (List ℕ)) → IsProperAnswer (changing p (stepping p says) site f named).1
+  changing-proper : (site : SiteId) (f : Faulty World) (named : Result Change (List ℕ)) → IsProperAnswer (answered_change p (stepping p says) site f named).1
   changing-proper site f (Err name) = refusing (UnknownName name) f
   changing-proper site f (Ok change) = change-proper change _
 
@@ -123,7 +123,7 @@ module _ (p : Publication) (says : Saying) where
       by (Some why) e = rw e tt
 
   reported-proper : (site : SiteId) (of_publisher : PublisherTables → Answer) (of_subscriber : SubscriberTables → Answer) → ((t : PublisherTables) → IsProperAnswer (of_publisher t)) → ((t : SubscriberTables) → IsProperAnswer (of_subscriber t))
-      → (w : Faulty World) → IsProperAnswer (reported p (stepping p says) site of_publisher of_subscriber w)
+      → (w : Faulty World) → IsProperAnswer (report_of_site p (stepping p says) site of_publisher of_subscriber w)
   reported-proper site of_publisher of_subscriber one other w = made-proper (site.0 == 0) _ _ (one _) (by (subscriber_at w.world site))
     where
       by : (s : Option SubscriberTables) → IsProperAnswer (elim s [ None ↦ Refused (UnknownSite site) | Some t ↦ of_subscriber t ])
@@ -131,8 +131,8 @@ module _ (p : Publication) (says : Saying) where
       by (Some t) = other t
 
   report-proper : (site : SiteId) (of_publisher : PublisherTables → Answer) (of_subscriber : SubscriberTables → Answer) (f : Faulty World) → ((t : PublisherTables) → IsProperAnswer (of_publisher t)) → ((t : SubscriberTables) → IsProperAnswer (of_subscriber t))
-      → IsProperAnswer (reporting p (stepping p says) site of_publisher of_subscriber f).1
-  report-proper site of_publisher of_subscriber f one other = looking-proper (reported p (stepping p says) site of_publisher of_subscriber) f (reported-proper site of_publisher of_subscriber one other)
+      → IsProperAnswer (answered_report p (stepping p says) site of_publisher of_subscriber f).1
+  report-proper site of_publisher of_subscriber f one other = looking-proper (report_of_site p (stepping p says) site of_publisher of_subscriber) f (reported-proper site of_publisher of_subscriber one other)
 
   answer-proper : (e : Event) → shows_values e ≡ false → (f : Faulty World) → IsProperAnswer (happens p (stepping p says) f e).1
   answer-proper (event.Wait seconds) plain f = tt

@@ -6,7 +6,7 @@ use Rattle.merge_schema.specs.Places.{is_subscription}
 use Rattle.merge_schema.specs.declared.publication.Publication.{Publication}
 use Rattle.merge_batch.specs.declared.refusal.Refusal.{Refusal}
 use Rattle.merge_batch.specs.declared.refusal.Refusal.TheVariants as refusal
-use Rattle.merge_model.specs.World.Events.{happens, is_site, looking, reported, showing}
+use Rattle.merge_model.specs.World.Events.{answered_look, answered_show, happens, is_site, report_of_site}
 use Rattle.merge_model.specs.Failing.{Faulty, Slips, faulty}
 use Rattle.merge_model.specs.World.Naming.{article_by}
 use Rattle.merge_model.specs.Failing.Reach.{stepping}
@@ -30,22 +30,22 @@ is-shown p q site name article same named = (name, refl, subst (λ (x : Publicat
 
 module _ (u : SitesView) (site : SiteId) where
   abbrev asking : (says : Saying) → Report → Faulty World → Answer
-  asking says report w = reported u.publication (stepping u.publication says) site (λ (t : PublisherTables). publisher_told u.publication report t) (λ (t : SubscriberTables). subscriber_told u.publication report t) w
+  asking says report w = report_of_site u.publication (stepping u.publication says) site (λ (t : PublisherTables). publisher_told u.publication report t) (λ (t : SubscriberTables). subscriber_told u.publication report t) w
 
   -- an event that asks for a report
   record IsAsked (report : Report) (e : Event) : Type 0 where
     none : seconds_of e ≡ 0
-    is : (says : Saying) (w : Faulty World) → happens u.publication (stepping u.publication says) w e ≡ looking u.publication (stepping u.publication says) (asking says report) w
+    is : (says : Saying) (w : Faulty World) → happens u.publication (stepping u.publication says) w e ≡ answered_look u.publication (stepping u.publication says) (asking says report) w
 
   module _ (known : is_site u.publication site ≡ true) where
     by-name : (name : List ℕ) (by : Result ℕ (List ℕ)) → article_by u.publication name ≡ by → (says : Saying) (w : Faulty World)
-        → happens u.publication (stepping u.publication says) w (event.Show site name) ≡ showing u.publication (stepping u.publication says) site w by
-    by-name name by named says w = ap (where-if u.publication says site w (λ (v : Faulty World). showing u.publication (stepping u.publication says) site v (article_by u.publication name))) known
-        ∙ ap (λ (r : Result ℕ (List ℕ)). showing u.publication (stepping u.publication says) site w r) named
+        → happens u.publication (stepping u.publication says) w (event.Show site name) ≡ answered_show u.publication (stepping u.publication says) site w by
+    by-name name by named says w = ap (where-if u.publication says site w (λ (v : Faulty World). answered_show u.publication (stepping u.publication says) site v (article_by u.publication name))) known
+        ∙ ap (λ (r : Result ℕ (List ℕ)). answered_show u.publication (stepping u.publication says) site w r) named
 
-    by-site : (report : Report) (says : Saying) (w : Faulty World) → where-if u.publication says site w (looking u.publication (stepping u.publication says) (asking says report)) (is_site u.publication site)
-        ≡ looking u.publication (stepping u.publication says) (asking says report) w
-    by-site report says w = ap (where-if u.publication says site w (looking u.publication (stepping u.publication says) (asking says report))) known
+    by-site : (report : Report) (says : Saying) (w : Faulty World) → where-if u.publication says site w (answered_look u.publication (stepping u.publication says) (asking says report)) (is_site u.publication site)
+        ≡ answered_look u.publication (stepping u.publication says) (asking says report) w
+    by-site report says w = ap (where-if u.publication says site w (answered_look u.publication (stepping u.publication says) (asking says report))) known
 
     asked : (report : Report) (e : Event) → IsReport u.publication report site e → IsAsked report e
     asked (Rows article) e (name, is, named) = subst (λ (x : Event). IsAsked (Rows article) x) (sym is) (record { none = refl; is = by-name name (Ok article) named })
@@ -87,8 +87,8 @@ module _ (u : SitesView) (site : SiteId) where
   partition-of says w = partition_report u.publication site ((stepping u.publication says).look w).publisher
 
   parted : is_subscription u.publication site.0 ≡ true → (says : Saying) (tallies : List ℕ) (l : Slips) → happens u.publication (stepping u.publication says) (faulty (world_of u tallies) l) (event.Partition site)
-      ≡ looking u.publication (stepping u.publication says) (partition-of says) (faulty (world_of u tallies) l)
-  parted is says tallies l = ap (where-if u.publication says site (faulty (world_of u tallies) l) (looking u.publication (stepping u.publication says) (partition-of says))) is
+      ≡ answered_look u.publication (stepping u.publication says) (partition-of says) (faulty (world_of u tallies) l)
+  parted is says tallies l = ap (where-if u.publication says site (faulty (world_of u tallies) l) (answered_look u.publication (stepping u.publication says) (partition-of says))) is
 
   pub partition-told : (rows : List RowKey) (h : HandedView) → rows ≡ partition_rows u.publication site u.publisher → is_subscription u.publication site.0 ≡ true → Happened (event.Partition site) u u h h (Partition rows)
   partition-told rows h same is = looks-happen (event.Partition site) u (Partition rows) refl partition-of (λ says tallies l. ap (λ (r : List RowKey). Partition r) (sym same)) (parted is) h
@@ -98,18 +98,18 @@ module _ (u : SitesView) (site : SiteId) where
 
   pub partition-refused : (why : Refusal) (h : HandedView) → why ≡ refusal.UnknownSite site → is_subscription u.publication site.0 ≡ false → Happened (event.Partition site) u u h h (Refused why)
   partition-refused why h same off = so-refused (event.Partition site) u h site why same (unknown-site (event.Partition site) u site refl
-      (λ says tallies l. ap (where-if u.publication says site (faulty (world_of u tallies) l) (looking u.publication (stepping u.publication says) (partition-of says))) off) h)
+      (λ says tallies l. ap (where-if u.publication says site (faulty (world_of u tallies) l) (answered_look u.publication (stepping u.publication says) (partition-of says))) off) h)
 
   -- no such site
   module _ (why : Refusal) (h : HandedView) (same : why ≡ refusal.UnknownSite site) (off : is_site u.publication site ≡ false) where
     nowhere : (e : Event) (report : Report) → seconds_of e ≡ 0 → ((says : Saying) (w : Faulty World) → happens u.publication (stepping u.publication says) w e
-        ≡ where-if u.publication says site w (looking u.publication (stepping u.publication says) (asking says report)) (is_site u.publication site)) → Happened e u u h h (Refused why)
+        ≡ where-if u.publication says site w (answered_look u.publication (stepping u.publication says) (asking says report)) (is_site u.publication site)) → Happened e u u h h (Refused why)
     nowhere e report none is = so-refused e u h site why same (unknown-site e u site none (λ says tallies l. is says (faulty (world_of u tallies) l)
-        ∙ ap (where-if u.publication says site (faulty (world_of u tallies) l) (looking u.publication (stepping u.publication says) (asking says report))) off) h)
+        ∙ ap (where-if u.publication says site (faulty (world_of u tallies) l) (answered_look u.publication (stepping u.publication says) (asking says report))) off) h)
 
     pub show-nowhere : (name : List ℕ) → Happened (event.Show site name) u u h h (Refused why)
     show-nowhere name = so-refused (event.Show site name) u h site why same (unknown-site (event.Show site name) u site refl
-        (λ says tallies l. ap (where-if u.publication says site (faulty (world_of u tallies) l) (λ (v : Faulty World). showing u.publication (stepping u.publication says) site v (article_by u.publication name))) off) h)
+        (λ says tallies l. ap (where-if u.publication says site (faulty (world_of u tallies) l) (λ (v : Faulty World). answered_show u.publication (stepping u.publication says) site v (article_by u.publication name))) off) h)
 
     pub conflicts-nowhere : Happened (event.Conflicts site) u u h h (Refused why)
     conflicts-nowhere = nowhere (event.Conflicts site) Conflicts refl (λ says w. refl)

@@ -8,7 +8,7 @@ use Rattle.merge_batch.specs.declared.reply.Downloaded.{Downloaded}
 use Rattle.merge_batch.specs.declared.reply.Reply.TheVariants as reply
 use Rattle.merge_model.specs.Failing.{Faulty, Slips}
 use Rattle.merge_model.specs.Failing.Reach.{Reaches, at, stepping}
-use Rattle.merge_model.specs.World.Session.{Session, after_download, all_downloads, all_ranges, all_uploads, as_it_is, asking_ranges, downloaded_in, downloading, exchange, has_grant, joining, last_message, unless_stopped, uploading, with_answer, with_download, with_upload}
+use Rattle.merge_model.specs.World.Session.{Session, after_download, all_downloads, all_ranges, all_uploads, as_it_is, downloaded_in, downloads_up_to, exchange, has_grant, join_if_due, last_message, range_requests_up_to, unless_stopped, uploads_up_to, with_answer, with_download, with_upload}
 use Rattle.merge_model.specs.World.Steps.{Send, SendDownload, SendJoin, SendRanges, SendUpload, Sending}
 use Rattle.merge_model.specs.World.{Saying, World, subscriber_at}
 use Rattle.merge_model.specs.declared.letter.Message.{Message}
@@ -49,23 +49,23 @@ module _ (p : Publication) (says : Saying) (site : SiteId) where
   -- uploads
   module _ (w v : World) (flag : Bool) (n count a b : ℕ) where
     pub upload-taken : Exchanges p says site SendUpload w v (Taken flag) a b
-        → Reaches (λ l. uploading (stepping p says) site (suc n) (at p says w count 0 None l)) (λ l. uploading (stepping p says) site n (at p says v (count + 1) 0 None l)) a b
+        → Reaches (λ l. uploads_up_to (stepping p says) site (suc n) (at p says w count 0 None l)) (λ l. uploads_up_to (stepping p says) site n (at p says v (count + 1) 0 None l)) a b
     unfolding Exchanges
-    upload-taken met = met (with_upload (stepping p says) site) (uploading (stepping p says) site n) count 0 (count + 1) 0 (λ u l is. refl)
+    upload-taken met = met (with_upload (stepping p says) site) (uploads_up_to (stepping p says) site n) count 0 (count + 1) 0 (λ u l is. refl)
 
     pub upload-answered : (stop : Option Refusal) → Exchanges p says site SendUpload w v (Answered flag stop) a b
-        → Reaches (λ l. uploading (stepping p says) site (suc n) (at p says w count 0 None l)) (at p says v (count + 1) 0 stop) a b
+        → Reaches (λ l. uploads_up_to (stepping p says) site (suc n) (at p says w count 0 None l)) (at p says v (count + 1) 0 stop) a b
     unfolding Exchanges
-    upload-answered stop met = met (with_upload (stepping p says) site) (uploading (stepping p says) site n) count 0 (count + 1) 0 (λ u l is. refl)
+    upload-answered stop met = met (with_upload (stepping p says) site) (uploads_up_to (stepping p says) site n) count 0 (count + 1) 0 (λ u l is. refl)
 
     pub upload-unanswered : (stop : Option Refusal) → Exchanges p says site SendUpload w v (Unanswered stop) a b
-        → Reaches (λ l. uploading (stepping p says) site (suc n) (at p says w count 0 None l)) (at p says v count 0 stop) a b
+        → Reaches (λ l. uploads_up_to (stepping p says) site (suc n) (at p says w count 0 None l)) (at p says v count 0 stop) a b
     unfolding Exchanges
-    upload-unanswered stop met = met (with_upload (stepping p says) site) (uploading (stepping p says) site n) count 0
+    upload-unanswered stop met = met (with_upload (stepping p says) site) (uploads_up_to (stepping p says) site n) count 0
 
   -- requests for ranges
   abbrev asks-next : ℕ → Part
-  asks-next n t = if has_grant (stepping p says) site (last_message (stepping p says) site t.world) then asking_ranges (stepping p says) site n t else t
+  asks-next n t = if has_grant (stepping p says) site (last_message (stepping p says) site t.world) then range_requests_up_to (stepping p says) site n t else t
 
   same-grant : (last : Option Message) → has_grant (stepping p says) site last ≡ grants last
   same-grant None = refl
@@ -78,26 +78,26 @@ module _ (p : Publication) (says : Saying) (site : SiteId) where
 
   module _ (w v : World) (flag : Bool) (n x y a b : ℕ) where
     pub ask-granted : true ≡ grants (last_in v.pool) → Exchanges p says site SendRanges w v (Taken flag) a b
-        → Reaches (λ l. asking_ranges (stepping p says) site (suc n) (at p says w x y None l)) (λ l. asking_ranges (stepping p says) site n (at p says v x y None l)) a b
+        → Reaches (λ l. range_requests_up_to (stepping p says) site (suc n) (at p says w x y None l)) (λ l. range_requests_up_to (stepping p says) site n (at p says v x y None l)) a b
     unfolding Exchanges
-    ask-granted granted met = same-end (λ l. asking_ranges (stepping p says) site (suc n) (at p says w x y None l)) (λ l. asks-next n (at p says v x y None l)) (λ l. asking_ranges (stepping p says) site n (at p says v x y None l)) a b
-        (λ l. ap (λ (more : Bool). if more then asking_ranges (stepping p says) site n (at p says v x y None l) else at p says v x y None l) (same-grant (last_in v.pool) ∙ sym granted))
+    ask-granted granted met = same-end (λ l. range_requests_up_to (stepping p says) site (suc n) (at p says w x y None l)) (λ l. asks-next n (at p says v x y None l)) (λ l. range_requests_up_to (stepping p says) site n (at p says v x y None l)) a b
+        (λ l. ap (λ (more : Bool). if more then range_requests_up_to (stepping p says) site n (at p says v x y None l) else at p says v x y None l) (same-grant (last_in v.pool) ∙ sym granted))
         (met (as_it_is (stepping p says) site) (asks-next n) x y x y (λ u l is. refl))
 
     pub ask-last : false ≡ grants (last_in v.pool) → Exchanges p says site SendRanges w v (Taken flag) a b
-        → Reaches (λ l. asking_ranges (stepping p says) site (suc n) (at p says w x y None l)) (at p says v x y None) a b
+        → Reaches (λ l. range_requests_up_to (stepping p says) site (suc n) (at p says w x y None l)) (at p says v x y None) a b
     unfolding Exchanges
-    ask-last granted met = same-end (λ l. asking_ranges (stepping p says) site (suc n) (at p says w x y None l)) (λ l. asks-next n (at p says v x y None l)) (at p says v x y None) a b
-        (λ l. ap (λ (more : Bool). if more then asking_ranges (stepping p says) site n (at p says v x y None l) else at p says v x y None l) (same-grant (last_in v.pool) ∙ sym granted))
+    ask-last granted met = same-end (λ l. range_requests_up_to (stepping p says) site (suc n) (at p says w x y None l)) (λ l. asks-next n (at p says v x y None l)) (at p says v x y None) a b
+        (λ l. ap (λ (more : Bool). if more then range_requests_up_to (stepping p says) site n (at p says v x y None l) else at p says v x y None l) (same-grant (last_in v.pool) ∙ sym granted))
         (met (as_it_is (stepping p says) site) (asks-next n) x y x y (λ u l is. refl))
 
     pub ask-answered : (stop : Option Refusal) → Exchanges p says site SendRanges w v (Answered flag stop) a b
-        → Reaches (λ l. asking_ranges (stepping p says) site (suc n) (at p says w x y None l)) (at p says v x y stop) a b
+        → Reaches (λ l. range_requests_up_to (stepping p says) site (suc n) (at p says w x y None l)) (at p says v x y stop) a b
     unfolding Exchanges
     ask-answered stop met = met (as_it_is (stepping p says) site) (asks-next n) x y x y (λ u l is. refl)
 
     pub ask-unanswered : (stop : Option Refusal) → Exchanges p says site SendRanges w v (Unanswered stop) a b
-        → Reaches (λ l. asking_ranges (stepping p says) site (suc n) (at p says w x y None l)) (at p says v x y stop) a b
+        → Reaches (λ l. range_requests_up_to (stepping p says) site (suc n) (at p says w x y None l)) (at p says v x y stop) a b
     unfolding Exchanges
     ask-unanswered stop met = met (as_it_is (stepping p says) site) (asks-next n) x y
 
@@ -108,23 +108,23 @@ module _ (p : Publication) (says : Saying) (site : SiteId) where
   module _ (w : World) (x y a : ℕ) where
     pub joined-before : true ≡ joined_at (subscriber_at w site) → Goes p says site Joins w w x y x y None a a
     unfolding Goes
-    joined-before joined = same-start (λ l. joining (stepping p says) site (at p says w x y None l)) (at p says w x y None) (at p says w x y None) a a
+    joined-before joined = same-start (λ l. join_if_due (stepping p says) site (at p says w x y None l)) (at p says w x y None) (at p says w x y None) a a
         (λ l. ap (joins-unless w x y l) (sym joined)) (stays (at p says w x y None) a a (same-count a))
 
     module _ (v : World) (flag : Bool) (b : ℕ) (joined : false ≡ joined_at (subscriber_at w site)) where
       pub join-taken : Exchanges p says site SendJoin w v (Taken flag) a b → Goes p says site Joins w v x y x y None a b
       unfolding Exchanges Goes
-      join-taken met = same-start (λ l. joining (stepping p says) site (at p says w x y None l)) (λ l. joins-unless w x y l false) (at p says v x y None) a b (λ l. ap (joins-unless w x y l) (sym joined))
+      join-taken met = same-start (λ l. join_if_due (stepping p says) site (at p says w x y None l)) (λ l. joins-unless w x y l false) (at p says v x y None) a b (λ l. ap (joins-unless w x y l) (sym joined))
           (met (as_it_is (stepping p says) site) (as_it_is (stepping p says) site) x y x y (λ u l is. refl))
 
       pub join-answered : (stop : Option Refusal) → Exchanges p says site SendJoin w v (Answered flag stop) a b → Goes p says site Joins w v x y x y stop a b
       unfolding Exchanges Goes
-      join-answered stop met = same-start (λ l. joining (stepping p says) site (at p says w x y None l)) (λ l. joins-unless w x y l false) (at p says v x y stop) a b (λ l. ap (joins-unless w x y l) (sym joined))
+      join-answered stop met = same-start (λ l. join_if_due (stepping p says) site (at p says w x y None l)) (λ l. joins-unless w x y l false) (at p says v x y stop) a b (λ l. ap (joins-unless w x y l) (sym joined))
           (met (as_it_is (stepping p says) site) (as_it_is (stepping p says) site) x y x y (λ u l is. refl))
 
       pub join-unanswered : (stop : Option Refusal) → Exchanges p says site SendJoin w v (Unanswered stop) a b → Goes p says site Joins w v x y x y stop a b
       unfolding Exchanges Goes
-      join-unanswered stop met = same-start (λ l. joining (stepping p says) site (at p says w x y None l)) (λ l. joins-unless w x y l false) (at p says v x y stop) a b (λ l. ap (joins-unless w x y l) (sym joined))
+      join-unanswered stop met = same-start (λ l. join_if_due (stepping p says) site (at p says w x y None l)) (λ l. joins-unless w x y l false) (at p says v x y stop) a b (λ l. ap (joins-unless w x y l) (sym joined))
           (met (as_it_is (stepping p says) site) (as_it_is (stepping p says) site) x y)
 
   -- downloads
@@ -162,22 +162,22 @@ module _ (p : Publication) (says : Saying) (site : SiteId) where
   ]
 
   abbrev asks-more : ℕ → ℕ → Downloaded → Part
-  asks-more n target m t = if nat_le target m.from then t else downloading (stepping p says) site n target t
+  asks-more n target m t = if nat_le target m.from then t else downloads_up_to (stepping p says) site n target t
 
   more-as : (n target : ℕ) (t : Session (Faulty World)) (found : Option Downloaded) (past : Bool) → past ≡ is_past target found
-      → after-found (asks-more n target) found t ≡ (if past then t else downloading (stepping p says) site n target t)
-  more-as n target t None past e = ap (λ (b : Bool). if b then t else downloading (stepping p says) site n target t) (sym e)
-  more-as n target t (Some m) past e = ap (λ (b : Bool). if b then t else downloading (stepping p says) site n target t) (sym e)
+      → after-found (asks-more n target) found t ≡ (if past then t else downloads_up_to (stepping p says) site n target t)
+  more-as n target t None past e = ap (λ (b : Bool). if b then t else downloads_up_to (stepping p says) site n target t) (sym e)
+  more-as n target t (Some m) past e = ap (λ (b : Bool). if b then t else downloads_up_to (stepping p says) site n target t) (sym e)
 
   abbrev asks-first : Downloaded → Part
-  asks-first m t = if nat_le m.last m.from then t else downloading (stepping p says) site (m.last + 1 - m.from) m.last t
+  asks-first m t = if nat_le m.last m.from then t else downloads_up_to (stepping p says) site (m.last + 1 - m.from) m.last t
 
   -- the downloads that are left
   abbrev goes-left : Option Span → Part
   goes-left None t = t
-  goes-left (Some span) t = downloading (stepping p says) site (span.last + 1 - span.from) span.last t
+  goes-left (Some span) t = downloads_up_to (stepping p says) site (span.last + 1 - span.from) span.last t
 
-  first-if : (m : Downloaded) (t : Session (Faulty World)) (past : Bool) → (if past then t else downloading (stepping p says) site (m.last + 1 - m.from) m.last t)
+  first-if : (m : Downloaded) (t : Session (Faulty World)) (past : Bool) → (if past then t else downloads_up_to (stepping p says) site (m.last + 1 - m.from) m.last t)
       ≡ goes-left (if past then None else Some (record { from = m.from; last = m.last })) t
   first-if m t true = refl
   first-if m t false = refl
@@ -213,25 +213,25 @@ module _ (p : Publication) (says : Saying) (site : SiteId) where
     -- one of many
     module _ (n target : ℕ) where
       pub download-more : false ≡ is_past target (download_in (last_in v.pool)) → Exchanges p says site SendDownload w v (Taken flag) a b
-          → Reaches (λ l. downloading (stepping p says) site (suc n) target (at p says w x y None l)) (λ l. downloading (stepping p says) site n target (at p says v x (y + one_if flag) None l)) a b
-      download-more past met = same-end (λ l. downloading (stepping p says) site (suc n) target (at p says w x y None l)) (λ l. after-found (asks-more n target) (download_in (last_in v.pool)) (at p says v x (y + one_if flag) None l))
-          (λ l. downloading (stepping p says) site n target (at p says v x (y + one_if flag) None l)) a b
+          → Reaches (λ l. downloads_up_to (stepping p says) site (suc n) target (at p says w x y None l)) (λ l. downloads_up_to (stepping p says) site n target (at p says v x (y + one_if flag) None l)) a b
+      download-more past met = same-end (λ l. downloads_up_to (stepping p says) site (suc n) target (at p says w x y None l)) (λ l. after-found (asks-more n target) (download_in (last_in v.pool)) (at p says v x (y + one_if flag) None l))
+          (λ l. downloads_up_to (stepping p says) site n target (at p says v x (y + one_if flag) None l)) a b
           (λ l. more-as n target (at p says v x (y + one_if flag) None l) (download_in (last_in v.pool)) false past)
           (answered-any (asks-more n target) met)
 
       pub download-last : true ≡ is_past target (download_in (last_in v.pool)) → Exchanges p says site SendDownload w v (Taken flag) a b
-          → Reaches (λ l. downloading (stepping p says) site (suc n) target (at p says w x y None l)) (at p says v x (y + one_if flag) None) a b
-      download-last past met = same-end (λ l. downloading (stepping p says) site (suc n) target (at p says w x y None l)) (λ l. after-found (asks-more n target) (download_in (last_in v.pool)) (at p says v x (y + one_if flag) None l))
+          → Reaches (λ l. downloads_up_to (stepping p says) site (suc n) target (at p says w x y None l)) (at p says v x (y + one_if flag) None) a b
+      download-last past met = same-end (λ l. downloads_up_to (stepping p says) site (suc n) target (at p says w x y None l)) (λ l. after-found (asks-more n target) (download_in (last_in v.pool)) (at p says v x (y + one_if flag) None l))
           (at p says v x (y + one_if flag) None) a b
           (λ l. more-as n target (at p says v x (y + one_if flag) None l) (download_in (last_in v.pool)) true past)
           (answered-any (asks-more n target) met)
 
       pub download-answered : (stop : Option Refusal) → Exchanges p says site SendDownload w v (Answered flag stop) a b
-          → Reaches (λ l. downloading (stepping p says) site (suc n) target (at p says w x y None l)) (at p says v x (y + one_if flag) stop) a b
+          → Reaches (λ l. downloads_up_to (stepping p says) site (suc n) target (at p says w x y None l)) (at p says v x (y + one_if flag) stop) a b
       download-answered stop met = any-answered (after_download (stepping p says) site (asks-more n target)) stop met
 
       pub download-unanswered : (stop : Option Refusal) → Exchanges p says site SendDownload w v (Unanswered stop) a b
-          → Reaches (λ l. downloading (stepping p says) site (suc n) target (at p says w x y None l)) (at p says v x y stop) a b
+          → Reaches (λ l. downloads_up_to (stepping p says) site (suc n) target (at p says w x y None l)) (at p says v x y stop) a b
       download-unanswered stop met = any-unanswered (after_download (stepping p says) site (asks-more n target)) stop met
 
   -- the first download
@@ -289,7 +289,7 @@ module _ (p : Publication) (says : Saying) (site : SiteId) (w : World) (a : ℕ)
 module _ (p : Publication) (says : Saying) (site : SiteId) where
   -- the parts of a session, each behind those before it
   abbrev joined : World → Slips → Session (Faulty World)
-  joined w l = joining (stepping p says) site (at p says w 0 0 None l)
+  joined w l = join_if_due (stepping p says) site (at p says w 0 0 None l)
 
   abbrev uploaded : World → Slips → Session (Faulty World)
   uploaded w l = unless_stopped (stepping p says) site (all_uploads (stepping p says) site) (joined w l)

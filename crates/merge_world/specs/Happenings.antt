@@ -35,7 +35,7 @@ pub record Happened (e : Event) (old new : SitesView) (before after : HandedView
   pub moment : new.moment.0 ≡ old.moment.0 + seconds_of e
 
 -- a local change of a site was made or failed, and what is answered
-pub record Changed (site : SiteId) (change : Change) (old new : SitesView) (answer : Answer) : Type 0 where
+pub record ChangeIsAnswered (site : SiteId) (change : Change) (old new : SitesView) (answer : Answer) : Type 0 where
   pub outcome : Outcome
   pub does : Does (Make site change) old new outcome
   pub answered : answer ≡ change_answer change outcome

@@ -26,13 +26,13 @@ abbrev pub as_request : {T A : Type 0} → (A → Request) → Result (Option (T
 as_request message (Ok made) = Ok (as_any_request message made)
 as_request message (Err refusal) = Err refusal
 
-abbrev pub always : {T A : Type 0} → Result (T × A) Refusal → Result (Option (T × A)) Refusal
-always (Ok made) = Ok (Some made)
-always (Err refusal) = Err refusal
+abbrev pub some_if_made : {T A : Type 0} → Result (T × A) Refusal → Result (Option (T × A)) Refusal
+some_if_made (Ok made) = Ok (Some made)
+some_if_made (Err refusal) = Err refusal
 
 -- the request that a subscriber makes, and its tables behind it, where it has one to make
-abbrev pub requested : Sending → Moment → SubscriberTables → Result (Option (SubscriberTables × Request)) Refusal
-requested SendJoin now s = as_request request.Join (make_join s)
-requested SendUpload now s = as_request request.Upload (make_upload (by_rows s) now s)
-requested SendRanges now s = as_request request.Ranges (make_ranges s)
-requested SendDownload now s = as_request request.Download (always (make_ask s))
+abbrev pub request_of_sending : Sending → Moment → SubscriberTables → Result (Option (SubscriberTables × Request)) Refusal
+request_of_sending SendJoin now s = as_request request.Join (make_join s)
+request_of_sending SendUpload now s = as_request request.Upload (make_upload (by_rows s) now s)
+request_of_sending SendRanges now s = as_request request.Ranges (make_ranges s)
+request_of_sending SendDownload now s = as_request request.Download (some_if_made (make_ask s))

@@ -60,9 +60,9 @@ abbrev pub live_in : {R : Type 0} → (R → Version) → List (RowKey × R) →
 live_in {R} version rows = filter_map (λ (row : RowKey × R). live_row row.0 (version row.1).body) rows
 
 -- a row, where it lives
-abbrev pub alive : Option LiveRow → List LiveRow
-alive None = []
-alive (Some row) = row ∷ []
+abbrev pub row_if_alive : Option LiveRow → List LiveRow
+row_if_alive None = []
+row_if_alive (Some row) = row ∷ []
 
 -- the ranges of an article
 abbrev pub held_of : ℕ × Holder → HeldRanges

@@ -8,7 +8,7 @@ use Rattle.merge_batch.specs.declared.reply.Downloaded.{Downloaded}
 use Rattle.merge_batch.specs.declared.reply.Reply.TheVariants as reply
 use Rattle.merge_model.specs.Failing.{Faulty, Slips, faulty}
 use Rattle.merge_model.specs.Failing.Reach.{Asks, Reaches, at, stepping}
-use Rattle.merge_model.specs.World.Session.{Session, all_downloads, all_ranges, all_uploads, asking_ranges, downloading, exchange, joining, session, uploading}
+use Rattle.merge_model.specs.World.Session.{Session, all_downloads, all_ranges, all_uploads, downloads_up_to, exchange, join_if_due, range_requests_up_to, session, uploads_up_to}
 use Rattle.merge_model.specs.World.Steps.{Sending}
 use Rattle.merge_model.specs.Tables.{SubscriberTables}
 use Rattle.merge_model.specs.World.{Saying, World}
@@ -96,13 +96,13 @@ module _ (publication : Publication) (says : Saying) where
       → Reaches (λ slips. exchange (stepping publication says) site sending counted next (at publication says w x y None slips)) (at publication says v x y stop) before after
 
   abbrev pub part_of : SiteId → Stage → Part
-  part_of site Joins = joining (stepping publication says) site
+  part_of site Joins = join_if_due (stepping publication says) site
   part_of site AllUploads = all_uploads (stepping publication says) site
-  part_of site (Uploads most) = uploading (stepping publication says) site most
+  part_of site (Uploads most) = uploads_up_to (stepping publication says) site most
   part_of site AllRanges = all_ranges (stepping publication says) site
-  part_of site (Ranges most) = asking_ranges (stepping publication says) site most
+  part_of site (Ranges most) = range_requests_up_to (stepping publication says) site most
   part_of site AllDownloads = all_downloads (stepping publication says) site
-  part_of site (Downloads most target) = downloading (stepping publication says) site most target
+  part_of site (Downloads most target) = downloads_up_to (stepping publication says) site most target
 
   -- a part of a session that nothing ended before, with how many uploads and downloads were counted
   unfoldable pub Goes : SiteId → Stage → World → World → ℕ → ℕ → ℕ → ℕ → Option Refusal → ℕ → ℕ → Type 0
@@ -116,12 +116,12 @@ module _ (publication : Publication) (says : Saying) where
   unfoldable pub Syncs : SiteId → World → World → ℕ → ℕ → Option Refusal → ℕ → ℕ → Type 0
   Syncs site w v uploads downloads stop before after = Reaches (λ slips. session (stepping publication says) site (faulty w slips)) (at publication says v uploads downloads stop) before after
 
-pub record Met (site : SiteId) (sending : Sending) (old new : SitesView) (before after : HandedView) (exchanged : Exchanged) : Type 0 where
+pub record SitesExchange (site : SiteId) (sending : Sending) (old new : SitesView) (before after : HandedView) (exchanged : Exchanged) : Type 0 where
   pub goes : Exchanges old.publication before.says site sending (world_of old before.tallies) (world_of new after.tallies) exchanged old.faults new.faults
   pub keeps : Keeps old new before after
 
 -- the same of sites with their resolvers
-pub record Ran (site : SiteId) (stage : Stage) (old new : SitesView) (before after : HandedView) (x y i j : ℕ) (stop : Option Refusal) : Type 0 where
+pub record SitesGo (site : SiteId) (stage : Stage) (old new : SitesView) (before after : HandedView) (x y i j : ℕ) (stop : Option Refusal) : Type 0 where
   pub goes : Goes old.publication before.says site stage (world_of old before.tallies) (world_of new after.tallies) x y i j stop old.faults new.faults
   pub keeps : Keeps old new before after
 
@@ -129,6 +129,6 @@ pub record Stands (site : SiteId) (stage left : Stage) (old new : SitesView) (be
   pub leaves : Leaves old.publication before.says site stage left (world_of old before.tallies) (world_of new after.tallies) x y i j old.faults new.faults
   pub keeps : Keeps old new before after
 
-pub record Synced (site : SiteId) (old new : SitesView) (before after : HandedView) (uploads downloads : ℕ) (stop : Option Refusal) : Type 0 where
+pub record SitesSync (site : SiteId) (old new : SitesView) (before after : HandedView) (uploads downloads : ℕ) (stop : Option Refusal) : Type 0 where
   pub syncs : Syncs old.publication before.says site (world_of old before.tallies) (world_of new after.tallies) uploads downloads stop old.faults new.faults
   pub keeps : Keeps old new before after

@@ -4,7 +4,7 @@ ghost use Rattle.merge_batch.specs.LocalChanges.{article_of, is_insert};
 ghost use Rattle.merge_model.specs.World.Events.{change_answer, refused_change};
 ghost use Rattle.merge_model.specs.declared.event.Event.TheVariants as event;
 ghost use Rattle.merge_model.specs.declared.outcome.Outcome.TheVariants as outcome;
-ghost use Rattle.merge_world.specs.Happenings.{Changed, Happened};
+ghost use Rattle.merge_world.specs.Happenings.{ChangeIsAnswered, Happened};
 ghost use Rattle.merge_world.specs.Naming.{IsPlaced};
 ghost use Rattle.merge_world.specs.Views.{IsOrdered};
 
@@ -74,7 +74,7 @@ impl<P: PublisherSite, S: SubscriberSite> Sites<P, S> {
     fn change(&mut self, site: SiteId, change: &Change) -> Answer
         requires ordered { IsOrdered (⟦<Sites<P, S> as Seen>⟧.seen self.old) }
         requires placed { IsPlaced (⟦<Sites<P, S> as Seen>⟧.seen self.old).publication change.now }
-        ensures { Changed site change.now (⟦<Sites<P, S> as Seen>⟧.seen self.old) (⟦<Sites<P, S> as Seen>⟧.seen self.new) result }
+        ensures { ChangeIsAnswered site change.now (⟦<Sites<P, S> as Seen>⟧.seen self.old) (⟦<Sites<P, S> as Seen>⟧.seen self.new) result }
     {
         change_answer(change, self.make(site, change))
     }

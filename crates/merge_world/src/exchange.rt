@@ -1,7 +1,7 @@
 //! A message of a session, with its answer.
 ghost use Rattle.std.specs.Prelude.{◌≡◌, ◌≤◌, Some, option_copied};
 ghost use Rattle.merge_world.specs.Messages.{sending_of};
-ghost use Rattle.merge_world.specs.Sessions.{Met, Reports, brings_found, download_in, grants, is_past, last_in, left_in, one_if};
+ghost use Rattle.merge_world.specs.Sessions.{Reports, SitesExchange, brings_found, download_in, grants, is_past, last_in, left_in, one_if};
 ghost use Rattle.merge_world.specs.Views.{IsOrdered, handed_view};
 
 use crate::sending::Sending;
@@ -131,7 +131,7 @@ impl<P: PublisherSite, S: SubscriberSite> Sites<P, S> {
         sending: Sending,
     ) -> Exchanged
         requires { IsOrdered (⟦<Sites<P, S> as Seen>⟧.seen self.old) }
-        ensures { Met site (sending_of sending) (⟦<Sites<P, S> as Seen>⟧.seen self.old) (⟦<Sites<P, S> as Seen>⟧.seen self.new)
+        ensures { SitesExchange site (sending_of sending) (⟦<Sites<P, S> as Seen>⟧.seen self.old) (⟦<Sites<P, S> as Seen>⟧.seen self.new)
             (handed_view (λ r. says r) (λ r. tally_of r) resolvers.old.items) (handed_view (λ r. says r) (λ r. tally_of r) resolvers.new.items) result }
     {
         match self.ask(resolvers, site, sending) {

@@ -5,7 +5,7 @@ ghost use Rattle.std.specs.Prelude.{◌≡◌, ◌⊎◌, [], IfErr, IfOk, IfSom
 ghost use Rattle.merge_batch.specs.Articles.{has_article};
 ghost use Rattle.merge_batch.specs.LocalChanges.{columns_at};
 ghost use Rattle.merge_batch.specs.declared.refusal.Refusal.TheVariants.{NoMemory as no_memory, UnknownName as unknown_name};
-ghost use Rattle.merge_model.specs.World.Naming.{article_by, article_place, column_place, delete_by, insert_by, placed, set_at, setting_of, settings_by, update_by};
+ghost use Rattle.merge_model.specs.World.Naming.{article_by, article_place, column_place, delete_by, insert_by, set_at, setting_of, settings_by, update_by, values_at_places};
 ghost use Rattle.merge_types.specs.declared.Column.{Column as OneColumn};
 ghost use Rattle.merge_units.specs.Changes.{ColumnsAscend};
 ghost use Rattle.merge_world.specs.Naming.{IsPlaced, IsUnnamed};
@@ -118,8 +118,8 @@ fn placed(
     columns: &[Column],
     values: &[NamedValue],
 ) -> Result<Table<u8, Value>, Refusal>
-    ensures named { IfOk result (λ places. placed columns.now [] values.now ≡ Ok places.rows) }
-    ensures unnamed { IfErr result (λ why. IsUnnamed (placed columns.now [] values.now) why) }
+    ensures named { IfOk result (λ places. values_at_places columns.now [] values.now ≡ Ok places.rows) }
+    ensures unnamed { IfErr result (λ why. IsUnnamed (values_at_places columns.now [] values.now) why) }
 {
     let mut places = Table::new(alloc);
     for named in values {

@@ -1,13 +1,13 @@
 //! The messages of a world, by their numbers.
 ghost use Rattle.std.specs.Prelude.{◌≡◌, ◌+◌, ◌++◌, ◌∷◌, ◌<◌, ◌≤◌, [], vec_len, vec_capacity};
 ghost use Rattle.std.specs.Option.{option_copied};
-ghost use Rattle.merge_model.specs.World.Parts.{pooled};
+ghost use Rattle.merge_model.specs.World.Parts.{letter_in_pool};
 
 use merge_model::Letter;
 
 /// The message with a number.
 pub(crate) fn letter_at(pool: &[Letter], number: u64) -> Option<&Letter>
-    ensures { option_copied result ≡ pooled pool.now number }
+    ensures { option_copied result ≡ letter_in_pool pool.now number }
 {
     if number == 0 {
         return None;

@@ -8,7 +8,7 @@ ghost use Rattle.merge_units.specs.declared.version.Cell.{Cell as OneCell};
 ghost use Rattle.merge_model.specs.declared.answer.Answer.TheVariants.{Rows};
 ghost use Rattle.merge_model.specs.Script.Proper.{IsProperAnswer};
 ghost use Rattle.merge_world.specs.Printable.{ArePrintable};
-ghost use Rattle.merge_world.specs.Reports.{alive, live_in};
+ghost use Rattle.merge_world.specs.Reports.{live_in, row_if_alive};
 
 use merge_model::ShownRow;
 use merge_schema::Publication;
@@ -68,7 +68,7 @@ fn add_row(
     key: RowKey,
     body: &Body,
 ) -> Result<(), NoMemory>
-    ensures { OnOk result (shown.new ≡ shown.old ++ shown_rows article (alive (live_row key body.now))) }
+    ensures { OnOk result (shown.new ≡ shown.old ++ shown_rows article (row_if_alive (live_row key body.now))) }
 {
     match body {
         Body::Live(cells) => {
@@ -142,7 +142,7 @@ fn count<R: Versioned>(rows: &Table<RowKey, R>, article: usize) -> u64
 
 // 1 for a live row of the article.
 fn one_of(article: usize, key: RowKey, body: &Body) -> u64
-    ensures { result ≡ count_by (is_of_article article) (alive (live_row key body.now)) }
+    ensures { result ≡ count_by (is_of_article article) (row_if_alive (live_row key body.now)) }
 {
     match body {
         Body::Live(_) => {

@@ -3,7 +3,7 @@ ghost use Rattle.std.specs.Prelude.{◌≡◌, ◌<◌, option_map, vec_len, vec
 ghost use Rattle.merge_batch.specs.declared.request.Request.TheVariants as request;
 ghost use Rattle.merge_model.specs.World.Calls.{message_commits, message_or_none};
 ghost use Rattle.merge_model.specs.World.Steps.{Send};
-ghost use Rattle.merge_world.specs.Messages.{requested, sending_of};
+ghost use Rattle.merge_world.specs.Messages.{request_of_sending, sending_of};
 ghost use Rattle.merge_world.specs.Views.{Does, IsOrdered, SubscriberCall};
 
 use crate::sites::{PublisherSite, SubscriberSite};
@@ -54,7 +54,7 @@ fn request_of<S: SubscriberSite>(
     moment: Moment,
     sending: Sending,
 ) -> Result<Option<Request>, Refusal>
-    ensures called { SubscriberCall (message_or_none (S.view subscriber.old).tables (requested (sending_of sending) moment (S.view subscriber.old).tables)) message_commits (S.view subscriber.old) (S.view subscriber.new) result }
+    ensures called { SubscriberCall (message_or_none (S.view subscriber.old).tables (request_of_sending (sending_of sending) moment (S.view subscriber.old).tables)) message_commits (S.view subscriber.old) (S.view subscriber.new) result }
     ensures publication { (S.view subscriber.new).publication ≡ (S.view subscriber.old).publication }
     ensures site { (S.view subscriber.new).tables.site ≡ (S.view subscriber.old).tables.site }
 {

@@ -1,6 +1,6 @@
 //! Sessions.
 ghost use Rattle.std.specs.Prelude.{◌≡◌, ◌≤◌, ◌<◌, ◌+◌, ◌-◌, ℕ};
-ghost use Rattle.merge_world.specs.Sessions.{AllDownloads, AllRanges, AllUploads, Downloads, Joins, Ran, Ranges, Synced, Uploads, one_if};
+ghost use Rattle.merge_world.specs.Sessions.{AllDownloads, AllRanges, AllUploads, Downloads, Joins, Ranges, SitesGo, SitesSync, Uploads, one_if};
 ghost use Rattle.merge_world.specs.Views.{IsOrdered, handed_view};
 
 use crate::exchange::{Exchanged, Span, one_if};
@@ -31,7 +31,7 @@ impl<P: PublisherSite, S: SubscriberSite> Sites<P, S> {
     // A site that has not joined joins.
     fn join(&mut self, resolvers: &mut Vec<Handed>, site: SiteId) -> Option<Refusal>
         requires { IsOrdered (⟦<Sites<P, S> as Seen>⟧.seen self.old) }
-        ensures { Ran site Joins (⟦<Sites<P, S> as Seen>⟧.seen self.old) (⟦<Sites<P, S> as Seen>⟧.seen self.new)
+        ensures { SitesGo site Joins (⟦<Sites<P, S> as Seen>⟧.seen self.old) (⟦<Sites<P, S> as Seen>⟧.seen self.new)
             (handed_view (λ r. says r) (λ r. tally_of r) resolvers.old.items) (handed_view (λ r. says r) (λ r. tally_of r) resolvers.new.items) 0 0 0 0 result }
     {
         if self.is_joined(site) {
@@ -47,7 +47,7 @@ impl<P: PublisherSite, S: SubscriberSite> Sites<P, S> {
     // Uploads until there is none to make, and at most so many.
     fn uploading(&mut self, resolvers: &mut Vec<Handed>, site: SiteId, most: u64) -> Turns
         requires { IsOrdered (⟦<Sites<P, S> as Seen>⟧.seen self.old) }
-        ensures { Ran site (Uploads most) (⟦<Sites<P, S> as Seen>⟧.seen self.old) (⟦<Sites<P, S> as Seen>⟧.seen self.new)
+        ensures { SitesGo site (Uploads most) (⟦<Sites<P, S> as Seen>⟧.seen self.old) (⟦<Sites<P, S> as Seen>⟧.seen self.new)
             (handed_view (λ r. says r) (λ r. tally_of r) resolvers.old.items) (handed_view (λ r. says r) (λ r. tally_of r) resolvers.new.items) 0 0 result.count 0 result.stop }
     {
         let mut count = 0u64;
@@ -70,7 +70,7 @@ impl<P: PublisherSite, S: SubscriberSite> Sites<P, S> {
     // All uploads.
     fn all_uploads(&mut self, resolvers: &mut Vec<Handed>, site: SiteId) -> Turns
         requires { IsOrdered (⟦<Sites<P, S> as Seen>⟧.seen self.old) }
-        ensures { Ran site AllUploads (⟦<Sites<P, S> as Seen>⟧.seen self.old) (⟦<Sites<P, S> as Seen>⟧.seen self.new)
+        ensures { SitesGo site AllUploads (⟦<Sites<P, S> as Seen>⟧.seen self.old) (⟦<Sites<P, S> as Seen>⟧.seen self.new)
             (handed_view (λ r. says r) (λ r. tally_of r) resolvers.old.items) (handed_view (λ r. says r) (λ r. tally_of r) resolvers.new.items) 0 0 result.count 0 result.stop }
     {
         match self.unsent_generations(site) {
@@ -90,7 +90,7 @@ impl<P: PublisherSite, S: SubscriberSite> Sites<P, S> {
         most: u64,
     ) -> Option<Refusal>
         requires { IsOrdered (⟦<Sites<P, S> as Seen>⟧.seen self.old) }
-        ensures { (x y : ℕ) → Ran site (Ranges most) (⟦<Sites<P, S> as Seen>⟧.seen self.old) (⟦<Sites<P, S> as Seen>⟧.seen self.new)
+        ensures { (x y : ℕ) → SitesGo site (Ranges most) (⟦<Sites<P, S> as Seen>⟧.seen self.old) (⟦<Sites<P, S> as Seen>⟧.seen self.new)
             (handed_view (λ r. says r) (λ r. tally_of r) resolvers.old.items) (handed_view (λ r. says r) (λ r. tally_of r) resolvers.new.items) x y x y result }
     {
         for at in 0..most {
@@ -111,7 +111,7 @@ impl<P: PublisherSite, S: SubscriberSite> Sites<P, S> {
     // All requests for ranges.
     fn all_ranges(&mut self, resolvers: &mut Vec<Handed>, site: SiteId) -> Option<Refusal>
         requires { IsOrdered (⟦<Sites<P, S> as Seen>⟧.seen self.old) }
-        ensures { (x y : ℕ) → Ran site AllRanges (⟦<Sites<P, S> as Seen>⟧.seen self.old) (⟦<Sites<P, S> as Seen>⟧.seen self.new)
+        ensures { (x y : ℕ) → SitesGo site AllRanges (⟦<Sites<P, S> as Seen>⟧.seen self.old) (⟦<Sites<P, S> as Seen>⟧.seen self.new)
             (handed_view (λ r. says r) (λ r. tally_of r) resolvers.old.items) (handed_view (λ r. says r) (λ r. tally_of r) resolvers.new.items) x y x y result }
     {
         let most = self.publisher.grants().len() as u64 + 4;
@@ -127,7 +127,7 @@ impl<P: PublisherSite, S: SubscriberSite> Sites<P, S> {
         target: u64,
     ) -> Turns
         requires { IsOrdered (⟦<Sites<P, S> as Seen>⟧.seen self.old) }
-        ensures ran { (x y : ℕ) → Ran site (Downloads most target) (⟦<Sites<P, S> as Seen>⟧.seen self.old) (⟦<Sites<P, S> as Seen>⟧.seen self.new)
+        ensures ran { (x y : ℕ) → SitesGo site (Downloads most target) (⟦<Sites<P, S> as Seen>⟧.seen self.old) (⟦<Sites<P, S> as Seen>⟧.seen self.new)
             (handed_view (λ r. says r) (λ r. tally_of r) resolvers.old.items) (handed_view (λ r. says r) (λ r. tally_of r) resolvers.new.items) x y x (y + result.count) result.stop }
         ensures few { result.count ≤ most }
     {
@@ -157,7 +157,7 @@ impl<P: PublisherSite, S: SubscriberSite> Sites<P, S> {
     // All downloads. The first answer tells the last closed generation, from which the site asks last.
     fn all_downloads(&mut self, resolvers: &mut Vec<Handed>, site: SiteId) -> Turns
         requires { IsOrdered (⟦<Sites<P, S> as Seen>⟧.seen self.old) }
-        ensures { (x : ℕ) → Ran site AllDownloads (⟦<Sites<P, S> as Seen>⟧.seen self.old) (⟦<Sites<P, S> as Seen>⟧.seen self.new)
+        ensures { (x : ℕ) → SitesGo site AllDownloads (⟦<Sites<P, S> as Seen>⟧.seen self.old) (⟦<Sites<P, S> as Seen>⟧.seen self.new)
             (handed_view (λ r. says r) (λ r. tally_of r) resolvers.old.items) (handed_view (λ r. says r) (λ r. tally_of r) resolvers.new.items) x 0 x result.count result.stop }
     {
         match self.exchange(resolvers, site, Sending::Download) {
@@ -186,7 +186,7 @@ impl<P: PublisherSite, S: SubscriberSite> Sites<P, S> {
     ) -> Turns
         requires ordered { IsOrdered (⟦<Sites<P, S> as Seen>⟧.seen self.old) }
         requires beyond { span.from < span.last }
-        ensures { (x : ℕ) → Ran site (Downloads (span.last + 1 - span.from) span.last) (⟦<Sites<P, S> as Seen>⟧.seen self.old) (⟦<Sites<P, S> as Seen>⟧.seen self.new)
+        ensures { (x : ℕ) → SitesGo site (Downloads (span.last + 1 - span.from) span.last) (⟦<Sites<P, S> as Seen>⟧.seen self.old) (⟦<Sites<P, S> as Seen>⟧.seen self.new)
             (handed_view (λ r. says r) (λ r. tally_of r) resolvers.old.items) (handed_view (λ r. says r) (λ r. tally_of r) resolvers.new.items) x (one_if brings) x result.count result.stop }
     {
         if span.last >= NUMBER_LIMIT {
@@ -207,7 +207,7 @@ impl<P: PublisherSite, S: SubscriberSite> Sites<P, S> {
     /// It ends with the first refusal.
     pub fn session(&mut self, resolvers: &mut Vec<Handed>, site: SiteId) -> Ended
         requires { IsOrdered (⟦<Sites<P, S> as Seen>⟧.seen self.old) }
-        ensures { Synced site (⟦<Sites<P, S> as Seen>⟧.seen self.old) (⟦<Sites<P, S> as Seen>⟧.seen self.new)
+        ensures { SitesSync site (⟦<Sites<P, S> as Seen>⟧.seen self.old) (⟦<Sites<P, S> as Seen>⟧.seen self.new)
             (handed_view (λ r. says r) (λ r. tally_of r) resolvers.old.items) (handed_view (λ r. says r) (λ r. tally_of r) resolvers.new.items) result.uploads result.downloads result.stop }
     {
         if let Some(refusal) = self.join(resolvers, site) {

@@ -19,14 +19,14 @@ pub trait PublisherSite: Drop {
     ghost use Rattle.merge_resolve.specs.Asked.{says_at};
     ghost use Rattle.merge_units.specs.Changes.{ColumnsAscend};
     ghost use Rattle.merge_model.specs.Judge.ByNumbers.{by_numbers};
-    ghost use Rattle.merge_model.specs.World.Calls.{Counted, always_commits, closing_commits, handled, questions_on, request_commits};
+    ghost use Rattle.merge_model.specs.World.Calls.{Counted, always_commits, closing_commits, questions_on, request_commits, result_of_request};
     ghost use Rattle.merge_model.specs.Tables.Keys.{at_number};
     ghost use Rattle.merge_model.specs.Publisher.{close_generation};
     ghost use Rattle.merge_model.specs.Publisher.PublisherLocal.{local};
     ghost use Rattle.merge_model.specs.Publisher.PublisherPurge.{purge};
     ghost use Rattle.merge_model.specs.World.Reports.{partition_rows};
     ghost use Rattle.merge_world.specs.Printable.{AreLostPrintable, ArePrintable};
-    ghost use Rattle.merge_world.specs.Restarts.{Restarted};
+    ghost use Rattle.merge_world.specs.Restarts.{RestartEnds};
     ghost use Rattle.merge_world.specs.Views.{PublisherCall, PublisherView};
 
     ghost view: { Self → PublisherView };
@@ -53,9 +53,9 @@ pub trait PublisherSite: Drop {
         now: Moment,
         request: &Request,
     ) -> Result<Reply, Refusal>
-        ensures called { PublisherCall (handled (view self.old).publication (says_at (λ r. says r) resolvers.old.items) (map (λ r. tally_of r) resolvers.old.items) now request.now (view self.old).tables)
+        ensures called { PublisherCall (result_of_request (view self.old).publication (says_at (λ r. says r) resolvers.old.items) (map (λ r. tally_of r) resolvers.old.items) now request.now (view self.old).tables)
             (request_commits (view self.old).publication now request.now (view self.old).tables) (view self.old) (view self.new) result }
-        ensures counted { Counted (handled (view self.old).publication (says_at (λ r. says r) resolvers.old.items) (map (λ r. tally_of r) resolvers.old.items) now request.now (view self.old).tables)
+        ensures counted { Counted (result_of_request (view self.old).publication (says_at (λ r. says r) resolvers.old.items) (map (λ r. tally_of r) resolvers.old.items) now request.now (view self.old).tables)
             (questions_on (view self.old).publication now request.now (view self.old).tables) (map (λ r. tally_of r) resolvers.old.items) (map (λ r. tally_of r) resolvers.new.items) result }
         ensures publication { (view self.new).publication ≡ (view self.old).publication }
         ensures steady { (k n : ℕ) (asked : _) → says_at (λ r. says r) resolvers.new.items k n asked ≡ says_at (λ r. says r) resolvers.old.items k n asked };
@@ -67,7 +67,7 @@ pub trait PublisherSite: Drop {
 
     /// Stops, and starts from what is kept. A store that cannot be read, or damaged records, end it.
     fn restart(&mut self) -> Result<(), Refusal>
-        ensures restarted { Restarted (view self.old).tables (view self.new).tables (view self.old).faults (view self.new).faults result }
+        ensures restarted { RestartEnds (view self.old).tables (view self.new).tables (view self.old).faults (view self.new).faults result }
         ensures damaged { (table : ℕ) (key : List ℕ) → result ≡ Err (Damaged table key) → Damage self.new table key }
         ensures publication { (view self.new).publication ≡ (view self.old).publication };
 
@@ -117,7 +117,7 @@ pub trait SubscriberSite: Drop {
     ghost use Rattle.merge_model.specs.Subscriber.Taking.{take_reply};
     ghost use Rattle.merge_units.specs.Changes.{ColumnsAscend};
     ghost use Rattle.merge_world.specs.Printable.{AreLostPrintable, ArePrintable};
-    ghost use Rattle.merge_world.specs.Restarts.{Restarted};
+    ghost use Rattle.merge_world.specs.Restarts.{RestartEnds};
     ghost use Rattle.merge_world.specs.Views.{SubscriberCall, SubscriberView};
 
     ghost view: { Self → SubscriberView };
@@ -177,7 +177,7 @@ pub trait SubscriberSite: Drop {
 
     /// Stops, and starts from what is kept. A store that cannot be read, or damaged records, end it.
     fn restart(&mut self) -> Result<(), Refusal>
-        ensures restarted { Restarted (view self.old).tables (view self.new).tables (view self.old).faults (view self.new).faults result }
+        ensures restarted { RestartEnds (view self.old).tables (view self.new).tables (view self.old).faults (view self.new).faults result }
         ensures damaged { (table : ℕ) (key : List ℕ) → result ≡ Err (Damaged table key) → Damage self.new table key }
         ensures publication { (view self.new).publication ≡ (view self.old).publication }
         ensures site { (view self.new).tables.site ≡ (view self.old).tables.site };

@@ -26,7 +26,7 @@ use Rattle.merge_model.specs.Tables.Publications.{by_site}
 use Rattle.merge_model.specs.Publisher.{last_closed}
 use Rattle.merge_model.specs.Publisher.PublisherLocal.{Drawn, local_refusal, made_locally, next_dot}
 use Rattle.merge_model.specs.Publisher.PublisherPurge.{purge}
-use Rattle.merge_model.specs.Subscriber.Reinit.{discarded, reinitialised}
+use Rattle.merge_model.specs.Subscriber.Reinit.{discarded_versions, result_of_reinit}
 use Rattle.merge_model.specs.Subscriber.{is_joining, subscriber_at_moment, subscriber_last_closed, subscriber_local_refusal, subscriber_made_locally, subscriber_next_dot, subscriber_version_at, with_version_if}
 use Rattle.merge_types.specs.declared.row_key.RowKey.{RowKey as Key}
 use Rattle.merge_model.specs.Tables.{PublisherTables, SubscriberTables}
@@ -210,13 +210,13 @@ discards-accept w site [] h i = i
 discards-accept w site (row ∷ rows) h i = discards-accept w site rows (Noting.with_discarded site h row) (others-accepted w h h.lines (Noting.with_discarded site h row).lost h.purged h.bases i)
 
 pub anew-accepts : (w : World) (h : History) (s : SubscriberTables) → Accepted w h → subscriber_at w s.site ≡ Some s
-    → (let judge : SubscriberJudge = by_made h s.site in Accepted (with_subscriber (reinitialised judge (subscriber_at_moment w.moment s)).0 w) (Noting.noted_anew judge s h))
+    → (let judge : SubscriberJudge = by_made h s.site in Accepted (with_subscriber (result_of_reinit judge (subscriber_at_moment w.moment s)).0 w) (Noting.noted_anew judge s h))
 anew-accepts w before s old at =
     let judge : SubscriberJudge = by_made before s.site in
-    let t : SubscriberTables = (reinitialised judge (subscriber_at_moment w.moment s)).0 in
+    let t : SubscriberTables = (result_of_reinit judge (subscriber_at_moment w.moment s)).0 in
     let n : ℕ = s.site.0 in
-    let h : History = fold (Noting.with_discarded s.site) before (discarded judge s) in
-    let i : Accepted w h = discards-accept w s.site (discarded judge s) before old in
+    let h : History = fold (Noting.with_discarded s.site) before (discarded_versions judge s) in
+    let i : Accepted w h = discards-accept w s.site (discarded_versions judge s) before old in
     let k : History = record h { pasts = put_number h.pasts n [] } in
     let v : World = with_subscriber t w in
     let fits : (m : ℕ) → SiteFits w.publisher h m (pasts_at k m) = all-sites (λ (m : ℕ) (x : List (Key × Past)). SiteFits w.publisher h m x) h.pasts n [] (λ key. nothing-fits w.publisher h n) (all-fit w h i) in

@@ -20,7 +20,7 @@ use Rattle.merge_model.specs.History.Noting
 use Rattle.merge_types.specs.declared.row_key.RowKey.{RowKey as Key}
 use Rattle.merge_units.specs.declared.site_row.SubscriberRow.{SubscriberRow}
 use Rattle.merge_model.specs.Tables.{PublisherTables, SubscriberTables}
-use Rattle.merge_model.specs.Subscriber.Taking.{row_above, seq_of, taken}
+use Rattle.merge_model.specs.Subscriber.Taking.{row_above, seq_of, tables_after_reply}
 use Rattle.merge_model.specs.World.{World, subscriber_at, with_subscriber}
 use Rattle.merge_model.specs.declared.letter.Letter.{Letter}
 use Rattle.merge_model.specs.declared.letter.Message.TheVariants.{Replies}
@@ -62,13 +62,13 @@ parts-inserts h k made accepted done all = subst (λ (x : List MadeChange). AllB
 
 pub download-accepts : (publication : Publication) (w : World) (h : History) (s : SubscriberTables) (number : ℕ) (m : Downloaded) (sent : Outstanding) → Ground publication w h → KnownMakers w h → Accepted w h → subscriber_at w s.site ≡ Some s → comes w number s.site (Replies (reply.Downloaded m))
     → s.outstanding ≡ Some (m.seq, sent) → reply_fault publication sent (reply.Downloaded m) s ≡ None
-    → (let judge : SubscriberJudge = by_made h s.site in Accepted (with_subscriber (taken judge w.moment (reply.Downloaded m) s) w) (Noting.noted_reply judge s.site (pasts_with h number) (reply.Downloaded m) h))
+    → (let judge : SubscriberJudge = by_made h s.site in Accepted (with_subscriber (tables_after_reply judge w.moment (reply.Downloaded m) s) w) (Noting.noted_reply judge s.site (pasts_with h number) (reply.Downloaded m) h))
 download-accepts publication w h s number m sent g makers i at came out none =
     let judge : SubscriberJudge = by_made h s.site in
     let n : ℕ = s.site.0 in
     let incoming : List (Key × Past) = pasts_with h number in
     let k : History = fold (Noting.with_item_past judge m.received n incoming) h m.items in
-    let t : SubscriberTables = taken judge w.moment (reply.Downloaded m) s in
+    let t : SubscriberTables = tables_after_reply judge w.moment (reply.Downloaded m) s in
     let v : World = with_subscriber t w in
     let letter : Letter = record { site = s.site; message = Replies (reply.Downloaded m) } in
     let joins : s.is_joined ≡ true = download-joined publication (received_by_number w.publisher n) (joined_at w.publisher (record { 0 = n })) sent m s s.is_joined refl out none (g.behind.subscribers n s at) in
@@ -109,9 +109,9 @@ empty-above received rows is = ap (λ (x : List (Key × SubscriberRow)). map (ro
 
 pub reply-accepts : (publication : Publication) (w : World) (h : History) (s : SubscriberTables) (number : ℕ) (m : Reply) (sent : Outstanding) → Ground publication w h → KnownMakers w h → Accepted w h → subscriber_at w s.site ≡ Some s → comes w number s.site (Replies m)
     → s.outstanding ≡ Some (seq_of m, sent) → reply_fault publication sent m s ≡ None
-    → (let judge : SubscriberJudge = by_made h s.site in Accepted (with_subscriber (taken judge w.moment m s) w) (Noting.noted_reply judge s.site (pasts_with h number) m h))
-reply-accepts publication w h s number (reply.Joined m) sent g makers i at came out none = subscriber-accepted w h s (taken (by_made h s.site) w.moment (reply.Joined m) s) at refl (λ waits. absurd (grind (arith, waits))) i
-reply-accepts publication w h s number (reply.Uploaded m) sent g makers i at came out none = subscriber-accepted w h s (taken (by_made h s.site) w.moment (reply.Uploaded m) s) at refl (λ waits. (waits, λ bare. empty-above m.received s.rows bare)) i
-reply-accepts publication w h s number (reply.Ranged m) sent g makers i at came out none = subscriber-accepted w h s (taken (by_made h s.site) w.moment (reply.Ranged m) s) at refl (λ waits. (waits, λ bare. bare)) i
+    → (let judge : SubscriberJudge = by_made h s.site in Accepted (with_subscriber (tables_after_reply judge w.moment m s) w) (Noting.noted_reply judge s.site (pasts_with h number) m h))
+reply-accepts publication w h s number (reply.Joined m) sent g makers i at came out none = subscriber-accepted w h s (tables_after_reply (by_made h s.site) w.moment (reply.Joined m) s) at refl (λ waits. absurd (grind (arith, waits))) i
+reply-accepts publication w h s number (reply.Uploaded m) sent g makers i at came out none = subscriber-accepted w h s (tables_after_reply (by_made h s.site) w.moment (reply.Uploaded m) s) at refl (λ waits. (waits, λ bare. empty-above m.received s.rows bare)) i
+reply-accepts publication w h s number (reply.Ranged m) sent g makers i at came out none = subscriber-accepted w h s (tables_after_reply (by_made h s.site) w.moment (reply.Ranged m) s) at refl (λ waits. (waits, λ bare. bare)) i
 reply-accepts publication w h s number (reply.Downloaded m) sent g makers i at came out none = download-accepts publication w h s number m sent g makers i at came out none
-reply-accepts publication w h s number (reply.Refused code values) sent g makers i at came out none = subscriber-accepted w h s (taken (by_made h s.site) w.moment (reply.Refused code values) s) at refl (λ waits. (waits, λ bare. bare)) i
+reply-accepts publication w h s number (reply.Refused code values) sent g makers i at came out none = subscriber-accepted w h s (tables_after_reply (by_made h s.site) w.moment (reply.Refused code values) s) at refl (λ waits. (waits, λ bare. bare)) i

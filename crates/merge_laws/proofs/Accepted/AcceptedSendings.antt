@@ -21,7 +21,7 @@ use Rattle.merge_model.specs.Judge.{PublisherJudge}
 use Rattle.merge_types.specs.RowKeys.{key_cmp}
 use Rattle.merge_model.specs.Tables.Keys.{row_at, same_key}
 use Rattle.merge_model.specs.History.Model.{past_of_item, with_letter}
-use Rattle.merge_model.specs.Publisher.PublisherDownload.{asked, reply_to}
+use Rattle.merge_model.specs.Publisher.PublisherDownload.{reply_to, tables_after_download}
 use Rattle.merge_model.specs.Subscriber.Sending.{upload_item, upload_sent}
 use Rattle.merge_model.specs.Subscriber.{subscriber_at_moment, subscriber_closed}
 use Rattle.merge_types.specs.declared.row_key.RowKey.{RowKey as Key}
@@ -132,11 +132,11 @@ upload-posted publication w h s g makers i at =
     (subscriber-accepted w h s made.0 at refl (λ waits. (waits, λ bare. bare)) i)
 
 pub ask-answered : (publication : Publication) (w : World) (h : History) (number : ℕ) (site : SiteId) (m : Download) → Accepted w h
-    → (let judge : PublisherJudge = by_past h (pasts_with h number) in let message : Message = Replies (reply.Downloaded (reply_to publication judge m (asked m (here w)))) in
-    Accepted (record (with_publisher (asked m (here w)) w) { pool = w.pool ++ record { site = site; message = message } ∷ [] }) (with_letter (record { site = site; message = message }) h))
+    → (let judge : PublisherJudge = by_past h (pasts_with h number) in let message : Message = Replies (reply.Downloaded (reply_to publication judge m (tables_after_download m (here w)))) in
+    Accepted (record (with_publisher (tables_after_download m (here w)) w) { pool = w.pool ++ record { site = site; message = message } ∷ [] }) (with_letter (record { site = site; message = message }) h))
 ask-answered publication w h number site m i =
     let judge : PublisherJudge = by_past h (pasts_with h number) in
-    let q : PublisherTables = asked m (here w) in
+    let q : PublisherTables = tables_after_download m (here w) in
     let sent : Downloaded = reply_to publication judge m q in
     let same = asked-same m (here w) in
     post-accepted (with_publisher q w) h site (Replies (reply.Downloaded sent)) tt (put-rows (λ (past : Past). OthersAccepted h 0 past.known) (pasts_at h 0) i.counts.here sent.items) tt

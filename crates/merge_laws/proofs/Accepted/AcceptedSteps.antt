@@ -10,9 +10,9 @@ use Rattle.merge_model.specs.History.{History, no_history, pasts_with}
 use Rattle.merge_model.specs.Judge.{PublisherJudge}
 use Rattle.merge_model.specs.History.Model.{Model, empty_model, model_step}
 use Rattle.merge_model.specs.History.Noting
-use Rattle.merge_model.specs.Publisher.{closed}
+use Rattle.merge_model.specs.Publisher.{tables_after_close}
 use Rattle.merge_model.specs.Publisher.PublisherJoin.{join_taken}
-use Rattle.merge_model.specs.Publisher.PublisherRanges.{plans, ranged, with_grants}
+use Rattle.merge_model.specs.Publisher.PublisherRanges.{plans, reply_to_ranges, with_grants}
 use Rattle.merge_model.specs.Publisher.PublisherUpload.{taken_in}
 use Rattle.merge_model.specs.Subscriber.Sending.{join_of, want_of, with_message}
 use Rattle.merge_model.specs.World.Steps.{Action}
@@ -63,7 +63,7 @@ module _ (publication : Publication) (says : Saying) where
         own_closing = λ w h b a. record {
           order = order.own_closing w h b.0.received a.order;
           makers = makers.own_closing w h b.0 a.makers;
-          accepted = publisher-accepted w h (closed (here w)) (same-sites w.publisher (closed (here w)) refl) a.accepted;
+          accepted = publisher-accepted w h (tables_after_close (here w)) (same-sites w.publisher (tables_after_close (here w)) refl) a.accepted;
         };
         forgetting = λ w h b a. record {
           order = order.forgetting w h b.0.received a.order;
@@ -135,7 +135,7 @@ module _ (publication : Publication) (says : Saying) where
           order = order.answers_ranges w h site m b.0.received a.order;
           makers = makers.answers_ranges w h site m b.0 a.makers;
           accepted = (let q : PublisherTables = with_grants (plans publication m w.publisher) (here w) in
-              post-accepted (with_publisher q w) h site (Replies (reply.Ranged (ranged m (plans publication m w.publisher)))) tt tt tt (publisher-accepted w h q (same-sites w.publisher q refl) a.accepted));
+              post-accepted (with_publisher q w) h site (Replies (reply.Ranged (reply_to_ranges m (plans publication m w.publisher)))) tt tt tt (publisher-accepted w h q (same-sites w.publisher q refl) a.accepted));
         };
         answers_ask = λ w h number site m b a at fine. record {
           order = order.answers_ask w h number site m b.0.received a.order at fine;

@@ -26,7 +26,7 @@ use Rattle.merge_model.specs.Judge.{PublisherJudge}
 use Rattle.merge_model.specs.Tables.Keys.{at_number}
 use Rattle.merge_model.specs.History.Noting
 use Rattle.merge_model.specs.Publisher.{last_closed, later, no_state, site_refusal, state_refusal, unknown_site}
-use Rattle.merge_model.specs.Publisher.PublisherDownload.{asked}
+use Rattle.merge_model.specs.Publisher.PublisherDownload.{tables_after_download}
 use Rattle.merge_model.specs.Publisher.PublisherJoin.{join_acts, join_taken}
 use Rattle.merge_model.specs.Publisher.PublisherUpload.{brings_news, taken_in, upload_refusal}
 use Rattle.merge_model.specs.Tables.Refusals.{refused_if}
@@ -185,8 +185,8 @@ upload-can-act publication judge w h m fine =
 
 -- The steps.
 
-pub ask-given : (w : World) (h : History) (m : Download) → StaysGivenUp w.publisher h (asked m (here w)) h
-ask-given w h m = let same = asked-same m (here w) in stays-where w.publisher (asked m (here w)) h h (λ n. (let e = same.number n in omega (arith, e))) refl
+pub ask-given : (w : World) (h : History) (m : Download) → StaysGivenUp w.publisher h (tables_after_download m (here w)) h
+ask-given w h m = let same = asked-same m (here w) in stays-where w.publisher (tables_after_download m (here w)) h h (λ n. (let e = same.number n in omega (arith, e))) refl
 
 known-each : (w : World) (h : History) (incoming : List (Key × Past)) (dot : Dot) (items : List UploadItem) → AllByRecursion (λ (item : UploadItem). (other : Dot) → has (past_in incoming (key_of_item item)).known other ≡ true → is_given_up w.publisher h other ≡ false) items
     → AllByRecursion (λ (item : UploadItem). knows_of incoming dot (key_of_item item) ≡ true → is_given_up w.publisher h dot ≡ false) items

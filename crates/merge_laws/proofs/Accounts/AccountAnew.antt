@@ -16,7 +16,7 @@ use Rattle.merge_model.specs.Tables.Keys.{put_number, row_at, same_key}
 use Rattle.merge_model.specs.History.Noting
 use Rattle.merge_model.specs.Laws.Promises.{Place, descends}
 use Rattle.merge_model.specs.Publisher.PublisherLocal.{version_at}
-use Rattle.merge_model.specs.Subscriber.Reinit.{discarded, reinitialised}
+use Rattle.merge_model.specs.Subscriber.Reinit.{discarded_versions, result_of_reinit}
 use Rattle.merge_model.specs.Subscriber.{subscriber_at_moment, subscriber_closed, subscriber_last_closed}
 use Rattle.merge_types.specs.declared.row_key.RowKey.{RowKey as Key}
 use Rattle.merge_units.specs.declared.site_row.SubscriberRow.{SubscriberRow}
@@ -104,10 +104,10 @@ module _ (publication : Publication) (w : World) (h : History) (s : SubscriberTa
   judge = by_made h s.site
 
   abbrev t : SubscriberTables
-  t = (reinitialised judge (subscriber_at_moment w.moment s)).0
+  t = (result_of_reinit judge (subscriber_at_moment w.moment s)).0
 
   abbrev rows : List (Key × Version)
-  rows = discarded judge s
+  rows = discarded_versions judge s
 
   abbrev lost : List (ℕ × (Key × Past))
   lost = with_all s.site.0 (past_at h s.site.0) h.lost rows

@@ -27,7 +27,7 @@ use Rattle.merge_model.specs.Tables.Keys.{has_key, row_at, same_key}
 use Rattle.merge_model.specs.History.Model.{put_past}
 use Rattle.merge_model.specs.History.Pasts.{cell_count}
 use Rattle.merge_resolve.specs.Priorities.{subscription_at}
-use Rattle.merge_model.specs.Publisher.PublisherDownload.{TouchedRow, asked, inside_keys, item_of, reply_to, touched_row}
+use Rattle.merge_model.specs.Publisher.PublisherDownload.{TouchedRow, inside_keys, item_of, reply_to, tables_after_download, touched_row}
 use Rattle.merge_batch.specs.Orders.{order_by}
 use Rattle.merge_model.specs.Publisher.PublisherLocal.{version_at}
 use Rattle.merge_types.specs.declared.row_key.RowKey.{RowKey as Key}
@@ -77,7 +77,7 @@ module _ (publication : Publication) (w : World) (h : History) (number : ℕ) (s
   judge = by_past h (pasts_with h number)
 
   abbrev q : PublisherTables
-  q = asked m (here w)
+  q = tables_after_download m (here w)
 
   abbrev r : Downloaded
   r = reply_to publication judge m q

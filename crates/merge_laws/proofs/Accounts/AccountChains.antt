@@ -10,7 +10,7 @@ use Rattle.merge_units.specs.Version.{Knowing, has_news, tops_of}
 use Rattle.merge_model.specs.History.{Chains, MadeChange, OfCells, OfDead, has}
 use Rattle.merge_model.specs.Laws.Promises.{InCell, InRow, Place, descends}
 use Rattle.merge_types.specs.declared.row_key.RowKey.{RowKey as Key}
-use Rattle.merge_laws.specs.Facts.Accounts.{CellGrown, Grown, GrownAlone, IsNotUnited, Rooted, is_made_at, is_set}
+use Rattle.merge_laws.specs.Facts.Accounts.{CellGrown, ChainIsRooted, Grown, GrownAlone, IsNotUnited, is_made_at, is_set}
 use Rattle.merge_laws.specs.Facts.Knowledge.{KnowsItsPast, same_dot}
 use Rattle.merge_laws.proofs.Known.ChangeDots.{AreDistinct}
 use Rattle.merge_laws.proofs.Known.Knowing.{IsFresh}
@@ -39,7 +39,7 @@ set-kept [] key dot distinct set = refl
 set-kept (c ∷ made) key dot distinct set = set-first c made key dot (same_dot c.dot dot) refl distinct (set-kept made key dot distinct.1) set
 
 -- What is known of a chain: whoever knows the change in which it is rooted knows all of it.
-pub rooted-known : (made : List MadeChange) (top : Dot) (chain known : List Dot) → Rooted made top chain → AllByRecursion (KnowsItsPast known) made → has known top ≡ true → (dot : Dot) → has chain dot ≡ true → has known dot ≡ true
+pub rooted-known : (made : List MadeChange) (top : Dot) (chain known : List Dot) → ChainIsRooted made top chain → AllByRecursion (KnowsItsPast known) made → has known top ≡ true → (dot : Dot) → has chain dot ≡ true → has known dot ≡ true
 rooted-known [] top chain known rooted closed is dot inside = absurd rooted
 rooted-known (c ∷ made) top chain known (inl here) closed is dot inside =
     closed.0 (subst (λ (x : Dot). has known x ≡ true) (sym (dots-same c.dot top here.0)) is) dot (here.1 dot inside)
@@ -75,7 +75,7 @@ pub tops-known : (there : Knowing) (body : Body) → has_news there body ≡ fal
 tops-known there body none = all-told there (tops_of body) none
 
 -- As changes are made.
-pub rooted-later : (c : MadeChange) (made : List MadeChange) (top : Dot) (chain : List Dot) → Rooted made top chain → Rooted (c ∷ made) top chain
+pub rooted-later : (c : MadeChange) (made : List MadeChange) (top : Dot) (chain : List Dot) → ChainIsRooted made top chain → ChainIsRooted (c ∷ made) top chain
 rooted-later c made top chain rooted = inr rooted
 
 pub set-later : (c : MadeChange) (made : List MadeChange) (dot : Dot) → is_set made dot ≡ true → is_set (c ∷ made) dot ≡ true

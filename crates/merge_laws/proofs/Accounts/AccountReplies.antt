@@ -24,7 +24,7 @@ use Rattle.merge_model.specs.Subscriber.{subscriber_at_moment}
 use Rattle.merge_types.specs.declared.row_key.RowKey.{RowKey as Key}
 use Rattle.merge_units.specs.declared.site_row.SubscriberRow.{SubscriberRow}
 use Rattle.merge_model.specs.Tables.{SubscriberTables}
-use Rattle.merge_model.specs.Subscriber.Taking.{key_of_download, seq_of, taken, with_item, with_order, with_received}
+use Rattle.merge_model.specs.Subscriber.Taking.{key_of_download, seq_of, tables_after_reply, with_item, with_order, with_received}
 use Rattle.merge_model.specs.World.{World, subscriber_at, with_subscriber}
 use Rattle.merge_model.specs.declared.letter.Letter.{Letter}
 use Rattle.merge_model.specs.declared.letter.Message.{Message}
@@ -113,16 +113,16 @@ module _ (publication : Publication) (w : World) (h : History) (s : SubscriberTa
   tells message there = pool-at (λ (x : Letter). TellsActed (received_by_number w.publisher x.site.0) x.site x.message) w number (record { site = s.site; message = message }) there g.behind.letters
 
   pub reply-accounts : (m : Reply) (sent : Outstanding) → comes w number s.site (Replies m) → s.outstanding ≡ Some (seq_of m, sent) → reply_fault publication sent m s ≡ None
-      → (let judge : SubscriberJudge = by_made h s.site in OfAccounts publication (with_subscriber (taken judge w.moment m s) w) (Noting.noted_reply judge s.site (pasts_with h number) m h))
-  reply-accounts (reply.Joined m) sent there out none = stays-accounts publication w h s b a at (taken (by_made h s.site) w.moment (reply.Joined m) s) (λ key. refl) refl
-  reply-accounts (reply.Ranged m) sent there out none = stays-accounts publication w h s b a at (taken (by_made h s.site) w.moment (reply.Ranged m) s) (λ key. refl) refl
-  reply-accounts (reply.Refused code values) sent there out none = stays-accounts publication w h s b a at (taken (by_made h s.site) w.moment (reply.Refused code values) s) (λ key. refl) refl
+      → (let judge : SubscriberJudge = by_made h s.site in OfAccounts publication (with_subscriber (tables_after_reply judge w.moment m s) w) (Noting.noted_reply judge s.site (pasts_with h number) m h))
+  reply-accounts (reply.Joined m) sent there out none = stays-accounts publication w h s b a at (tables_after_reply (by_made h s.site) w.moment (reply.Joined m) s) (λ key. refl) refl
+  reply-accounts (reply.Ranged m) sent there out none = stays-accounts publication w h s b a at (tables_after_reply (by_made h s.site) w.moment (reply.Ranged m) s) (λ key. refl) refl
+  reply-accounts (reply.Refused code values) sent there out none = stays-accounts publication w h s b a at (tables_after_reply (by_made h s.site) w.moment (reply.Refused code values) s) (λ key. refl) refl
   reply-accounts (reply.Uploaded m) sent there out none =
-      site-accounts publication found w.subscribers w.pool h a s.site.0 away s (taken (by_made h s.site) w.moment (reply.Uploaded m) s) at (λ key. versions-above m.received s.rows key)
+      site-accounts publication found w.subscribers w.pool h a s.site.0 away s (tables_after_reply (by_made h s.site) w.moment (reply.Uploaded m) s) at (λ key. versions-above m.received s.rows key)
       (uploaded-least publication sent m s (seq_of (reply.Uploaded m)) none out (g.numbered.subscribers s.site.0 s at).sent) (acted-safe m.received (tells (Replies (reply.Uploaded m)) there))
   reply-accounts (reply.Downloaded m) sent there out none =
       let u : SubscriberTables = record (with_received m.received (record (subscriber_at_moment w.moment s) { outstanding = None })) { watermark = m.to } in
-      let last : SubscriberTables = taken (by_made h s.site) w.moment (reply.Downloaded m) s in
+      let last : SubscriberTables = tables_after_reply (by_made h s.site) w.moment (reply.Downloaded m) s in
       let start : Accounts publication found (put_number w.subscribers s.site.0 u) w.pool h = site-accounts publication found w.subscribers w.pool h a s.site.0 away s u at (λ key. versions-above m.received s.rows key)
       (downloaded-least publication sent m s none) (acted-safe m.received (tells (Replies (reply.Downloaded m)) there)) in
       let takes : Takes publication found w.pool s.site away h (pasts_with h number) m.received (put_number w.subscribers s.site.0 u) u h = record {

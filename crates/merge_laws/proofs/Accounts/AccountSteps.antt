@@ -20,7 +20,7 @@ use Rattle.merge_model.specs.Publisher.{last_closed}
 use Rattle.merge_model.specs.Publisher.PublisherJoin.{join_acts, join_taken}
 use Rattle.merge_model.specs.Publisher.PublisherLocal.{version_at}
 use Rattle.merge_model.specs.Publisher.PublisherPurge.{is_old_tombstone, purge}
-use Rattle.merge_model.specs.Publisher.PublisherRanges.{plans, ranged}
+use Rattle.merge_model.specs.Publisher.PublisherRanges.{plans, reply_to_ranges}
 use Rattle.merge_model.specs.Subscriber.Sending.{join_of, want_of, with_message}
 use Rattle.merge_model.specs.Subscriber.{subscriber_at_moment, subscriber_closed, subscriber_version_at}
 use Rattle.merge_types.specs.declared.row_key.RowKey.{RowKey as Key}
@@ -126,7 +126,7 @@ module _ (publication : Publication) where
     joins_again = λ w h number m b a at acts. post-accounts publication (version_at w.publisher) w.subscribers w.pool h a m.site (Replies (reply.Joined (record { seq = m.seq }))) tt (none-traced publication (version_at w.publisher) w.subscribers w.pool h a) tt;
     uploads = λ w h number m b a at fine news. upload-accounts publication says w h number m b a at fine news;
     uploads_again = λ w h number m b a at none. post-accounts publication (version_at w.publisher) w.subscribers w.pool h a m.site (Replies (reply.Uploaded _)) tt (none-traced publication (version_at w.publisher) w.subscribers w.pool h a) tt;
-    answers_ranges = λ w h site m b a. post-accounts publication (version_at w.publisher) w.subscribers w.pool h a site (Replies (reply.Ranged (ranged m (plans publication m w.publisher)))) tt (none-traced publication (version_at w.publisher) w.subscribers w.pool h a) tt;
+    answers_ranges = λ w h site m b a. post-accounts publication (version_at w.publisher) w.subscribers w.pool h a site (Replies (reply.Ranged (reply_to_ranges m (plans publication m w.publisher)))) tt (none-traced publication (version_at w.publisher) w.subscribers w.pool h a) tt;
     answers_ask = λ w h number site m b a at fine. answer-accounts publication w h number site m b a;
     replies = λ w h s number m sent b a at there out none. reply-accounts publication w h s number b a at m sent there out none;
   }

@@ -27,7 +27,7 @@ use Rattle.merge_model.specs.Tables.Keys.{same_key}
 use Rattle.merge_model.specs.History.Model.{Model, did_something, noted_if, noted_letter, with_letter, with_posted}
 use Rattle.merge_model.specs.History.Noting
 use Rattle.merge_model.specs.Publisher.{counters, site_refusal}
-use Rattle.merge_model.specs.Publisher.PublisherUpload.{brings_news, taken_in, too_many_new, upload_refusal, uploaded}
+use Rattle.merge_model.specs.Publisher.PublisherUpload.{brings_news, tables_after_upload, taken_in, too_many_new, upload_refusal}
 use Rattle.merge_model.specs.Tables.Refusals.{counter_end, refused_if, unless}
 use Rattle.merge_model.specs.World.Steps.{deliver_letter, kept_decisions, post, unless_refused, upload_questions}
 use Rattle.merge_resolve.specs.Questions.{question_of as asked_of}
@@ -76,7 +76,7 @@ module _ (publication : Publication) (says : Saying) (m : Model) (number : ℕ) 
   noted_after = Noting.noted_upload publication judge u decisions (pasts_with m.history number) (here m.world) m.history
 
   abbrev pub world_after : World
-  world_after = uploaded_world publication says judge u (uploaded publication judge u decisions (here m.world)) m.world
+  world_after = uploaded_world publication says judge u (tables_after_upload publication judge u decisions (here m.world)) m.world
 
   abbrev pub answer : Letter
   answer = record { site = site; message = Replies (reply.Uploaded (told_by judge u)) }
@@ -93,7 +93,7 @@ module _ (publication : Publication) (says : Saying) (m : Model) (number : ℕ) 
       (let noted : History = elim found [ None ↦ m.history | Some letter ↦ noted_letter publication says (by_history m.history) number m.world letter m.history ] in noted)
 
   taken-by : (why : Option Refusal)
-      → noted_done (unless_refused m.world (unless why (uploaded publication judge u decisions (here m.world), told_by judge u)) (λ (made : PublisherTables × Uploaded). post site (Replies (reply.Uploaded made.1)) (uploaded_world publication says judge u made.0 m.world))) noted_after
+      → noted_done (unless_refused m.world (unless why (tables_after_upload publication judge u decisions (here m.world), told_by judge u)) (λ (made : PublisherTables × Uploaded). post site (Replies (reply.Uploaded made.1)) (uploaded_world publication says judge u made.0 m.world))) noted_after
       ≡ taken_by why
   taken-by (Some why) = refl
   taken-by None = ap (λ (k : History). (let after : Model = record { world = (post site answer.message world_after).0; history = k } in (after, Posted (length m.world.pool + 1)))) (posted-noted site answer.message world_after noted_after)

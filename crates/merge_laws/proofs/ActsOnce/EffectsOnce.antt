@@ -11,7 +11,7 @@ use Rattle.merge_batch.specs.declared.refusal.Refusal.{Refusal}
 use Rattle.merge_batch.specs.declared.request.Upload.{Upload}
 use Rattle.merge_batch.specs.declared.request.UploadItem.{UploadItem}
 use Rattle.merge_model.specs.Judge.ByNumbers.{by_numbers, received_by_number}
-use Rattle.merge_model.specs.Failing.{Faulty, Slip, Slips, acting_with, failing, fails, faulty, is_allowed, slip_if}
+use Rattle.merge_model.specs.Failing.{Faulty, Slip, Slips, acting_with, fails, faulty, faulty_stepping, is_allowed, slip_if}
 use Rattle.merge_model.specs.History.{History, is_done}
 use Rattle.merge_model.specs.History.Model.{Model, did_something, empty_model, model}
 use Rattle.merge_model.specs.Publisher.PublisherUpload.{brings_news}
@@ -82,7 +82,7 @@ none-twice publication says tallies slips before between first second u v genera
     twice-never publication says (behind_actions publication says (faulty (empty_model publication tallies) slips) before) between first second u v generation (received-after publication says before (faulty (empty_model publication tallies) slips) (begins publication tallies)) same one other
 
 pub runs-are-steps : RunsAreSteps
-runs-are-steps publication says f events = events-are-actions (failing publication (model publication says)) publication events f
+runs-are-steps publication says f events = events-are-actions (faulty_stepping publication (model publication says)) publication events f
 
 -- The items that act.
 

@@ -23,7 +23,7 @@ use Rattle.merge_model.specs.World.Faults.{fault_of, judged_state, known_by, upl
 use Rattle.merge_model.specs.Judge.{PublisherJudge}
 use Rattle.merge_model.specs.Tables.Keys.{at_number}
 use Rattle.merge_model.specs.Publisher.{at_moment, counters, site_refusal}
-use Rattle.merge_model.specs.Publisher.PublisherUpload.{brings_news, changing_by, taken_in, too_many_new, upload_refusal, uploaded, with_acts}
+use Rattle.merge_model.specs.Publisher.PublisherUpload.{brings_news, changing_by, tables_after_upload, taken_in, too_many_new, upload_refusal, with_acts}
 use Rattle.merge_model.specs.Tables.Refusals.{counter_end, first_refusal, refused_if, unless}
 use Rattle.merge_model.specs.World.Steps.{deliver_upload, kept_decisions, post, unless_refused, upload_questions}
 use Rattle.merge_resolve.specs.Questions.{question_of as asked_of}
@@ -105,7 +105,7 @@ module _ (publication : Publication) (one other : PublisherJudge) (m : Upload) (
       let acts : List Act = acts_of other m decisions q in
       changed-same publication one other (changing_by m acts) (with_acts publication m acts q) agree.has_left
 
-  uploaded-same : (now : Moment) (decisions : List Decision) → Items → uploaded publication one m decisions (at_moment now p) ≡ uploaded publication other m decisions (at_moment now p)
+  uploaded-same : (now : Moment) (decisions : List Decision) → Items → tables_after_upload publication one m decisions (at_moment now p) ≡ tables_after_upload publication other m decisions (at_moment now p)
   uploaded-same now decisions all =
       let q : PublisherTables = at_moment now p in
       ap (λ (n : ℕ). if nat_lt n m.to then taken_in publication one m (acts_of one m decisions q) q else q) (agree.received m.site.0)
@@ -147,12 +147,12 @@ module _ (publication : Publication) (says : Saying) (one other : PublisherJudge
   deliver-same items =
       let asked : List Question = upload_questions publication one w.moment m p in
       let others : List Question = upload_questions publication other w.moment m p in
-      let taken : PublisherTables = uploaded publication one m (decided asked) (at_moment w.moment p) in
-      let after : PublisherTables = uploaded publication other m (decided others) (at_moment w.moment p) in
+      let taken : PublisherTables = tables_after_upload publication one m (decided asked) (at_moment w.moment p) in
+      let after : PublisherTables = tables_after_upload publication other m (decided others) (at_moment w.moment p) in
       let agreed = λ (none : upload_refusal publication other w.moment m p ≡ None). (let fine = not-refused publication other w.moment m p none in items fine.0 fine.1) in
       ap (λ (refusal : Option Refusal). answer refusal asked taken (one.received m.site.0)) (refusal-same publication one other m p agree w.moment items)
       ∙ ap (λ (n : ℕ). answer (upload_refusal publication other w.moment m p) asked taken n) (agree.received m.site.0)
       ∙ answer-same (upload_refusal publication other w.moment m p) asked others taken after (other.received m.site.0)
       (λ none. asked-same publication one other m p agree w.moment (agreed none))
-      (λ none. ap (λ (questions : List Question). uploaded publication one m (decided questions) (at_moment w.moment p)) (asked-same publication one other m p agree w.moment (agreed none))
+      (λ none. ap (λ (questions : List Question). tables_after_upload publication one m (decided questions) (at_moment w.moment p)) (asked-same publication one other m p agree w.moment (agreed none))
       ∙ uploaded-same publication one other m p agree w.moment (decided others) (agreed none))

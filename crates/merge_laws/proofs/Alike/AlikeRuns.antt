@@ -4,7 +4,7 @@ use Rattle.std.proofs.Common.{ap, subst, sym}
 use Rattle.merge_schema.specs.declared.publication.Publication.{Publication}
 use Rattle.merge_model.specs.Laws.Bridge.{StepsAlike}
 use Rattle.merge_model.specs.World.Events.{after, answers, machine}
-use Rattle.merge_model.specs.Failing.{Slips, failing, faulty}
+use Rattle.merge_model.specs.Failing.{Slips, faulty, faulty_stepping}
 use Rattle.merge_model.specs.History.Model.{Model, model, model_step}
 use Rattle.merge_model.specs.World.Steps.{Action, step}
 use Rattle.merge_model.specs.World.{Saying, World}
@@ -40,14 +40,14 @@ module _ (publication : Publication) (says : Saying) (Kept : Model → Type 0) (
     tally-alike w m others same = (ap (λ (v : World). record v { tallies = others }) same.0, stays m others same.1)
 
     pub failing-alike : (slips : Slips) (events : List Event) (m : Model) → Kept m
-        → (answers publication (failing publication (machine publication says)) (faulty m.world slips) events ≡ answers publication (failing publication (model publication says)) (faulty m slips) events)
-        × ((after publication (failing publication (machine publication says)) (faulty m.world slips) events).world ≡ (after publication (failing publication (model publication says)) (faulty m slips) events).world.world)
+        → (answers publication (faulty_stepping publication (machine publication says)) (faulty m.world slips) events ≡ answers publication (faulty_stepping publication (model publication says)) (faulty m slips) events)
+        × ((after publication (faulty_stepping publication (machine publication says)) (faulty m.world slips) events).world ≡ (after publication (faulty_stepping publication (model publication says)) (faulty m slips) events).world.world)
     failing-alike slips events m k = (let run = failing-runs publication (machine publication says) (model publication says) Same act-alike (λ w n same. same.0) tally-alike slips events m.world m (refl, k) in (run.0, run.1.1.0))
 
     pub failing-actions-alike : (slips : Slips) (actions : List Action) (m : Model) → Kept m
-        → (outcomes (failing publication (machine publication says)) (faulty m.world slips) actions ≡ outcomes (failing publication (model publication says)) (faulty m slips) actions)
-        × ((after_actions (failing publication (machine publication says)) (faulty m.world slips) actions).world ≡ (after_actions (failing publication (model publication says)) (faulty m slips) actions).world.world)
+        → (outcomes (faulty_stepping publication (machine publication says)) (faulty m.world slips) actions ≡ outcomes (faulty_stepping publication (model publication says)) (faulty m slips) actions)
+        × ((after_actions (faulty_stepping publication (machine publication says)) (faulty m.world slips) actions).world ≡ (after_actions (faulty_stepping publication (model publication says)) (faulty m slips) actions).world.world)
     failing-actions-alike slips actions m k =
-        let done = actions-alike (failing publication (machine publication says)) (failing publication (model publication says)) (Together publication (machine publication says) (model publication says) Same act-alike (λ w n same. same.0) tally-alike)
+        let done = actions-alike (faulty_stepping publication (machine publication says)) (faulty_stepping publication (model publication says)) (Together publication (machine publication says) (model publication says) Same act-alike (λ w n same. same.0) tally-alike)
         (fails-alike publication (machine publication says) (model publication says) Same act-alike (λ w n same. same.0) tally-alike) actions (faulty m.world slips) (faulty m slips) (refl, (refl, k)) in
         (done.0, done.1.1.0)

@@ -16,14 +16,14 @@ use Rattle.merge_model.specs.World.Faults.{reply_fault}
 use Rattle.merge_model.specs.Judge.{SubscriberJudge}
 use Rattle.merge_model.specs.History.Model.{Model}
 use Rattle.merge_model.specs.Tables.Refusals.{counter_end, unless}
-use Rattle.merge_model.specs.Subscriber.Reinit.{reinitialised}
+use Rattle.merge_model.specs.Subscriber.Reinit.{result_of_reinit}
 use Rattle.merge_model.specs.Subscriber.Sending.{sending_refusal, upload_made}
-use Rattle.merge_model.specs.World.Steps.{SendDownload, SendJoin, SendRanges, SendUpload, Sending, deliver_reply, make_anew, posted, send_from, unless_refused}
+use Rattle.merge_model.specs.World.Steps.{SendDownload, SendJoin, SendRanges, SendUpload, Sending, deliver_reply, make_anew, post_if_made, send_from, unless_refused}
 use Rattle.merge_model.specs.declared.outcome.Outcome.TheVariants.{Discards, Took}
 use Rattle.merge_model.specs.Subscriber.{subscriber_at_moment, subscriber_counters}
 use Rattle.merge_types.specs.declared.row_key.RowKey.{RowKey as Key}
 use Rattle.merge_model.specs.Tables.{SubscriberTables}
-use Rattle.merge_model.specs.Subscriber.Taking.{met_by, seq_of, take_reply, taken}
+use Rattle.merge_model.specs.Subscriber.Taking.{met_by, seq_of, tables_after_reply, take_reply}
 use Rattle.merge_model.specs.declared.outcome.Taken.TheVariants.{Acted, Missed}
 use Rattle.merge_model.specs.declared.outcome.Taken.{Taken}
 use Rattle.merge_model.specs.World.{World, by_tables, with_subscriber}
@@ -50,20 +50,20 @@ module _ (m : Model) (s : SubscriberTables) (alike : SubscriberDecidesAlike m s)
   upload-same : (now : Moment) → upload_made (by_rows s) now s ≡ upload_made (by_made m.history s.site) now s
   upload-same now = ap (λ (changed : ℕ → List (Key × ℕ)). upload_made (by_both changed) now s) (λ i to. alike.changed_between s.received to (omega arith) i)
 
-  anew-same : (now : Moment) → reinitialised (by_rows s) (subscriber_at_moment now s) ≡ reinitialised (by_made m.history s.site) (subscriber_at_moment now s)
-  anew-same now = ap (λ (unsent : Key → Bool). reinitialised (by_unsent unsent) (subscriber_at_moment now s)) (λ i key. alike.is_unsent s.received key (omega arith) i)
+  anew-same : (now : Moment) → result_of_reinit (by_rows s) (subscriber_at_moment now s) ≡ result_of_reinit (by_made m.history s.site) (subscriber_at_moment now s)
+  anew-same now = ap (λ (unsent : Key → Bool). result_of_reinit (by_unsent unsent) (subscriber_at_moment now s)) (λ i key. alike.is_unsent s.received key (omega arith) i)
 
-  taken-same : (publication : Publication) (now : Moment) (sent : Outstanding) (r : Reply) → reply_fault publication sent r s ≡ None → taken (by_rows s) now r s ≡ taken (by_made m.history s.site) now r s
+  taken-same : (publication : Publication) (now : Moment) (sent : Outstanding) (r : Reply) → reply_fault publication sent r s ≡ None → tables_after_reply (by_rows s) now r s ≡ tables_after_reply (by_made m.history s.site) now r s
   taken-same publication now sent (reply.Joined r) none = refl
   taken-same publication now sent (reply.Uploaded r) none = refl
   taken-same publication now sent (reply.Ranged r) none = refl
-  taken-same publication now sent (reply.Downloaded r) none = ap (λ (unsent : Key → Bool). taken (by_unsent unsent) now (reply.Downloaded r) s) (λ i key. alike.is_unsent r.received key (downloaded-least publication sent r s none) i)
+  taken-same publication now sent (reply.Downloaded r) none = ap (λ (unsent : Key → Bool). tables_after_reply (by_unsent unsent) now (reply.Downloaded r) s) (λ i key. alike.is_unsent r.received key (downloaded-least publication sent r s none) i)
   taken-same publication now sent (reply.Refused number values) none = refl
 
   met-same : (publication : Publication) (now : Moment) (r : Reply) (found : Option (ℕ × Outstanding)) → met_by publication (by_rows s) now r s found ≡ met_by publication (by_made m.history s.site) now r s found
   met-same publication now r None = refl
-  met-same publication now r (Some sent) = if-same (sent.0 == seq_of r) (unless (reply_fault publication sent.1 r s) (taken (by_rows s) now r s, Acted)) (unless (reply_fault publication sent.1 r s) (taken (by_made m.history s.site) now r s, Acted))
-      (Ok (s, Missed (seq_of r) sent.0)) (fault-same (reply_fault publication sent.1 r s) (taken (by_rows s) now r s) (taken (by_made m.history s.site) now r s) (λ none. taken-same publication now sent.1 r none))
+  met-same publication now r (Some sent) = if-same (sent.0 == seq_of r) (unless (reply_fault publication sent.1 r s) (tables_after_reply (by_rows s) now r s, Acted)) (unless (reply_fault publication sent.1 r s) (tables_after_reply (by_made m.history s.site) now r s, Acted))
+      (Ok (s, Missed (seq_of r) sent.0)) (fault-same (reply_fault publication sent.1 r s) (tables_after_reply (by_rows s) now r s) (tables_after_reply (by_made m.history s.site) now r s) (λ none. taken-same publication now sent.1 r none))
 
   take-same : (publication : Publication) (now : Moment) (r : Reply) → take_reply publication (by_rows s) now r s ≡ take_reply publication (by_made m.history s.site) now r s
   take-same publication now (reply.Joined r) = met-same publication now (reply.Joined r) s.outstanding
@@ -75,7 +75,7 @@ module _ (m : Model) (s : SubscriberTables) (alike : SubscriberDecidesAlike m s)
   -- as steps of the world
   pub send-alike : (w : World) (sending : Sending) → send_from (by_tables w) sending w s ≡ send_from (by_history m.history) sending w s
   send-alike w SendJoin = refl
-  send-alike w SendUpload = ap (λ (made : Option (SubscriberTables × Upload)). unless_refused w (unless (sending_refusal s) made) (posted s.site (λ (u : Upload). request.Upload u) w)) (upload-same w.moment)
+  send-alike w SendUpload = ap (λ (made : Option (SubscriberTables × Upload)). unless_refused w (unless (sending_refusal s) made) (post_if_made s.site (λ (u : Upload). request.Upload u) w)) (upload-same w.moment)
   send-alike w SendRanges = refl
   send-alike w SendDownload = refl
 

@@ -16,9 +16,9 @@ use Rattle.merge_model.specs.History.{History, Line, Past}
 use Rattle.merge_model.specs.Judge.{PublisherJudge}
 use Rattle.merge_gens.specs.Moves.{row_site_cmp}
 use Rattle.merge_model.specs.Tables.Keys.{at_row_site, has_key, row_at, same_key}
-use Rattle.merge_model.specs.Publisher.PublisherDownload.{TouchedRow, asked, download_refusal, inside_keys, reply_by, reply_to, touched_row, touched_rows}
+use Rattle.merge_model.specs.Publisher.PublisherDownload.{TouchedRow, download_refusal, inside_keys, reply_by, reply_to, tables_after_download, touched_row, touched_rows}
 use Rattle.merge_model.specs.Tables.Refusals.{unless}
-use Rattle.merge_model.specs.World.Steps.{answered, deliver_request}
+use Rattle.merge_model.specs.World.Steps.{deliver_request, post_reply}
 use Rattle.merge_types.specs.declared.row_key.RowKey.{RowKey as Key}
 use Rattle.merge_gens.specs.declared.moves.Mapping.{Mapping}
 use Rattle.merge_gens.specs.declared.moves.RowSite.{RowSite}
@@ -95,7 +95,7 @@ module _ (publication : Publication) (w : World) (h : History) (g : Ground publi
 
 module _ (publication : Publication) (says : Saying) (w : World) (h : History) (g : Ground publication w h) (incoming : List (Key × Past)) (m : Download) where
   abbrev after : PublisherTables
-  after = asked m (here w)
+  after = tables_after_download m (here w)
 
   reply-same : reply_to publication (by_numbers w.publisher) m after ≡ reply_to publication (by_past h incoming) m after
   reply-same =
@@ -104,4 +104,4 @@ module _ (publication : Publication) (says : Saying) (w : World) (h : History) (
 
   pub download-alike : (site : SiteId) → deliver_request publication says (by_numbers w.publisher) site (request.Download m) w ≡ deliver_request publication says (by_past h incoming) site (request.Download m) w
   download-alike site = ap (λ (told : Downloaded). (let done : Result (PublisherTables × Downloaded) Refusal = unless (download_refusal publication w.moment m w.publisher) (after, told) in
-      answered site (λ (made : Downloaded). reply.Downloaded made) w done)) reply-same
+      post_reply site (λ (made : Downloaded). reply.Downloaded made) w done)) reply-same

@@ -21,7 +21,7 @@ use Rattle.merge_model.specs.Judge.{SubscriberJudge}
 use Rattle.merge_model.specs.History.Noting
 use Rattle.merge_model.specs.History.Pasts.{past_by}
 use Rattle.merge_model.specs.Laws.Promises.{key_of_conflict}
-use Rattle.merge_model.specs.Subscriber.Reinit.{numbered_from}
+use Rattle.merge_model.specs.Subscriber.Reinit.{discarded_rows_from}
 use Rattle.merge_types.specs.declared.row_key.RowKey.{RowKey as Key}
 use Rattle.merge_model.specs.Tables.{SubscriberTables}
 use Rattle.merge_laws.specs.Invariants.TablesAgree.{TableAgrees, keys_lost}
@@ -112,11 +112,11 @@ module _ (publication : Publication) (site : SiteId) (moment : Moment) where
         record { rows = loses.rows ∙ ap (λ (keys : List Key). keys_lost h 0 ++ keys) (sym (map-append key_of_conflict rows rest)); others = loses.others }
 
 -- Making anew.
-pub discarded-lose : (c : SubscriberTables) (site : SiteId) (number : ℕ) (rows : List (Key × Version)) (h : History) → Loses site.0 (map key_of_conflict (numbered_from c number rows)) h (fold (Noting.with_discarded site) h rows)
+pub discarded-lose : (c : SubscriberTables) (site : SiteId) (number : ℕ) (rows : List (Key × Version)) (h : History) → Loses site.0 (map key_of_conflict (discarded_rows_from c number rows)) h (fold (Noting.with_discarded site) h rows)
 discarded-lose c site number [] h = loses-none site.0 h h refl
 discarded-lose c site number (row ∷ rows) h =
     let after : History = Noting.with_discarded site h row in
-    loses-then site.0 (row.0 ∷ []) (map key_of_conflict (numbered_from c (number + 1) rows)) h after (fold (Noting.with_discarded site) after rows)
+    loses-then site.0 (row.0 ∷ []) (map key_of_conflict (discarded_rows_from c (number + 1) rows)) h after (fold (Noting.with_discarded site) after rows)
     (loses-one site.0 row.0 (past_at h site.0 row.0) h) (discarded-lose c site (number + 1) rows after)
 
 -- Where nothing is lost.

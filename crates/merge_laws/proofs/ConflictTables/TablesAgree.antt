@@ -28,20 +28,20 @@ use Rattle.merge_model.specs.History.Model.{Model, model_step}
 use Rattle.merge_model.specs.History.Noting
 use Rattle.merge_model.specs.Laws.Promises.{key_of_conflict}
 use Rattle.merge_model.specs.Tables.Publications.{by_site}
-use Rattle.merge_model.specs.Publisher.{closed, last_closed}
-use Rattle.merge_model.specs.Publisher.PublisherDownload.{asked, reply_to}
+use Rattle.merge_model.specs.Publisher.{last_closed, tables_after_close}
+use Rattle.merge_model.specs.Publisher.PublisherDownload.{reply_to, tables_after_download}
 use Rattle.merge_model.specs.Publisher.PublisherJoin.{join_taken}
 use Rattle.merge_model.specs.Publisher.PublisherLocal.{Drawn, made_locally, next_dot}
 use Rattle.merge_model.specs.Publisher.PublisherPurge.{purge}
-use Rattle.merge_model.specs.Publisher.PublisherRanges.{plans, ranged, with_grants}
+use Rattle.merge_model.specs.Publisher.PublisherRanges.{plans, reply_to_ranges, with_grants}
 use Rattle.merge_model.specs.Publisher.PublisherUpload.{taken_in}
-use Rattle.merge_model.specs.Subscriber.Reinit.{discarded, numbered_from, reinitialised}
+use Rattle.merge_model.specs.Subscriber.Reinit.{discarded_rows_from, discarded_versions, result_of_reinit}
 use Rattle.merge_model.specs.Subscriber.Sending.{join_of, upload_sent, want_of, with_message}
 use Rattle.merge_model.specs.World.Steps.{Action}
 use Rattle.merge_model.specs.Subscriber.{subscriber_at_moment, subscriber_closed, subscriber_last_closed, subscriber_made_locally, subscriber_next_dot, subscriber_version_at, with_version_if}
 use Rattle.merge_types.specs.declared.row_key.RowKey.{RowKey as Key}
 use Rattle.merge_model.specs.Tables.{PublisherTables, SubscriberTables}
-use Rattle.merge_model.specs.Subscriber.Taking.{taken}
+use Rattle.merge_model.specs.Subscriber.Taking.{tables_after_reply}
 use Rattle.merge_model.specs.World.{Saying, World, empty_world, subscriber_at, with_publisher, with_subscriber}
 use Rattle.merge_model.specs.declared.letter.Message.TheVariants.{Asks, Replies}
 use Rattle.merge_model.specs.declared.letter.Message.{Message}
@@ -99,7 +99,7 @@ letter-goes : (w : World) (h : History) (site : SiteId) (message : Message) → 
 letter-goes w h site message t = record { publisher = t.publisher; subscribers = t.subscribers }
 
 -- the table of a subscriber stays where a reply is taken
-reply-conflicts : (judge : SubscriberJudge) (now : Moment) (m : Reply) (s : SubscriberTables) → (taken judge now m s).conflicts ≡ s.conflicts
+reply-conflicts : (judge : SubscriberJudge) (now : Moment) (m : Reply) (s : SubscriberTables) → (tables_after_reply judge now m s).conflicts ≡ s.conflicts
 reply-conflicts judge now (reply.Joined m) s = refl
 reply-conflicts judge now (reply.Uploaded m) s = refl
 reply-conflicts judge now (reply.Ranged m) s = refl
@@ -157,26 +157,26 @@ module _ (publication : Publication) (says : Saying) (w : World) (h : History) (
         let version : Option Version = version_after publication dot d.0 change (subscriber_version_at s key) in
         subscriber-stays w h (Noting.with_change publication dot (subscriber_last_closed s + 1) change d.0 h) s (with_version_if key version u) at (version-site key version u) (version-conflicts key version u) refl t
 
-    anew : (let judge : SubscriberJudge = by_made h s.site in TablesAgree (with_subscriber (reinitialised judge (subscriber_at_moment w.moment s)).0 w) (Noting.noted_anew judge s h))
+    anew : (let judge : SubscriberJudge = by_made h s.site in TablesAgree (with_subscriber (result_of_reinit judge (subscriber_at_moment w.moment s)).0 w) (Noting.noted_anew judge s h))
     anew =
         let judge : SubscriberJudge = by_made h s.site in
         let c : SubscriberTables = subscriber_at_moment w.moment s in
-        let rows : List ConflictRow = numbered_from c (c.conflict_count + 1) (discarded judge c) in
-        let loses = discarded-lose c s.site (c.conflict_count + 1) (discarded judge c) h in
-        let after : History = fold (Noting.with_discarded s.site) h (discarded judge c) in
-        subscriber-goes w h (Noting.noted_anew judge s h) s.site.0 (reinitialised judge c).0 (found-named w.subscribers s.site.0 s b.none at)
+        let rows : List ConflictRow = discarded_rows_from c (c.conflict_count + 1) (discarded_versions judge c) in
+        let loses = discarded-lose c s.site (c.conflict_count + 1) (discarded_versions judge c) h in
+        let after : History = fold (Noting.with_discarded s.site) h (discarded_versions judge c) in
+        subscriber-goes w h (Noting.noted_anew judge s h) s.site.0 (result_of_reinit judge c).0 (found-named w.subscribers s.site.0 s b.none at)
         (agrees-more s.site.0 h after s.conflicts rows loses (t.subscribers s.site.0 s at)) loses.others t
 
-    replies : (number : ℕ) (m : Reply) → (let judge : SubscriberJudge = by_made h s.site in TablesAgree (with_subscriber (taken judge w.moment m s) w) (Noting.noted_reply judge s.site (pasts_with h number) m h))
+    replies : (number : ℕ) (m : Reply) → (let judge : SubscriberJudge = by_made h s.site in TablesAgree (with_subscriber (tables_after_reply judge w.moment m s) w) (Noting.noted_reply judge s.site (pasts_with h number) m h))
     replies number m =
         let judge : SubscriberJudge = by_made h s.site in
-        subscriber-stays w h (Noting.noted_reply judge s.site (pasts_with h number) m h) s (taken judge w.moment m s) at (reply-site judge w.moment m s) (reply-conflicts judge w.moment m s) (reply-lost judge s.site (pasts_with h number) m h) t
+        subscriber-stays w h (Noting.noted_reply judge s.site (pasts_with h number) m h) s (tables_after_reply judge w.moment m s) at (reply-site judge w.moment m s) (reply-conflicts judge w.moment m s) (reply-lost judge s.site (pasts_with h number) m h) t
 
 pub tables-keep : (publication : Publication) (says : Saying) → StepsKeep publication says (Ground publication) TablesAgree
 tables-keep publication says = record {
   moment = λ w h now b t. world-stays w (record w { moment = now }) h refl refl t;
   own_change = λ w h change d b t fine is. own-change publication says w h b t change d;
-  own_closing = λ w h b t. publisher-stays w h h (closed (here w)) refl refl t;
+  own_closing = λ w h b t. publisher-stays w h h (tables_after_close (here w)) refl refl t;
   forgetting = λ w h b t. forgets publication says w h b t;
   same = λ w h s b t at. stays publication says w h b t s at s refl refl;
   subscriber_change = λ w h s change d b t at named fine is. sub-change publication says w h b t s at change d;
@@ -201,8 +201,8 @@ tables-keep publication says = record {
       let v : World = uploaded_world publication says judge m (here w) w in
       letter-goes v h m.site (Replies (reply.Uploaded (told_by judge m))) (world-stays (with_publisher (here w) w) v h refl refl (publisher-stays w h h (here w) refl refl t)));
   answers_ranges = λ w h site m b t. (let q : PublisherTables = with_grants (plans publication m w.publisher) (here w) in
-      letter-goes (with_publisher q w) h site (Replies (reply.Ranged (ranged m (plans publication m w.publisher)))) (publisher-stays w h h q refl refl t));
-  answers_ask = λ w h number site m b t at fine. (let q : PublisherTables = asked m (here w) in
+      letter-goes (with_publisher q w) h site (Replies (reply.Ranged (reply_to_ranges m (plans publication m w.publisher)))) (publisher-stays w h h q refl refl t));
+  answers_ask = λ w h number site m b t at fine. (let q : PublisherTables = tables_after_download m (here w) in
       letter-goes (with_publisher q w) h site (Replies (reply.Downloaded (reply_to publication (by_past h (pasts_with h number)) m q))) (publisher-stays w h h q refl refl t));
   replies = λ w h s number m sent b t at there out none. replies publication says w h b t s at number m;
 }

@@ -27,7 +27,7 @@ use Rattle.merge_model.specs.Tables.Changes.{key_of}
 use Rattle.merge_model.specs.History.{MadeChange}
 use Rattle.merge_model.specs.Tables.Keys.{at_number, put_number}
 use Rattle.merge_model.specs.Tables.Publications.{rules_of}
-use Rattle.merge_model.specs.Publisher.PublisherLocal.{Drawn, after_answer, drawn, drawn_from, next_dot, no_draw, own_ask, taken_from}
+use Rattle.merge_model.specs.Publisher.PublisherLocal.{Drawn, after_answer, draw_for_change, drawn_from, next_dot, no_draw, own_ask, taken_from}
 use Rattle.merge_model.specs.Tables.{PublisherTables, SubscriberTables}
 use Rattle.merge_model.specs.declared.letter.Message.TheVariants.{Asks, Replies}
 use Rattle.merge_model.specs.declared.letter.Letter.{Letter}
@@ -143,7 +143,7 @@ module _ (publication : Publication) (p : PublisherTables) (subscribers : List (
   found-drawn article (Some holder) at =
       from-drawn article holder (subst (λ (h : Holder). Held p.grants made 0 article h) (found-holder p.held article holder at) (i.held 0 article)) (answer_to_take holder) refl
 
-  pub draw-keeps : (change : Change) → IfOk (drawn publication p change) (λ d. (c : MadeChange) → c.dot.site.0 ≡ 0 → c.key.article ≡ (key_of (next_dot p) change).article → c.identity ≡ whole_number (Some d.value) → After d.grants d.held c)
+  pub draw-keeps : (change : Change) → IfOk (draw_for_change publication p change) (λ d. (c : MadeChange) → c.dot.site.0 ≡ 0 → c.key.article ≡ (key_of (next_dot p) change).article → c.identity ≡ whole_number (Some d.value) → After d.grants d.held c)
   draw-keeps (Insert article values) = found-drawn article (at_number p.held article) refl
   draw-keeps (Update article row values) = λ c same_site same_article none. none-drawn c none
   draw-keeps (Delete article row) = λ c same_site same_article none. none-drawn c none

@@ -39,9 +39,9 @@ use Rattle.merge_model.specs.Publisher.Acts.{Act}
 use Rattle.merge_model.specs.Judge.{PublisherJudge, SubscriberJudge}
 use Rattle.merge_model.specs.Tables.Publications.{by_site, identities, rules_of}
 use Rattle.merge_model.specs.Publisher.{last_closed, new_holders}
-use Rattle.merge_model.specs.Publisher.PublisherLocal.{Drawn, drawn, made_locally, next_dot}
-use Rattle.merge_model.specs.Publisher.PublisherRanges.{ranged, plans, with_grants, ask_by}
-use Rattle.merge_model.specs.Publisher.PublisherDownload.{asked, reply_to}
+use Rattle.merge_model.specs.Publisher.PublisherLocal.{Drawn, draw_for_change, made_locally, next_dot}
+use Rattle.merge_model.specs.Publisher.PublisherRanges.{reply_to_ranges, plans, with_grants, ask_by}
+use Rattle.merge_model.specs.Publisher.PublisherDownload.{reply_to, tables_after_download}
 use Rattle.merge_model.specs.World.{Saying, World, subscriber_at, with_publisher, with_subscriber, empty_world, empty_subscribers}
 use Rattle.merge_model.specs.declared.letter.Message.TheVariants.{Asks, Replies}
 use Rattle.merge_model.specs.declared.letter.Letter.{Letter}
@@ -55,10 +55,10 @@ use Rattle.merge_model.specs.World.Events.{after}
 use Rattle.merge_model.specs.Tables.Changes.{key_of, version_after}
 use Rattle.merge_model.specs.World.Faults.{reply_fault}
 use Rattle.merge_model.specs.History.Pasts.{past_after}
-use Rattle.merge_model.specs.Subscriber.Reinit.{reinitialised}
+use Rattle.merge_model.specs.Subscriber.Reinit.{result_of_reinit}
 use Rattle.merge_model.specs.Subscriber.Sending.{join_of, upload_sent, want_of, with_message}
 use Rattle.merge_model.specs.Subscriber.{empty_subscriber, subscriber_at_moment, subscriber_closed, subscriber_drawn, subscriber_last_closed, subscriber_made_locally, subscriber_next_dot, subscriber_version_at, with_version, with_version_if}
-use Rattle.merge_model.specs.Subscriber.Taking.{taken}
+use Rattle.merge_model.specs.Subscriber.Taking.{tables_after_reply}
 use Rattle.merge_model.proofs.Runs.Actions.{failing-actions-keep}
 use Rattle.merge_laws.proofs.Runs.Tallied.{received-tallied}
 use Rattle.merge_laws.specs.Facts.Identities.{Held, holder_in, held_at, holders_at, Identities, LetterTells, MessageTells}
@@ -156,13 +156,13 @@ module _ (publication : Publication) (w : World) (made : List MadeChange) (i : A
   sends t message same held tells =
       letter-more publication w.publisher.grants w.publisher.held (with_subscriber t w).subscribers w.pool made (record { site = s.site; message = message }) (same-stays t same held) tells
 
-  reply-acts : (judge : SubscriberJudge) (sent : Outstanding) (m : Reply) → MessageTells w.publisher.grants s.site (Replies m) → reply_fault publication sent m s ≡ None → Apart publication (with_subscriber (taken judge w.moment m s) w) made
-  reply-acts judge sent (reply.Joined m) tells none = same-stays (taken judge w.moment (reply.Joined m) s) refl refl
-  reply-acts judge sent (reply.Uploaded m) tells none = same-stays (taken judge w.moment (reply.Uploaded m) s) refl refl
-  reply-acts judge sent (reply.Downloaded m) tells none = same-stays (taken judge w.moment (reply.Downloaded m) s) refl refl
-  reply-acts judge sent (reply.Refused number values) tells none = same-stays (taken judge w.moment (reply.Refused number values) s) refl refl
+  reply-acts : (judge : SubscriberJudge) (sent : Outstanding) (m : Reply) → MessageTells w.publisher.grants s.site (Replies m) → reply_fault publication sent m s ≡ None → Apart publication (with_subscriber (tables_after_reply judge w.moment m s) w) made
+  reply-acts judge sent (reply.Joined m) tells none = same-stays (tables_after_reply judge w.moment (reply.Joined m) s) refl refl
+  reply-acts judge sent (reply.Uploaded m) tells none = same-stays (tables_after_reply judge w.moment (reply.Uploaded m) s) refl refl
+  reply-acts judge sent (reply.Downloaded m) tells none = same-stays (tables_after_reply judge w.moment (reply.Downloaded m) s) refl refl
+  reply-acts judge sent (reply.Refused number values) tells none = same-stays (tables_after_reply judge w.moment (reply.Refused number values) s) refl refl
   reply-acts judge sent (reply.Ranged m) tells none =
-      let t : SubscriberTables = taken judge w.moment (reply.Ranged m) s in
+      let t : SubscriberTables = tables_after_reply judge w.moment (reply.Ranged m) s in
       let fits = ranged-fits publication sent m s none in
       put-stays t refl (holding publication w.publisher.grants w.publisher.held w.subscribers w.pool made i s at t
       (λ low. all-received w.publisher.grants made s.site.0 low m.grants s.held fits.0 fits.1 tells (own-held publication w.publisher.grants w.publisher.held w.subscribers w.pool made i s at low)))
@@ -177,7 +177,7 @@ module _ (publication : Publication) (w : World) (made : List MadeChange) (i : A
 -- Changes that are made, and answers.
 
 module _ (publication : Publication) (w : World) (h : History) (i : Apart publication w h.made) where
-  own-change : (judge : PublisherJudge) (change : Change) (d : Drawn) → drawn publication w.publisher change ≡ Ok d → Apart publication (with_publisher (made_locally publication judge change d (here w)).0 w) (own_noted publication judge change d (here w) h).made
+  own-change : (judge : PublisherJudge) (change : Change) (d : Drawn) → draw_for_change publication w.publisher change ≡ Ok d → Apart publication (with_publisher (made_locally publication judge change d (here w)).0 w) (own_noted publication judge change d (here w) h).made
   own-change judge change d is =
       let k : History = Noting.with_change publication (next_dot (here w)) (last_closed (here w) + 1) change d.value h in
       let more : List Line = Noting.lines_of_entries (last_closed (here w) + 1) (Noting.drawn_entries publication judge change (here w) d) in
@@ -204,10 +204,10 @@ module _ (publication : Publication) (w : World) (h : History) (i : Apart public
   answers site m after same tells = letter-more publication w.publisher.grants w.publisher.held w.subscribers w.pool after (record { site = site; message = Replies m }) (taken-same publication w.publisher.grants w.publisher.held w.subscribers w.pool h.made after same i) tells
 
   -- and an ask for ranges, which is of the site that sent it
-  answers-ranges : (site : SiteId) (m : RangeAsk) → m.site ≡ site → Apart publication (post site (Replies (reply.Ranged (ranged m (plans publication m w.publisher)))) (with_publisher (with_grants (plans publication m w.publisher) (here w)) w)).0 h.made
+  answers-ranges : (site : SiteId) (m : RangeAsk) → m.site ≡ site → Apart publication (post site (Replies (reply.Ranged (reply_to_ranges m (plans publication m w.publisher)))) (with_publisher (with_grants (plans publication m w.publisher) (here w)) w)).0 h.made
   answers-ranges site m same =
       let q : PublisherTables = with_grants (plans publication m w.publisher) (here w) in
-      let message : Message = Replies (reply.Ranged (ranged m (plans publication m w.publisher))) in
+      let message : Message = Replies (reply.Ranged (reply_to_ranges m (plans publication m w.publisher))) in
       subst (λ (x : SiteId). Identities publication q.grants q.held w.subscribers (w.pool ++ record { site = x; message = message } ∷ []) h.made) same
       (letter-more publication q.grants q.held w.subscribers w.pool h.made (record { site = m.site; message = message })
       (more-granted publication w.publisher.grants w.publisher.held w.subscribers w.pool h.made (map (ask_by m.site) m.wants) i) (plans-told (rules_of publication) w.publisher.grants m.site m.wants))
@@ -255,7 +255,7 @@ module _ (publication : Publication) (says : Saying) where
     same = λ w h s b p at none. same-stays publication w h.made b.1.0 s at s refl refl;
     subscriber_change = λ w h s change d b p at named fine is none. sub-change publication w h b.1.0 s change d at (above-zero s.site.0 named) is;
     subscriber_closing = λ w h s b p at none. same-stays publication w h.made b.1.0 s at (subscriber_closed (subscriber_at_moment w.moment s)) refl refl;
-    anew = λ w h s b p at none. (let judge : SubscriberJudge = by_made h s.site in let t : SubscriberTables = (reinitialised judge (subscriber_at_moment w.moment s)).0 in
+    anew = λ w h s b p at none. (let judge : SubscriberJudge = by_made h s.site in let t : SubscriberTables = (result_of_reinit judge (subscriber_at_moment w.moment s)).0 in
         subst (λ (made : List MadeChange). Apart publication (with_subscriber t w) made) (sym (anew-made (by_history h) s.site (Some s) h)) (same-stays publication w h.made b.1.0 s at t refl refl));
     sends_join = λ w h s b p at joining none. sends publication w h.made b.1.0 s at (with_message ask.Join s) (Asks (request.Join (join_of s))) refl refl tt;
     sends_upload = λ w h s b p at fine none. (let made : SubscriberTables × Upload = upload_sent (by_made h s.site) (subscriber_closed (subscriber_at_moment w.moment s)) in sends publication w h.made b.1.0 s at made.0 (Asks (request.Upload made.1)) refl refl tt);
@@ -270,9 +270,9 @@ module _ (publication : Publication) (says : Saying) where
         answers publication w h b.1.0 m.site (reply.Uploaded (told_by judge m)) (Noting.with_acts_noted publication judge m acts (pasts_with h number) (here w) h).made (upload-taken publication judge m acts (pasts_with h number) (here w) h true) tt);
     uploads_again = λ w h number m b p at old none. answers publication w h b.1.0 m.site (reply.Uploaded (told_by (by_past h (pasts_with h number)) m)) h.made (λ site article value. refl) tt;
     answers_ranges = λ w h site m b p none. (let v : World = with_publisher (with_grants (plans publication m w.publisher) (here w)) w in
-        let message : Message = Replies (reply.Ranged (ranged m (plans publication m w.publisher))) in not-both (tells_ranges pool (post site message v).0) none (posted-tells pool v site message b.1.1));
-    answers_ask = λ w h number site m b p at fine none. answers publication w h b.1.0 site (reply.Downloaded (reply_to publication (by_past h (pasts_with h number)) m (asked m (here w)))) h.made (λ x article value. refl) tt;
-    replies = λ w h s number m sent b p at there out fits none. (let judge : SubscriberJudge = by_made h s.site in let t : SubscriberTables = taken judge w.moment m s in
+        let message : Message = Replies (reply.Ranged (reply_to_ranges m (plans publication m w.publisher))) in not-both (tells_ranges pool (post site message v).0) none (posted-tells pool v site message b.1.1));
+    answers_ask = λ w h number site m b p at fine none. answers publication w h b.1.0 site (reply.Downloaded (reply_to publication (by_past h (pasts_with h number)) m (tables_after_download m (here w)))) h.made (λ x article value. refl) tt;
+    replies = λ w h s number m sent b p at there out fits none. (let judge : SubscriberJudge = by_made h s.site in let t : SubscriberTables = tables_after_reply judge w.moment m s in
         subst (λ (made : List MadeChange). Apart publication (with_subscriber t w) made) (sym (taker-made (by_history h) s.site (pasts_with h number) m (Some s) h))
         (reply-acts publication w h.made b.1.0 s at judge sent m (pool-at (LetterTells w.publisher.grants) w number (record { site = s.site; message = Replies m }) there b.1.0.letters) fits));
   }

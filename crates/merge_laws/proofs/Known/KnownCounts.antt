@@ -17,7 +17,7 @@ use Rattle.merge_model.specs.Tables.Keys.{at_number, put_number}
 use Rattle.merge_model.specs.Subscriber.{subscriber_at_moment, subscriber_made_locally, subscriber_next_dot, subscriber_version_at, with_version_if}
 use Rattle.merge_types.specs.declared.row_key.RowKey.{RowKey as Key}
 use Rattle.merge_model.specs.Tables.{PublisherTables, SubscriberTables}
-use Rattle.merge_model.specs.Subscriber.Taking.{taken}
+use Rattle.merge_model.specs.Subscriber.Taking.{tables_after_reply}
 use Rattle.merge_model.specs.World.{World, with_publisher, with_subscriber}
 use Rattle.merge_laws.specs.Facts.Knowledge.{changes_of}
 use Rattle.merge_model.proofs.Lists.Finding.{at_put_other, at_put_same}
@@ -78,7 +78,7 @@ publisher-counts w q more n is =
 
 -- The calls of a subscriber.
 
-pub taken-on : (judge : SubscriberJudge) (now : Moment) (m : Reply) (s : SubscriberTables) → GoesOn 0 s (taken judge now m s)
+pub taken-on : (judge : SubscriberJudge) (now : Moment) (m : Reply) (s : SubscriberTables) → GoesOn 0 s (tables_after_reply judge now m s)
 taken-on judge now (reply.Joined m) s = record { same_site = refl; changes = omega arith }
 taken-on judge now (reply.Uploaded m) s = record { same_site = refl; changes = omega arith }
 taken-on judge now (reply.Ranged m) s = record { same_site = refl; changes = omega arith }

@@ -16,7 +16,7 @@ use Rattle.merge_model.specs.Tables.Keys.{put_number}
 use Rattle.merge_model.specs.History.Model.{pasts_in, with_letter}
 use Rattle.merge_model.specs.Tables.Publications.{by_site}
 use Rattle.merge_model.specs.Publisher.{last_closed}
-use Rattle.merge_model.specs.Subscriber.Reinit.{discarded}
+use Rattle.merge_model.specs.Subscriber.Reinit.{discarded_versions}
 use Rattle.merge_types.specs.declared.row_key.RowKey.{RowKey as Key}
 use Rattle.merge_model.specs.Tables.{PublisherTables, SubscriberTables}
 use Rattle.merge_model.specs.Subscriber.Taking.{key_of_download}
@@ -65,7 +65,7 @@ module _ (count : ℕ → ℕ) where
   }
 
   pub anew-known : (judge : SubscriberJudge) (s : SubscriberTables) (h : History) → Known count h → Known count (Noting.noted_anew judge s h)
-  anew-known judge s h k = emptied-known s.site.0 (fold (Noting.with_discarded s.site) h (discarded judge s)) (discarded-known s.site (discarded judge s) h k)
+  anew-known judge s h k = emptied-known s.site.0 (fold (Noting.with_discarded s.site) h (discarded_versions judge s)) (discarded-known s.site (discarded_versions judge s) h k)
 
   -- Purges and joins.
 

@@ -29,8 +29,8 @@ use Rattle.merge_model.specs.Publisher.{last_closed}
 use Rattle.merge_model.specs.Publisher.PublisherLocal.{Drawn, made_locally, next_dot}
 use Rattle.merge_model.specs.Publisher.PublisherJoin.{join_taken}
 use Rattle.merge_model.specs.Publisher.PublisherUpload.{taken_in}
-use Rattle.merge_model.specs.Publisher.PublisherRanges.{plans, ranged, with_grants}
-use Rattle.merge_model.specs.Publisher.PublisherDownload.{asked, reply_to}
+use Rattle.merge_model.specs.Publisher.PublisherRanges.{plans, reply_to_ranges, with_grants}
+use Rattle.merge_model.specs.Publisher.PublisherDownload.{reply_to, tables_after_download}
 use Rattle.merge_model.specs.Subscriber.{subscriber_at_moment, subscriber_last_closed, subscriber_made_locally, subscriber_next_dot, empty_subscriber, subscriber_closed}
 use Rattle.merge_model.specs.World.{Saying, World, subscriber_at, with_publisher, with_subscriber, empty_subscribers, empty_world}
 use Rattle.merge_model.specs.declared.letter.Message.TheVariants.{Asks, Replies}
@@ -41,9 +41,9 @@ use Rattle.merge_model.specs.Judge.ByHistory.{by_past, by_made}
 use Rattle.merge_model.specs.History.Noting
 use Rattle.merge_model.specs.Tables.Publications.{by_site}
 use Rattle.merge_model.specs.History.Model.{Model, empty_model, model}
-use Rattle.merge_model.specs.Subscriber.Reinit.{reinitialised}
+use Rattle.merge_model.specs.Subscriber.Reinit.{result_of_reinit}
 use Rattle.merge_model.specs.Subscriber.Sending.{join_of, upload_sent, want_of, with_message}
-use Rattle.merge_model.specs.Subscriber.Taking.{taken}
+use Rattle.merge_model.specs.Subscriber.Taking.{tables_after_reply}
 use Rattle.merge_model.proofs.Runs.Actions.{failing-actions-keep}
 use Rattle.merge_laws.proofs.Runs.Tallied.{received-tallied}
 use Rattle.merge_laws.specs.Facts.Knowledge.{Known, changes_of, counts_down}
@@ -115,7 +115,7 @@ module _ (publication : Publication) (says : Saying) where
     subscriber_change = λ w h s change d r k at named fine is. sub-change w h s change d at named k;
     subscriber_closing = λ w h s r k at. goes-on w h s (subscriber_closed (subscriber_at_moment w.moment s)) at (record { same_site = refl; changes = omega arith }) k;
     anew = λ w h s r k at. (let judge : SubscriberJudge = by_made h s.site in
-        goes-on w (Noting.noted_anew judge s h) s (reinitialised judge (subscriber_at_moment w.moment s)).0 at (record { same_site = refl; changes = omega arith }) (anew-known (changes_of w) judge s h k));
+        goes-on w (Noting.noted_anew judge s h) s (result_of_reinit judge (subscriber_at_moment w.moment s)).0 at (record { same_site = refl; changes = omega arith }) (anew-known (changes_of w) judge s h k));
     sends_join = λ w h s r k at joining. sends w h s (with_message ask.Join s) (Asks (request.Join (join_of s))) at (record { same_site = refl; changes = omega arith }) k;
     sends_upload = λ w h s r k at fine. (let made : SubscriberTables × Upload = upload_sent (by_made h s.site) (subscriber_closed (subscriber_at_moment w.moment s)) in
         sends w h s made.0 (Asks (request.Upload made.1)) at (record { same_site = refl; changes = omega arith }) k);
@@ -128,10 +128,10 @@ module _ (publication : Publication) (says : Saying) where
         let q : PublisherTables = taken_in publication judge m acts (here w) in
         answers (uploaded_world publication says judge m q w) (Noting.with_acts_noted publication judge m acts (pasts_with h number) (here w) h) m.site (reply.Uploaded (told_by judge m)) (uploads w h number m k));
     uploads_again = λ w h number m r k at none. (let judge : PublisherJudge = by_past h (pasts_with h number) in answers (uploaded_world publication says judge m (here w) w) h m.site (reply.Uploaded (told_by judge m)) k);
-    answers_ranges = λ w h site m r k. answers (with_publisher (with_grants (plans publication m w.publisher) (here w)) w) h site (reply.Ranged (ranged m (plans publication m w.publisher))) k;
-    answers_ask = λ w h number site m r k at fine. answers (with_publisher (asked m (here w)) w) h site (reply.Downloaded (reply_to publication (by_past h (pasts_with h number)) m (asked m (here w)))) k;
+    answers_ranges = λ w h site m r k. answers (with_publisher (with_grants (plans publication m w.publisher) (here w)) w) h site (reply.Ranged (reply_to_ranges m (plans publication m w.publisher))) k;
+    answers_ask = λ w h number site m r k at fine. answers (with_publisher (tables_after_download m (here w)) w) h site (reply.Downloaded (reply_to publication (by_past h (pasts_with h number)) m (tables_after_download m (here w)))) k;
     replies = λ w h s number m sent r k at there out none. (let judge : SubscriberJudge = by_made h s.site in
-        goes-on w (Noting.noted_reply judge s.site (pasts_with h number) m h) s (taken judge w.moment m s) at (taken-on judge w.moment m s) (reply-known (changes_of w) judge s.site (pasts_with h number) m h (k, letter-knows h number k.knowledge)));
+        goes-on w (Noting.noted_reply judge s.site (pasts_with h number) m h) s (tables_after_reply judge w.moment m s) at (taken-on judge w.moment m s) (reply-known (changes_of w) judge s.site (pasts_with h number) m h (k, letter-knows h number k.knowledge)));
   }
 
 -- How it begins.

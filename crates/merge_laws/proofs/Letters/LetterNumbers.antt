@@ -13,11 +13,11 @@ use Rattle.merge_model.specs.Judge.ByHistory.{by_made}
 use Rattle.merge_model.specs.History.{no_history}
 use Rattle.merge_model.specs.Tables.Keys.{at_number, put_number}
 use Rattle.merge_model.specs.Tables.Publications.{by_site}
-use Rattle.merge_model.specs.Subscriber.Reinit.{reinitialised}
+use Rattle.merge_model.specs.Subscriber.Reinit.{result_of_reinit}
 use Rattle.merge_model.specs.Subscriber.Sending.{upload_sent, with_message}
 use Rattle.merge_model.specs.Subscriber.{empty_subscriber, subscriber_at_moment, subscriber_closed, subscriber_made_locally}
 use Rattle.merge_model.specs.Tables.{SubscriberTables}
-use Rattle.merge_model.specs.Subscriber.Taking.{taken}
+use Rattle.merge_model.specs.Subscriber.Taking.{tables_after_reply}
 use Rattle.merge_model.specs.World.{Saying, World, empty_world, letter_at, subscriber_at}
 use Rattle.merge_model.specs.declared.letter.Message.TheVariants.{Asks}
 use Rattle.merge_model.specs.declared.letter.Letter.{Letter}
@@ -55,7 +55,7 @@ named-keeps publication says = record {
   same = λ w h s g p at. (named-put w s s at refl p.0, p.1);
   subscriber_change = λ w h s change d g p at named fine is. (named-put w s (subscriber_made_locally publication change d (subscriber_at_moment w.moment s)).0 at (version-site _ _ _) p.0, p.1);
   subscriber_closing = λ w h s g p at. (named-put w s (subscriber_closed (subscriber_at_moment w.moment s)) at refl p.0, p.1);
-  anew = λ w h s g p at. (named-put w s (reinitialised (by_made h s.site) (subscriber_at_moment w.moment s)).0 at refl p.0, p.1);
+  anew = λ w h s g p at. (named-put w s (result_of_reinit (by_made h s.site) (subscriber_at_moment w.moment s)).0 at refl p.0, p.1);
   sends_join = λ w h s g p at joining. (named-put w s (with_message ask.Join s) at refl p.0, posted-named w.pool s.site _ tt p.1);
   sends_upload = λ w h s g p at fine. (named-put w s (upload_sent (by_made h s.site) (subscriber_closed (subscriber_at_moment w.moment s))).0 at refl p.0, posted-named w.pool s.site _ tt p.1);
   sends_ranges = λ w h s g p at fine. (named-put w s (with_message ask.Ranges s) at refl p.0, posted-named w.pool s.site _ tt p.1);
@@ -66,7 +66,7 @@ named-keeps publication says = record {
   uploads_again = λ w h number m g p at none. (p.0, posted-named w.pool m.site _ tt p.1);
   answers_ranges = λ w h site m g p. (p.0, posted-named w.pool site _ tt p.1);
   answers_ask = λ w h number site m g p at fine. (p.0, posted-named w.pool site _ (letter-named w number (record { site = site; message = Asks (request.Download m) }) p.1 at) p.1);
-  replies = λ w h s number m sent g p at there out none. (named-put w s (taken (by_made h s.site) w.moment m s) at (reply-site (by_made h s.site) w.moment m s) p.0, p.1);
+  replies = λ w h s number m sent g p at there out none. (named-put w s (tables_after_reply (by_made h s.site) w.moment m s) at (reply-site (by_made h s.site) w.moment m s) p.0, p.1);
 }
 
 -- How it begins.

@@ -17,19 +17,19 @@ use Rattle.merge_model.specs.Tables.Changes.{key_of, version_after}
 use Rattle.merge_model.specs.History.{History, pasts_with}
 use Rattle.merge_model.specs.Judge.{PublisherJudge, SubscriberJudge}
 use Rattle.merge_model.specs.Tables.Keys.{at_number, put_number}
-use Rattle.merge_model.specs.Publisher.{closed}
-use Rattle.merge_model.specs.Publisher.PublisherDownload.{asked, reply_to}
+use Rattle.merge_model.specs.Publisher.{tables_after_close}
+use Rattle.merge_model.specs.Publisher.PublisherDownload.{reply_to, tables_after_download}
 use Rattle.merge_model.specs.Publisher.PublisherJoin.{join_taken}
 use Rattle.merge_model.specs.Publisher.PublisherLocal.{made_locally}
 use Rattle.merge_model.specs.Publisher.PublisherPurge.{purge}
-use Rattle.merge_model.specs.Publisher.PublisherRanges.{plans, ranged, with_grants}
+use Rattle.merge_model.specs.Publisher.PublisherRanges.{plans, reply_to_ranges, with_grants}
 use Rattle.merge_model.specs.Publisher.PublisherUpload.{taken_in}
-use Rattle.merge_model.specs.Subscriber.Reinit.{reinitialised}
+use Rattle.merge_model.specs.Subscriber.Reinit.{result_of_reinit}
 use Rattle.merge_model.specs.Subscriber.Sending.{join_of, upload_sent, want_of, with_message}
 use Rattle.merge_model.specs.Subscriber.{is_joining, subscriber_at_moment, subscriber_closed, subscriber_next_dot, subscriber_version_at, with_version_if}
 use Rattle.merge_types.specs.declared.row_key.RowKey.{RowKey as Key}
 use Rattle.merge_model.specs.Tables.{PublisherTables, SubscriberTables}
-use Rattle.merge_model.specs.Subscriber.Taking.{taken}
+use Rattle.merge_model.specs.Subscriber.Taking.{tables_after_reply}
 use Rattle.merge_model.specs.World.{Saying, World, empty_world, subscriber_at, with_publisher, with_subscriber}
 use Rattle.merge_model.specs.declared.letter.Message.TheVariants.{Asks, Replies}
 use Rattle.merge_model.specs.declared.letter.Letter.{Letter}
@@ -155,7 +155,7 @@ version-seq : (key : Key) (found : Option Version) (u : SubscriberTables) → (w
 version-seq key None u = refl
 version-seq key (Some version) u = refl
 
-reply-seq : (judge : SubscriberJudge) (now : Moment) (m : Reply) (s : SubscriberTables) → (taken judge now m s).seq ≡ s.seq
+reply-seq : (judge : SubscriberJudge) (now : Moment) (m : Reply) (s : SubscriberTables) → (tables_after_reply judge now m s).seq ≡ s.seq
 reply-seq judge now (reply.Joined m) s = refl
 reply-seq judge now (reply.Uploaded m) s = refl
 reply-seq judge now (reply.Ranged m) s = refl
@@ -170,7 +170,7 @@ module _ (publication : Publication) (says : Saying) where
   order-keeps = record {
     moment = λ w h now r i. record { sent = i.sent; joins = i.joins };
     own_change = λ w h change d r i fine is. (let q : PublisherTables = (made_locally publication (by_past h (pasts_with h 0)) change d (here w)).0 in publisher-same w q (same-sites w.publisher q refl) i);
-    own_closing = λ w h r i. publisher-same w (closed (here w)) (same-sites w.publisher (closed (here w)) refl) i;
+    own_closing = λ w h r i. publisher-same w (tables_after_close (here w)) (same-sites w.publisher (tables_after_close (here w)) refl) i;
     forgetting = λ w h r i. (let q : PublisherTables = (purge publication w.moment w.publisher).0 in publisher-same w q (same-sites w.publisher q refl) i);
     same = λ w h s r i at. subscriber-on w s s at refl (omega arith) i;
     subscriber_change = λ w h s change d r i at named fine is. (
@@ -179,7 +179,7 @@ module _ (publication : Publication) (says : Saying) where
         let found : Option Version = version_after publication (subscriber_next_dot s) d.0 change (subscriber_version_at s key) in
         subscriber-on w s (with_version_if key found u) at (version-site key found u) (let e = version-seq key found u in omega (arith, e)) i);
     subscriber_closing = λ w h s r i at. subscriber-on w s (subscriber_closed (subscriber_at_moment w.moment s)) at refl (omega arith) i;
-    anew = λ w h s r i at. subscriber-on w s (reinitialised (by_made h s.site) (subscriber_at_moment w.moment s)).0 at refl (omega arith) i;
+    anew = λ w h s r i at. subscriber-on w s (result_of_reinit (by_made h s.site) (subscriber_at_moment w.moment s)).0 at refl (omega arith) i;
     sends_join = λ w h s r i at joining. (
         let t : SubscriberTables = with_message ask.Join s in
         post-other (with_subscriber t w) s.site (Asks (request.Join (join_of s))) refl (λ acts. (let was = i.sent s.site.0 s at in omega (arith, was))) (subscriber-on w s t at refl (omega arith) i));
@@ -202,10 +202,10 @@ module _ (publication : Publication) (says : Saying) where
         post-other (uploaded_world publication says judge m (here w) w) m.site (Replies (reply.Uploaded (told_by judge m))) refl tt
         (order-tallied (with_publisher (here w) w) (uploaded_world publication says judge m (here w) w).tallies (publisher-same w (here w) (same-sites w.publisher (here w) refl) i)));
     answers_ranges = λ w h site m r i. (let q : PublisherTables = with_grants (plans publication m w.publisher) (here w) in
-        post-other (with_publisher q w) site (Replies (reply.Ranged (ranged m (plans publication m w.publisher)))) refl tt (publisher-same w q (same-sites w.publisher q refl) i));
-    answers_ask = λ w h number site m r i at fine. (let q : PublisherTables = asked m (here w) in let same = asked-same m (here w) in
+        post-other (with_publisher q w) site (Replies (reply.Ranged (reply_to_ranges m (plans publication m w.publisher)))) refl tt (publisher-same w q (same-sites w.publisher q refl) i));
+    answers_ask = λ w h number site m r i at fine. (let q : PublisherTables = tables_after_download m (here w) in let same = asked-same m (here w) in
         post-other (with_publisher q w) site (Replies (reply.Downloaded (reply_to publication (by_past h (pasts_with h number)) m q))) refl tt (publisher-on w q (λ x. (let e = same.joined x in omega (arith, e))) i));
-    replies = λ w h s number m sent r i at there out none. subscriber-on w s (taken (by_made h s.site) w.moment m s) at (reply-site (by_made h s.site) w.moment m s) (let e = reply-seq (by_made h s.site) w.moment m s in omega (arith, e)) i;
+    replies = λ w h s number m sent r i at there out none. subscriber-on w s (tables_after_reply (by_made h s.site) w.moment m s) at (reply-site (by_made h s.site) w.moment m s) (let e = reply-seq (by_made h s.site) w.moment m s in omega (arith, e)) i;
   }
 
 pub order-begins : (publication : Publication) (tallies : List ℕ) → LetterOrder (empty_world publication tallies)

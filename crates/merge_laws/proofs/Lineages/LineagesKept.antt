@@ -34,14 +34,14 @@ use Rattle.merge_model.specs.History.{History, pasts_with}
 use Rattle.merge_model.specs.Judge.{PublisherJudge, SubscriberJudge}
 use Rattle.merge_model.specs.Tables.Keys.{at_number, put_number}
 use Rattle.merge_model.specs.History.Model.{Model, empty_model, model}
-use Rattle.merge_model.specs.Publisher.{closed}
-use Rattle.merge_model.specs.Publisher.PublisherDownload.{asked, reply_to}
+use Rattle.merge_model.specs.Publisher.{tables_after_close}
+use Rattle.merge_model.specs.Publisher.PublisherDownload.{reply_to, tables_after_download}
 use Rattle.merge_model.specs.Publisher.PublisherJoin.{join_taken}
 use Rattle.merge_model.specs.Publisher.PublisherLocal.{Drawn, made_locally, next_dot, version_at}
 use Rattle.merge_model.specs.Publisher.PublisherPurge.{purge}
-use Rattle.merge_model.specs.Publisher.PublisherRanges.{plans, ranged, with_grants}
+use Rattle.merge_model.specs.Publisher.PublisherRanges.{plans, reply_to_ranges, with_grants}
 use Rattle.merge_model.specs.Publisher.PublisherUpload.{taken_in}
-use Rattle.merge_model.specs.Subscriber.Reinit.{discarded, numbered_from, reinitialised}
+use Rattle.merge_model.specs.Subscriber.Reinit.{discarded_rows_from, discarded_versions, result_of_reinit}
 use Rattle.merge_model.specs.Subscriber.Sending.{join_of, upload_sent, want_of, with_message}
 use Rattle.merge_model.specs.World.Steps.{Action, kept_decisions, upload_questions}
 use Rattle.merge_model.specs.Subscriber.{subscriber_at_moment, subscriber_closed, subscriber_made_locally, subscriber_next_dot, subscriber_version_at, with_version_if}
@@ -49,7 +49,7 @@ use Rattle.merge_types.specs.declared.row_key.RowKey.{RowKey as Key}
 use Rattle.merge_units.specs.declared.site_row.PublisherRow.{PublisherRow}
 use Rattle.merge_units.specs.declared.site_row.SubscriberRow.{SubscriberRow}
 use Rattle.merge_model.specs.Tables.{PublisherTables, SubscriberTables}
-use Rattle.merge_model.specs.Subscriber.Taking.{row_above, taken}
+use Rattle.merge_model.specs.Subscriber.Taking.{row_above, tables_after_reply}
 use Rattle.merge_model.specs.World.{Saying, World, empty_world, letter_at, subscriber_at, with_publisher, with_subscriber}
 use Rattle.merge_model.specs.declared.letter.Message.TheVariants.{Asks, Replies}
 use Rattle.merge_model.specs.declared.letter.Letter.{Letter}
@@ -74,7 +74,7 @@ version-changes : (key : Key) (found : Option Version) (u : SubscriberTables) �
 version-changes key None u = refl
 version-changes key (Some version) u = refl
 
-reply-same : (judge : SubscriberJudge) (m : Reply) (s : SubscriberTables) (w : World) → ((taken judge w.moment m s).site.0 ≡ s.site.0) × ((taken judge w.moment m s).changes ≡ s.changes)
+reply-same : (judge : SubscriberJudge) (m : Reply) (s : SubscriberTables) (w : World) → ((tables_after_reply judge w.moment m s).site.0 ≡ s.site.0) × ((tables_after_reply judge w.moment m s).changes ≡ s.changes)
 reply-same judge (reply.Joined m) s w = (refl, refl)
 reply-same judge (reply.Uploaded m) s w = (refl, refl)
 reply-same judge (reply.Ranged m) s w = (refl, refl)
@@ -146,17 +146,17 @@ module _ (Q : List Dot → Type 0) where
         lost = subst (λ (es : List ConflictRow). OfLost Q es) (sym (version-conflicts key found u)) f.lost;
       }
 
-  reply-taken : (judge : SubscriberJudge) (m : Reply) (s : SubscriberTables) (w : World) → OfMessage Q (Replies m) → OfSubscriber Q s → OfSubscriber Q (taken judge w.moment m s)
+  reply-taken : (judge : SubscriberJudge) (m : Reply) (s : SubscriberTables) (w : World) → OfMessage Q (Replies m) → OfSubscriber Q s → OfSubscriber Q (tables_after_reply judge w.moment m s)
   reply-taken judge (reply.Joined m) s w new f = record { rows = f.rows; lost = f.lost }
   reply-taken judge (reply.Uploaded m) s w new f = record { rows = own-above Q m.received s.rows f.rows; lost = f.lost }
   reply-taken judge (reply.Ranged m) s w new f = record { rows = f.rows; lost = f.lost }
   reply-taken judge (reply.Downloaded m) s w new f = record { rows = own-items Q judge m.received m.items (map (row_above m.received) s.rows) new (own-above Q m.received s.rows f.rows); lost = f.lost }
   reply-taken judge (reply.Refused number values) s w new f = record { rows = f.rows; lost = f.lost }
 
-  anew-made : (judge : SubscriberJudge) (s : SubscriberTables) (w : World) → OfSubscriber Q s → OfSubscriber Q (reinitialised judge (subscriber_at_moment w.moment s)).0
+  anew-made : (judge : SubscriberJudge) (s : SubscriberTables) (w : World) → OfSubscriber Q s → OfSubscriber Q (result_of_reinit judge (subscriber_at_moment w.moment s)).0
   anew-made judge s w f =
       let c : SubscriberTables = subscriber_at_moment w.moment s in
-      record { rows = tt; lost = all-append (λ (row : ConflictRow). Q row.losing.lineage) s.conflicts (numbered_from c (c.conflict_count + 1) (discarded judge c)) f.lost (anew-lost Q judge c (c.conflict_count + 1) f.rows) }
+      record { rows = tt; lost = all-append (λ (row : ConflictRow). Q row.losing.lineage) s.conflicts (discarded_rows_from c (c.conflict_count + 1) (discarded_versions judge c)) f.lost (anew-lost Q judge c (c.conflict_count + 1) f.rows) }
 
   -- a message of a subscriber
   sends : (w : World) (s t : SubscriberTables) (message : Message) → OfSubscriber Q t → OfMessage Q message → OfLineages Q w → OfLineages Q (record (with_subscriber t w) { pool = w.pool ++ record { site = s.site; message = message } ∷ [] })
@@ -301,9 +301,9 @@ module _ (publication : Publication) (says : Saying) where
       on-letter v s.site (Asks (request.Upload made.1)) (sent-items (Made v) c _ f.rows) j
 
   ask-answers : (w : World) (h : History) (number : ℕ) (site : SiteId) (m : Download) → LineagesAreMade w
-      → Sends OfWorlds site (Replies (reply.Downloaded (reply_to publication (by_past h (pasts_with h number)) m (asked m (here w))))) (with_publisher (asked m (here w)) w) h
+      → Sends OfWorlds site (Replies (reply.Downloaded (reply_to publication (by_past h (pasts_with h number)) m (tables_after_download m (here w))))) (with_publisher (tables_after_download m (here w)) w) h
   ask-answers w h number site m i =
-      let q : PublisherTables = asked m (here w) in
+      let q : PublisherTables = tables_after_download m (here w) in
       let v : World = with_publisher q w in
       let j : LineagesAreMade v = stays-there w q refl refl refl i in
       on-letter v site (Replies (reply.Downloaded (reply_to publication (by_past h (pasts_with h number)) m q))) (put-items (Made v) q _ j.publisher.rows) j
@@ -312,12 +312,12 @@ module _ (publication : Publication) (says : Saying) where
   lineages-keep = record {
     moment = λ w h now r i. record { publisher = i.publisher; subscribers = i.subscribers; letters = i.letters };
     own_change = λ w h change d r i fine is. own-kept w (by_past h (pasts_with h 0)) change d i;
-    own_closing = λ w h r i. stays-there w (closed (here w)) refl refl refl i;
+    own_closing = λ w h r i. stays-there w (tables_after_close (here w)) refl refl refl i;
     forgetting = λ w h r i. (let q : PublisherTables = (purge publication w.moment w.publisher).0 in on-publisher w q (omega arith) (λ f. purged (Made (with_publisher q w)) publication w.publisher w f) i);
     same = λ w h s r i at. stays-here w s s at refl refl refl refl i;
     subscriber_change = λ w h s change d r i at named fine is. change-kept w s change d at named i;
     subscriber_closing = λ w h s r i at. stays-here w s (subscriber_closed (subscriber_at_moment w.moment s)) at refl refl refl refl i;
-    anew = λ w h s r i at. (let judge : SubscriberJudge = by_made h s.site in let t : SubscriberTables = (reinitialised judge (subscriber_at_moment w.moment s)).0 in
+    anew = λ w h s r i at. (let judge : SubscriberJudge = by_made h s.site in let t : SubscriberTables = (result_of_reinit judge (subscriber_at_moment w.moment s)).0 in
         on-subscriber w s t at refl (omega arith) (λ f. anew-made (Made (with_subscriber t w)) judge s w f) i);
     sends_join = λ w h s r i at joining. (let t : SubscriberTables = with_message ask.Join s in on-letter (with_subscriber t w) s.site (Asks (request.Join (join_of s))) tt (stays-here w s t at refl refl refl refl i));
     sends_upload = λ w h s r i at fine. upload-sends w h s at i;
@@ -330,9 +330,9 @@ module _ (publication : Publication) (says : Saying) where
     uploads_again = λ w h number m r i at none. (let judge : PublisherJudge = by_past h (pasts_with h number) in let v : World = uploaded_world publication says judge m (here w) w in
         on-letter v m.site (Replies (reply.Uploaded (told_by judge m))) tt (lineages-tallied (with_publisher (here w) w) v.tallies (Made v) (stays-there w (here w) refl refl refl i)));
     answers_ranges = λ w h site m r i. (let q : PublisherTables = with_grants (plans publication m w.publisher) (here w) in
-        on-letter (with_publisher q w) site (Replies (reply.Ranged (ranged m (plans publication m w.publisher)))) tt (stays-there w q refl refl refl i));
+        on-letter (with_publisher q w) site (Replies (reply.Ranged (reply_to_ranges m (plans publication m w.publisher)))) tt (stays-there w q refl refl refl i));
     answers_ask = λ w h number site m r i at fine. ask-answers w h number site m i;
-    replies = λ w h s number m sent r i at there out none. (let judge : SubscriberJudge = by_made h s.site in let t : SubscriberTables = taken judge w.moment m s in
+    replies = λ w h s number m sent r i at there out none. (let judge : SubscriberJudge = by_made h s.site in let t : SubscriberTables = tables_after_reply judge w.moment m s in
         let facts = reply-same judge m s w in let same = facts.1 in let up : s.changes ≤ t.changes = omega (arith, same) in
         on-subscriber w s t at facts.0 up (λ f. reply-taken (Made (with_subscriber t w)) judge m s w (letter-of (Made (with_subscriber t w)) w number (record { site = s.site; message = Replies m }) (subscriber-rises w s t at facts.0 up i) there) f) i);
   }

@@ -22,7 +22,7 @@ use Rattle.merge_model.specs.Tables.Publications.{by_site}
 use Rattle.merge_model.specs.Publisher.{last_closed}
 use Rattle.merge_model.specs.Publisher.PublisherLocal.{Drawn, changing_locally, local_refusal, made_locally, next_dot, version_at, with_draw}
 use Rattle.merge_model.specs.Publisher.PublisherPurge.{is_old_tombstone, purge}
-use Rattle.merge_model.specs.Subscriber.Reinit.{discarded, reinitialised}
+use Rattle.merge_model.specs.Subscriber.Reinit.{discarded_versions, result_of_reinit}
 use Rattle.merge_model.specs.Subscriber.{generations_at, subscriber_at_moment, subscriber_last_closed, subscriber_local_refusal, subscriber_made_locally, subscriber_next_dot, subscriber_version_at, with_open, with_version_if}
 use Rattle.merge_types.specs.declared.row_key.RowKey.{RowKey as Key}
 use Rattle.merge_units.specs.declared.site_row.PublisherRow.{PublisherRow}
@@ -165,12 +165,12 @@ none-ascends = tt
 -- A site is made anew.
 
 pub anew-makers : (w : World) (h : History) (s : SubscriberTables) → (s.site.0 ≡ 0 → ⊥) → KnownMakers w h → subscriber_at w s.site ≡ Some s
-    → (let judge : SubscriberJudge = by_made h s.site in KnownMakers (with_subscriber (reinitialised judge (subscriber_at_moment w.moment s)).0 w) (Noting.noted_anew judge s h))
+    → (let judge : SubscriberJudge = by_made h s.site in KnownMakers (with_subscriber (result_of_reinit judge (subscriber_at_moment w.moment s)).0 w) (Noting.noted_anew judge s h))
 anew-makers w h s named i at =
     let judge : SubscriberJudge = by_made h s.site in
-    let t : SubscriberTables = (reinitialised judge (subscriber_at_moment w.moment s)).0 in
+    let t : SubscriberTables = (result_of_reinit judge (subscriber_at_moment w.moment s)).0 in
     let n : ℕ = s.site.0 in
-    let lost : List (Key × Version) = discarded judge s in
+    let lost : List (Key × Version) = discarded_versions judge s in
     let k : History = record h { pasts = put_number h.pasts n [] } in
     let anew : KnownMakers (with_subscriber t w) k = record {
       sorted = all-sites (λ (m : ℕ) (x : List (Key × Past)). Ascend x) h.pasts n [] none-ascends i.sorted;

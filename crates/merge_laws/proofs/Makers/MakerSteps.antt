@@ -18,16 +18,16 @@ use Rattle.merge_model.specs.History.{History, Past, no_history, pasts_at, pasts
 use Rattle.merge_model.specs.Judge.{PublisherJudge, SubscriberJudge}
 use Rattle.merge_model.specs.History.Model.{past_of_item, with_letter}
 use Rattle.merge_model.specs.History.Noting
-use Rattle.merge_model.specs.Publisher.{closed}
-use Rattle.merge_model.specs.Publisher.PublisherDownload.{TouchedRow, asked, is_between, reply_to, touched_rows}
+use Rattle.merge_model.specs.Publisher.{tables_after_close}
+use Rattle.merge_model.specs.Publisher.PublisherDownload.{TouchedRow, is_between, reply_to, tables_after_download, touched_rows}
 use Rattle.merge_model.specs.Publisher.PublisherJoin.{join_taken}
-use Rattle.merge_model.specs.Publisher.PublisherRanges.{plans, ranged, with_grants}
+use Rattle.merge_model.specs.Publisher.PublisherRanges.{plans, reply_to_ranges, with_grants}
 use Rattle.merge_model.specs.Publisher.PublisherUpload.{taken_in}
 use Rattle.merge_model.specs.Subscriber.Sending.{join_of, upload_sent, want_of, with_message}
 use Rattle.merge_model.specs.Subscriber.{subscriber_at_moment, subscriber_closed}
 use Rattle.merge_types.specs.declared.row_key.RowKey.{RowKey as Key}
 use Rattle.merge_model.specs.Tables.{PublisherTables, SubscriberTables}
-use Rattle.merge_model.specs.Subscriber.Taking.{taken}
+use Rattle.merge_model.specs.Subscriber.Taking.{tables_after_reply}
 use Rattle.merge_model.specs.World.{Saying, World, empty_world, subscriber_at, with_publisher, with_subscriber}
 use Rattle.merge_model.specs.declared.letter.Message.TheVariants.{Asks, Replies}
 use Rattle.merge_model.specs.declared.letter.Message.{Message}
@@ -58,29 +58,29 @@ module _ (publication : Publication) (says : Saying) where
       (stays w h s made.0 i at refl (λ know. know))
 
   reply-sends : (w : World) (h : History) (number : ℕ) (site : SiteId) (m : Download) → KnownMakers w h
-      → (let judge : PublisherJudge = by_past h (pasts_with h number) in let message : Message = Replies (reply.Downloaded (reply_to publication judge m (asked m (here w)))) in
-      KnownMakers (record (with_publisher (asked m (here w)) w) { pool = w.pool ++ record { site = site; message = message } ∷ [] }) (with_letter (record { site = site; message = message }) h))
+      → (let judge : PublisherJudge = by_past h (pasts_with h number) in let message : Message = Replies (reply.Downloaded (reply_to publication judge m (tables_after_download m (here w)))) in
+      KnownMakers (record (with_publisher (tables_after_download m (here w)) w) { pool = w.pool ++ record { site = site; message = message } ∷ [] }) (with_letter (record { site = site; message = message }) h))
   reply-sends w h number site m i =
       let judge : PublisherJudge = by_past h (pasts_with h number) in
-      let q : PublisherTables = asked m (here w) in
+      let q : PublisherTables = tables_after_download m (here w) in
       let sent : Downloaded = reply_to publication judge m q in
       let rows : List TouchedRow = filter (is_between m.from sent.to) (touched_rows publication judge m.site q) in
       post-makers (with_publisher q w) h site (Replies (reply.Downloaded sent)) (orders-sent (λ (key : Key) (version : Version) (past : Past). KnowsMaker key past.known) (pasts_at h 0) sent.items (orders-know q (pasts_at h 0) rows i.here))
       (publisher-makers w h q refl i)
 
   replied : (w : World) (h : History) (s : SubscriberTables) (number : ℕ) (m : Reply) → Ground publication w h → KnownMakers w h → subscriber_at w s.site ≡ Some s → comes w number s.site (Replies m)
-      → (let judge : SubscriberJudge = by_made h s.site in KnownMakers (with_subscriber (taken judge w.moment m s) w) (Noting.noted_reply judge s.site (pasts_with h number) m h))
-  replied w h s number (reply.Joined m) g i at came = stays w h s (taken (by_made h s.site) w.moment (reply.Joined m) s) i at refl (λ know. know)
-  replied w h s number (reply.Uploaded m) g i at came = stays w h s (taken (by_made h s.site) w.moment (reply.Uploaded m) s) i at refl (λ know. above-know m.received s.rows (pasts_at h s.site.0) know)
-  replied w h s number (reply.Ranged m) g i at came = stays w h s (taken (by_made h s.site) w.moment (reply.Ranged m) s) i at refl (λ know. know)
+      → (let judge : SubscriberJudge = by_made h s.site in KnownMakers (with_subscriber (tables_after_reply judge w.moment m s) w) (Noting.noted_reply judge s.site (pasts_with h number) m h))
+  replied w h s number (reply.Joined m) g i at came = stays w h s (tables_after_reply (by_made h s.site) w.moment (reply.Joined m) s) i at refl (λ know. know)
+  replied w h s number (reply.Uploaded m) g i at came = stays w h s (tables_after_reply (by_made h s.site) w.moment (reply.Uploaded m) s) i at refl (λ know. above-know m.received s.rows (pasts_at h s.site.0) know)
+  replied w h s number (reply.Ranged m) g i at came = stays w h s (tables_after_reply (by_made h s.site) w.moment (reply.Ranged m) s) i at refl (λ know. know)
   replied w h s number (reply.Downloaded m) g i at came = reply-makers publication w h s number m g i at came
-  replied w h s number (reply.Refused code values) g i at came = stays w h s (taken (by_made h s.site) w.moment (reply.Refused code values) s) i at refl (λ know. know)
+  replied w h s number (reply.Refused code values) g i at came = stays w h s (tables_after_reply (by_made h s.site) w.moment (reply.Refused code values) s) i at refl (λ know. know)
 
   pub makers-keep : StepsKeep publication says (Ground publication) KnownMakers
   makers-keep = record {
     moment = λ w h now g i. record { sorted = i.sorted; makers = i.makers; firsts = i.firsts; here = i.here; there = i.there; letters = i.letters };
     own_change = λ w h change d g i fine is. own-makers publication (by_past h (pasts_with h 0)) w h change d g i fine;
-    own_closing = λ w h g i. publisher-makers w h (closed (here w)) refl i;
+    own_closing = λ w h g i. publisher-makers w h (tables_after_close (here w)) refl i;
     forgetting = λ w h g i. purge-makers publication (by_past h (pasts_with h 0)) w h g i;
     same = λ w h s g i at. stays w h s s i at refl (λ know. know);
     subscriber_change = λ w h s change d g i at named fine is. sub-makers publication w h s change d g i at named fine;
@@ -104,7 +104,7 @@ module _ (publication : Publication) (says : Saying) where
         post-makers (uploaded_world publication says judge m (here w) w) h m.site (Replies (reply.Uploaded (told_by judge m))) tt
         (makers-tallied (with_publisher (here w) w) (uploaded_world publication says judge m (here w) w).tallies h (publisher-makers w h (here w) refl i)));
     answers_ranges = λ w h site m g i. (let q : PublisherTables = with_grants (plans publication m w.publisher) (here w) in
-        post-makers (with_publisher q w) h site (Replies (reply.Ranged (ranged m (plans publication m w.publisher)))) tt (publisher-makers w h q refl i));
+        post-makers (with_publisher q w) h site (Replies (reply.Ranged (reply_to_ranges m (plans publication m w.publisher)))) tt (publisher-makers w h q refl i));
     answers_ask = λ w h number site m g i at fine. reply-sends w h number site m i;
     replies = λ w h s number m sent g i at there out none. replied w h s number m g i at there;
   }

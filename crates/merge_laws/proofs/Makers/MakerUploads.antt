@@ -31,7 +31,7 @@ use Rattle.merge_model.specs.World.Steps.{kept_decisions, upload_questions}
 use Rattle.merge_types.specs.declared.row_key.RowKey.{RowKey as Key}
 use Rattle.merge_units.specs.declared.site_row.PublisherRow.{PublisherRow}
 use Rattle.merge_model.specs.Tables.{PublisherTables, SubscriberTables}
-use Rattle.merge_model.specs.Subscriber.Taking.{row_above, taken}
+use Rattle.merge_model.specs.Subscriber.Taking.{row_above, tables_after_reply}
 use Rattle.merge_model.specs.World.{Saying, World, subscriber_at, with_publisher, with_subscriber}
 use Rattle.merge_model.specs.declared.letter.Message.TheVariants.{Asks, Replies}
 use Rattle.merge_model.specs.declared.letter.Letter.{Letter}
@@ -195,13 +195,13 @@ join-makers judge w h m i =
 -- A reply to a download.
 
 pub reply-makers : (publication : Publication) (w : World) (h : History) (s : SubscriberTables) (number : ℕ) (m : Downloaded) → Ground publication w h → KnownMakers w h → subscriber_at w s.site ≡ Some s → comes w number s.site (Replies (reply.Downloaded m))
-    → (let judge : SubscriberJudge = by_made h s.site in KnownMakers (with_subscriber (taken judge w.moment (reply.Downloaded m) s) w) (Noting.noted_reply judge s.site (pasts_with h number) (reply.Downloaded m) h))
+    → (let judge : SubscriberJudge = by_made h s.site in KnownMakers (with_subscriber (tables_after_reply judge w.moment (reply.Downloaded m) s) w) (Noting.noted_reply judge s.site (pasts_with h number) (reply.Downloaded m) h))
 reply-makers publication w h s number m g i at came =
     let judge : SubscriberJudge = by_made h s.site in
     let n : ℕ = s.site.0 in
     let incoming : List (Key × Past) = pasts_with h number in
     let k : History = fold (Noting.with_item_past judge m.received n incoming) h m.items in
-    let t : SubscriberTables = taken judge w.moment (reply.Downloaded m) s in
+    let t : SubscriberTables = tables_after_reply judge w.moment (reply.Downloaded m) s in
     let named : n ≡ 0 → ⊥ = found-named w.subscribers n s g.none at in
     let letter : Letter = record { site = s.site; message = Replies (reply.Downloaded m) } in
     let all = letter-zip (λ (x : Letter) (pasts : List (Key × Past)). OfMessage (λ (key : Key) (version : Version) (past : Past). KnowsMaker key past.known) pasts x.message) w h number letter i.letters came in

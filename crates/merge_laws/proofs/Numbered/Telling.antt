@@ -22,7 +22,7 @@ use Rattle.merge_model.specs.History.{MadeChange}
 use Rattle.merge_model.specs.Judge.{SubscriberJudge}
 use Rattle.merge_model.specs.Tables.Publications.{tracking_at}
 use Rattle.merge_model.specs.Tables.Refusals.{counter_end, refused_if}
-use Rattle.merge_model.specs.Subscriber.Reinit.{reinitialised}
+use Rattle.merge_model.specs.Subscriber.Reinit.{result_of_reinit}
 use Rattle.merge_model.specs.Subscriber.Sending.{with_message}
 use Rattle.merge_model.specs.Subscriber.{is_joining, subscriber_at_moment, subscriber_closed, subscriber_counters, subscriber_last_closed, subscriber_local_refusal, subscriber_made_locally, subscriber_next_dot, subscriber_version_at, with_version_if}
 use Rattle.merge_types.specs.declared.row_key.RowKey.{RowKey as Key}
@@ -57,10 +57,10 @@ module _ (before after : List MadeChange) (n : ℕ) (s : SubscriberTables) (fill
 
 -- A closing.
 
-closed-one : (filling : Filling) (generation : ℕ) → filling.last_closed < generation → generation ≤ (fill.closed filling).last_closed → (generation ≡ filling.last_closed + 1) × (filling.filled ≡ 0 → ⊥)
+closed-one : (filling : Filling) (generation : ℕ) → filling.last_closed < generation → generation ≤ (fill.filling_after_close filling).last_closed → (generation ≡ filling.last_closed + 1) × (filling.filled ≡ 0 → ⊥)
 closed-one filling generation low up = (grind (arith, nat_tests, low, up), λ empty. grind (arith, nat_tests, low, up, empty))
 
-closed-none : (filling : Filling) → filling.last_closed ≡ 0 → filling.filled ≡ 0 → (fill.closed filling).last_closed ≡ 0
+closed-none : (filling : Filling) → filling.last_closed ≡ 0 → filling.filled ≡ 0 → (fill.filling_after_close filling).last_closed ≡ 0
 closed-none filling last empty = grind (arith, nat_tests, last, empty)
 
 closed-idle : (made : List MadeChange) (changes : ℕ) (filling : Filling) (b : Bool) → (filling.filled == 0) ≡ b → ((filling.filled ≡ 0 → ⊥) → changes ≡ last_of (filling.last_closed + 1) made) → (filling.filled ≡ 0 → changes ≡ last_of filling.last_closed made)
@@ -70,7 +70,7 @@ closed-idle made changes filling false e entered idle = entered (λ empty. grind
 
 pub closing-tells : (made : List MadeChange) (n : ℕ) (now : Moment) (s : SubscriberTables) → Tells made n s → Tells made n (subscriber_closed (subscriber_at_moment now s))
 closing-tells made n now s t =
-    let filling : Filling = fill.closed s.gens.filling in
+    let filling : Filling = fill.filling_after_close s.gens.filling in
     let moment : Moment = record { 0 = s.changes } in
     let rises : subscriber_last_closed s ≤ filling.last_closed = filling-rises s.gens.filling in
     record {
@@ -118,7 +118,7 @@ answered-tells made n s t = record { named = t.named; order = t.order; entered =
 
 -- Making anew.
 
-pub anew-tells : (made : List MadeChange) (n : ℕ) (judge : SubscriberJudge) (now : Moment) (s : SubscriberTables) → Tells made n s → Tells made n (reinitialised judge (subscriber_at_moment now s)).0
+pub anew-tells : (made : List MadeChange) (n : ℕ) (judge : SubscriberJudge) (now : Moment) (s : SubscriberTables) → Tells made n s → Tells made n (result_of_reinit judge (subscriber_at_moment now s)).0
 anew-tells made n judge now s t =
     let c : Tells made n (subscriber_closed (subscriber_at_moment now s)) = closing-tells made n now s t in
     record {

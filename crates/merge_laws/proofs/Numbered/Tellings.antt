@@ -32,20 +32,20 @@ use Rattle.merge_model.specs.Tables.Keys.{put_number}
 use Rattle.merge_model.specs.History.Model.{Model, empty_model, model}
 use Rattle.merge_model.specs.History.Noting
 use Rattle.merge_model.specs.History.Pasts.{past_after}
-use Rattle.merge_model.specs.Publisher.{closed, last_closed}
-use Rattle.merge_model.specs.Publisher.PublisherDownload.{asked, reply_to}
+use Rattle.merge_model.specs.Publisher.{last_closed, tables_after_close}
+use Rattle.merge_model.specs.Publisher.PublisherDownload.{reply_to, tables_after_download}
 use Rattle.merge_model.specs.Publisher.PublisherJoin.{join_taken}
 use Rattle.merge_model.specs.Publisher.PublisherLocal.{made_locally}
 use Rattle.merge_model.specs.Publisher.PublisherPurge.{purge}
-use Rattle.merge_model.specs.Publisher.PublisherRanges.{plans, ranged, with_grants}
+use Rattle.merge_model.specs.Publisher.PublisherRanges.{plans, reply_to_ranges, with_grants}
 use Rattle.merge_model.specs.Publisher.PublisherUpload.{brings_news, taken_in, upload_refusal}
-use Rattle.merge_model.specs.Subscriber.Reinit.{reinitialised}
+use Rattle.merge_model.specs.Subscriber.Reinit.{result_of_reinit}
 use Rattle.merge_model.specs.Subscriber.Sending.{join_of, upload_end, upload_sent, upload_to, want_of, with_message}
 use Rattle.merge_model.specs.World.Steps.{Action, kept_decisions, upload_questions}
 use Rattle.merge_model.specs.Subscriber.{empty_subscriber, subscriber_at_moment, subscriber_closed, subscriber_last_closed, subscriber_local_refusal, subscriber_made_locally, subscriber_next_dot, subscriber_version_at, with_version_if}
 use Rattle.merge_types.specs.declared.row_key.RowKey.{RowKey as Key}
 use Rattle.merge_model.specs.Tables.{PublisherTables, SubscriberTables}
-use Rattle.merge_model.specs.Subscriber.Taking.{seq_of, taken}
+use Rattle.merge_model.specs.Subscriber.Taking.{seq_of, tables_after_reply}
 use Rattle.merge_model.specs.World.{Saying, World, empty_world, subscriber_at, with_publisher, with_subscriber}
 use Rattle.merge_model.specs.declared.letter.Message.TheVariants.{Asks, Replies}
 use Rattle.merge_model.specs.declared.event.Event.{Event}
@@ -86,7 +86,7 @@ through-is made n c to t up low = ap (λ (found : Option ℕ). unwrap_or found 0
 
 -- a reply
 reply-onward : (publication : Publication) (made : List MadeChange) (judge : SubscriberJudge) (now : Moment) (sent : Outstanding) (m : Reply) (s : SubscriberTables) → reply_fault publication sent m s ≡ None → s.outstanding ≡ Some (seq_of m, sent) → Tells made s.site.0 s
-    → Onward made s (taken judge now m s)
+    → Onward made s (tables_after_reply judge now m s)
 reply-onward publication made judge now sent (reply.Joined m) s none out t =
     let a = answered-tells made s.site.0 (subscriber_at_moment now s) (moment-tells made s.site.0 now s t) in
     record { site = refl; rises = omega arith; tells = record { named = a.named; order = a.order; entered = a.entered; idle = a.idle; keeps = a.keeps; above = a.above; sent = a.sent } }
@@ -217,14 +217,14 @@ module _ (publication : Publication) (says : Saying) where
     moment = λ w h now r i. record { subscribers = i.subscribers; letters = i.letters; taken = i.taken; unknown = i.unknown; strangers = i.strangers; first = i.first };
     own_change = λ w h change d r i fine is. (let judge : PublisherJudge = by_past h (pasts_with h 0) in let q : PublisherTables = (made_locally publication judge change d (here w)).0 in
         own-on w h (own_noted publication judge change d (here w) h) q r i (own-keep (λ (x : History). Alike h x) (alike-notes h) publication judge change d (here w) h (alike-itself h)) (same-sites w.publisher q refl));
-    own_closing = λ w h r i. own-on w h h (closed (here w)) r i (alike-itself h) (same-sites w.publisher (closed (here w)) refl);
+    own_closing = λ w h r i. own-on w h h (tables_after_close (here w)) r i (alike-itself h) (same-sites w.publisher (tables_after_close (here w)) refl);
     forgetting = λ w h r i. (let judge : PublisherJudge = by_past h (pasts_with h 0) in let q : PublisherTables = (purge publication w.moment w.publisher).0 in
         own-on w h (Noting.noted_purge publication judge (here w) h) q r i (purge-keep (λ (x : History). Alike h x) (alike-notes h) publication judge (here w) h (alike-itself h)) (same-sites w.publisher q refl));
     same = λ w h s r i at. subscriber-on w h s s r i at (record { site = refl; rises = omega arith; tells = subs w h s i at });
     subscriber_change = λ w h s change d r i at named fine is. change-kept w h s change d r i at named fine;
     subscriber_closing = λ w h s r i at. subscriber-on w h s (subscriber_closed (subscriber_at_moment w.moment s)) r i at (closed-onward (made_at h s.site.0) w.moment s (subs w h s i at));
     anew = λ w h s r i at. (let judge : SubscriberJudge = by_made h s.site in let k : History = Noting.noted_anew judge s h in let j : Numbered w k = alike-on w h r i k (anew-keep (λ (x : History). Alike h x) (alike-notes h) judge s h (alike-itself h)) in
-        subscriber-on w k s (reinitialised judge (subscriber_at_moment w.moment s)).0 (history-same w h k (anew-keep (λ (x : History). Alike h x) (alike-notes h) judge s h (alike-itself h)).done r) j at
+        subscriber-on w k s (result_of_reinit judge (subscriber_at_moment w.moment s)).0 (history-same w h k (anew-keep (λ (x : History). Alike h x) (alike-notes h) judge s h (alike-itself h)).done r) j at
         (record { site = refl; rises = grind (arith, nat_tests); tells = anew-tells (made_at k s.site.0) s.site.0 judge w.moment s (subs w k s j at) }));
     sends_join = λ w h s r i at joining. join-sent w h s r i at joining;
     sends_upload = λ w h s r i at fine. upload-sends w h s r i at;
@@ -238,13 +238,13 @@ module _ (publication : Publication) (says : Saying) where
         answer-on w h m.site (reply.Uploaded (told_by judge m)) (uploaded_world publication says judge m (here w) w) (numbered-tallied (with_publisher (here w) w) (uploaded_world publication says judge m (here w) w).tallies h
         (own-on w h h (here w) r i (alike-itself h) (same-sites w.publisher (here w) refl))));
     answers_ranges = λ w h site m r i. (let q : PublisherTables = with_grants (plans publication m w.publisher) (here w) in
-        answer-on w h site (reply.Ranged (ranged m (plans publication m w.publisher))) (with_publisher q w) (own-on w h h q r i (alike-itself h) (same-sites w.publisher q refl)));
-    answers_ask = λ w h number site m r i at fine. (let q : PublisherTables = asked m (here w) in
+        answer-on w h site (reply.Ranged (reply_to_ranges m (plans publication m w.publisher))) (with_publisher q w) (own-on w h h q r i (alike-itself h) (same-sites w.publisher q refl)));
+    answers_ask = λ w h number site m r i at fine. (let q : PublisherTables = tables_after_download m (here w) in
         answer-on w h site (reply.Downloaded (reply_to publication (by_past h (pasts_with h number)) m q)) (with_publisher q w)
         (own-on w h h q r i (alike-itself h) (record { received = λ n. (asked-same m (here w)).received n; number = λ n. (asked-same m (here w)).number n; joined = λ x. (asked-same m (here w)).joined x })));
     replies = λ w h s number m sent r i at there out none. (let judge : SubscriberJudge = by_made h s.site in let k : History = Noting.noted_reply judge s.site (pasts_with h number) m h in
         let a : Alike h k = reply-keep (λ (x : History). Alike h x) (alike-notes h) judge s.site (pasts_with h number) m h (alike-itself h) in let j : Numbered w k = alike-on w h r i k a in
-        subscriber-on w k s (taken judge w.moment m s) (history-same w h k a.done r) j at (reply-onward publication (made_at k s.site.0) judge w.moment sent m s none out (subs w k s j at)));
+        subscriber-on w k s (tables_after_reply judge w.moment m s) (history-same w h k a.done r) j at (reply-onward publication (made_at k s.site.0) judge w.moment sent m s none out (subs w k s j at)));
   }
 
 -- how it begins

@@ -21,7 +21,7 @@ use Rattle.merge_model.specs.Tables.Publications.{by_site}
 use Rattle.merge_model.specs.Publisher.{last_closed}
 use Rattle.merge_model.specs.Publisher.PublisherLocal.{Drawn, changing_locally, local_refusal, made_locally, next_dot, version_at, with_draw}
 use Rattle.merge_model.specs.Publisher.PublisherPurge.{is_old_tombstone, purge}
-use Rattle.merge_model.specs.Subscriber.Reinit.{discarded}
+use Rattle.merge_model.specs.Subscriber.Reinit.{discarded_versions}
 use Rattle.merge_model.specs.Subscriber.{subscriber_last_closed, subscriber_next_dot}
 use Rattle.merge_types.specs.declared.row_key.RowKey.{RowKey as Key}
 use Rattle.merge_units.specs.declared.site_row.PublisherRow.{PublisherRow}
@@ -162,7 +162,7 @@ pub others-change : (rows : List (Key × PublisherRow)) (h : History) (pasts : L
 others-change rows h pasts same a = subst (λ (found : Option (List (Key × Past))). Accepting rows h.made h.accepted (unwrap_or found [])) (sym same) a
 
 pub anew-accepting : (w v : World) (h : History) (s : SubscriberTables) → v.publisher.rows ≡ w.publisher.rows → (s.site.0 ≡ 0 → ⊥) → AcceptsWell w h → AcceptsWell v (Noting.noted_anew (by_made h s.site) s h)
-anew-accepting w v h s same named p = lost-on (λ (x : History). Accepting v.publisher.rows x.made x.accepted (unwrap_or (at_number (put_number x.pasts s.site.0 []) 0) [])) s.site (discarded (by_made h s.site) s) h
+anew-accepting w v h s same named p = lost-on (λ (x : History). Accepting v.publisher.rows x.made x.accepted (unwrap_or (at_number (put_number x.pasts s.site.0 []) 0) [])) s.site (discarded_versions (by_made h s.site) s) h
     (λ lost. subst (λ (rows : List (Key × PublisherRow)). Accepting rows h.made h.accepted (unwrap_or (at_number (put_number h.pasts s.site.0 []) 0) [])) (sym same)
     (others-change w.publisher.rows h (put_number h.pasts s.site.0 []) (at_put_other s.site.0 0 [] h.pasts (λ zero. named (sym zero))) p))
 

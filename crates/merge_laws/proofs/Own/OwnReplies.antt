@@ -23,12 +23,12 @@ use Rattle.merge_model.specs.Tables.Keys.{drop_row, put_number, put_row, row_at,
 use Rattle.merge_model.specs.Laws.{SubscriberIsSorted}
 use Rattle.merge_model.specs.History.Model.{Model}
 use Rattle.merge_model.specs.History.Noting
-use Rattle.merge_model.specs.Subscriber.Reinit.{discarded, reinitialised}
+use Rattle.merge_model.specs.Subscriber.Reinit.{discarded_versions, result_of_reinit}
 use Rattle.merge_model.specs.Subscriber.{subscriber_at_moment}
 use Rattle.merge_types.specs.declared.row_key.RowKey.{RowKey as Key}
 use Rattle.merge_units.specs.declared.site_row.SubscriberRow.{SubscriberRow}
 use Rattle.merge_model.specs.Tables.{SubscriberTables}
-use Rattle.merge_model.specs.Subscriber.Taking.{key_of_download, row_above, taken, with_item, with_order}
+use Rattle.merge_model.specs.Subscriber.Taking.{key_of_download, row_above, tables_after_reply, with_item, with_order}
 use Rattle.merge_model.specs.World.{World, subscriber_at, with_subscriber}
 use Rattle.merge_model.specs.declared.letter.Letter.{Letter}
 use Rattle.merge_model.specs.declared.letter.Message.TheVariants.{Replies}
@@ -131,13 +131,13 @@ module _ (publication : Publication) (w : World) (h : History) (s : SubscriberTa
   judge = by_made h s.site
 
   abbrev site_after : SubscriberTables
-  site_after = taken judge w.moment m s
+  site_after = tables_after_reply judge w.moment m s
 
   low : 1 ≤ s.site.0
   low = grind (arith, nat_tests, named)
 
   abbrev Owning : Reply → Type 0
-  Owning r = (key : Key) → is_some (row_at (taken judge w.moment r s).rows key) ≡ true → KnowsOf h.made (counts_in (at_model w h)) key (is_of s.site.0) (past_at (Noting.noted_reply judge s.site (pasts_with h number) r h) s.site.0 key).known
+  Owning r = (key : Key) → is_some (row_at (tables_after_reply judge w.moment r s).rows key) ≡ true → KnowsOf h.made (counts_in (at_model w h)) key (is_of s.site.0) (past_at (Noting.noted_reply judge s.site (pasts_with h number) r h) s.site.0 key).known
 
   reply-owned : (r : Reply) → ReplyAnswers (at_model w h) s.site.0 (pasts_with h number) (Replies r) → Owning r
   reply-owned (reply.Downloaded r) answers key there =
@@ -159,9 +159,9 @@ module _ (publication : Publication) (w : World) (h : History) (s : SubscriberTa
 
 -- A site that is made anew holds nothing.
 pub anew-kept : (w : World) (h : History) (s : SubscriberTables) → subscriber_at w s.site ≡ Some s → Rest w h
-    → (let judge : SubscriberJudge = by_made h s.site in Rest (with_subscriber (reinitialised judge (subscriber_at_moment w.moment s)).0 w) (Noting.noted_anew judge s h))
+    → (let judge : SubscriberJudge = by_made h s.site in Rest (with_subscriber (result_of_reinit judge (subscriber_at_moment w.moment s)).0 w) (Noting.noted_anew judge s h))
 anew-kept w h s at p =
     let judge : SubscriberJudge = by_made h s.site in
-    let t : SubscriberTables = (reinitialised judge (subscriber_at_moment w.moment s)).0 in
-    lost-on (λ (k : History). Rest (with_subscriber t w) (record k { pasts = put_number k.pasts s.site.0 [] })) s.site (discarded judge s) h
+    let t : SubscriberTables = (result_of_reinit judge (subscriber_at_moment w.moment s)).0 in
+    lost-on (λ (k : History). Rest (with_subscriber t w) (record k { pasts = put_number k.pasts s.site.0 [] })) s.site (discarded_versions judge s) h
     (λ lost. pasts-change w h s t (put_number h.pasts s.site.0 []) lost at refl (put-but s.site.0 [] h.pasts h.pasts (λ n apart. refl)) (λ key first there. absurd (grind (arith, there))) p)

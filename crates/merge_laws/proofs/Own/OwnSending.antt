@@ -25,7 +25,7 @@ use Rattle.merge_model.specs.Judge.{PublisherJudge}
 use Rattle.merge_types.specs.RowKeys.{key_cmp}
 use Rattle.merge_model.specs.Tables.Keys.{row_at, same_key}
 use Rattle.merge_model.specs.History.Model.{past_of_item, put_past}
-use Rattle.merge_model.specs.Publisher.PublisherDownload.{asked, item_of, reply_to}
+use Rattle.merge_model.specs.Publisher.PublisherDownload.{item_of, reply_to, tables_after_download}
 use Rattle.merge_batch.specs.Orders.{order_by}
 use Rattle.merge_model.specs.Subscriber.Sending.{upload_item, upload_sent}
 use Rattle.merge_model.specs.Subscriber.{subscriber_at_moment, subscriber_closed, subscriber_version_at}
@@ -211,7 +211,7 @@ module _ (publication : Publication) (w : World) (h : History) (number : ℕ) (s
   judge = by_past h (pasts_with h number)
 
   abbrev publisher_after : PublisherTables
-  publisher_after = asked m (here w)
+  publisher_after = tables_after_download m (here w)
 
   abbrev told : Downloaded
   told = reply_to publication judge m publisher_after

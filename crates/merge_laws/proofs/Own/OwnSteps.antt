@@ -10,7 +10,7 @@ use Rattle.merge_model.specs.Judge.ByHistory.{by_past}
 use Rattle.merge_model.specs.History.{pasts_with}
 use Rattle.merge_model.specs.Judge.{PublisherJudge}
 use Rattle.merge_model.specs.History.Model.{Model, empty_model, model_step}
-use Rattle.merge_model.specs.Publisher.{closed}
+use Rattle.merge_model.specs.Publisher.{tables_after_close}
 use Rattle.merge_model.specs.Publisher.PublisherRanges.{plans, with_grants}
 use Rattle.merge_model.specs.Subscriber.Sending.{join_of, want_of, with_message}
 use Rattle.merge_model.specs.World.Steps.{Action}
@@ -41,7 +41,7 @@ pub own-keeps : (publication : Publication) (says : Saying) → StepsKeep public
 own-keeps publication says = record {
   moment = λ w h now b p. quiet w h w.publisher w.tallies now h.done h.lines h.bases (λ c is. is) (λ site. omega arith) p;
   own_change = λ w h change d b p fine is. own-kept publication w h change d b p fine;
-  own_closing = λ w h b p. quiet w h (closed (here w)) w.tallies w.moment h.done h.lines h.bases (λ c is. is) (λ site. omega arith) p;
+  own_closing = λ w h b p. quiet w h (tables_after_close (here w)) w.tallies w.moment h.done h.lines h.bases (λ c is. is) (λ site. omega arith) p;
   forgetting = λ w h b p. purge-kept publication w h (by_past h (pasts_with h 0)) p;
   same = λ w h s b p at. stays-here w h s s at refl refl p;
   subscriber_change = λ w h s change d b p at named fine is. sub-kept publication w h s change d b p at named fine;

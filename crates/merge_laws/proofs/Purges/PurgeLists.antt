@@ -8,7 +8,7 @@ use Rattle.std.proofs.lemmas.Bool.Decides.{nat_tests}
 use Rattle.merge_types.specs.declared.identifiers.Moment.{Moment}
 use Rattle.merge_gens.specs.declared.closings.Closing.{Closing}
 use Rattle.merge_gens.specs.declared.filling.Filling.{Filling}
-use Rattle.merge_gens.specs.Book.{Book, closing_at, closings_between, moment_of, moved_to, purged}
+use Rattle.merge_gens.specs.Book.{Book, book_after_purge, closing_at, closings_between, moment_of, moved_to}
 use Rattle.merge_model.specs.Tables.Keys.{at_number, put_number}
 use Rattle.merge_laws.specs.Facts.Purges.{AllClosings, ClosedBefore, ClosedInOrder, SiteInStep}
 use Rattle.merge_model.proofs.Lists.Finding.{all-weaker, at_put_other, at_put_same}
@@ -78,7 +78,7 @@ module _ (latest : ℕ) (book : Book) (filling : Filling) (moment : Moment) (now
   }
 
 -- what is forgotten
-pub purged-in-order : (latest : ℕ) (book : Book) (cutoff : Moment) → ClosedInOrder latest book → ClosedInOrder latest (purged book cutoff)
+pub purged-in-order : (latest : ℕ) (book : Book) (cutoff : Moment) → ClosedInOrder latest book → ClosedInOrder latest (book_after_purge book cutoff)
 purged-in-order latest book cutoff o =
     let keeps : Closing → Bool = λ c. nat_le cutoff.0 c.moment.0 in
     record {
@@ -89,7 +89,7 @@ purged-in-order latest book cutoff o =
           (λ a rises. all-filter (ClosedBefore a) keeps book.closings rises) book.closings o.rising);
     }
 
-pub purged-in-step : (latest : ℕ) (book : Book) (cutoff : Moment) (base watermark last_sync : ℕ) → SiteInStep latest book base watermark last_sync → SiteInStep latest (purged book cutoff) base watermark last_sync
+pub purged-in-step : (latest : ℕ) (book : Book) (cutoff : Moment) (base watermark last_sync : ℕ) → SiteInStep latest book base watermark last_sync → SiteInStep latest (book_after_purge book cutoff) base watermark last_sync
 purged-in-step latest book cutoff base watermark last_sync s = record {
   been = s.been;
   since = all-filter (λ (c : Closing). watermark < c.generation → base < c.generation → last_sync ≤ c.moment.0) (λ (c : Closing). nat_le cutoff.0 c.moment.0) book.closings s.since;

@@ -6,7 +6,7 @@ use Rattle.merge_types.specs.declared.identifiers.Moment.{Moment}
 use Rattle.merge_gens.specs.declared.closings.Closing.{Closing}
 use Rattle.merge_gens.specs.declared.filling.Filling.{Filling}
 use Rattle.merge_gens.specs.declared.sites.SiteState.{SiteState}
-use Rattle.merge_gens.specs.Book.{Book, entered, moved_to, purged}
+use Rattle.merge_gens.specs.Book.{Book, book_after_entries, book_after_purge, moved_to}
 use Rattle.merge_gens.specs.Filling as fill
 use Rattle.merge_batch.specs.declared.request.Download.{Download}
 use Rattle.merge_batch.specs.declared.request.Join.{Join}
@@ -15,8 +15,8 @@ use Rattle.merge_schema.specs.declared.publication.Publication.{Publication}
 use Rattle.merge_model.specs.Publisher.Acts.{Act}
 use Rattle.merge_model.specs.Judge.{PublisherJudge}
 use Rattle.merge_model.specs.Tables.Keys.{at_number, put_number}
-use Rattle.merge_model.specs.Publisher.{at_moment, closed, last_closed, no_state, state_of}
-use Rattle.merge_model.specs.Publisher.PublisherDownload.{asked, in_step, synced}
+use Rattle.merge_model.specs.Publisher.{at_moment, last_closed, no_state, state_of, tables_after_close}
+use Rattle.merge_model.specs.Publisher.PublisherDownload.{in_step, state_after_download, tables_after_download}
 use Rattle.merge_model.specs.Publisher.PublisherJoin.{join_taken, joined_state}
 use Rattle.merge_model.specs.Publisher.PublisherPurge.{after_purge, cutoff}
 use Rattle.merge_model.specs.Publisher.PublisherUpload.{state_seeing, taken_in, with_acts, with_taken}
@@ -51,11 +51,11 @@ moved-all moment latest book filling sites bases up s = record {
       (λ state f. moved-in-step latest.0 book filling latest refl up (base_in bases n) state.watermark state.last_sync f) (at_number sites n) (s.sites n);
 }
 
-pub entered-in-step : (moment count : ℕ) (latest : Moment) (book : Book) (sites : List (ℕ × SiteState)) (bases : List (ℕ × ℕ)) → InStep moment latest.0 book sites bases → InStep moment latest.0 (entered book count latest) sites bases
+pub entered-in-step : (moment count : ℕ) (latest : Moment) (book : Book) (sites : List (ℕ × SiteState)) (bases : List (ℕ × ℕ)) → InStep moment latest.0 book sites bases → InStep moment latest.0 (book_after_entries book count latest) sites bases
 entered-in-step moment count latest book sites bases s = moved-all moment latest book (fill.filled_by book.filling count) sites bases (omega arith) s
 
-pub closed-in-step : (moment : ℕ) (p : PublisherTables) (bases : List (ℕ × ℕ)) → IsInStep moment p bases → IsInStep moment (closed p) bases
-closed-in-step moment p bases s = moved-all moment p.latest p.gens (fill.closed p.gens.filling) p.sites bases (closed_filling-rises p.gens.filling) s
+pub closed-in-step : (moment : ℕ) (p : PublisherTables) (bases : List (ℕ × ℕ)) → IsInStep moment p bases → IsInStep moment (tables_after_close p) bases
+closed-in-step moment p bases s = moved-all moment p.latest p.gens (fill.filling_after_close p.gens.filling) p.sites bases (closed_filling-rises p.gens.filling) s
 
 -- A purge.
 pub purge-in-step : (moment : ℕ) (publication : Publication) (p : PublisherTables) (bases : List (ℕ × ℕ)) → IsInStep moment p bases → IsInStep moment (after_purge publication p) bases
@@ -64,7 +64,7 @@ purge-in-step moment publication p bases s =
     record {
       been = s.been;
       closings = purged-in-order p.latest.0 p.gens until s.closings;
-      sites = λ n. if-weaker (StateInStep p.latest.0 p.gens (base_in bases n)) (StateInStep p.latest.0 (purged p.gens until) (base_in bases n))
+      sites = λ n. if-weaker (StateInStep p.latest.0 p.gens (base_in bases n)) (StateInStep p.latest.0 (book_after_purge p.gens until) (base_in bases n))
           (λ state f. purged-in-step p.latest.0 p.gens until (base_in bases n) state.watermark state.last_sync f) (at_number p.sites n) (s.sites n);
     }
 
@@ -113,7 +113,7 @@ step-since true latest book from e o = all-weaker (λ (c : Closing). c.generatio
     (λ c low above. absurd (let same : from ≡ book.filling.last_closed = is-last from book.filling.last_closed book.filling.filled e in omega (arith, low, above, same))) book.closings o.closed
 step-since false latest book from e o = found-before from book.closings book.closings o.rising
 
-pub synced-in-step : (m : Download) (p : PublisherTables) (base : ℕ) (state : SiteState) → ClosedInOrder p.latest.0 p.gens → StateInStep p.latest.0 p.gens base state → StateInStep p.latest.0 p.gens base (synced m p state)
+pub synced-in-step : (m : Download) (p : PublisherTables) (base : ℕ) (state : SiteState) → ClosedInOrder p.latest.0 p.gens → StateInStep p.latest.0 p.gens base state → StateInStep p.latest.0 p.gens base (state_after_download m p state)
 synced-in-step m p base state o f =
     let test : Bool = (m.from == last_closed p) && (p.gens.filling.filled == 0) in
     let up : in_step m p ≤ p.latest.0 = step-been test p.latest.0 p.gens m.from o in
@@ -125,9 +125,9 @@ synced-in-step m p base state o f =
           let second : in_step m p ≤ c.moment.0 = new (omega (arith, above)) in omega (arith, first, second))) p.gens.closings f.since (step-since test p.latest.0 p.gens m.from refl o);
     }
 
-pub asked-in-step : (moment : ℕ) (m : Download) (p : PublisherTables) (bases : List (ℕ × ℕ)) → IsInStep moment p bases → IsInStep moment (asked m p) bases
+pub asked-in-step : (moment : ℕ) (m : Download) (p : PublisherTables) (bases : List (ℕ × ℕ)) → IsInStep moment p bases → IsInStep moment (tables_after_download m p) bases
 asked-in-step moment m p bases s =
-    let state : SiteState = synced m p (state_of p m.site) in
+    let state : SiteState = state_after_download m p (state_of p m.site) in
     closed-in-step moment (record p { sites = put_number p.sites m.site.0 state }) bases (record {
       been = s.been;
       closings = s.closings;

@@ -30,19 +30,19 @@ use Rattle.merge_model.specs.History.{History, pasts_with}
 use Rattle.merge_model.specs.Judge.{PublisherJudge, SubscriberJudge}
 use Rattle.merge_model.specs.Tables.Keys.{at_number, put_number}
 use Rattle.merge_model.specs.History.Model.{Model, empty_model, model}
-use Rattle.merge_model.specs.Publisher.{closed}
-use Rattle.merge_model.specs.Publisher.PublisherDownload.{asked, reply_to}
+use Rattle.merge_model.specs.Publisher.{tables_after_close}
+use Rattle.merge_model.specs.Publisher.PublisherDownload.{reply_to, tables_after_download}
 use Rattle.merge_model.specs.Publisher.PublisherJoin.{join_acts, join_taken}
 use Rattle.merge_model.specs.Publisher.PublisherLocal.{made_locally}
 use Rattle.merge_model.specs.Publisher.PublisherPurge.{purge}
-use Rattle.merge_model.specs.Publisher.PublisherRanges.{plans, ranged, with_grants}
+use Rattle.merge_model.specs.Publisher.PublisherRanges.{plans, reply_to_ranges, with_grants}
 use Rattle.merge_model.specs.Publisher.PublisherUpload.{brings_news, taken_in}
-use Rattle.merge_model.specs.Subscriber.Reinit.{reinitialised}
+use Rattle.merge_model.specs.Subscriber.Reinit.{result_of_reinit}
 use Rattle.merge_model.specs.Subscriber.Sending.{join_of, sending_refusal, upload_end, upload_sent, want_of, with_message}
 use Rattle.merge_model.specs.Subscriber.{is_joining, subscriber_at_moment, subscriber_closed, subscriber_last_closed, subscriber_local_refusal, subscriber_made_locally, subscriber_next_dot, subscriber_version_at, with_version_if}
 use Rattle.merge_types.specs.declared.row_key.RowKey.{RowKey as Key}
 use Rattle.merge_model.specs.Tables.{PublisherTables, SubscriberTables}
-use Rattle.merge_model.specs.Subscriber.Taking.{seq_of, taken}
+use Rattle.merge_model.specs.Subscriber.Taking.{seq_of, tables_after_reply}
 use Rattle.merge_model.specs.World.{Saying, World, empty_world, letter_at, subscriber_at, with_publisher, with_subscriber}
 use Rattle.merge_model.specs.declared.letter.Message.TheVariants.{Asks, Replies}
 use Rattle.merge_model.specs.declared.letter.Letter.{Letter}
@@ -99,7 +99,7 @@ message-behind received joined sent s joins f = record {
   made = let m = f.made in omega (arith, m);
 }
 
-anew-behind : (received joined : ℕ) (judge : SubscriberJudge) (now : Moment) (s : SubscriberTables) → StaysBehind received joined s → StaysBehind received joined (reinitialised judge (subscriber_at_moment now s)).0
+anew-behind : (received joined : ℕ) (judge : SubscriberJudge) (now : Moment) (s : SubscriberTables) → StaysBehind received joined s → StaysBehind received joined (result_of_reinit judge (subscriber_at_moment now s)).0
 anew-behind received joined judge now s f = record {
   behind = λ is. absurd (grind (arith, is));
   waits = λ none. refl;
@@ -138,20 +138,20 @@ has-joined publication received joined sent m s seq false is other out none f =
     absurd (no-join publication m s other (subst (λ (o : Outstanding). reply_fault publication o m s ≡ None) (f.only_joins seq sent is out) none))
 
 reply-behind : (publication : Publication) (received joined : ℕ) (judge : SubscriberJudge) (now : Moment) (sent : Outstanding) (site : SiteId) (m : Reply) (s : SubscriberTables) → reply_fault publication sent m s ≡ None → s.outstanding ≡ Some (seq_of m, sent)
-    → MessageFits joined site (Some s) (Replies m) → TellsActed received site (Replies m) → StaysBehind received joined s → StaysBehind received joined (taken judge now m s)
+    → MessageFits joined site (Some s) (Replies m) → TellsActed received site (Replies m) → StaysBehind received joined s → StaysBehind received joined (tables_after_reply judge now m s)
 reply-behind publication received joined judge now sent site (reply.Joined m) s none out fits tells f =
     let is : sent ≡ ask.Join = joined-fits publication sent m s none in
     let waited : s.outstanding ≡ Some (m.seq, ask.Join) = out ∙ ap (λ (o : Outstanding). (let found : Option (ℕ × Outstanding) = Some (m.seq, o) in found)) is in
     record { behind = λ joins. f.answered m.seq waited fits; waits = λ none. absurd (grind (arith, none)); only_joins = λ q o none e. absurd (grind (arith, none)); answered = λ q e up. absurd (grind (arith, e)); made = f.made }
 reply-behind publication received joined judge now sent site (reply.Uploaded m) s none out fits tells f =
     let joins : s.is_joined ≡ true = has-joined publication received joined sent (reply.Uploaded m) s m.seq s.is_joined refl refl out none f in
-    joined-goes received joined s (taken judge now (reply.Uploaded m) s) joins tells (omega arith) f (λ q e up. absurd (grind (arith, e)))
+    joined-goes received joined s (tables_after_reply judge now (reply.Uploaded m) s) joins tells (omega arith) f (λ q e up. absurd (grind (arith, e)))
 reply-behind publication received joined judge now sent site (reply.Ranged m) s none out fits tells f =
     let joins : s.is_joined ≡ true = has-joined publication received joined sent (reply.Ranged m) s m.seq s.is_joined refl refl out none f in
-    joined-goes received joined s (taken judge now (reply.Ranged m) s) joins (f.behind joins) (omega arith) f (λ q e up. absurd (grind (arith, e)))
+    joined-goes received joined s (tables_after_reply judge now (reply.Ranged m) s) joins (f.behind joins) (omega arith) f (λ q e up. absurd (grind (arith, e)))
 reply-behind publication received joined judge now sent site (reply.Downloaded m) s none out fits tells f =
     let joins : s.is_joined ≡ true = has-joined publication received joined sent (reply.Downloaded m) s m.seq s.is_joined refl refl out none f in
-    joined-goes received joined s (taken judge now (reply.Downloaded m) s) joins tells (omega arith) f (λ q e up. absurd (grind (arith, e)))
+    joined-goes received joined s (tables_after_reply judge now (reply.Downloaded m) s) joins tells (omega arith) f (λ q e up. absurd (grind (arith, e)))
 reply-behind publication received joined judge now sent site (reply.Refused number values) s none out fits tells f = record {
   behind = f.behind;
   waits = f.waits;
@@ -322,13 +322,13 @@ module _ (publication : Publication) (says : Saying) where
   behind-keeps = record {
     moment = λ w h now r i. record { subscribers = i.subscribers; letters = i.letters };
     own_change = λ w h change d r i fine is. (let q : PublisherTables = (made_locally publication (by_past h (pasts_with h 0)) change d (here w)).0 in publisher-same w q (same-sites w.publisher q refl) i);
-    own_closing = λ w h r i. publisher-same w (closed (here w)) (same-sites w.publisher (closed (here w)) refl) i;
+    own_closing = λ w h r i. publisher-same w (tables_after_close (here w)) (same-sites w.publisher (tables_after_close (here w)) refl) i;
     forgetting = λ w h r i. (let q : PublisherTables = (purge publication w.moment w.publisher).0 in publisher-same w q (same-sites w.publisher q refl) i);
     same = λ w h s r i at. subscriber-on w s s refl (here-of w s i at) i;
     subscriber_change = λ w h s change d r i at named fine is. change-kept w s change d i at fine;
     subscriber_closing = λ w h s r i at. subscriber-on w s (subscriber_closed (subscriber_at_moment w.moment s)) refl (closing-behind (received_by_number w.publisher s.site.0) (joined_at w.publisher s.site) w.moment s (r.subscribers s.site.0 s at).idle (here-of w s i at)) i;
     anew = λ w h s r i at. (let judge : SubscriberJudge = by_made h s.site in
-        subscriber-on w s (reinitialised judge (subscriber_at_moment w.moment s)).0 refl (anew-behind (received_by_number w.publisher s.site.0) (joined_at w.publisher s.site) judge w.moment s (here-of w s i at)) i);
+        subscriber-on w s (result_of_reinit judge (subscriber_at_moment w.moment s)).0 refl (anew-behind (received_by_number w.publisher s.site.0) (joined_at w.publisher s.site) judge w.moment s (here-of w s i at)) i);
     sends_join = λ w h s r i at joining. message-kept w s (with_message ask.Join s) (Asks (request.Join (join_of s))) i refl (message-behind (received_by_number w.publisher s.site.0) (joined_at w.publisher s.site) ask.Join s (λ none. refl) (here-of w s i at)) tt;
     sends_upload = λ w h s r i at fine. (let judge : SubscriberJudge = by_made h s.site in let c : SubscriberTables = subscriber_closed (subscriber_at_moment w.moment s) in let sent : Outstanding = ask.Upload c.received (upload_end judge c) in
         message-kept w s (upload_sent judge c).0 (Asks (request.Upload (upload_sent judge c).1)) i refl
@@ -350,8 +350,8 @@ module _ (publication : Publication) (says : Saying) where
         letter-put v m.site (Replies (reply.Uploaded (told_by judge m))) (told-most m.to (judge.received m.site.0) (received_by_number w.publisher m.site.0) (omega (arith, low, is)) (omega (arith, is)))
         (behind-tallied (with_publisher (here w) w) v.tallies (publisher-same w (here w) (same-sites w.publisher (here w) refl) i)));
     answers_ranges = λ w h site m r i. (let q : PublisherTables = with_grants (plans publication m w.publisher) (here w) in
-        letter-put (with_publisher q w) site (Replies (reply.Ranged (ranged m (plans publication m w.publisher)))) tt (publisher-same w q (same-sites w.publisher q refl) i));
-    answers_ask = λ w h number site m r i at fine. (let q : PublisherTables = asked m (here w) in
+        letter-put (with_publisher q w) site (Replies (reply.Ranged (reply_to_ranges m (plans publication m w.publisher)))) tt (publisher-same w q (same-sites w.publisher q refl) i));
+    answers_ask = λ w h number site m r i at fine. (let q : PublisherTables = tables_after_download m (here w) in
         let same : m.site ≡ site = letter-of w number (record { site = site; message = Asks (request.Download m) }) i at in
         let is : received_by_number q site.0 ≡ received_by_number w.publisher site.0 = (asked-same m (here w)).received site.0 in
         let told = received-is h w.publisher m.site.0 r.done in
@@ -361,7 +361,7 @@ module _ (publication : Publication) (says : Saying) where
     replies = λ w h s number m sent r i at there out none. (let judge : SubscriberJudge = by_made h s.site in
         let fits = letter-fits w h number (record { site = s.site; message = Replies m }) r there in
         let tells = letter-of w number (record { site = s.site; message = Replies m }) i there in
-        subscriber-on w s (taken judge w.moment m s) (reply-site judge w.moment m s)
+        subscriber-on w s (tables_after_reply judge w.moment m s) (reply-site judge w.moment m s)
         (reply-behind publication (received_by_number w.publisher s.site.0) (joined_at w.publisher s.site) judge w.moment sent s.site m s none out
         (subst (λ (found : Option SubscriberTables). MessageFits (joined_at w.publisher s.site) s.site found (Replies m)) at fits) tells (here-of w s i at)) i);
   }

@@ -27,14 +27,14 @@ use Rattle.merge_model.specs.Publisher.Acts.{Act, acts_of}
 use Rattle.merge_model.specs.Publisher.Entries.{Entries}
 use Rattle.merge_model.specs.Judge.ByNumbers.{received_by_number}
 use Rattle.merge_model.specs.Judge.ByHistory.{by_past}
-use Rattle.merge_model.specs.Publisher.{at_moment, closed, last_closed}
-use Rattle.merge_model.specs.Publisher.PublisherJoin.{join, join_refusal, join_acts, join_taken, joined}
-use Rattle.merge_model.specs.Publisher.PublisherUpload.{upload_refusal, uploaded, taken_in, brings_news}
+use Rattle.merge_model.specs.Publisher.{at_moment, last_closed, tables_after_close}
+use Rattle.merge_model.specs.Publisher.PublisherJoin.{join, join_refusal, join_acts, join_taken, tables_after_join}
+use Rattle.merge_model.specs.Publisher.PublisherUpload.{upload_refusal, tables_after_upload, taken_in, brings_news}
 use Rattle.merge_model.specs.Publisher.PublisherRanges.{ranges, plans, with_grants}
 use Rattle.merge_model.specs.Publisher.PublisherDownload.{download}
 use Rattle.merge_model.specs.World.{World, Saying, with_publisher}
 use Rattle.merge_model.specs.declared.letter.Message.TheVariants.{Asks, Replies}
-use Rattle.merge_model.specs.World.Steps.{post, answered, after_upload, kept_decisions, upload_questions, deliver_request}
+use Rattle.merge_model.specs.World.Steps.{post, post_reply, after_upload, kept_decisions, upload_questions, deliver_request}
 use Rattle.merge_model.specs.declared.outcome.Outcome.{Outcome}
 use Rattle.merge_model.specs.History.{History, Past, Line}
 use Rattle.merge_model.specs.History.Noting
@@ -62,7 +62,7 @@ with_done-same site from to k h e = ap (λ (done : List (ℕ × ℕ)). done ++ m
 module _ (w : World) (h : History) (r : Received w h) where
   -- an answer to a message that moves none of the numbers
   answered-fine : {A : Type 0} (site : SiteId) (message : A → Reply) → ((q : PublisherTables) (a : A) → LetterFits w.subscribers q (record { site = site; message = Replies (message a) }))
-      → (done : Result (PublisherTables × A) Refusal) → IfOk done (λ a. SameNumbers w.publisher a.0) → Keeps (answered site message w done) h h
+      → (done : Result (PublisherTables × A) Refusal) → IfOk done (λ a. SameNumbers w.publisher a.0) → Keeps (post_reply site message w done) h h
   answered-fine site message fits (Err refusal) ok = r
   answered-fine site message fits (Ok a) ok = posted-fits (with_publisher a.0 w) h (record { site = site; message = Replies (message a.1) }) (fits a.0 a.1) (publisher-same w h a.0 ok r)
 
@@ -98,15 +98,15 @@ module _ (w : World) (h : History) (r : Received w h) where
   join-made judge m false none fits = posted-fits (with_publisher here w) h (record { site = m.site; message = Replies (reply.Joined (record { seq = m.seq })) }) (acts-not m w.publisher none) moved
 
   join-answered : (judge : PublisherJudge) (m : Join) (refusal : Option Refusal) → JoinFits (joined_at w.publisher m.site) m.site m (at_number w.subscribers m.site.0)
-      → (let done : Result (PublisherTables × Joined) Refusal = unless refusal (joined m here, record { seq = m.seq }) in Keeps (answered m.site (λ (made : Joined). reply.Joined made) w done) (Noting.noted_join judge m w.publisher h) h)
+      → (let done : Result (PublisherTables × Joined) Refusal = unless refusal (tables_after_join m here, record { seq = m.seq }) in Keeps (post_reply m.site (λ (made : Joined). reply.Joined made) w done) (Noting.noted_join judge m w.publisher h) h)
   join-answered judge m (Some why) fits = r
   join-answered judge m None fits = join-made judge m (join_acts m w.publisher) refl fits
 
   join-fine : (publication : Publication) (judge : PublisherJudge) (m : Join) (site : SiteId) → JoinFits (joined_at w.publisher site) site m (at_number w.subscribers site.0)
-      → Keeps (answered site (λ (made : Joined). reply.Joined made) w (join publication w.moment m w.publisher)) (Noting.noted_join judge m w.publisher h) h
+      → Keeps (post_reply site (λ (made : Joined). reply.Joined made) w (join publication w.moment m w.publisher)) (Noting.noted_join judge m w.publisher h) h
   join-fine publication judge m site fits =
       let same : m.site ≡ site = join-site m (joined_at w.publisher site) site (at_number w.subscribers site.0) fits in
-      subst (λ (x : SiteId). Keeps (answered x (λ (made : Joined). reply.Joined made) w (join publication w.moment m w.publisher)) (Noting.noted_join judge m w.publisher h) h) same
+      subst (λ (x : SiteId). Keeps (post_reply x (λ (made : Joined). reply.Joined made) w (join publication w.moment m w.publisher)) (Noting.noted_join judge m w.publisher h) h) same
       (join-answered judge m (join_refusal publication m w.publisher) (subst (λ (x : SiteId). JoinFits (joined_at w.publisher x) x m (at_number w.subscribers x.0)) (sym same) fits))
 
   -- Uploads.
@@ -144,7 +144,7 @@ module _ (w : World) (h : History) (r : Received w h) where
   upload-answered : (publication : Publication) (says : Saying) (incoming : List (Key × Past)) (m : Upload) (decisions : List Decision) (told : Uploaded) (refusal : Option Refusal) → upload_refusal publication (by_past h incoming) w.moment m w.publisher ≡ refusal
       → has_closed m (at_number w.subscribers m.site.0)
       → (let judge : PublisherJudge = by_past h incoming in
-      Keeps (after_upload publication says judge m.site m w (unless refusal (uploaded publication judge m decisions here, told))) (Noting.noted_upload publication judge m decisions incoming here h) h)
+      Keeps (after_upload publication says judge m.site m w (unless refusal (tables_after_upload publication judge m decisions here, told))) (Noting.noted_upload publication judge m decisions incoming here h) h)
   upload-answered publication says incoming m decisions told (Some why) is closed = r
   upload-answered publication says incoming m decisions told None is closed =
       let judge : PublisherJudge = by_past h incoming in

@@ -15,7 +15,7 @@ use Rattle.merge_model.specs.Tables.Keys.{at_number, put_number}
 use Rattle.merge_model.specs.Judge.ByNumbers.{received_by_number}
 use Rattle.merge_model.specs.Judge.ByHistory.{by_history, is_gap_by_done}
 use Rattle.merge_model.specs.Publisher.{at_moment, no_state}
-use Rattle.merge_model.specs.Publisher.PublisherJoin.{joined}
+use Rattle.merge_model.specs.Publisher.PublisherJoin.{tables_after_join}
 use Rattle.merge_model.specs.Publisher.PublisherPurge.{purge}
 use Rattle.merge_model.specs.World.{World, Judges, Saying, letter_at, subscriber_at, with_publisher}
 use Rattle.merge_model.specs.declared.letter.Letter.{Letter}

@@ -15,7 +15,7 @@ use Rattle.merge_model.specs.Tables.Keys.{at_number}
 use Rattle.merge_model.specs.Judge.ByNumbers.{received_by_number, received_number_by_number}
 use Rattle.merge_model.specs.Publisher.{state_of, no_state}
 use Rattle.merge_model.specs.Publisher.PublisherJoin.{join_taken, joined_state}
-use Rattle.merge_model.specs.Publisher.PublisherDownload.{asked, synced}
+use Rattle.merge_model.specs.Publisher.PublisherDownload.{state_after_download, tables_after_download}
 use Rattle.merge_model.specs.Publisher.PublisherUpload.{with_taken, state_seeing}
 use Rattle.merge_model.specs.Publisher.Acts.{Act}
 use Rattle.merge_model.specs.History.{History, is_done}
@@ -99,25 +99,25 @@ pub found-number : (field : SiteState → ℕ) → field no_state ≡ 0 → (fou
 found-number field none None = none
 found-number field none (Some x) = refl
 
-pub asked-number : (field : SiteState → ℕ) → field no_state ≡ 0 → (m : Download) (p : PublisherTables) (n : ℕ) (b : Bool) → field (synced m p (state_of p m.site)) ≡ field (state_of p m.site) → same_number n m.site.0 b
-    → number_in field (at_number (asked m p).sites n) ≡ number_in field (at_number p.sites n)
+pub asked-number : (field : SiteState → ℕ) → field no_state ≡ 0 → (m : Download) (p : PublisherTables) (n : ℕ) (b : Bool) → field (state_after_download m p (state_of p m.site)) ≡ field (state_of p m.site) → same_number n m.site.0 b
+    → number_in field (at_number (tables_after_download m p).sites n) ≡ number_in field (at_number p.sites n)
 asked-number field none m p n true kept same =
-    let put = at_put_same m.site.0 (synced m p (state_of p m.site)) p.sites in
-    ap (λ (k : ℕ). number_in field (at_number (asked m p).sites k)) same
+    let put = at_put_same m.site.0 (state_after_download m p (state_of p m.site)) p.sites in
+    ap (λ (k : ℕ). number_in field (at_number (tables_after_download m p).sites k)) same
     ∙ ap (λ (found : Option SiteState). number_in field found) put
     ∙ kept
     ∙ found-number field none (at_number p.sites m.site.0)
     ∙ ap (λ (k : ℕ). number_in field (at_number p.sites k)) (sym same)
-asked-number field none m p n false kept differs = ap (λ (found : Option SiteState). number_in field found) (at_put_other m.site.0 n (synced m p (state_of p m.site)) p.sites differs)
+asked-number field none m p n false kept differs = ap (λ (found : Option SiteState). number_in field found) (at_put_other m.site.0 n (state_after_download m p (state_of p m.site)) p.sites differs)
 
-asked-joined : (m : Download) (p : PublisherTables) (site : SiteId) (b : Bool) → same_number site.0 m.site.0 b → joined_at (asked m p) site ≡ joined_at p site
+asked-joined : (m : Download) (p : PublisherTables) (site : SiteId) (b : Bool) → same_number site.0 m.site.0 b → joined_at (tables_after_download m p) site ≡ joined_at p site
 asked-joined m p site true same =
-    ap (λ (k : ℕ). (unwrap_or (at_number (asked m p).sites k) no_state).joined_at) same
-    ∙ ap (λ (found : Option SiteState). (unwrap_or found no_state).joined_at) (at_put_same m.site.0 (synced m p (state_of p m.site)) p.sites)
+    ap (λ (k : ℕ). (unwrap_or (at_number (tables_after_download m p).sites k) no_state).joined_at) same
+    ∙ ap (λ (found : Option SiteState). (unwrap_or found no_state).joined_at) (at_put_same m.site.0 (state_after_download m p (state_of p m.site)) p.sites)
     ∙ ap (λ (k : ℕ). (unwrap_or (at_number p.sites k) no_state).joined_at) (sym same)
-asked-joined m p site false differs = ap (λ (found : Option SiteState). (unwrap_or found no_state).joined_at) (at_put_other m.site.0 site.0 (synced m p (state_of p m.site)) p.sites differs)
+asked-joined m p site false differs = ap (λ (found : Option SiteState). (unwrap_or found no_state).joined_at) (at_put_other m.site.0 site.0 (state_after_download m p (state_of p m.site)) p.sites differs)
 
-pub asked-same : (m : Download) (p : PublisherTables) → SameNumbers p (asked m p)
+pub asked-same : (m : Download) (p : PublisherTables) → SameNumbers p (tables_after_download m p)
 asked-same m p = record {
   received = λ n. asked-number (λ (x : SiteState). x.received) refl m p n (n == m.site.0) refl (number-decided n m.site.0);
   number = λ n. asked-number (λ (x : SiteState). x.received_number) refl m p n (n == m.site.0) refl (number-decided n m.site.0);

@@ -17,7 +17,7 @@ use Rattle.merge_model.specs.Tables.Refusals.{unless}
 use Rattle.merge_model.specs.Judge.{SubscriberJudge}
 use Rattle.merge_model.specs.World.Faults.{reply_fault}
 use Rattle.merge_model.specs.Subscriber.{subscriber_last_closed}
-use Rattle.merge_model.specs.Subscriber.Taking.{taken, take_reply, met_by, seq_of}
+use Rattle.merge_model.specs.Subscriber.Taking.{tables_after_reply, take_reply, met_by, seq_of}
 use Rattle.merge_model.specs.declared.outcome.Taken.{Taken}
 use Rattle.merge_model.specs.declared.outcome.Taken.TheVariants.{Acted, Missed}
 use Rattle.merge_model.specs.declared.letter.Message.TheVariants.{Replies}
@@ -65,7 +65,7 @@ stays received joined s f = record { same_site = refl; seq = omega arith; closed
 
 -- what a reply that acts leaves, by how far it tells of the site's generations
 taken-goes : (publication : Publication) (received joined : ℕ) (judge : SubscriberJudge) (now : Moment) (sent : Outstanding) (m : Reply) (s : SubscriberTables) → MessageFits joined s.site (Some s) (Replies m) → s.seq ≡ seq_of m
-    → reply_fault publication sent m s ≡ None → SubscriberFits received s.site.0 s → Goes received joined s (taken judge now m s)
+    → reply_fault publication sent m s ≡ None → SubscriberFits received s.site.0 s → Goes received joined s (tables_after_reply judge now m s)
 taken-goes publication received joined judge now sent (reply.Joined m) s fits same none f = record {
   same_site = refl;
   seq = omega arith;
@@ -115,8 +115,8 @@ met-goes : (publication : Publication) (received joined : ℕ) (judge : Subscrib
     → SubscriberFits received s.site.0 s → IfOk (met_by publication judge now m s found) (λ done. Goes received joined s done.0)
 met-goes publication received joined judge now m s None is fits f = stays received joined s f
 met-goes publication received joined judge now m s (Some sent) is fits f =
-    if-goes received joined s (sent.0 == seq_of m) (unless (reply_fault publication sent.1 m s) (taken judge now m s, Acted)) (Ok (s, Missed (seq_of m) sent.0))
-    (λ same. unless-goes received joined s (taken judge now m s) (reply_fault publication sent.1 m s)
+    if-goes received joined s (sent.0 == seq_of m) (unless (reply_fault publication sent.1 m s) (tables_after_reply judge now m s, Acted)) (Ok (s, Missed (seq_of m) sent.0))
+    (λ same. unless-goes received joined s (tables_after_reply judge now m s) (reply_fault publication sent.1 m s)
     (λ none. taken-goes publication received joined judge now sent.1 m s fits (grind (arith, nat_tests, f.last sent.0 sent.1 is, same)) none f))
     (stays received joined s f)
 

@@ -21,17 +21,17 @@ use Rattle.merge_model.specs.Tables.{SubscriberTables}
 use Rattle.merge_model.specs.Tables.Refusals.{unless, counter_end}
 use Rattle.merge_model.specs.Judge.{SubscriberJudge}
 use Rattle.merge_model.specs.Judge.ByNumbers.{received_by_number}
-use Rattle.merge_model.specs.Publisher.PublisherJoin.{joined}
+use Rattle.merge_model.specs.Publisher.PublisherJoin.{tables_after_join}
 use Rattle.merge_types.specs.Limits.{item_limit, generation_limit}
 use Rattle.merge_model.specs.Publisher.PublisherDownload.{batch_end}
 use Rattle.merge_model.specs.Subscriber.{subscriber_closed, subscriber_at_moment, subscriber_counters, subscriber_last_closed}
 use Rattle.merge_model.specs.Subscriber.Sending.{join_made, join_of, upload_made, upload_sent, upload_to, upload_end, unsent_rows, ranges_made, want_of, sending_refusal, with_message}
 use Rattle.merge_model.specs.Subscriber.Taking.{take_reply}
 use Rattle.merge_model.specs.declared.outcome.Taken.{Taken}
-use Rattle.merge_model.specs.Subscriber.Reinit.{reinitialise, reinitialised}
+use Rattle.merge_model.specs.Subscriber.Reinit.{reinitialise, result_of_reinit}
 use Rattle.merge_model.specs.World.{World, Judges, subscriber_at, with_subscriber}
 use Rattle.merge_model.specs.declared.letter.Message.TheVariants.{Asks, Replies}
-use Rattle.merge_model.specs.World.Steps.{Sending, SendJoin, SendUpload, SendRanges, SendDownload, post, posted, unless_refused, send_from, deliver_reply, make_anew}
+use Rattle.merge_model.specs.World.Steps.{Sending, SendJoin, SendUpload, SendRanges, SendDownload, post, post_if_made, unless_refused, send_from, deliver_reply, make_anew}
 use Rattle.merge_model.specs.declared.outcome.Outcome.TheVariants.{Took, Discards}
 use Rattle.merge_model.specs.History.{History}
 use Rattle.merge_laws.specs.Facts.Received.{joined_at, MessageFits, SubscriberFits, Received}
@@ -82,15 +82,15 @@ module _ (w : World) (h : History) (r : Received w h) (site : SiteId) (s : Subsc
   own : SubscriberFits known s.site.0 s
   own = fits-own w h r site s at
 
-  join-made-fine : (b : Bool) → s.is_joined ≡ b → (let made : Option (SubscriberTables × Join) = if b then None else Some (with_message ask.Join s, join_of s) in Received (posted s.site (λ (m : Join). request.Join m) w made).0 h)
+  join-made-fine : (b : Bool) → s.is_joined ≡ b → (let made : Option (SubscriberTables × Join) = if b then None else Some (with_message ask.Join s, join_of s) in Received (post_if_made s.site (λ (m : Join). request.Join m) w made).0 h)
   join-made-fine true is = r
   join-made-fine false is = letter-fine w h r site s at (with_message ask.Join s) (Asks (request.Join (join_of s))) (message-goes-on known waiting ask.Join s own) (refl, omega arith, λ later. (is, refl))
 
-  refusal-fine : {A : Type 0} (refusal : Option Refusal) (made : Option (SubscriberTables × A)) (message : A → Request) → Received (posted s.site message w made).0 h → Received (unless_refused w (unless refusal made) (posted s.site message w)).0 h
+  refusal-fine : {A : Type 0} (refusal : Option Refusal) (made : Option (SubscriberTables × A)) (message : A → Request) → Received (post_if_made s.site message w made).0 h → Received (unless_refused w (unless refusal made) (post_if_made s.site message w)).0 h
   refusal-fine (Some why) made message ok = r
   refusal-fine None made message ok = ok
 
-  upload-made-fine : (judge : SubscriberJudge) (rows : List (Key × ℕ)) → (let made : Option (SubscriberTables × Upload) = elim rows [ [] ↦ None | row ∷ rest ↦ Some (upload_sent judge (subscriber_closed (subscriber_at_moment w.moment s))) ] in Received (posted s.site (λ (m : Upload). request.Upload m) w made).0 h)
+  upload-made-fine : (judge : SubscriberJudge) (rows : List (Key × ℕ)) → (let made : Option (SubscriberTables × Upload) = elim rows [ [] ↦ None | row ∷ rest ↦ Some (upload_sent judge (subscriber_closed (subscriber_at_moment w.moment s))) ] in Received (post_if_made s.site (λ (m : Upload). request.Upload m) w made).0 h)
   upload-made-fine judge [] = r
   upload-made-fine judge (row ∷ rest) =
       let c : SubscriberTables = subscriber_closed (subscriber_at_moment w.moment s) in
@@ -99,7 +99,7 @@ module _ (w : World) (h : History) (r : Received w h) (site : SiteId) (s : Subsc
       letter-fine w h r site s at (with_message (ask.Upload c.received to) c) (Asks (request.Upload (upload_to judge c to))) (then-message known waiting (ask.Upload c.received to) s c g)
       (refl, batch-bound (λ (k : ℕ). length (judge.changed_between c.received k)) c.received (subscriber_last_closed c) g.fits.own)
 
-  ranges-made-fine : (held : List (ℕ × Holder)) → (let made : Option (SubscriberTables × RangeAsk) = elim held [ [] ↦ None | entry ∷ entries ↦ Some (with_message ask.Ranges s, record { site = s.site; seq = s.seq + 1; wants = map want_of s.held }) ] in Received (posted s.site (λ (m : RangeAsk). request.Ranges m) w made).0 h)
+  ranges-made-fine : (held : List (ℕ × Holder)) → (let made : Option (SubscriberTables × RangeAsk) = elim held [ [] ↦ None | entry ∷ entries ↦ Some (with_message ask.Ranges s, record { site = s.site; seq = s.seq + 1; wants = map want_of s.held }) ] in Received (post_if_made s.site (λ (m : RangeAsk). request.Ranges m) w made).0 h)
   ranges-made-fine [] = r
   ranges-made-fine (entry ∷ entries) =
       letter-fine w h r site s at (with_message ask.Ranges s) (Asks (request.Ranges (record { site = s.site; seq = s.seq + 1; wants = map want_of s.held }))) (message-goes-on known waiting ask.Ranges s own) tt
@@ -122,6 +122,6 @@ module _ (w : World) (h : History) (r : Received w h) (site : SiteId) (s : Subsc
 
   pub anew-fine : (judges : Judges) → Received (make_anew judges w s).0 h
   anew-fine judges =
-      let made : SubscriberTables × ℕ = reinitialised (judges.subscriber s.site s) (subscriber_at_moment w.moment s) in
+      let made : SubscriberTables × ℕ = result_of_reinit (judges.subscriber s.site s) (subscriber_at_moment w.moment s) in
       sub-fine w h r site s at (reinitialise (judges.subscriber s.site s) w.moment s) (λ (done : SubscriberTables × ℕ). (with_subscriber done.0 w, Discards done.1))
       (unless-goes known waiting s (counter_end (subscriber_counters s)) made.0 made.1 (anew-goes known waiting (judges.subscriber s.site s) w.moment s own)) (λ a g. goes-fine w h r site s at a.0 g)

@@ -16,8 +16,8 @@ use Rattle.merge_model.specs.Tables.Refusals.{unless, counter_end}
 use Rattle.merge_model.specs.Judge.{PublisherJudge}
 use Rattle.merge_model.specs.Judge.ByNumbers.{received_by_number}
 use Rattle.merge_model.specs.Publisher.{at_moment, close_generation}
-use Rattle.merge_model.specs.Publisher.PublisherLocal.{local, drawn, Drawn, made_locally}
-use Rattle.merge_model.specs.Publisher.PublisherJoin.{joined}
+use Rattle.merge_model.specs.Publisher.PublisherLocal.{local, draw_for_change, Drawn, made_locally}
+use Rattle.merge_model.specs.Publisher.PublisherJoin.{tables_after_join}
 use Rattle.merge_model.specs.Subscriber.{subscriber_local, subscriber_local_refusal, subscriber_drawn, subscriber_made_locally, close_subscriber_generation, subscriber_closed, subscriber_at_moment, subscriber_counters, subscriber_last_closed, is_joining}
 use Rattle.merge_model.specs.World.{World, Judges, subscriber_at, with_publisher, with_subscriber}
 use Rattle.merge_model.specs.declared.letter.Message.{Message}
@@ -108,7 +108,7 @@ pub make-fine : (publication : Publication) (judges : Judges) (site : SiteId) (c
 make-fine publication judges site change w h r =
     if-fine w h r (site.0 == 0) (make_at_publisher publication judges change w) (at_subscriber site w (make_at_subscriber publication change w))
     (pub-fine w h r (local publication (judges.publisher 0) w.moment change w.publisher) (λ (done : PublisherTables × RowId). (with_publisher done.0 w, Made done.1))
-    (local-ok (λ (q : PublisherTables). q.sites ≡ w.publisher.sites) publication (judges.publisher 0) w.moment change w.publisher (local-sites publication (judges.publisher 0) w.moment change w.publisher (drawn publication w.publisher change)))
+    (local-ok (λ (q : PublisherTables). q.sites ≡ w.publisher.sites) publication (judges.publisher 0) w.moment change w.publisher (local-sites publication (judges.publisher 0) w.moment change w.publisher (draw_for_change publication w.publisher change)))
     (λ a e. sites-fine w h r a.0 e))
     (at-fine w h r site (make_at_subscriber publication change w)
     (λ s at. sub-fine w h r site s at (subscriber_local publication w.moment change s) (λ (done : SubscriberTables × RowId). (with_subscriber done.0 w, Made done.1))

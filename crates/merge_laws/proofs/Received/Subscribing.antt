@@ -24,7 +24,7 @@ use Rattle.merge_model.specs.Tables.Changes.{key_of, version_after}
 use Rattle.merge_model.specs.Judge.ByNumbers.{received_by_number}
 use Rattle.merge_model.specs.Subscriber.{subscriber_last_closed, subscriber_closed, subscriber_at_moment, subscriber_made_locally, subscriber_next_dot, subscriber_version_at, with_version_if}
 use Rattle.merge_model.specs.Subscriber.Sending.{with_message}
-use Rattle.merge_model.specs.Subscriber.Reinit.{reinitialised}
+use Rattle.merge_model.specs.Subscriber.Reinit.{result_of_reinit}
 use Rattle.merge_model.specs.declared.letter.Letter.{Letter}
 use Rattle.merge_model.specs.declared.letter.Message.{Message}
 use Rattle.merge_model.specs.declared.letter.Message.TheVariants.{Asks, Replies}
@@ -97,13 +97,13 @@ all-fit subscribers p s t fits all n u found = fits-at subscribers p s t u n (n 
 
 -- The steps, one by one.
 
-pub filling-closed : (filling : Filling) → (fill.closed filling).filled ≡ 0
+pub filling-closed : (filling : Filling) → (fill.filling_after_close filling).filled ≡ 0
 filling-closed filling = grind (arith, nat_tests)
 
-pub filling-rises : (filling : Filling) → filling.last_closed ≤ (fill.closed filling).last_closed
+pub filling-rises : (filling : Filling) → filling.last_closed ≤ (fill.filling_after_close filling).last_closed
 filling-rises filling = grind (arith, nat_tests)
 
-pub filling-stays : (filling : Filling) → filling.filled ≡ 0 → (fill.closed filling).last_closed ≡ filling.last_closed
+pub filling-stays : (filling : Filling) → filling.filled ≡ 0 → (fill.filling_after_close filling).last_closed ≡ filling.last_closed
 filling-stays filling empty = grind (arith, nat_tests, empty)
 
 -- a closing
@@ -170,7 +170,7 @@ made-goes publication received joined now change s d joins f =
     version-goes received joined (key_of (subscriber_next_dot t) change) (version_after publication (subscriber_next_dot t) d.0 change (subscriber_version_at t (key_of (subscriber_next_dot t) change))) s u joins refl refl refl refl refl refl f
 
 -- making anew
-pub anew-goes : (received joined : ℕ) (judge : SubscriberJudge) (now : Moment) (s : SubscriberTables) → SubscriberFits received s.site.0 s → Goes received joined s (reinitialised judge (subscriber_at_moment now s)).0
+pub anew-goes : (received joined : ℕ) (judge : SubscriberJudge) (now : Moment) (s : SubscriberTables) → SubscriberFits received s.site.0 s → Goes received joined s (result_of_reinit judge (subscriber_at_moment now s)).0
 anew-goes received joined judge now s f = record {
   same_site = refl;
   seq = omega arith;

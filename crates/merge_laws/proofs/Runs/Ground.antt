@@ -34,12 +34,12 @@ use Rattle.merge_model.specs.Tables.Keys.{at_number, put_number}
 use Rattle.merge_model.specs.Laws.{AreSorted, SubscriberIsSorted}
 use Rattle.merge_model.specs.History.Model.{Model, empty_model, model, model_step}
 use Rattle.merge_model.specs.Tables.Publications.{by_site}
-use Rattle.merge_model.specs.Subscriber.Reinit.{reinitialised}
+use Rattle.merge_model.specs.Subscriber.Reinit.{result_of_reinit}
 use Rattle.merge_model.specs.Subscriber.Sending.{upload_sent, with_message}
 use Rattle.merge_model.specs.World.Steps.{Action}
 use Rattle.merge_model.specs.Subscriber.{empty_subscriber, subscriber_at_moment, subscriber_closed, subscriber_made_locally}
 use Rattle.merge_model.specs.Tables.{SubscriberTables}
-use Rattle.merge_model.specs.Subscriber.Taking.{taken}
+use Rattle.merge_model.specs.Subscriber.Taking.{tables_after_reply}
 use Rattle.merge_model.specs.World.{Saying, World, empty_world, subscriber_at, with_subscriber}
 use Rattle.merge_model.specs.declared.event.Event.{Event}
 use Rattle.merge_schema.specs.Valid.{IsValid, IsValidSubscription}
@@ -88,7 +88,7 @@ none-keeps publication says = record {
   same = λ w h s r p at. still-none w s s p at refl;
   subscriber_change = λ w h s change d r p at named fine is. still-none w s (subscriber_made_locally publication change d (subscriber_at_moment w.moment s)).0 p at (ap (λ (site : SiteId). site.0) (made-on publication w.moment change s d).same_site);
   subscriber_closing = λ w h s r p at. still-none w s (subscriber_closed (subscriber_at_moment w.moment s)) p at refl;
-  anew = λ w h s r p at. still-none w s (reinitialised (by_made h s.site) (subscriber_at_moment w.moment s)).0 p at refl;
+  anew = λ w h s r p at. still-none w s (result_of_reinit (by_made h s.site) (subscriber_at_moment w.moment s)).0 p at refl;
   sends_join = λ w h s r p at joining. still-none w s (with_message ask.Join s) p at refl;
   sends_upload = λ w h s r p at fine. still-none w s (upload_sent (by_made h s.site) (subscriber_closed (subscriber_at_moment w.moment s))).0 p at refl;
   sends_ranges = λ w h s r p at fine. still-none w s (with_message ask.Ranges s) p at refl;
@@ -99,7 +99,7 @@ none-keeps publication says = record {
   uploads_again = λ w h number m r p at none. p;
   answers_ranges = λ w h site m r p. p;
   answers_ask = λ w h number site m r p at fine. p;
-  replies = λ w h s number m sent r p at there out none. still-none w s (taken (by_made h s.site) w.moment m s) p at (reply-site (by_made h s.site) w.moment m s);
+  replies = λ w h s number m sent r p at there out none. still-none w s (tables_after_reply (by_made h s.site) w.moment m s) p at (reply-site (by_made h s.site) w.moment m s);
 }
 
 pub ground-step : (publication : Publication) (says : Saying) (m : Model) (action : Action) → Ground publication m.world m.history → (let n : Model = (model_step publication says m action).0 in Ground publication n.world n.history)

@@ -2,7 +2,7 @@
 use Rattle.std.specs.Prelude.{ℕ, List}
 use Rattle.std.proofs.Common.{subst}
 use Rattle.merge_schema.specs.declared.publication.Publication.{Publication}
-use Rattle.merge_model.specs.Failing.{Faulty, Slips, failing, faulty}
+use Rattle.merge_model.specs.Failing.{Faulty, Slips, faulty, faulty_stepping}
 use Rattle.merge_model.specs.History.Model.{Model, empty_model, model}
 use Rattle.merge_model.specs.Failing.Runs.{model_after, model_after_actions, model_behind, model_behind_actions}
 use Rattle.merge_model.specs.World.Steps.{Action}
@@ -15,7 +15,7 @@ use Rattle.merge_laws.specs.Laws.{OfEveryActions, OfEveryDecidedRun, OfEveryVali
 -- from any model on
 pub of-later-events : (publication : Publication) (says : Saying) (m : Model) (slips : Slips) (events : List Event) (Holds : Model → Type 0) → ((actions : List Action) → Holds (model_after_actions publication says m slips actions)) → Holds (model_after publication says m slips events)
 of-later-events publication says m slips events Holds holds =
-    let made = events-are-actions (failing publication (model publication says)) publication events (faulty m slips) in
+    let made = events-are-actions (faulty_stepping publication (model publication says)) publication events (faulty m slips) in
     subst (λ (f : Faulty Model). Holds f.world) made.1 (holds made.0)
 
 -- from nothing

@@ -14,9 +14,9 @@ use Rattle.merge_model.specs.History.Model.{Model, model_step}
 use Rattle.merge_model.specs.History.Noting
 use Rattle.merge_model.specs.Tables.Publications.{by_site}
 use Rattle.merge_model.specs.Publisher.{last_closed, later, state_of, state_refusal, unknown_site, site_refusal}
-use Rattle.merge_model.specs.Publisher.PublisherDownload.{asked, download_refusal, synced}
+use Rattle.merge_model.specs.Publisher.PublisherDownload.{download_refusal, state_after_download, tables_after_download}
 use Rattle.merge_model.specs.Publisher.PublisherLocal.{next_dot}
-use Rattle.merge_model.specs.Subscriber.Reinit.{discarded}
+use Rattle.merge_model.specs.Subscriber.Reinit.{discarded_versions}
 use Rattle.merge_model.specs.World.Steps.{Action}
 use Rattle.merge_types.specs.declared.row_key.RowKey.{RowKey as Key}
 use Rattle.merge_model.specs.World.{Saying, World, empty_world}
@@ -48,13 +48,13 @@ seen-as sites before after same seen = subst (λ (accepted : List Dot). Seen sit
 site-there : (sites : List (ℕ × SiteState)) (n : ℕ) → at_number sites 0 ≡ None → is_some (at_number sites n) ≡ true → 0 ≡ n → ⊥
 site-there sites n none there zero_is = absurd (grind (arith, ap (λ (k : ℕ). is_some (at_number sites k)) zero_is, none, there))
 
-asked-seen : (publication : Publication) (w : World) (h : History) (m : Download) → download_refusal publication w.moment m w.publisher ≡ None → HasSeen w h → Seen (asked m (here w)).sites h.accepted
+asked-seen : (publication : Publication) (w : World) (h : History) (m : Download) → download_refusal publication w.moment m w.publisher ≡ None → HasSeen w h → Seen (tables_after_download m (here w)).sites h.accepted
 asked-seen publication w h m fine seen =
     let all = first-none (site_refusal publication m.site m.seq w.moment w.publisher) _ fine in
     let site = first-none (unknown_site publication m.site) _ all.0 in
     let state = first-none (state_refusal publication m.seq (later w.moment w.publisher.latest) (at_number w.publisher.sites m.site.0)) [] site.1 in
     let there : is_some (at_number w.publisher.sites m.site.0) ≡ true = state-known publication m.seq (later w.moment w.publisher.latest) (at_number w.publisher.sites m.site.0) state.0 in record {
-      own = at_put_other m.site.0 0 (synced m (here w) (state_of (here w) m.site)) w.publisher.sites (site-there w.publisher.sites m.site.0 seen.own there) ∙ seen.own;
+      own = at_put_other m.site.0 0 (state_after_download m (here w) (state_of (here w) m.site)) w.publisher.sites (site-there w.publisher.sites m.site.0 seen.own there) ∙ seen.own;
       numbers = λ n from. asked-number (λ (x : SiteState). x.seen) refl m (here w) n (n == m.site.0) refl (number-decided n m.site.0) ∙ seen.numbers n from
           ∙ ap (λ (k : ℕ). max (greatest_in h.accepted n) k) (sym (asked-number (λ (x : SiteState). x.received_number) refl m (here w) n (n == m.site.0) refl (number-decided n m.site.0)));
     }
@@ -74,7 +74,7 @@ module _ (publication : Publication) (says : Saying) where
     same = λ w h s b seen at. seen;
     subscriber_change = λ w h s change d b seen at named fine is. seen;
     subscriber_closing = λ w h s b seen at. seen;
-    anew = λ w h s b seen at. seen-as w.publisher.sites h.accepted _ (discarded-leave (λ (x : History). x.accepted) (λ x lost. refl) s.site (discarded (by_made h s.site) s) h) seen;
+    anew = λ w h s b seen at. seen-as w.publisher.sites h.accepted _ (discarded-leave (λ (x : History). x.accepted) (λ x lost. refl) s.site (discarded_versions (by_made h s.site) s) h) seen;
     sends_join = λ w h s b seen at joining. seen;
     sends_upload = λ w h s b seen at fine. seen;
     sends_ranges = λ w h s b seen at fine. seen;

@@ -15,8 +15,8 @@ use Rattle.merge_model.specs.History.Model.{Model, model, model_step}
 use Rattle.merge_model.specs.Publisher.{last_closed}
 use Rattle.merge_model.specs.Failing.Runs.{model_behind_actions}
 use Rattle.merge_model.specs.Subscriber.Sending.{sending_refusal, unsent_rows, upload_made, upload_sent}
-use Rattle.merge_model.specs.World.Session.{Session, after_download, all_downloads, all_uploads, answered_as, arrived, ask, downloaded_in, downloading, exchange, last_message, unsent_generations, uploading, with_answer, with_upload}
-use Rattle.merge_model.specs.World.Steps.{Deliver, Send, SendDownload, SendUpload, Sending, posted}
+use Rattle.merge_model.specs.World.Session.{Session, after_download, all_downloads, all_uploads, answered_as, ask, downloaded_in, downloads_up_to, exchange, last_message, session_after_reply, unsent_generations, uploads_up_to, with_answer, with_upload}
+use Rattle.merge_model.specs.World.Steps.{Deliver, Send, SendDownload, SendUpload, Sending, post_if_made}
 use Rattle.merge_model.specs.Subscriber.{subscriber_at_moment, subscriber_closed, subscriber_last_closed}
 use Rattle.merge_model.specs.Tables.{SubscriberTables}
 use Rattle.merge_model.specs.World.{Saying, World, subscriber_at}
@@ -36,7 +36,7 @@ use Rattle.merge_laws.proofs.Settled.SettledLaw.{settled-by-actions}
 module _ (publication : Publication) (says : Saying) (site : SiteId) where
   -- Two ways to go on that are the same where an exchange acts.
   arrived-same : (Acts Rests : Model → Type 0) (v : Session Model) (done : Model × Outcome) (next other : Session Model → Session Model) → Ends Acts Rests done → Known publication says site done.0
-      → ((x : Session Model) → Known publication says site x.world → Acts x.world → next x ≡ other x) → arrived (model publication says) site next v done ≡ arrived (model publication says) site other v done
+      → ((x : Session Model) → Known publication says site x.world → Acts x.world → next x ≡ other x) → session_after_reply (model publication says) site next v done ≡ session_after_reply (model publication says) site other v done
   arrived-same Acts Rests v (k, Took taken) next other ends g same = same (record v { world = k }) g ends
   arrived-same Acts Rests v (k, Refuses refusal) next other ends g same = refl
   arrived-same Acts Rests v (k, NoPost) next other ends g same = refl
@@ -59,7 +59,7 @@ module _ (publication : Publication) (says : Saying) (site : SiteId) where
   nothing-sent : (k : Model) (s : SubscriberTables) → subscriber_at k.world s.site ≡ Some s → unsent_rows (by_made k.history s.site) s ≡ [] → Answered publication says (λ n. ⊥) (λ n. Unit {0}) s.site (ask (model publication says) s.site SendUpload k)
   nothing-sent k s at nothing =
       let made : SubscriberTables × Upload = upload_sent (by_made k.history s.site) (subscriber_closed (subscriber_at_moment k.world.moment s)) in
-      let act : Option (SubscriberTables × Upload) → World × Outcome = posted s.site (λ (y : Upload). request.Upload y) k.world in
+      let act : Option (SubscriberTables × Upload) → World × Outcome = post_if_made s.site (λ (y : Upload). request.Upload y) k.world in
       let rows : List (Key × ℕ) → Type 0 = λ (unsent : List (Key × ℕ)). (let sent : Option (SubscriberTables × Upload) = elim unsent [ [] ↦ None | row ∷ rest ↦ Some made ] in After (Sent publication says (λ n. ⊥) (λ n. Unit {0}) s.site) (act sent) k.history k.history) in
       send-step publication says (λ n. ⊥) (λ n. Unit {0}) s.site k s SendUpload at
       (unless-step (Sent publication says (λ n. ⊥) (λ n. Unit {0}) s.site) k.world k.history (λ why. tt) (sending_refusal s) (upload_made (by_made k.history s.site) k.world.moment s) act k.history (λ fine. subst rows (sym nothing) tt))
@@ -72,15 +72,15 @@ module _ (publication : Publication) (says : Saying) (site : SiteId) where
   module _ (bound : ℕ) where
     -- one turn, where the later ones are the same
     upload-turn : (count more : ℕ) (u : Session Model) (j : Joins publication says site u.world) → UpTo bound (made_at u.world.history site.0) → bound + 1 ≤ j.at.tables.received + suc count
-        → ((v : Session Model) (e : Joins publication says site v.world) → UpTo bound (made_at v.world.history site.0) → 1 ≤ count → bound + 1 ≤ e.at.tables.received + count → uploading (model publication says) site (count + more) v ≡ uploading (model publication says) site count v)
-        → (b : Bool) → nat_le bound j.at.tables.received ≡ b → uploading (model publication says) site (suc (count + more)) u ≡ uploading (model publication says) site (suc count) u
+        → ((v : Session Model) (e : Joins publication says site v.world) → UpTo bound (made_at v.world.history site.0) → 1 ≤ count → bound + 1 ≤ e.at.tables.received + count → uploads_up_to (model publication says) site (count + more) v ≡ uploads_up_to (model publication says) site count v)
+        → (b : Bool) → nat_le bound j.at.tables.received ≡ b → uploads_up_to (model publication says) site (suc (count + more)) u ≡ uploads_up_to (model publication says) site (suc count) u
     upload-turn count more u j all enough later true is =
         let k : Model = u.world in
         let a : At publication says site k = j.at in
         let s : SubscriberTables = a.tables in
         let up : bound ≤ s.received = grind (arith, nat_tests, is) in
         let none : NoneBetween s.received (subscriber_last_closed s + 1) (made_at k.history s.site.0) = subst (λ (x : SiteId). NoneBetween s.received (subscriber_last_closed s + 1) (made_at k.history x.0)) (sym (same-site publication says site k a)) (up-none bound s.received (subscriber_last_closed s + 1) (made_at k.history site.0) up all) in
-        exchange-same (λ n. ⊥) (λ n. Unit {0}) SendUpload u (with_upload (model publication says) site) (uploading (model publication says) site (count + more)) (uploading (model publication says) site count)
+        exchange-same (λ n. ⊥) (λ n. Unit {0}) SendUpload u (with_upload (model publication says) site) (uploads_up_to (model publication says) site (count + more)) (uploads_up_to (model publication says) site count)
         (ends-here publication says site (λ n. ⊥) (λ n. Unit {0}) SendUpload k a (nothing-sent k s (own publication says site k a) (none-nothing k.history s none)))
         a.known (λ x g never. absurd never)
     upload-turn count more u j all enough later false is =
@@ -88,7 +88,7 @@ module _ (publication : Publication) (says : Saying) (site : SiteId) where
         let a : At publication says site k = j.at in
         let s : SubscriberTables = a.tables in
         let low : s.received < bound = grind (arith, nat_tests, is) in
-        exchange-same (UploadLeaves k s) (UploadRests s) SendUpload u (with_upload (model publication says) site) (uploading (model publication says) site (count + more)) (uploading (model publication says) site count)
+        exchange-same (UploadLeaves k s) (UploadRests s) SendUpload u (with_upload (model publication says) site) (uploads_up_to (model publication says) site (count + more)) (uploads_up_to (model publication says) site count)
         (ends-here publication says site (UploadLeaves k s) (UploadRests s) SendUpload k a
         (upload-leaves publication says k s (own publication says site k a) (a.known.0.subscribers site.0 s a.here).own (a.known.1.subscribers s.site.0 s (own publication says site k a)).named))
         a.known (λ v g l. (
@@ -98,10 +98,10 @@ module _ (publication : Publication) (says : Saying) (site : SiteId) where
         (subst (λ (changes : List MadeChange). UpTo bound changes) (sym made) all) (omega (arith, low, enough)) (omega (arith, up, enough))))
 
     uploading-same : (count more : ℕ) (u : Session Model) (j : Joins publication says site u.world) → UpTo bound (made_at u.world.history site.0) → 1 ≤ count → bound + 1 ≤ j.at.tables.received + count
-        → uploading (model publication says) site (count + more) u ≡ uploading (model publication says) site count u
+        → uploads_up_to (model publication says) site (count + more) u ≡ uploads_up_to (model publication says) site count u
     uploading-same zero more u j all some enough = absurd (omega (arith, some))
     uploading-same (suc count) more u j all some enough =
-        ap (λ (n : ℕ). uploading (model publication says) site n u) (one-more count more)
+        ap (λ (n : ℕ). uploads_up_to (model publication says) site n u) (one-more count more)
         ∙ upload-turn count more u j all enough (λ v e up one left. uploading-same count more v e up one left) (nat_le bound j.at.tables.received) refl
 
   -- Downloads.
@@ -131,21 +131,21 @@ module _ (publication : Publication) (says : Saying) (site : SiteId) where
   }
 
   downloading-same : (count more target : ℕ) (u : Session Model) (f : Asks target u.world) → target + 1 ≤ f.at.tables.watermark + count
-      → downloading (model publication says) site (count + more) target u ≡ downloading (model publication says) site count target u
+      → downloads_up_to (model publication says) site (count + more) target u ≡ downloads_up_to (model publication says) site count target u
   unfolding asks-after
   downloading-same zero more target u f enough = (let marks = f.marks in absurd (omega (arith, marks, enough)))
   downloading-same (suc count) more target u f enough =
       let k : Model = u.world in
       let a : At publication says site k = f.at in
-      let next : ℕ → Downloaded → Session Model → Session Model = λ (n : ℕ) (d : Downloaded) (t : Session Model). if nat_le target d.from then t else downloading (model publication says) site n target t in
-      ap (λ (n : ℕ). downloading (model publication says) site n target u) (one-more count more)
+      let next : ℕ → Downloaded → Session Model → Session Model = λ (n : ℕ) (d : Downloaded) (t : Session Model). if nat_le target d.from then t else downloads_up_to (model publication says) site n target t in
+      ap (λ (n : ℕ). downloads_up_to (model publication says) site n target u) (one-more count more)
       ∙ exchange-same (DownloadLeaves publication k a.tables) (λ n. ⊥) SendDownload u (with_answer (model publication says) site) (after_download (model publication says) site (next (count + more))) (after_download (model publication says) site (next count))
       (ends-here publication says site (DownloadLeaves publication k a.tables) (λ n. ⊥) SendDownload k a (download-leaves publication says k a.tables (own publication says site k a)))
       a.known (λ v g l. (
       let still : last_closed v.world.world.publisher ≡ target = l.still f.empty ∙ f.closed in
       let last = l.last in let onward = l.onward in let held = l.held in let from = l.from in
       fetch-same (next (count + more)) (next count) v l.told l.posted
-      (if-same (nat_le target l.told.from) v (downloading (model publication says) site (count + more) target v) (downloading (model publication says) site count target v)
+      (if-same (nat_le target l.told.from) v (downloads_up_to (model publication says) site (count + more) target v) (downloads_up_to (model publication says) site count target v)
       (λ is. (let low : l.told.from < target = grind (arith, nat_tests, is) in let on = onward (omega (arith, low, last, still)) in
       downloading-same count more target v (asks-after target k v.world a g l still) (omega (arith, on, held, from, enough)))))))
 
@@ -153,15 +153,15 @@ module _ (publication : Publication) (says : Saying) (site : SiteId) where
   unfolding asks-after
   downloads-same more u a =
       let k : Model = u.world in
-      let next : Downloaded → Session Model → Session Model = λ (d : Downloaded) (t : Session Model). if nat_le d.last d.from then t else downloading (model publication says) site (d.last + 1 - d.from + more) d.last t in
-      let whole : Downloaded → Session Model → Session Model = λ (d : Downloaded) (t : Session Model). if nat_le d.last d.from then t else downloading (model publication says) site (d.last + 1 - d.from) d.last t in
+      let next : Downloaded → Session Model → Session Model = λ (d : Downloaded) (t : Session Model). if nat_le d.last d.from then t else downloads_up_to (model publication says) site (d.last + 1 - d.from + more) d.last t in
+      let whole : Downloaded → Session Model → Session Model = λ (d : Downloaded) (t : Session Model). if nat_le d.last d.from then t else downloads_up_to (model publication says) site (d.last + 1 - d.from) d.last t in
       exchange-same (DownloadLeaves publication k a.tables) (λ n. ⊥) SendDownload u (with_answer (model publication says) site) (after_download (model publication says) site next) (after_download (model publication says) site whole)
       (ends-here publication says site (DownloadLeaves publication k a.tables) (λ n. ⊥) SendDownload k a (download-leaves publication says k a.tables (own publication says site k a)))
       a.known (λ v g l. (
       let onward = l.onward in let held = l.held in
       let enough : ℕ = l.told.last + 1 - l.told.from in
       fetch-same next whole v l.told l.posted
-      (if-same (nat_le l.told.last l.told.from) v (downloading (model publication says) site (enough + more) l.told.last v) (downloading (model publication says) site enough l.told.last v)
+      (if-same (nat_le l.told.last l.told.from) v (downloads_up_to (model publication says) site (enough + more) l.told.last v) (downloads_up_to (model publication says) site enough l.told.last v)
       (λ is. (let low : l.told.from < l.told.last = grind (arith, nat_tests, is) in let on = onward low in
       downloading-same enough more l.told.last v (asks-after l.told.last k v.world a g l (sym l.last)) (omega (arith, low, on, held)))))))
 
@@ -178,9 +178,9 @@ module _ (publication : Publication) (says : Saying) (m : Model) (s : Subscriber
       let all : UpTo bound (made_at m.history s.site.0) = order-up s.changes bound (made_at m.history s.site.0) ((known.1.subscribers s.site.0 s at).order named) in
       let count : ℕ = subscriber_last_closed s + 2 - s.received in
       let is : unsent_generations (model publication says) s.site m ≡ count = ap (λ (found : Option SubscriberTables). unwrap_or (option_map (λ (x : SubscriberTables). x.gens.filling.last_closed + 2 - x.received) found) 0) at in
-      ap (λ (n : ℕ). uploading (model publication says) s.site (n + more) u) is
+      ap (λ (n : ℕ). uploads_up_to (model publication says) s.site (n + more) u) is
       ∙ uploading-same publication says s.site bound count more u (record { at = here; joined = joined }) all (omega (arith, below)) (omega (arith, below))
-      ∙ ap (λ (n : ℕ). uploading (model publication says) s.site n u) (sym is)
+      ∙ ap (λ (n : ℕ). uploads_up_to (model publication says) s.site n u) (sym is)
 
 pub uploads-enough : OfEveryValidActions UploadsAreEnough
 uploads-enough resolvers publication valid says tallies slips actions s uploads downloads more at joined =

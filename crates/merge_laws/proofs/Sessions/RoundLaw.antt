@@ -13,7 +13,7 @@ use Rattle.merge_model.specs.Laws.Promises.{IsSettled}
 use Rattle.merge_model.specs.Publisher.{last_closed}
 use Rattle.merge_model.specs.Failing.Runs.{model_behind_actions}
 use Rattle.merge_model.specs.World.Session.{ask as asking}
-use Rattle.merge_model.specs.World.Session.{Session, after_download, downloading, exchange, unsent_generations, uploading, with_answer, with_upload}
+use Rattle.merge_model.specs.World.Session.{Session, after_download, downloads_up_to, exchange, unsent_generations, uploads_up_to, with_answer, with_upload}
 use Rattle.merge_model.specs.World.Steps.{SendDownload, SendUpload}
 use Rattle.merge_model.specs.Subscriber.{subscriber_last_closed}
 use Rattle.merge_model.specs.Tables.{SubscriberTables}
@@ -32,7 +32,7 @@ use Rattle.merge_laws.proofs.Walking.{same-sites}
 
 module _ (publication : Publication) (says : Saying) (site : SiteId) where
   -- What uploads of a site leave.
-  uploading-stays : (start : Model) (count : ℕ) (u : Session Model) → Joins publication says site u.world → Stays site start u.world → Settles publication says site (Stays site start) (uploading (model publication says) site count u)
+  uploading-stays : (start : Model) (count : ℕ) (u : Session Model) → Joins publication says site u.world → Stays site start u.world → Settles publication says site (Stays site start) (uploads_up_to (model publication says) site count u)
   uploading-stays start zero u j s = λ none. s
   uploading-stays start (suc count) u j s =
       let k : Model = u.world in
@@ -40,7 +40,7 @@ module _ (publication : Publication) (says : Saying) (site : SiteId) where
       let t : SubscriberTables = a.tables in
       let Acts : Model → Type 0 = λ (n : Model). UploadLeaves k t n × Stays t.site k n in
       let Rests : Model → Type 0 = λ (n : Model). UploadRests t n × Unmoved k n in
-      exchange-settles publication says site Acts Rests (Stays site start) SendUpload u (with_upload (model publication says) site) (uploading (model publication says) site count)
+      exchange-settles publication says site Acts Rests (Stays site start) SendUpload u (with_upload (model publication says) site) (uploads_up_to (model publication says) site count)
       (ends-here publication says site Acts Rests SendUpload k a
       (answered-both publication says (UploadLeaves k t) (Stays t.site k) (UploadRests t) (Unmoved k) t.site (asking (model publication says) t.site SendUpload k)
       (upload-leaves publication says k t (own publication says site k a) (a.known.0.subscribers site.0 t a.here).own (a.known.1.subscribers t.site.0 t (own publication says site k a)).named)
@@ -73,17 +73,17 @@ module _ (publication : Publication) (says : Saying) (site : SiteId) where
       (more v l.0.told (record { at = at_next publication says site k v.world a l.0.tables g l.0.here; joined = l.0.joined ∙ j.joined }) (subst (λ (x : SiteId). AskStays x k v.world) (same-site publication says site k a) l.1)))
       (λ n g r. absurd r.0)
 
-  downloading-stays : (start : Model) (count target : ℕ) (u : Session Model) → Joins publication says site u.world → AskStays site start u.world → Settles publication says site (AskStays site start) (downloading (model publication says) site count target u)
+  downloading-stays : (start : Model) (count target : ℕ) (u : Session Model) → Joins publication says site u.world → AskStays site start u.world → Settles publication says site (AskStays site start) (downloads_up_to (model publication says) site count target u)
   downloading-stays start zero target u j s = λ none. s
   downloading-stays start (suc count) target u j s = one-download (AskStays site start) u j
-      (λ (d : Downloaded) (t : Session Model). if nat_le target d.from then t else downloading (model publication says) site count target t)
+      (λ (d : Downloaded) (t : Session Model). if nat_le target d.from then t else downloads_up_to (model publication says) site count target t)
       (λ v d joins stays. (let all : AskStays site start v.world = asks-then site start u.world v.world s stays in
-      if-settles publication says site (AskStays site start) (nat_le target d.from) v (downloading (model publication says) site count target v) (λ is none. all) (λ is. downloading-stays start count target v joins all)))
+      if-settles publication says site (AskStays site start) (nat_le target d.from) v (downloads_up_to (model publication says) site count target v) (λ is none. all) (λ is. downloading-stays start count target v joins all)))
 
   downloads-stay : (m : Model) → Joins publication says site m → (downloaded_by publication says site m).stop ≡ None → AskStays site m (downloaded_by publication says site m).world
   downloads-stay m j ended = one-download (AskStays site m) (new_session m) j
-      (λ (d : Downloaded) (t : Session Model). if nat_le d.last d.from then t else downloading (model publication says) site (d.last + 1 - d.from) d.last t)
-      (λ v d joins stays. if-settles publication says site (AskStays site m) (nat_le d.last d.from) v (downloading (model publication says) site (d.last + 1 - d.from) d.last v)
+      (λ (d : Downloaded) (t : Session Model). if nat_le d.last d.from then t else downloads_up_to (model publication says) site (d.last + 1 - d.from) d.last t)
+      (λ v d joins stays. if-settles publication says site (AskStays site m) (nat_le d.last d.from) v (downloads_up_to (model publication says) site (d.last + 1 - d.from) d.last v)
       (λ is none. stays) (λ is. downloading-stays m (d.last + 1 - d.from) d.last v joins stays)) ended
 
 module _ (publication : Publication) (says : Saying) where

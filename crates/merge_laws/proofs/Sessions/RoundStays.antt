@@ -4,7 +4,7 @@ use Rattle.std.proofs.Common.{arith, ap, ◌∙◌}
 use Rattle.std.proofs.lemmas.Bool.Decides.{nat_tests}
 use Rattle.merge_types.specs.declared.identifiers.SiteId.{SiteId}
 use Rattle.merge_types.specs.declared.row_key.RowKey.{RowKey as Key}
-use Rattle.merge_gens.specs.Filling.{closed as closed_filling}
+use Rattle.merge_gens.specs.Filling.{filling_after_close as closed_filling}
 use Rattle.merge_gens.specs.declared.filling.Filling.{Filling}
 use Rattle.merge_units.specs.declared.result.Decision.{Decision}
 use Rattle.merge_schema.specs.declared.publication.Publication.{Publication}
@@ -22,16 +22,16 @@ use Rattle.merge_model.specs.Tables.Keys.{at_number}
 use Rattle.merge_model.specs.History.Model.{Model, model}
 use Rattle.merge_model.specs.History.Noting
 use Rattle.merge_model.specs.Publisher.{last_closed, state_of}
-use Rattle.merge_model.specs.Publisher.PublisherDownload.{asked, download_refusal, reply_to, synced}
-use Rattle.merge_model.specs.Publisher.PublisherUpload.{brings_news, upload_refusal, uploaded}
+use Rattle.merge_model.specs.Publisher.PublisherDownload.{download_refusal, reply_to, state_after_download, tables_after_download}
+use Rattle.merge_model.specs.Publisher.PublisherUpload.{brings_news, tables_after_upload, upload_refusal}
 use Rattle.merge_model.specs.Subscriber.Sending.{sending_refusal, unsent_rows, upload_made, upload_sent, with_message}
 use Rattle.merge_model.specs.World.Session.{ask as asking}
-use Rattle.merge_model.specs.World.Steps.{Deliver, SendDownload, SendUpload, kept_decisions, post, posted, upload_questions}
+use Rattle.merge_model.specs.World.Steps.{Deliver, SendDownload, SendUpload, kept_decisions, post, post_if_made, upload_questions}
 use Rattle.merge_model.specs.declared.outcome.Outcome.{Outcome}
 use Rattle.merge_model.specs.declared.outcome.Outcome.TheVariants.{NoPost, Posted, Refuses, Took}
 use Rattle.merge_model.specs.Subscriber.{subscriber_at_moment, subscriber_closed}
 use Rattle.merge_model.specs.Tables.{PublisherTables, SubscriberTables}
-use Rattle.merge_model.specs.Subscriber.Taking.{taken}
+use Rattle.merge_model.specs.Subscriber.Taking.{tables_after_reply}
 use Rattle.merge_model.specs.World.{Saying, World, subscriber_at, with_publisher, with_subscriber}
 use Rattle.merge_model.specs.declared.letter.Message.TheVariants.{Asks, Replies}
 use Rattle.merge_model.specs.History.Model.{model_step}
@@ -132,14 +132,14 @@ module _ (publication : Publication) (says : Saying) (m : Model) (s : Subscriber
       let k : Model = posted_model s.site (Asks (request.Upload a)) v h in
       let judge : PublisherJudge = by_past k.history (pasts_with k.history (length v.pool + 1)) in
       let decisions : List Decision = kept_decisions says w.tallies (upload_questions publication judge w.moment a w.publisher) in
-      let q : PublisherTables = uploaded publication judge a decisions (here k.world) in
+      let q : PublisherTables = tables_after_upload publication judge a decisions (here k.world) in
       let d : Uploaded = told_by judge a in
       let x : World = uploaded_world publication says judge a q k.world in
       let noting : History = Noting.noted_upload publication judge a decisions (pasts_with k.history (length v.pool + 1)) (here k.world) k.history in
       let n : Model = posted_model s.site (Replies (reply.Uploaded d)) x noting in
       let own : SubscriberJudge = by_made n.history s.site in
       let there : subscriber_at v s.site ≡ Some u = at_put_same s.site.0 u w.subscribers in
-      let act : Option (SubscriberTables × Upload) → World × Outcome = posted s.site (λ (y : Upload). request.Upload y) w in
+      let act : Option (SubscriberTables × Upload) → World × Outcome = post_if_made s.site (λ (y : Upload). request.Upload y) w in
       let rows : List (Key × ℕ) → Type 0 = λ (unsent : List (Key × ℕ)). (let sent : Option (SubscriberTables × Upload) = elim unsent [ [] ↦ None | row ∷ rest ↦ Some made ] in After (Sent publication says Acts Rests s.site) (act sent) h h) in
       send-step publication says Acts Rests s.site m s SendUpload at
       (unless-step (Sent publication says Acts Rests s.site) w h (λ why. tt) (sending_refusal s) (upload_made made_by_site w.moment s) act h (λ fine.
@@ -150,7 +150,7 @@ module _ (publication : Publication) (says : Saying) (m : Model) (s : Subscriber
       post-step (Answered publication says Acts Rests s.site) s.site (Replies (reply.Uploaded d)) x noting k.history
       (back-step publication says Acts Rests s.site x noting u (reply.Uploaded d) there
       (reply-step publication says Acts Rests s.site n.world n.history own u (reply.Uploaded d) (ask.Upload s.received a.to) n.history (λ none. record {
-        others = λ site differs. two-puts (taken own w.moment (reply.Uploaded d) u) u site differs refl refl;
+        others = λ site differs. two-puts (tables_after_reply own w.moment (reply.Uploaded d) u) u site differs refl refl;
         made = λ site named. if-made (brings_news judge a) (Noting.with_acts_noted publication judge a (acts_in publication says judge a k.world) (pasts_with k.history (length v.pool + 1)) (here k.world) k.history) k.history site
             ((uploaded-alike publication says judge a (pasts_with k.history (length v.pool + 1)) k.world k.history).made site named);
       })))))))))
@@ -164,7 +164,7 @@ module _ (publication : Publication) (says : Saying) (m : Model) (s : Subscriber
       let v : World = with_subscriber u w in
       let k : Model = posted_model s.site (Asks (request.Download a)) v h in
       let judge : PublisherJudge = by_past k.history (pasts_with k.history (length v.pool + 1)) in
-      let q : PublisherTables = asked a (here k.world) in
+      let q : PublisherTables = tables_after_download a (here k.world) in
       let d : Downloaded = reply_to publication judge a q in
       let x : World = with_publisher q k.world in
       let n : Model = posted_model s.site (Replies (reply.Downloaded d)) x k.history in
@@ -181,10 +181,10 @@ module _ (publication : Publication) (says : Saying) (m : Model) (s : Subscriber
       (back-step publication says Acts Rests s.site x k.history u (reply.Downloaded d) there
       (reply-step publication says Acts Rests s.site n.world n.history own u (reply.Downloaded d) (ask.Download s.watermark) noting (λ none. record {
         stays = record {
-          others = λ site differs. two-puts (taken own w.moment (reply.Downloaded d) u) u site differs refl refl;
+          others = λ site differs. two-puts (tables_after_reply own w.moment (reply.Downloaded d) u) u site differs refl refl;
           made = λ site named. ap (λ (made : List MadeChange). filter (λ (change : MadeChange). change.dot.site.0 == site) made) (taker-made (by_history n.history) s.site incoming (reply.Downloaded d) (Some u) n.history);
         };
-        states = λ site differs. at_put_other s.site.0 site (synced a (here k.world) (state_of (here k.world) s.site)) w.publisher.sites differs;
+        states = λ site differs. at_put_other s.site.0 site (state_after_download a (here k.world) (state_of (here k.world) s.site)) w.publisher.sites differs;
         moment = refl;
         empty = filling-closed w.publisher.gens.filling;
         still = λ empty. closed-still w.publisher.gens.filling empty;

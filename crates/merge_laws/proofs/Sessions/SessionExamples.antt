@@ -14,7 +14,7 @@ use Rattle.merge_model.specs.declared.event.Event.{Event}
 use Rattle.merge_model.specs.declared.event.Event.TheVariants as event
 use Rattle.merge_model.specs.World.Events.{after}
 use Rattle.merge_model.specs.History.Model.{Model, empty_model, model}
-use Rattle.merge_model.specs.World.Session.{Session, Stepping, all_downloads, all_uploads, joining, session, unless_stopped}
+use Rattle.merge_model.specs.World.Session.{Session, Stepping, all_downloads, all_uploads, join_if_due, session, unless_stopped}
 
 -- one article and one subscriber
 abbrev tickets : Publication
@@ -45,7 +45,7 @@ session_behind events = session (model tickets (λ a b c. None)) (record { 0 = 1
 -- a session in which the uploads come last
 abbrev uploading_last : Model → Session Model
 uploading_last m = let steps : Stepping Model = model tickets (λ a b c. None) in let site : SiteId = record { 0 = 1 } in
-    unless_stopped steps site (all_uploads steps site) (unless_stopped steps site (all_downloads steps site) (joining steps site (record {
+    unless_stopped steps site (all_uploads steps site) (unless_stopped steps site (all_downloads steps site) (join_if_due steps site (record {
       world = m;
       uploads = 0;
       downloads = 0;

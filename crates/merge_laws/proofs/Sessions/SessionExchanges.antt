@@ -5,7 +5,7 @@ use Rattle.std.specs.Option.{option_or}
 use Rattle.std.proofs.Common.{arith, subst, sym, ap, ◌∙◌}
 use Rattle.std.proofs.lemmas.Bool.Decides.{nat_tests}
 use Rattle.merge_types.specs.declared.identifiers.Moment.{Moment}
-use Rattle.merge_gens.specs.Filling.{closed as closed_filling}
+use Rattle.merge_gens.specs.Filling.{filling_after_close as closed_filling}
 use Rattle.merge_gens.specs.declared.filling.Filling.{Filling}
 use Rattle.merge_gens.specs.declared.sites.SiteState.{SiteState}
 use Rattle.merge_ident.specs.Holders.{Holder}
@@ -36,19 +36,19 @@ use Rattle.merge_model.specs.History.Model.{Model, model}
 use Rattle.merge_model.specs.History.Noting
 use Rattle.merge_model.specs.Laws.Promises.{is_expired_at}
 use Rattle.merge_model.specs.Publisher.{last_closed, later, no_state, site_refusal, state_of}
-use Rattle.merge_model.specs.Publisher.PublisherDownload.{asked, download_refusal, in_step, reply_to, synced}
-use Rattle.merge_model.specs.Publisher.PublisherJoin.{join_refusal, joined}
-use Rattle.merge_model.specs.Publisher.PublisherRanges.{plans, ranged, ranges_refusal, with_grants}
-use Rattle.merge_model.specs.Publisher.PublisherUpload.{brings_news, upload_refusal, uploaded}
+use Rattle.merge_model.specs.Publisher.PublisherDownload.{download_refusal, in_step, reply_to, state_after_download, tables_after_download}
+use Rattle.merge_model.specs.Publisher.PublisherJoin.{join_refusal, tables_after_join}
+use Rattle.merge_model.specs.Publisher.PublisherRanges.{plans, ranges_refusal, reply_to_ranges, with_grants}
+use Rattle.merge_model.specs.Publisher.PublisherUpload.{brings_news, tables_after_upload, upload_refusal}
 use Rattle.merge_model.specs.Tables.Refusals.{counter_end, refused_if}
 use Rattle.merge_model.specs.Subscriber.Sending.{join_made, join_of, ranges_made, sending_refusal, unsent_rows, upload_end, upload_made, upload_sent, want_of, with_message}
 use Rattle.merge_model.specs.World.Session.{ask as asking}
-use Rattle.merge_model.specs.World.Steps.{SendDownload, SendJoin, SendRanges, SendUpload, kept_decisions, post, posted, upload_questions}
+use Rattle.merge_model.specs.World.Steps.{SendDownload, SendJoin, SendRanges, SendUpload, kept_decisions, post, post_if_made, upload_questions}
 use Rattle.merge_model.specs.declared.outcome.Outcome.{Outcome}
 use Rattle.merge_model.specs.Subscriber.{subscriber_at_moment, subscriber_closed, subscriber_counters, subscriber_last_closed}
 use Rattle.merge_types.specs.declared.row_key.RowKey.{RowKey as Key}
 use Rattle.merge_model.specs.Tables.{PublisherTables, SubscriberTables}
-use Rattle.merge_model.specs.Subscriber.Taking.{taken}
+use Rattle.merge_model.specs.Subscriber.Taking.{tables_after_reply}
 use Rattle.merge_model.specs.World.{Saying, World, subscriber_at, with_publisher, with_subscriber}
 use Rattle.merge_model.specs.declared.letter.Message.TheVariants.{Asks, Replies}
 use Rattle.merge_model.specs.declared.letter.Letter.{Letter}
@@ -155,7 +155,7 @@ live-before : (limit now latest last more : ℕ) → nat_lt limit (max now lates
 live-before limit now latest last more live = grind (arith, nat_tests, live)
 
 found-live : (publication : Publication) (now latest : Moment) (m : Download) (q : PublisherTables) (found : Option SiteState) → expired_in publication (later now latest) found ≡ false
-    → expired_in publication now (Some (synced m q (unwrap_or found no_state))) ≡ false
+    → expired_in publication now (Some (state_after_download m q (unwrap_or found no_state))) ≡ false
 found-live publication now latest m q None live = absurd (grind (arith, live))
 found-live publication now latest m q (Some state) live = live-before (86400 * publication.retention_days) now.0 latest.0 state.last_sync (in_step m q) live
 
@@ -197,12 +197,12 @@ module _ (publication : Publication) (says : Saying) (m : Model) (s : Subscriber
       let v : World = with_subscriber u w in
       let k : Model = posted_model s.site (Asks (request.Download a)) v h in
       let judge : PublisherJudge = by_past k.history (pasts_with k.history (length v.pool + 1)) in
-      let q : PublisherTables = asked a (here k.world) in
+      let q : PublisherTables = tables_after_download a (here k.world) in
       let d : Downloaded = reply_to publication judge a q in
       let x : World = with_publisher q k.world in
       let n : Model = posted_model s.site (Replies (reply.Downloaded d)) x k.history in
       let own : SubscriberJudge = by_made n.history s.site in
-      let t : SubscriberTables = taken own w.moment (reply.Downloaded d) u in
+      let t : SubscriberTables = tables_after_reply own w.moment (reply.Downloaded d) u in
       let there : subscriber_at v s.site ≡ Some u = at_put_same s.site.0 u w.subscribers in
       let incoming : List (Key × Past) = pasts_with n.history (length x.pool + 1) in
       let noting : History = Noting.noted_reply own s.site incoming (reply.Downloaded d) n.history in
@@ -230,7 +230,7 @@ module _ (publication : Publication) (says : Saying) (m : Model) (s : Subscriber
         within = fits.within;
         up = fits.up;
         onward = fits.onward;
-        in_time = ap (λ (found : Option SiteState). expired_in publication w.moment found) (at_put_same s.site.0 (synced a (here k.world) (state_of (here k.world) s.site)) w.publisher.sites)
+        in_time = ap (λ (found : Option SiteState). expired_in publication w.moment found) (at_put_same s.site.0 (state_after_download a (here k.world) (state_of (here k.world) s.site)) w.publisher.sites)
             ∙ found-live publication w.moment w.publisher.latest a (here k.world) (at_number w.publisher.sites s.site.0) (ask-live publication w.moment a w.publisher taken_in);
         still = λ empty. closed-still w.publisher.gens.filling empty;
       })))))))))
@@ -246,12 +246,12 @@ module _ (publication : Publication) (says : Saying) (m : Model) (s : Subscriber
       let k : Model = posted_model s.site (Asks (request.Ranges a)) v h in
       let judge : PublisherJudge = by_past k.history (pasts_with k.history (length v.pool + 1)) in
       let q : PublisherTables = with_grants (plans publication a w.publisher) (here k.world) in
-      let d : Ranged = ranged a (plans publication a w.publisher) in
+      let d : Ranged = reply_to_ranges a (plans publication a w.publisher) in
       let x : World = with_publisher q k.world in
       let n : Model = posted_model s.site (Replies (reply.Ranged d)) x k.history in
       let own : SubscriberJudge = by_made n.history s.site in
       let there : subscriber_at v s.site ≡ Some u = at_put_same s.site.0 u w.subscribers in
-      let act : Option (SubscriberTables × RangeAsk) → World × Outcome = posted s.site (λ (y : RangeAsk). request.Ranges y) w in
+      let act : Option (SubscriberTables × RangeAsk) → World × Outcome = post_if_made s.site (λ (y : RangeAsk). request.Ranges y) w in
       send-step publication says Acts Rests s.site m s SendRanges at
       (unless-step (Sent publication says Acts Rests s.site) w h (λ why. tt) (sending_refusal s) (ranges_made s) act h (λ fine.
       elim s.held as (λ (held : List (ℕ × Holder)). (let made : Option (SubscriberTables × RangeAsk) = elim held [ [] ↦ None | entry ∷ entries ↦ Some (u, a) ] in After (Sent publication says Acts Rests s.site) (act made) h h)) [
@@ -263,8 +263,8 @@ module _ (publication : Publication) (says : Saying) (m : Model) (s : Subscriber
             post-step (Answered publication says Acts Rests s.site) s.site (Replies (reply.Ranged d)) x k.history k.history
             (back-step publication says Acts Rests s.site x k.history u (reply.Ranged d) there
             (reply-step publication says Acts Rests s.site n.world n.history own u (reply.Ranged d) ask.Ranges n.history (λ none. record {
-              tables = taken own w.moment (reply.Ranged d) u;
-              here = at_put_same s.site.0 (taken own w.moment (reply.Ranged d) u) n.world.subscribers;
+              tables = tables_after_reply own w.moment (reply.Ranged d) u;
+              here = at_put_same s.site.0 (tables_after_reply own w.moment (reply.Ranged d) u) n.world.subscribers;
               joined = refl;
               received = refl;
               closed = refl;
@@ -282,14 +282,14 @@ module _ (publication : Publication) (says : Saying) (m : Model) (s : Subscriber
       let v : World = with_subscriber u w in
       let k : Model = posted_model s.site (Asks (request.Join a)) v h in
       let judge : PublisherJudge = by_past k.history (pasts_with k.history (length v.pool + 1)) in
-      let q : PublisherTables = joined a (here k.world) in
+      let q : PublisherTables = tables_after_join a (here k.world) in
       let d : Joined = record { seq = a.seq } in
       let x : World = with_publisher q k.world in
       let noting : History = Noting.noted_join judge a w.publisher k.history in
       let n : Model = posted_model s.site (Replies (reply.Joined d)) x noting in
       let own : SubscriberJudge = by_made n.history s.site in
       let there : subscriber_at v s.site ≡ Some u = at_put_same s.site.0 u w.subscribers in
-      let act : Option (SubscriberTables × Join) → World × Outcome = posted s.site (λ (y : Join). request.Join y) w in
+      let act : Option (SubscriberTables × Join) → World × Outcome = post_if_made s.site (λ (y : Join). request.Join y) w in
       send-step publication says Acts Rests s.site m s SendJoin at
       (unless-step (Sent publication says Acts Rests s.site) w h (λ why. tt) (counter_end (subscriber_counters s)) (join_made s) act h (λ fine.
       subst (λ (b : Bool). (let made : Option (SubscriberTables × Join) = if b then None else Some (u, a) in After (Sent publication says Acts Rests s.site) (act made) h h)) (sym joining)
@@ -299,8 +299,8 @@ module _ (publication : Publication) (says : Saying) (m : Model) (s : Subscriber
       post-step (Answered publication says Acts Rests s.site) s.site (Replies (reply.Joined d)) x noting k.history
       (back-step publication says Acts Rests s.site x noting u (reply.Joined d) there
       (reply-step publication says Acts Rests s.site n.world n.history own u (reply.Joined d) ask.Join n.history (λ none. record {
-        tables = taken own w.moment (reply.Joined d) u;
-        here = at_put_same s.site.0 (taken own w.moment (reply.Joined d) u) n.world.subscribers;
+        tables = tables_after_reply own w.moment (reply.Joined d) u;
+        here = at_put_same s.site.0 (tables_after_reply own w.moment (reply.Joined d) u) n.world.subscribers;
         joined = refl;
       })))))))))
 
@@ -317,7 +317,7 @@ module _ (publication : Publication) (says : Saying) (m : Model) (s : Subscriber
       let k : Model = posted_model s.site (Asks (request.Upload a)) v h in
       let judge : PublisherJudge = by_past k.history (pasts_with k.history (length v.pool + 1)) in
       let decisions : List Decision = kept_decisions says w.tallies (upload_questions publication judge w.moment a w.publisher) in
-      let q : PublisherTables = uploaded publication judge a decisions (here k.world) in
+      let q : PublisherTables = tables_after_upload publication judge a decisions (here k.world) in
       let d : Uploaded = told_by judge a in
       let x : World = uploaded_world publication says judge a q k.world in
       let noting : History = Noting.noted_upload publication judge a decisions (pasts_with k.history (length v.pool + 1)) (here k.world) k.history in
@@ -330,7 +330,7 @@ module _ (publication : Publication) (says : Saying) (m : Model) (s : Subscriber
       let goes = upload-goes publication judge w.moment a w.publisher taken_in in
       let up = end-under made_by_site (subscriber_closed (subscriber_at_moment w.moment s)) (closed-under s.gens.filling s.received below) in
       absurd (omega (arith, none.0, still, goes, up))) in
-      let act : Option (SubscriberTables × Upload) → World × Outcome = posted s.site (λ (y : Upload). request.Upload y) w in
+      let act : Option (SubscriberTables × Upload) → World × Outcome = post_if_made s.site (λ (y : Upload). request.Upload y) w in
       let rows : List (Key × ℕ) → Type 0 = λ (unsent : List (Key × ℕ)). (let sent : Option (SubscriberTables × Upload) = elim unsent [ [] ↦ None | row ∷ rest ↦ Some made ] in After (Sent publication says Acts Rests s.site) (act sent) h h) in
       send-step publication says Acts Rests s.site m s SendUpload at
       (unless-step (Sent publication says Acts Rests s.site) w h (λ why. tt) (sending_refusal s) (upload_made made_by_site w.moment s) act h (λ fine.
@@ -341,8 +341,8 @@ module _ (publication : Publication) (says : Saying) (m : Model) (s : Subscriber
       post-step (Answered publication says Acts Rests s.site) s.site (Replies (reply.Uploaded d)) x noting k.history
       (back-step publication says Acts Rests s.site x noting u (reply.Uploaded d) there
       (reply-step publication says Acts Rests s.site n.world n.history own u (reply.Uploaded d) (ask.Upload s.received a.to) n.history (λ none. record {
-        tables = taken own w.moment (reply.Uploaded d) u;
-        here = at_put_same s.site.0 (taken own w.moment (reply.Uploaded d) u) n.world.subscribers;
+        tables = tables_after_reply own w.moment (reply.Uploaded d) u;
+        here = at_put_same s.site.0 (tables_after_reply own w.moment (reply.Uploaded d) u) n.world.subscribers;
         joined = refl {a = s.is_joined};
         named = named-by taken_in;
         received = most-left s.received a.to (judge.received s.site.0) (upload-goes publication judge w.moment a w.publisher taken_in);

@@ -12,7 +12,7 @@ use Rattle.merge_model.specs.History.{History, MadeChange, made_at}
 use Rattle.merge_model.specs.History.Model.{Model, model, model_step}
 use Rattle.merge_model.specs.Laws.Promises.{IsSettled, SessionSettles, is_expired_at}
 use Rattle.merge_model.specs.Publisher.{last_closed}
-use Rattle.merge_model.specs.World.Session.{Session, after_download, all_downloads, answered_as, arrived, as_it_is, ask, all_ranges, all_uploads, asking_ranges, downloaded_in, downloading, exchange, has_grant, is_joined_in, joining, last_message, range_asks, session, then_deliver, unless_stopped, unsent_generations, uploading, with_answer, with_upload}
+use Rattle.merge_model.specs.World.Session.{Session, after_download, all_downloads, answered_as, session_after_reply, as_it_is, ask, all_ranges, all_uploads, range_requests_up_to, downloaded_in, downloads_up_to, exchange, has_grant, is_joined_in, join_if_due, last_message, range_asks, session, then_deliver, unless_stopped, unsent_generations, uploads_up_to, with_answer, with_upload}
 use Rattle.merge_model.specs.World.Steps.{Action, Deliver, Send, SendDownload, SendJoin, SendRanges, SendUpload, Sending}
 use Rattle.merge_model.specs.declared.outcome.Outcome.TheVariants.{NoPost, Posted, Refuses, Took}
 use Rattle.merge_model.specs.declared.outcome.Outcome.{Outcome}
@@ -82,7 +82,7 @@ module _ (publication : Publication) (says : Saying) (site : SiteId) where
 
   -- how a session goes on behind an exchange
   arrived-settles : (Acts Rests Q : Model → Type 0) (v : Session Model) (done : Model × Outcome) (next : Session Model → Session Model) → Ends Acts Rests done → Known done.0
-      → ((x : Session Model) → Known x.world → Acts x.world → Settles Q (next x)) → ((k : Model) → Known k → Rests k → Q k) → Settles Q (arrived (model publication says) site next v done)
+      → ((x : Session Model) → Known x.world → Acts x.world → Settles Q (next x)) → ((k : Model) → Known k → Rests k → Q k) → Settles Q (session_after_reply (model publication says) site next v done)
   arrived-settles Acts Rests Q v (k, Took taken) next ends g acts rests = acts (record v { world = k }) g ends
   arrived-settles Acts Rests Q v (k, Refuses refusal) next ends g acts rests = λ none. absurd (grind (arith, none))
   arrived-settles Acts Rests Q v (k, NoPost) next ends g acts rests = λ none. rests k g ends
@@ -129,7 +129,7 @@ module _ (publication : Publication) (says : Saying) (site : SiteId) where
   made-here : (k n : Model) (a : At k) → made_at n.history a.tables.site.0 ≡ made_at k.history a.tables.site.0 → made_at n.history site.0 ≡ made_at k.history site.0
   made-here k n a same = subst (λ (x : SiteId). made_at n.history x.0 ≡ made_at k.history x.0) (same-site k a) same
 
-  joining-settles : (u : Session Model) → At u.world → Settles Joins (joining (model publication says) site u)
+  joining-settles : (u : Session Model) → At u.world → Settles Joins (join_if_due (model publication says) site u)
   joining-settles u a =
       let as_is : Session Model → Session Model = as_it_is (model publication says) site in
       if-settles Joins (is_joined_in (model publication says) site u.world) u (exchange (model publication says) site SendJoin as_is as_is u)
@@ -158,24 +158,24 @@ module _ (publication : Publication) (says : Saying) (site : SiteId) where
         none = subst (λ (x : SiteId). NoneBetween s.received (subscriber_last_closed s + 1) (made_at n.history x.0)) (same-site k a) (nothing-none n.history s r.nothing);
       })
 
-  uploading-settles : (count bound : ℕ) (u : Session Model) (j : Joins u.world) → UpTo bound (made_at u.world.history site.0) → bound ≤ j.at.tables.received + count → Settles Uploaded (uploading (model publication says) site count u)
+  uploading-settles : (count bound : ℕ) (u : Session Model) (j : Joins u.world) → UpTo bound (made_at u.world.history site.0) → bound ≤ j.at.tables.received + count → Settles Uploaded (uploads_up_to (model publication says) site count u)
   uploading-settles zero bound u j all enough = λ ended. record {
     joins = j;
     none = up-none bound j.at.tables.received (subscriber_last_closed j.at.tables + 1) (made_at u.world.history site.0) (omega (arith, enough)) all;
   }
   uploading-settles (suc count) bound u j all enough =
-      upload-settles u j (uploading (model publication says) site count) (λ v e l same. (
+      upload-settles u j (uploads_up_to (model publication says) site count) (λ v e l same. (
       let up = l.received in
       let is : e.at.tables.received ≡ l.tables.received = ap (λ (t : SubscriberTables). t.received) same in
       uploading-settles count bound v e
       (subst (λ (made : List MadeChange). UpTo bound made) (sym (made-here u.world v.world j.at l.made)) all) (omega (arith, up, enough, is))))
 
   -- where the first one acts, the site has another number than 0, and its changes stand in order
-  first-settles : (count : ℕ) (u : Session Model) (j : Joins u.world) → count ≡ subscriber_last_closed j.at.tables + 2 - j.at.tables.received → Settles Uploaded (uploading (model publication says) site count u)
+  first-settles : (count : ℕ) (u : Session Model) (j : Joins u.world) → count ≡ subscriber_last_closed j.at.tables + 2 - j.at.tables.received → Settles Uploaded (uploads_up_to (model publication says) site count u)
   first-settles zero u j is = (let below = (j.at.known.0.subscribers site.0 j.at.tables j.at.here).own in absurd (omega (arith, below, is)))
   first-settles (suc count) u j is =
       let s : SubscriberTables = j.at.tables in
-      upload-settles u j (uploading (model publication says) site count) (λ v e l same. (
+      upload-settles u j (uploads_up_to (model publication says) site count) (λ v e l same. (
       let up = l.received in
       let t : e.at.tables.received ≡ l.tables.received = ap (λ (x : SubscriberTables). x.received) same in
       let order = (j.at.known.1.subscribers s.site.0 s (own u.world j.at)).order l.named in
@@ -188,14 +188,14 @@ module _ (publication : Publication) (says : Saying) (site : SiteId) where
       (ap (λ (found : Option SubscriberTables). unwrap_or (option_map (λ (x : SubscriberTables). x.gens.filling.last_closed + 2 - x.received) found) 0) j.at.here)
 
   -- It asks for ranges.
-  asking-settles : (count : ℕ) (u : Session Model) → Uploaded u.world → Settles Uploaded (asking_ranges (model publication says) site count u)
+  asking-settles : (count : ℕ) (u : Session Model) → Uploaded u.world → Settles Uploaded (range_requests_up_to (model publication says) site count u)
   asking-settles zero u f = λ none. f
   asking-settles (suc count) u f =
       let k : Model = u.world in
       let a : At k = f.joins.at in
       let Rests : Model → Type 0 = λ (n : Model). (n.world ≡ k.world) × (n.history ≡ k.history) in
       exchange-settles (RangesLeave k a.tables) Rests Uploaded SendRanges u (as_it_is (model publication says) site)
-      (λ (t : Session Model). if has_grant (model publication says) site (last_message (model publication says) site t.world) then asking_ranges (model publication says) site count t else t)
+      (λ (t : Session Model). if has_grant (model publication says) site (last_message (model publication says) site t.world) then range_requests_up_to (model publication says) site count t else t)
       (ends-here (RangesLeave k a.tables) Rests SendRanges k a (ranges-leave publication says k a.tables (own k a)))
       a.known
       (λ v g l. (let n : Model = v.world in
@@ -204,7 +204,7 @@ module _ (publication : Publication) (says : Saying) (site : SiteId) where
         none = subst (λ (made : List MadeChange). NoneBetween l.tables.received (subscriber_last_closed l.tables + 1) made) (sym (made-here k n a l.made))
             (subst (λ (closed : ℕ). NoneBetween l.tables.received (closed + 1) (made_at k.history site.0)) (sym l.closed) (subst (λ (received : ℕ). NoneBetween received (subscriber_last_closed a.tables + 1) (made_at k.history site.0)) (sym l.received) f.none));
       } in
-      if-settles Uploaded (has_grant (model publication says) site (last_message (model publication says) site n)) (asking_ranges (model publication says) site count v) v (λ is. asking-settles count v e) (λ is none. e)))
+      if-settles Uploaded (has_grant (model publication says) site (last_message (model publication says) site n)) (range_requests_up_to (model publication says) site count v) v (λ is. asking-settles count v e) (λ is none. e)))
       (λ n g r. record {
         joins = record { at = record { tables = a.tables; known = g; here = ap (λ (x : World). subscriber_at x site) r.0 ∙ a.here }; joined = f.joins.joined };
         none = subst (λ (h : History). NoneBetween a.tables.received (subscriber_last_closed a.tables + 1) (made_at h site.0)) (sym r.1) f.none;
@@ -243,13 +243,13 @@ module _ (publication : Publication) (says : Saying) (site : SiteId) where
   less : (a b : ℕ) → nat_le a b ≡ false → b < a
   less a b is = grind (arith, nat_tests, is)
 
-  downloading-settles : (count target : ℕ) (u : Session Model) (f : Fetches target u.world) → target + 1 ≤ f.uploaded.joins.at.tables.watermark + count → Settles Fetched (downloading (model publication says) site count target u)
+  downloading-settles : (count target : ℕ) (u : Session Model) (f : Fetches target u.world) → target + 1 ≤ f.uploaded.joins.at.tables.watermark + count → Settles Fetched (downloads_up_to (model publication says) site count target u)
   unfolding fetches-after
   downloading-settles zero target u f enough = (let marks = f.marks in absurd (omega (arith, marks, enough)))
   downloading-settles (suc count) target u f enough =
       let k : Model = u.world in
       let a : At k = f.uploaded.joins.at in
-      let next : Downloaded → Session Model → Session Model = λ (d : Downloaded) (t : Session Model). if nat_le target d.from then t else downloading (model publication says) site count target t in
+      let next : Downloaded → Session Model → Session Model = λ (d : Downloaded) (t : Session Model). if nat_le target d.from then t else downloads_up_to (model publication says) site count target t in
       exchange-settles (DownloadLeaves publication k a.tables) (λ n. ⊥) Fetched SendDownload u (with_answer (model publication says) site) (after_download (model publication says) site next)
       (ends-here (DownloadLeaves publication k a.tables) (λ n. ⊥) SendDownload k a (download-leaves publication says k a.tables (own k a)))
       a.known
@@ -257,7 +257,7 @@ module _ (publication : Publication) (says : Saying) (site : SiteId) where
       let still : last_closed n.world.publisher ≡ target = l.still f.empty ∙ f.closed in
       let last = l.last in let onward = l.onward in let held = l.held in let from = l.from in
       fetch-settles Fetched next v l.told l.posted
-      (if-settles Fetched (nat_le target l.told.from) v (downloading (model publication says) site count target v)
+      (if-settles Fetched (nat_le target l.told.from) v (downloads_up_to (model publication says) site count target v)
       (λ is none. fetched-after k n f.uploaded g l (let low = at-least target l.told.from is in omega (arith, low, last, still)))
       (λ is. (let low = less target l.told.from is in let more = onward (omega (arith, low, last, still)) in
       downloading-settles count target v (fetches-after target k n f.uploaded g l still) (omega (arith, more, held, from, enough)))))))
@@ -268,14 +268,14 @@ module _ (publication : Publication) (says : Saying) (site : SiteId) where
   downloads-settle u f =
       let k : Model = u.world in
       let a : At k = f.joins.at in
-      let next : Downloaded → Session Model → Session Model = λ (d : Downloaded) (t : Session Model). if nat_le d.last d.from then t else downloading (model publication says) site (d.last + 1 - d.from) d.last t in
+      let next : Downloaded → Session Model → Session Model = λ (d : Downloaded) (t : Session Model). if nat_le d.last d.from then t else downloads_up_to (model publication says) site (d.last + 1 - d.from) d.last t in
       exchange-settles (DownloadLeaves publication k a.tables) (λ n. ⊥) Fetched SendDownload u (with_answer (model publication says) site) (after_download (model publication says) site next)
       (ends-here (DownloadLeaves publication k a.tables) (λ n. ⊥) SendDownload k a (download-leaves publication says k a.tables (own k a)))
       a.known
       (λ v g l. (let n : Model = v.world in
       let onward = l.onward in let held = l.held in
       fetch-settles Fetched next v l.told l.posted
-      (if-settles Fetched (nat_le l.told.last l.told.from) v (downloading (model publication says) site (l.told.last + 1 - l.told.from) l.told.last v)
+      (if-settles Fetched (nat_le l.told.last l.told.from) v (downloads_up_to (model publication says) site (l.told.last + 1 - l.told.from) l.told.last v)
       (λ is none. fetched-after k n f g l (at-least l.told.last l.told.from is))
       (λ is. (let low = less l.told.last l.told.from is in let more = onward low in
       downloading-settles (l.told.last + 1 - l.told.from) l.told.last v (fetches-after l.told.last k n f g l (sym l.last)) (omega (arith, low, more, held)))))))
@@ -285,7 +285,7 @@ module _ (publication : Publication) (says : Saying) (site : SiteId) where
   session-settles : (m : Model) → At m → Settles Fetched (session (model publication says) site m)
   session-settles m a =
       let started : Session Model = record { world = m; uploads = 0; downloads = 0; stop = None } in
-      let joined : Session Model = joining (model publication says) site started in
+      let joined : Session Model = join_if_due (model publication says) site started in
       let sent : Session Model = unless_stopped (model publication says) site (all_uploads (model publication says) site) joined in
       let ranged : Session Model = unless_stopped (model publication says) site (all_ranges (model publication says) site) sent in
       stopped-settles Uploaded Fetched (all_downloads (model publication says) site) ranged ranged.stop refl

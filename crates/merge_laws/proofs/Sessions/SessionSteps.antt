@@ -20,7 +20,7 @@ use Rattle.merge_model.specs.World.Steps.{Deliver, Sending, deliver_letter, deli
 use Rattle.merge_model.specs.declared.outcome.Outcome.TheVariants.{NoLetter, NoPost, Posted, Refuses, Took}
 use Rattle.merge_model.specs.declared.outcome.Outcome.{Outcome}
 use Rattle.merge_model.specs.Tables.{SubscriberTables}
-use Rattle.merge_model.specs.Subscriber.Taking.{met_by, seq_of, taken}
+use Rattle.merge_model.specs.Subscriber.Taking.{met_by, seq_of, tables_after_reply}
 use Rattle.merge_model.specs.declared.outcome.Taken.TheVariants.{Acted, Missed}
 use Rattle.merge_model.specs.declared.outcome.Taken.{Taken}
 use Rattle.merge_model.specs.World.{World, letter_at, subscriber_at, with_subscriber}
@@ -106,11 +106,11 @@ module _ (publication : Publication) (says : Saying) (Acts Rests : Model → Typ
 
   -- and acts where it fits, since it answers the outstanding message
   pub reply-step : (w : World) (h : History) (judge : SubscriberJudge) (t : SubscriberTables) (m : Reply) (sent : Outstanding) (noting : History)
-      → (reply_fault publication sent m t ≡ None → Acts (record { world = with_subscriber (taken judge w.moment m t) w; history = noting }))
+      → (reply_fault publication sent m t ≡ None → Acts (record { world = with_subscriber (tables_after_reply judge w.moment m t) w; history = noting }))
       → After Ended (unless_refused w (met_by publication judge w.moment m t (Some (seq_of m, sent))) (λ (done : SubscriberTables × Taken). (with_subscriber done.0 w, Took done.1))) noting h
   reply-step w h judge t m sent noting acts =
       let act : SubscriberTables × Taken → World × Outcome = λ (done : SubscriberTables × Taken). (with_subscriber done.0 w, Took done.1) in
       subst (λ (b : Bool). (
-      let done : Result (SubscriberTables × Taken) Refusal = if b then unless (reply_fault publication sent m t) (taken judge w.moment m t, Acted) else Ok (t, Missed (seq_of m) (seq_of m)) in
+      let done : Result (SubscriberTables × Taken) Refusal = if b then unless (reply_fault publication sent m t) (tables_after_reply judge w.moment m t, Acted) else Ok (t, Missed (seq_of m) (seq_of m)) in
       After Ended (unless_refused w done act) noting h)) (sym (number-itself (seq_of m)))
-      (unless-step Ended w h (λ why. tt) (reply_fault publication sent m t) (taken judge w.moment m t, Acted) act noting acts)
+      (unless-step Ended w h (λ why. tt) (reply_fault publication sent m t) (tables_after_reply judge w.moment m t, Acted) act noting acts)

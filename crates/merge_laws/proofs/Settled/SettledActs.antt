@@ -22,8 +22,8 @@ use Rattle.merge_model.specs.Tables.Keys.{at_number, has_key}
 use Rattle.merge_model.specs.Laws.{AreSorted}
 use Rattle.merge_model.specs.History.Model.{Model}
 use Rattle.merge_model.specs.Laws.Promises.{base_of, is_expired_at, watermark_of}
-use Rattle.merge_model.specs.Publisher.{closed, last_closed, later, site_refusal, unknown_site}
-use Rattle.merge_model.specs.Publisher.PublisherDownload.{asked, download_refusal}
+use Rattle.merge_model.specs.Publisher.{last_closed, later, site_refusal, tables_after_close, unknown_site}
+use Rattle.merge_model.specs.Publisher.PublisherDownload.{download_refusal, tables_after_download}
 use Rattle.merge_model.specs.Publisher.PublisherJoin.{join_taken}
 use Rattle.merge_model.specs.Publisher.PublisherLocal.{Drawn, made_locally}
 use Rattle.merge_model.specs.Publisher.PublisherPurge.{purge}
@@ -97,14 +97,14 @@ module _ (publication : Publication) (says : Saying) (w : World) (h : History) (
   own-onward judge change d made n = touch-onward publication p (made_locally publication judge change d (here w)).0 made n (live-here publication w n) (omega arith) refl
       (λ key. made-touches publication judge change d (here w) g.valid sorted-here (record { 0 = n }) key)
 
-  pub closing-onward : (made : List MadeChange) (n : ℕ) → Onward (site_view publication p made n) (site_view publication (closed (here w)) made n)
-  closing-onward made n = touch-onward publication p (closed (here w)) made n (live-here publication w n) (closed_filling-rises p.gens.filling) refl (λ key. closed-touches publication (here w) (record { 0 = n }) key)
+  pub closing-onward : (made : List MadeChange) (n : ℕ) → Onward (site_view publication p made n) (site_view publication (tables_after_close (here w)) made n)
+  closing-onward made n = touch-onward publication p (tables_after_close (here w)) made n (live-here publication w n) (closed_filling-rises p.gens.filling) refl (λ key. closed-touches publication (here w) (record { 0 = n }) key)
 
   pub granted-onward : (planned : List GrantPlan) (made : List MadeChange) (n : ℕ) → Onward (site_view publication p made n) (site_view publication (with_grants planned (here w)) made n)
   granted-onward planned made n = touch-onward publication p (with_grants planned (here w)) made n (live-here publication w n) (omega arith) refl (λ key. granted-touches publication planned (here w) (record { 0 = n }) key)
 
-  pub asked-onward : (m : Download) → download_refusal publication w.moment m p ≡ None → (made : List MadeChange) (n : ℕ) → Onward (site_view publication p made n) (site_view publication (asked m (here w)) made n)
-  asked-onward m fine made n = touch-onward publication p (asked m (here w)) made n (live-asked publication w m n (n == m.site.0) (number-decided n m.site.0) fine) (closed_filling-rises p.gens.filling) ((asked-same m (here w)).received n)
+  pub asked-onward : (m : Download) → download_refusal publication w.moment m p ≡ None → (made : List MadeChange) (n : ℕ) → Onward (site_view publication p made n) (site_view publication (tables_after_download m (here w)) made n)
+  asked-onward m fine made n = touch-onward publication p (tables_after_download m (here w)) made n (live-asked publication w m n (n == m.site.0) (number-decided n m.site.0) fine) (closed_filling-rises p.gens.filling) ((asked-same m (here w)).received n)
       (λ key. asked-touches publication m (here w) (record { 0 = n }) key)
 
   -- a join of another site

@@ -17,7 +17,7 @@ use Rattle.merge_model.specs.Publisher.Acts.{Act}
 use Rattle.merge_model.specs.Judge.{PublisherJudge}
 use Rattle.merge_model.specs.Tables.Keys.{at_number}
 use Rattle.merge_model.specs.Publisher.{last_closed, later, site_refusal, state_of, state_refusal, unknown_site}
-use Rattle.merge_model.specs.Publisher.PublisherDownload.{asked, download_refusal, synced}
+use Rattle.merge_model.specs.Publisher.PublisherDownload.{download_refusal, state_after_download, tables_after_download}
 use Rattle.merge_model.specs.Publisher.PublisherJoin.{join_taken, joined_state}
 use Rattle.merge_model.specs.Publisher.PublisherUpload.{state_seeing, taken_in}
 use Rattle.merge_model.specs.Tables.Refusals.{refused_if}
@@ -97,9 +97,9 @@ module _ (publication : Publication) (w : World) where
       ∙ expired-map publication now (state_seeing acts) (λ e. refl) (λ e. refl) n p.sites)
       ∙ live)
 
-  pub live-asked : (m : Download) (n : ℕ) (b : Bool) → same_number n m.site.0 b → download_refusal publication w.moment m p ≡ None → is_expired_by publication (asked m (here w)) n ≡ false → is_expired_by publication p n ≡ false
+  pub live-asked : (m : Download) (n : ℕ) (b : Bool) → same_number n m.site.0 b → download_refusal publication w.moment m p ≡ None → is_expired_by publication (tables_after_download m (here w)) n ≡ false → is_expired_by publication p n ≡ false
   live-asked m n true same fine live = live-here n (ap (λ (k : ℕ). expired_in publication now (at_number p.sites k)) same ∙ ask-live publication w.moment m p fine)
-  live-asked m n false differs fine live = live-here n (ap (λ (found : Option SiteState). expired_in publication now found) (sym (at_put_other m.site.0 n (synced m (here w) (state_of (here w) m.site)) p.sites differs)) ∙ live)
+  live-asked m n false differs fine live = live-here n (ap (λ (found : Option SiteState). expired_in publication now found) (sym (at_put_other m.site.0 n (state_after_download m (here w) (state_of (here w) m.site)) p.sites differs)) ∙ live)
 
   pub live-joined : (m : Join) (n : ℕ) → (n ≡ m.site.0 → ⊥) → is_expired_by publication (join_taken m (here w)) n ≡ false → is_expired_by publication p n ≡ false
   live-joined m n differs live = live-here n (ap (λ (found : Option SiteState). expired_in publication now found) (sym (at_put_other m.site.0 n (joined_state m now (state_of (here w) m.site)) p.sites differs)) ∙ live)

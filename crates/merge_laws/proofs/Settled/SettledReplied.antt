@@ -23,7 +23,7 @@ use Rattle.merge_types.specs.RowKeys.{key_cmp}
 use Rattle.merge_types.specs.declared.row_key.RowKey.{RowKey as Key}
 use Rattle.merge_units.specs.declared.site_row.SubscriberRow.{SubscriberRow}
 use Rattle.merge_model.specs.Tables.{SubscriberTables}
-use Rattle.merge_model.specs.Subscriber.Taking.{row_above, seq_of, taken}
+use Rattle.merge_model.specs.Subscriber.Taking.{row_above, seq_of, tables_after_reply}
 use Rattle.merge_model.specs.declared.letter.Message.TheVariants.{Asks, Replies}
 use Rattle.merge_model.specs.declared.letter.Message.{Message}
 use Rattle.merge_laws.specs.Facts.Behind.{StaysBehind}
@@ -67,7 +67,7 @@ answered-quiet s t joined held empty mark seq none = record {
 -- The answer to a join: the site has nothing, and nothing that was never touched is in its partition.
 module _ (v : SiteView) (judge : SubscriberJudge) (now : Moment) (m : Joined) (s : SubscriberTables) (unseen : (key : Key) → v.touched key ≤ 0 → v.owed key ≡ None) where
   abbrev after_join : SubscriberTables
-  after_join = taken judge now (reply.Joined m) s
+  after_join = tables_after_reply judge now (reply.Joined m) s
 
   joined-equal : (b : Bool) → s.is_joined ≡ b → SiteHolds v s → v.is_expired ≡ false → (key : Key) → v.changed key ≤ v.received → v.touched key ≤ s.watermark → held_at after_join key ≡ v.owed key
   joined-equal true is f live key taken low = f.equal live is key taken low
@@ -102,7 +102,7 @@ module _ (v : SiteView) (judge : SubscriberJudge) (now : Moment) (made : List Ma
     (judges : (key : Key) → judge.is_unsent m.received key ≡ is_changed_above m.received key made) (sorted : IsStrictlySortedBy key_cmp (keys_of s.rows)) (joins : s.is_joined ≡ true)
     (out : s.outstanding ≡ Some (m.seq, ask.Download m.from)) (begins : m.from ≡ s.watermark) where
   abbrev told : SubscriberTables
-  told = taken judge now (reply.Downloaded m) s
+  told = tables_after_reply judge now (reply.Downloaded m) s
 
   told-version : (key : Key) → v.changed key ≤ m.received → held_at told key ≡ live_only (over (said_of m.items key) (version_in s.rows key))
   told-version key up =
@@ -144,22 +144,22 @@ pub record Comes (publication : Publication) (v : SiteView) (judge : SubscriberJ
   pub settles : MessageSettles v s (Replies m)
 
 site-replied : (publication : Publication) (v : SiteView) (judge : SubscriberJudge) (now : Moment) (made : List MadeChange) (received joined : ℕ) (sent : Outstanding) (m : Reply) (s : SubscriberTables) → Comes publication v judge made received joined sent m s
-    → SiteHolds v s → SiteHolds v (taken judge now m s)
+    → SiteHolds v s → SiteHolds v (tables_after_reply judge now m s)
 site-replied publication v judge now made received joined sent (reply.Joined m) s c = site-joined v judge now m s c.unseen
 site-replied publication v judge now made received joined sent (reply.Uploaded m) s c =
-    (quiet-keeps v s (taken judge now (reply.Uploaded m) s)
-    (answered-quiet s (taken judge now (reply.Uploaded m) s) refl (λ key. ap live_only (received-versions m.received s.rows key)) (λ none. ap (λ (rows : List (Key × SubscriberRow)). map (row_above m.received) rows) none) refl refl refl)).site
+    (quiet-keeps v s (tables_after_reply judge now (reply.Uploaded m) s)
+    (answered-quiet s (tables_after_reply judge now (reply.Uploaded m) s) refl (λ key. ap live_only (received-versions m.received s.rows key)) (λ none. ap (λ (rows : List (Key × SubscriberRow)). map (row_above m.received) rows) none) refl refl refl)).site
 site-replied publication v judge now made received joined sent (reply.Ranged m) s c =
-    (quiet-keeps v s (taken judge now (reply.Ranged m) s) (answered-quiet s (taken judge now (reply.Ranged m) s) refl (λ key. refl) (λ none. none) refl refl refl)).site
+    (quiet-keeps v s (tables_after_reply judge now (reply.Ranged m) s) (answered-quiet s (tables_after_reply judge now (reply.Ranged m) s) refl (λ key. refl) (λ none. none) refl refl refl)).site
 site-replied publication v judge now made received joined sent (reply.Downloaded m) s c =
     let is : sent ≡ ask.Download m.from = from-fits publication sent m s c.fits in
     let out : s.outstanding ≡ Some (m.seq, ask.Download m.from) = c.out ∙ ap (λ (o : Outstanding). (let found : Option (ℕ × Outstanding) = Some (m.seq, o) in found)) is in
     let joins : s.is_joined ≡ true = has-joined publication received joined sent (reply.Downloaded m) s m.seq s.is_joined refl refl c.out c.fits c.behind in
     site-told v judge now made m s c.settles c.changes (λ key. c.judges key m.received) c.sorted joins out (c.asked m.seq m.from out)
 site-replied publication v judge now made received joined sent (reply.Refused number values) s c =
-    (quiet-keeps v s (taken judge now (reply.Refused number values) s) (answered-quiet s (taken judge now (reply.Refused number values) s) refl (λ key. refl) (λ none. none) refl refl refl)).site
+    (quiet-keeps v s (tables_after_reply judge now (reply.Refused number values) s) (answered-quiet s (tables_after_reply judge now (reply.Refused number values) s) refl (λ key. refl) (λ none. none) refl refl refl)).site
 
-reply-seq : (judge : SubscriberJudge) (now : Moment) (m : Reply) (s : SubscriberTables) → ((taken judge now m s).seq ≡ s.seq) × ((taken judge now m s).outstanding ≡ None)
+reply-seq : (judge : SubscriberJudge) (now : Moment) (m : Reply) (s : SubscriberTables) → ((tables_after_reply judge now m s).seq ≡ s.seq) × ((tables_after_reply judge now m s).outstanding ≡ None)
 reply-seq judge now (reply.Joined m) s = (refl, refl)
 reply-seq judge now (reply.Uploaded m) s = (refl, refl)
 reply-seq judge now (reply.Ranged m) s = (refl, refl)
@@ -167,9 +167,9 @@ reply-seq judge now (reply.Downloaded m) s = (refl, refl)
 reply-seq judge now (reply.Refused number values) s = (refl, refl)
 
 pub reply-keeps : (publication : Publication) (v : SiteView) (judge : SubscriberJudge) (now : Moment) (made : List MadeChange) (received joined : ℕ) (sent : Outstanding) (m : Reply) (s : SubscriberTables) → Comes publication v judge made received joined sent m s
-    → Keeps v v s (taken judge now m s)
+    → Keeps v v s (tables_after_reply judge now m s)
 reply-keeps publication v judge now made received joined sent m s c =
     let both = reply-seq judge now m s in record {
       site = site-replied publication v judge now made received joined sent m s c;
-      letters = λ j site message fits. message-answered v s (taken judge now m s) both.0 both.1 message;
+      letters = λ j site message fits. message-answered v s (tables_after_reply judge now m s) both.0 both.1 message;
     }

@@ -21,7 +21,7 @@ use Rattle.merge_model.specs.Judge.{PublisherJudge}
 use Rattle.merge_model.specs.Tables.Keys.{has_key, row_at, same_key}
 use Rattle.merge_model.specs.History.Model.{Model}
 use Rattle.merge_model.specs.Publisher.{last_closed}
-use Rattle.merge_model.specs.Publisher.PublisherDownload.{TouchedRow, asked, inside_keys, is_between, item_of, reply_to, touched_row}
+use Rattle.merge_model.specs.Publisher.PublisherDownload.{TouchedRow, inside_keys, is_between, item_of, reply_to, tables_after_download, touched_row}
 use Rattle.merge_batch.specs.Orders.{order_by}
 use Rattle.merge_model.specs.Publisher.PublisherLocal.{version_at}
 use Rattle.merge_types.specs.declared.row_key.RowKey.{RowKey as Key}
@@ -157,7 +157,7 @@ module _ (publication : Publication) (w : World) (h : History) (g : Ground publi
 -- The reply.
 module _ (publication : Publication) (w : World) (h : History) (g : Ground publication w h) (incoming : List (Key × Past)) (m : Download) where
   abbrev q : PublisherTables
-  q = asked m (here w)
+  q = tables_after_download m (here w)
 
   abbrev judge : PublisherJudge
   judge = by_past h incoming

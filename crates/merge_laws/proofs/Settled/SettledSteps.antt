@@ -28,21 +28,21 @@ use Rattle.merge_model.specs.Laws.{SubscriberIsSorted}
 use Rattle.merge_model.specs.History.Noting
 use Rattle.merge_model.specs.History.Pasts.{past_after}
 use Rattle.merge_model.specs.Laws.Promises.{base_of}
-use Rattle.merge_model.specs.Publisher.{closed}
-use Rattle.merge_model.specs.Publisher.PublisherDownload.{asked, download_refusal, inside_keys, reply_to}
+use Rattle.merge_model.specs.Publisher.{tables_after_close}
+use Rattle.merge_model.specs.Publisher.PublisherDownload.{download_refusal, inside_keys, reply_to, tables_after_download}
 use Rattle.merge_model.specs.Publisher.PublisherJoin.{join_acts, join_taken}
 use Rattle.merge_model.specs.Publisher.PublisherLocal.{made_locally, version_at}
 use Rattle.merge_model.specs.Publisher.PublisherPurge.{purge}
-use Rattle.merge_model.specs.Publisher.PublisherRanges.{plans, ranged, with_grants}
+use Rattle.merge_model.specs.Publisher.PublisherRanges.{plans, reply_to_ranges, with_grants}
 use Rattle.merge_model.specs.Publisher.PublisherUpload.{taken_in, upload_refusal}
-use Rattle.merge_model.specs.Subscriber.Reinit.{reinitialised}
+use Rattle.merge_model.specs.Subscriber.Reinit.{result_of_reinit}
 use Rattle.merge_model.specs.Subscriber.Sending.{join_of, upload_end, upload_sent, want_of, with_message}
 use Rattle.merge_model.specs.World.Steps.{kept_decisions, upload_questions}
 use Rattle.merge_model.specs.Subscriber.{is_joining, subscriber_at_moment, subscriber_closed, subscriber_last_closed, subscriber_local_refusal, subscriber_made_locally, subscriber_next_dot, subscriber_version_at, with_version_if}
 use Rattle.merge_types.specs.declared.row_key.RowKey.{RowKey as Key}
 use Rattle.merge_units.specs.declared.site_row.SubscriberRow.{SubscriberRow}
 use Rattle.merge_model.specs.Tables.{PublisherTables, SubscriberTables}
-use Rattle.merge_model.specs.Subscriber.Taking.{seq_of, taken}
+use Rattle.merge_model.specs.Subscriber.Taking.{seq_of, tables_after_reply}
 use Rattle.merge_model.specs.World.{Saying, World, empty_subscribers, empty_world, subscriber_at, with_publisher, with_subscriber}
 use Rattle.merge_model.specs.declared.letter.Message.TheVariants.{Asks, Replies}
 use Rattle.merge_model.specs.declared.letter.Letter.{Letter}
@@ -210,10 +210,10 @@ module _ (publication : Publication) (says : Saying) where
 
     -- An ask comes in.
     ask-settles : (number : ℕ) (site : SiteId) (m : Download) → comes w number site (Asks (request.Download m)) → download_refusal publication w.moment m w.publisher ≡ None → OfSites publication w h
-        → (let told = reply_to publication (by_past h (pasts_with h number)) m (asked m (here w)) in
-        SitesSettle publication (asked m (here w)) h.made w.subscribers (w.pool ++ record { site = site; message = Replies (reply.Downloaded told) } ∷ []))
+        → (let told = reply_to publication (by_past h (pasts_with h number)) m (tables_after_download m (here w)) in
+        SitesSettle publication (tables_after_download m (here w)) h.made w.subscribers (w.pool ++ record { site = site; message = Replies (reply.Downloaded told) } ∷ []))
     ask-settles number site m came fine i =
-        let q : PublisherTables = asked m (here w) in
+        let q : PublisherTables = tables_after_download m (here w) in
         let holds = pool-at (LetterHolds w.subscribers w.publisher.sites) w number (record { site = site; message = Asks (request.Download m) }) came g.watermarks.letters in
         let same : m.site ≡ site = holds.0 in
         let from = ask-begins publication w.moment m w.publisher fine in
@@ -246,7 +246,7 @@ module _ (publication : Publication) (says : Saying) where
 
       -- A reply is taken.
       reply-settles : (s : SubscriberTables) (number : ℕ) (m : Reply) (sent : Outstanding) → subscriber_at w s.site ≡ Some s → comes w number s.site (Replies m) → s.outstanding ≡ Some (seq_of m, sent) → reply_fault publication sent m s ≡ None → OfSites publication w h
-          → (let judge : SubscriberJudge = by_made h s.site in OfSites publication (with_subscriber (taken judge w.moment m s) w) (Noting.noted_reply judge s.site (pasts_with h number) m h))
+          → (let judge : SubscriberJudge = by_made h s.site in OfSites publication (with_subscriber (tables_after_reply judge w.moment m s) w) (Noting.noted_reply judge s.site (pasts_with h number) m h))
       reply-settles s number m sent at came out fits i =
           let n : ℕ = s.site.0 in
           let judge : SubscriberJudge = by_made h s.site in
@@ -254,7 +254,7 @@ module _ (publication : Publication) (says : Saying) where
           let settles = pool-at (LetterSettles publication w.publisher h.made w.subscribers) w number (record { site = s.site; message = Replies m }) came i.letters in
           let order = order-of n s at in
           let sorted : SubscriberIsSorted s = all-found SubscriberIsSorted w.subscribers n s g.rows at in
-          goes s (taken judge w.moment m s) (Noting.noted_reply judge s.site (pasts_with h number) m h) (reply-keep (λ (x : History). Alike h x) (alike-notes h) judge s.site (pasts_with h number) m h (alike-itself h)).made at (reply-site judge w.moment m s)
+          goes s (tables_after_reply judge w.moment m s) (Noting.noted_reply judge s.site (pasts_with h number) m h) (reply-keep (λ (x : History). Alike h x) (alike-notes h) judge s.site (pasts_with h number) m h (alike-itself h)).made at (reply-site judge w.moment m s)
           (reply-keeps publication v judge w.moment (made_in h.made n) (received_by_number w.publisher n) (joined_at w.publisher (record { 0 = n })) sent m s (record {
             unseen = λ key low. if-none (has_key (inside_keys publication (record { 0 = n }) w.publisher) key) (touched_at publication w.publisher (record { 0 = n }) key) (version_at w.publisher key) (order.live key) low;
             changes = λ key. refl;
@@ -273,14 +273,14 @@ module _ (publication : Publication) (says : Saying) where
     own_change = λ w h change d b i fine is. (let judge : PublisherJudge = by_past h (pasts_with h 0) in let q : PublisherTables = (made_locally publication judge change d (here w)).0 in
         publisher-goes w h b.0 q (own_noted publication judge change d (here w) h) (own-keep (λ (x : History). Alike h x) (alike-notes h) publication judge change d (here w) h (alike-itself h)).made
         (λ n s at. onward-keeps (site_view publication w.publisher (made_in h.made n) n) (site_view publication q (made_in h.made n) n) (own-onward publication says w h b.0 judge change d (made_in h.made n) n) s) i);
-    own_closing = λ w h b i. publisher-goes w h b.0 (closed (here w)) h (λ n other. refl)
-        (λ n s at. onward-keeps (site_view publication w.publisher (made_in h.made n) n) (site_view publication (closed (here w)) (made_in h.made n) n) (closing-onward publication says w h b.0 (made_in h.made n) n) s) i;
+    own_closing = λ w h b i. publisher-goes w h b.0 (tables_after_close (here w)) h (λ n other. refl)
+        (λ n s at. onward-keeps (site_view publication w.publisher (made_in h.made n) n) (site_view publication (tables_after_close (here w)) (made_in h.made n) n) (closing-onward publication says w h b.0 (made_in h.made n) n) s) i;
     forgetting = λ w h b i. purge-settles w h b.0 b.1 i;
     same = λ w h s b i at. quietly w h b.0 s s at refl refl refl refl refl refl i;
     subscriber_change = λ w h s change d b i at other fine is. change-settles w h b.0 s change d at fine i;
     subscriber_closing = λ w h s b i at. quietly w h b.0 s (subscriber_closed (subscriber_at_moment w.moment s)) at refl refl refl refl refl refl i;
     anew = λ w h s b i at. (let judge : SubscriberJudge = by_made h s.site in
-        goes w h b.0 s (reinitialised judge (subscriber_at_moment w.moment s)).0 (Noting.noted_anew judge s h) (anew-keep (λ (x : History). Alike h x) (alike-notes h) judge s h (alike-itself h)).made at refl
+        goes w h b.0 s (result_of_reinit judge (subscriber_at_moment w.moment s)).0 (Noting.noted_anew judge s h) (anew-keep (λ (x : History). Alike h x) (alike-notes h) judge s h (alike-itself h)).made at refl
         (anew-keeps (site_view publication w.publisher (made_in h.made s.site.0) s.site.0) judge w.moment s) i);
     sends_join = λ w h s b i at joining. message-settles w h b.0 ask.Join s (Asks (request.Join (join_of s))) at (λ x. tt) i;
     sends_upload = λ w h s b i at fine. upload-settles w h b.0 s at i;
@@ -294,7 +294,7 @@ module _ (publication : Publication) (says : Saying) where
         (publisher-goes w h b.0 q k (uploaded-alike publication says judge m (pasts_with h number) w h).made (λ n s at. upload-keeps w h b.0 number m n s came fine at i) i));
     uploads_again = λ w h number m b i came none. posted w h b.0 (here w) h.made w.subscribers m.site (Replies (reply.Uploaded (told_by (by_past h (pasts_with h number)) m))) (λ s at. tt) (here-settles w h b.0 i);
     answers_ranges = λ w h site m b i. (let q : PublisherTables = with_grants (plans publication m w.publisher) (here w) in
-        posted w h b.0 q h.made w.subscribers site (Replies (reply.Ranged (ranged m (plans publication m w.publisher)))) (λ s at. tt)
+        posted w h b.0 q h.made w.subscribers site (Replies (reply.Ranged (reply_to_ranges m (plans publication m w.publisher)))) (λ s at. tt)
         (publisher-goes w h b.0 q h (λ n other. refl) (λ n s at. onward-keeps (site_view publication w.publisher (made_in h.made n) n) (site_view publication q (made_in h.made n) n) (granted-onward publication says w h b.0 (plans publication m w.publisher) (made_in h.made n) n) s) i));
     answers_ask = λ w h number site m b i came fine. ask-settles w h b.0 number site m came fine i;
     replies = λ w h s number m sent b i at came out none. reply-settles w h b.0 b.1 s number m sent at came out none i;

@@ -13,7 +13,7 @@ use Rattle.merge_batch.specs.declared.request.Upload.{Upload}
 use Rattle.merge_model.specs.History.{MadeChange}
 use Rattle.merge_model.specs.Judge.{SubscriberJudge}
 use Rattle.merge_model.specs.Tables.Keys.{same_key}
-use Rattle.merge_model.specs.Subscriber.Reinit.{reinitialised}
+use Rattle.merge_model.specs.Subscriber.Reinit.{result_of_reinit}
 use Rattle.merge_model.specs.Subscriber.Sending.{with_message}
 use Rattle.merge_model.specs.Subscriber.{subscriber_at_moment, subscriber_last_closed}
 use Rattle.merge_types.specs.declared.row_key.RowKey.{RowKey as Key}
@@ -91,7 +91,7 @@ message-quiets sent s c joined rows mark seq = record {
 -- The site is made anew.
 module _ (v : SiteView) (judge : SubscriberJudge) (now : Moment) (s : SubscriberTables) where
   abbrev anew : SubscriberTables
-  anew = (reinitialised judge (subscriber_at_moment now s)).0
+  anew = (result_of_reinit judge (subscriber_at_moment now s)).0
 
   message-anew : (message : Message) → MessageSettles v s message → MessageSettles v anew message
   message-anew (Asks (request.Join m)) f = tt

@@ -18,7 +18,7 @@ use Rattle.merge_model.specs.Judge.{SubscriberJudge}
 use Rattle.merge_types.specs.RowKeys.{key_cmp}
 use Rattle.merge_model.specs.Tables.Keys.{drop_row, put_row, row_at}
 use Rattle.merge_model.specs.History.Noting
-use Rattle.merge_model.specs.Subscriber.Reinit.{discarded, discarded_row, numbered_from}
+use Rattle.merge_model.specs.Subscriber.Reinit.{discarded_row, discarded_rows_from, discarded_versions}
 use Rattle.merge_types.specs.declared.row_key.RowKey.{RowKey as Key}
 use Rattle.merge_units.specs.declared.site_row.SubscriberRow.{SubscriberRow}
 use Rattle.merge_model.specs.Tables.{SubscriberTables}
@@ -86,17 +86,17 @@ module _ (P : Key → Version → Past → Type 0) (s : SubscriberTables) (befor
   discarded-step true row fits = fits
   discarded-step false row fits = tt
 
-  discarded-fit : (judge : SubscriberJudge) → AllByRecursion (λ (row : Key × SubscriberRow). P row.0 row.1.version (past_at before s.site.0 row.0)) s.rows → Discarded (discarded judge s)
+  discarded-fit : (judge : SubscriberJudge) → AllByRecursion (λ (row : Key × SubscriberRow). P row.0 row.1.version (past_at before s.site.0 row.0)) s.rows → Discarded (discarded_versions judge s)
   discarded-fit judge all = all-filter_map (λ (row : Key × SubscriberRow). P row.0 row.1.version (past_at before s.site.0 row.0)) (λ (row : Key × Version). P row.0 row.1 (past_at before s.site.0 row.0))
       (λ (row : Key × SubscriberRow). if judge.is_unsent s.received row.0 then Some (row.0, row.1.version) else None) (λ row fits. discarded-step (judge.is_unsent s.received row.0) row fits) s.rows all
 
   -- each has the past that it had, since pasts stay until all are lost
   rows-lost : (c : SubscriberTables) (found : Key → Option Version) (number : ℕ) (rows : List (Key × Version)) (conflicts : List ConflictRow) (h : History) → ((q : Key) → past_at h s.site.0 q ≡ past_at before s.site.0 q) → Discarded rows
-      → Goes P s.site.0 before found conflicts h → Goes P s.site.0 before found (conflicts ++ numbered_from c number rows) (fold (Noting.with_discarded s.site) h rows)
+      → Goes P s.site.0 before found conflicts h → Goes P s.site.0 before found (conflicts ++ discarded_rows_from c number rows) (fold (Noting.with_discarded s.site) h rows)
   rows-lost c found number [] conflicts h same all g = subst (λ (cs : List ConflictRow). Goes P s.site.0 before found cs h) (sym (append-nil conflicts)) g
   rows-lost c found number (row ∷ rows) conflicts h same all g =
       let new : ConflictRow = discarded_row c number row.0 row.1 in
-      let rest : List ConflictRow = numbered_from c (number + 1) rows in
+      let rest : List ConflictRow = discarded_rows_from c (number + 1) rows in
       let after : History = Noting.with_discarded s.site h row in
       let fits : P row.0 row.1 (past_at h s.site.0 row.0) = subst (λ (past : Past). P row.0 row.1 past) (sym (same row.0)) all.0 in
       subst (λ (cs : List ConflictRow). Goes P s.site.0 before found cs (fold (Noting.with_discarded s.site) after rows)) (append_assoc conflicts (new ∷ []) rest)
@@ -104,7 +104,7 @@ module _ (P : Key → Version → Past → Type 0) (s : SubscriberTables) (befor
 
   pub anew-goes : (c : SubscriberTables) (judge : SubscriberJudge) (number : ℕ) (found : Key → Option Version) → AllByRecursion (λ (row : Key × SubscriberRow). P row.0 row.1.version (past_at before s.site.0 row.0)) s.rows
       → Goes P s.site.0 before found s.conflicts before
-      → Goes P s.site.0 before (λ (key : Key). None) (s.conflicts ++ numbered_from c number (discarded judge s)) (Noting.noted_anew judge s before)
+      → Goes P s.site.0 before (λ (key : Key). None) (s.conflicts ++ discarded_rows_from c number (discarded_versions judge s)) (Noting.noted_anew judge s before)
   anew-goes c judge number found all g =
-      goes-emptied P s.site.0 before (s.conflicts ++ numbered_from c number (discarded judge s)) found (fold (Noting.with_discarded s.site) before (discarded judge s))
-      (rows-lost c found number (discarded judge s) s.conflicts before (λ q. refl) (discarded-fit judge all) g)
+      goes-emptied P s.site.0 before (s.conflicts ++ discarded_rows_from c number (discarded_versions judge s)) found (fold (Noting.with_discarded s.site) before (discarded_versions judge s))
+      (rows-lost c found number (discarded_versions judge s) s.conflicts before (λ q. refl) (discarded-fit judge all) g)

@@ -36,22 +36,22 @@ use Rattle.merge_model.specs.History.Model.{empty_model}
 use Rattle.merge_model.specs.History.Noting
 use Rattle.merge_model.specs.History.Pasts.{past_after}
 use Rattle.merge_model.specs.Tables.Publications.{by_site}
-use Rattle.merge_model.specs.Publisher.{closed, counters, last_closed}
-use Rattle.merge_model.specs.Publisher.PublisherDownload.{asked, reply_to}
+use Rattle.merge_model.specs.Publisher.{counters, last_closed, tables_after_close}
+use Rattle.merge_model.specs.Publisher.PublisherDownload.{reply_to, tables_after_download}
 use Rattle.merge_model.specs.Publisher.PublisherJoin.{join_taken}
 use Rattle.merge_model.specs.Publisher.PublisherLocal.{Drawn, changing_locally, local_refusal, made_locally, next_dot, version_at, with_draw}
 use Rattle.merge_model.specs.Publisher.PublisherPurge.{is_old_tombstone, purge}
-use Rattle.merge_model.specs.Publisher.PublisherRanges.{plans, ranged, with_grants}
+use Rattle.merge_model.specs.Publisher.PublisherRanges.{plans, reply_to_ranges, with_grants}
 use Rattle.merge_model.specs.Publisher.PublisherUpload.{changing_by, taken_in, upload_refusal, with_acts}
 use Rattle.merge_model.specs.Tables.Refusals.{counter_end}
-use Rattle.merge_model.specs.Subscriber.Reinit.{reinitialised}
+use Rattle.merge_model.specs.Subscriber.Reinit.{result_of_reinit}
 use Rattle.merge_model.specs.Subscriber.Sending.{join_of, upload_sent, want_of, with_message}
 use Rattle.merge_model.specs.World.Steps.{Forget, kept_decisions, upload_questions}
 use Rattle.merge_model.specs.Subscriber.{is_joining, subscriber_at_moment, subscriber_closed, subscriber_counters, subscriber_last_closed, subscriber_local_refusal, subscriber_made_locally, subscriber_next_dot, subscriber_version_at, with_version_if}
 use Rattle.merge_types.specs.declared.row_key.RowKey.{RowKey as Key}
 use Rattle.merge_units.specs.declared.site_row.SubscriberRow.{SubscriberRow}
 use Rattle.merge_model.specs.Tables.{PublisherTables, SubscriberTables}
-use Rattle.merge_model.specs.Subscriber.Taking.{row_above, taken}
+use Rattle.merge_model.specs.Subscriber.Taking.{row_above, tables_after_reply}
 use Rattle.merge_model.specs.World.{Saying, World, subscriber_at, with_publisher, with_subscriber}
 use Rattle.merge_model.specs.declared.letter.Message.TheVariants.{Asks, Replies}
 use Rattle.merge_model.proofs.Publishers.Sorted.{key_total, step-sorted}
@@ -219,24 +219,24 @@ module _ (publication : Publication) (says : Saying) (P : Key → Version → Pa
         (none-held publication dot d.0 change (subscriber_version_at s key)) (on.changed dot d.0 change (subscriber_version_at s key) (length s.rows) (past_at h s.site.0 key) refused.0 (own.held key)) in
         on-subscriber (with_version_if key version u) (Noting.with_past s.site.0 key past made) (version-site key version u) (changed-sorted key version u ordered) (changed-goes P s.site.0 h (Noting.with_past s.site.0 key past made) key version u put)
 
-    anew : (let judge : SubscriberJudge = by_made h s.site in Every P (with_subscriber (reinitialised judge (subscriber_at_moment w.moment s)).0 w) (Noting.noted_anew judge s h))
+    anew : (let judge : SubscriberJudge = by_made h s.site in Every P (with_subscriber (result_of_reinit judge (subscriber_at_moment w.moment s)).0 w) (Noting.noted_anew judge s h))
     anew =
         let judge : SubscriberJudge = by_made h s.site in
         let c : SubscriberTables = subscriber_at_moment w.moment s in
-        on-subscriber (reinitialised judge c).0 (Noting.noted_anew judge s h) refl none-ascends (anew-goes P s h c judge (c.conflict_count + 1) (subscriber_version_at s) (e.subscribers s.site.0 s at) own)
+        on-subscriber (result_of_reinit judge c).0 (Noting.noted_anew judge s h) refl none-ascends (anew-goes P s h c judge (c.conflict_count + 1) (subscriber_version_at s) (e.subscribers s.site.0 s at) own)
 
-    replies : (judge : SubscriberJudge) (number : ℕ) (m : Reply) → comes w number s.site (Replies m) → Every P (with_subscriber (taken judge w.moment m s) w) (Noting.noted_reply judge s.site (pasts_with h number) m h)
-    replies judge number (reply.Joined m) there = stays (taken judge w.moment (reply.Joined m) s) refl refl refl
-    replies judge number (reply.Uploaded m) there = on-subscriber (taken judge w.moment (reply.Uploaded m) s) h refl (received-sorted m.received s.rows ordered)
-        (goes-same P s.site.0 h s.conflicts (subscriber_version_at s) (subscriber_version_at (taken judge w.moment (reply.Uploaded m) s)) h (λ q. versions-above m.received s.rows q) own)
-    replies judge number (reply.Ranged m) there = stays (taken judge w.moment (reply.Ranged m) s) refl refl refl
+    replies : (judge : SubscriberJudge) (number : ℕ) (m : Reply) → comes w number s.site (Replies m) → Every P (with_subscriber (tables_after_reply judge w.moment m s) w) (Noting.noted_reply judge s.site (pasts_with h number) m h)
+    replies judge number (reply.Joined m) there = stays (tables_after_reply judge w.moment (reply.Joined m) s) refl refl refl
+    replies judge number (reply.Uploaded m) there = on-subscriber (tables_after_reply judge w.moment (reply.Uploaded m) s) h refl (received-sorted m.received s.rows ordered)
+        (goes-same P s.site.0 h s.conflicts (subscriber_version_at s) (subscriber_version_at (tables_after_reply judge w.moment (reply.Uploaded m) s)) h (λ q. versions-above m.received s.rows q) own)
+    replies judge number (reply.Ranged m) there = stays (tables_after_reply judge w.moment (reply.Ranged m) s) refl refl refl
     replies judge number (reply.Downloaded m) there =
         let incoming : List (Key × Past) = pasts_with h number in
         let rows : List (Key × SubscriberRow) = map (row_above m.received) s.rows in
         let gone = items-go P s.site.0 h s.conflicts incoming judge m.received m.items rows h (letter-fits P w h number (record { site = s.site; message = Replies (reply.Downloaded m) }) there e.letters)
         (received-sorted m.received s.rows ordered, goes-same P s.site.0 h s.conflicts (subscriber_version_at s) (found_in own_version rows) h (λ q. versions-above m.received s.rows q) own) in
-        on-subscriber (taken judge w.moment (reply.Downloaded m) s) (Noting.noted_reply judge s.site incoming (reply.Downloaded m) h) refl gone.0 gone.1
-    replies judge number (reply.Refused code values) there = stays (taken judge w.moment (reply.Refused code values) s) refl refl refl
+        on-subscriber (tables_after_reply judge w.moment (reply.Downloaded m) s) (Noting.noted_reply judge s.site incoming (reply.Downloaded m) h) refl gone.0 gone.1
+    replies judge number (reply.Refused code values) there = stays (tables_after_reply judge w.moment (reply.Refused code values) s) refl refl refl
 
     sends-upload : (let made : SubscriberTables × Upload = upload_sent (by_made h s.site) (subscriber_closed (subscriber_at_moment w.moment s)) in Sends (Every P) s.site (Asks (request.Upload made.1)) (with_subscriber made.0 w) h)
     sends-upload =
@@ -245,9 +245,9 @@ module _ (publication : Publication) (says : Saying) (P : Key → Version → Pa
         letter-goes P (with_subscriber made.0 w) h s.site (Asks (request.Upload made.1)) (sent-fit P c (pasts_at h s.site.0) _ own.held) (stays made.0 refl refl refl)
 
   answers-ask : (number : ℕ) (site : SiteId) (m : Download)
-      → Sends (Every P) site (Replies (reply.Downloaded (reply_to publication (by_past h (pasts_with h number)) m (asked m (here w))))) (with_publisher (asked m (here w)) w) h
+      → Sends (Every P) site (Replies (reply.Downloaded (reply_to publication (by_past h (pasts_with h number)) m (tables_after_download m (here w))))) (with_publisher (tables_after_download m (here w)) w) h
   answers-ask number site m =
-      let q : PublisherTables = asked m (here w) in
+      let q : PublisherTables = tables_after_download m (here w) in
       letter-goes P (with_publisher q w) h site (Replies (reply.Downloaded (reply_to publication (by_past h (pasts_with h number)) m q))) (put-fit P on.put q (pasts_at h 0) _ started.held) (publisher-stays P w h q refl refl e)
 
 module _ (publication : Publication) (says : Saying) (P : Key → Version → Past → Type 0) (on : GoesOn publication P) where
@@ -255,7 +255,7 @@ module _ (publication : Publication) (says : Saying) (P : Key → Version → Pa
   every-keeps = record {
     moment = λ w h now b e. world-stays P w (record w { moment = now }) h refl refl refl e;
     own_change = λ w h change d b e fine is. own-change publication says P on w h b e change d fine;
-    own_closing = λ w h b e. publisher-stays P w h (closed (here w)) refl refl e;
+    own_closing = λ w h b e. publisher-stays P w h (tables_after_close (here w)) refl refl e;
     forgetting = λ w h b e. forgets publication says P on w h b e;
     same = λ w h s b e at. stays publication says P on w h b e s at s refl refl refl;
     subscriber_change = λ w h s change d b e at named fine is. sub-change publication says P on w h b e s at change d fine;
@@ -280,7 +280,7 @@ module _ (publication : Publication) (says : Saying) (P : Key → Version → Pa
         let v : World = uploaded_world publication says judge m (here w) w in
         letter-goes P v h m.site (Replies (reply.Uploaded (told_by judge m))) tt (world-stays P (with_publisher (here w) w) v h refl refl refl (publisher-stays P w h (here w) refl refl e)));
     answers_ranges = λ w h site m b e. (let q : PublisherTables = with_grants (plans publication m w.publisher) (here w) in
-        letter-goes P (with_publisher q w) h site (Replies (reply.Ranged (ranged m (plans publication m w.publisher)))) tt (publisher-stays P w h q refl refl e));
+        letter-goes P (with_publisher q w) h site (Replies (reply.Ranged (reply_to_ranges m (plans publication m w.publisher)))) tt (publisher-stays P w h q refl refl e));
     answers_ask = λ w h number site m b e at fine. answers-ask publication says P on w h b e number site m;
     replies = λ w h s number m sent b e at there out none. replies publication says P on w h b e s at (by_made h s.site) number m there;
   }

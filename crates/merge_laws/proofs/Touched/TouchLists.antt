@@ -4,7 +4,7 @@ use Rattle.std.specs.List.{AllByRecursion, range_with_len}
 use Rattle.std.proofs.Common.{arith}
 use Rattle.std.proofs.lemmas.Bool.Decides.{nat_tests}
 use Rattle.std.proofs.lemmas.List.FromFn.{length-map-range_with_len}
-use Rattle.merge_gens.specs.Filling.{closed, filled_by, generation_of, generations_of}
+use Rattle.merge_gens.specs.Filling.{filled_by, filling_after_close, generation_of, generations_of}
 use Rattle.merge_gens.specs.declared.filling.Filling.{Filling}
 use Rattle.merge_laws.specs.Facts.Settled.{last_used}
 
@@ -52,5 +52,5 @@ used-low filling = grind (arith, nat_tests)
 pub used-empty : (filling : Filling) → filling.filled ≡ 0 → last_used filling ≡ filling.last_closed
 used-empty filling empty = grind (arith, nat_tests, empty)
 
-pub used-closed : (filling : Filling) → last_used (closed filling) ≡ last_used filling
+pub used-closed : (filling : Filling) → last_used (filling_after_close filling) ≡ last_used filling
 used-closed filling = grind (arith, nat_tests)

@@ -29,8 +29,8 @@ use Rattle.merge_gens.specs.Moves.{row_site_cmp}
 use Rattle.merge_model.specs.Tables.Keys.{has_key, row_at}
 use Rattle.merge_model.specs.Laws.{AreSorted}
 use Rattle.merge_resolve.specs.Priorities.{subscription_at}
-use Rattle.merge_model.specs.Publisher.{at_moment, closed, last_closed}
-use Rattle.merge_model.specs.Publisher.PublisherDownload.{asked, inside_keys}
+use Rattle.merge_model.specs.Publisher.{at_moment, last_closed, tables_after_close}
+use Rattle.merge_model.specs.Publisher.PublisherDownload.{inside_keys, tables_after_download}
 use Rattle.merge_model.specs.Publisher.PublisherJoin.{is_left_of, join_taken}
 use Rattle.merge_model.specs.Publisher.PublisherLocal.{Drawn, changing_locally, made_locally, with_draw}
 use Rattle.merge_model.specs.Publisher.PublisherPurge.{is_old, is_old_tombstone, purge}
@@ -117,10 +117,10 @@ item-touched publication judge m decisions p valid sorted subscribes key acts =
 
 -- No entries.
 
-pub closed-touches : (publication : Publication) (p : PublisherTables) (site : SiteId) (key : Key) → Touches publication p (closed p) site key
+pub closed-touches : (publication : Publication) (p : PublisherTables) (site : SiteId) (key : Key) → Touches publication p (tables_after_close p) site key
 closed-touches publication p site key = inl (refl, refl, refl)
 
-pub asked-touches : (publication : Publication) (m : Download) (p : PublisherTables) (site : SiteId) (key : Key) → Touches publication p (asked m p) site key
+pub asked-touches : (publication : Publication) (m : Download) (p : PublisherTables) (site : SiteId) (key : Key) → Touches publication p (tables_after_download m p) site key
 asked-touches publication m p site key = inl (refl, refl, refl)
 
 pub granted-touches : (publication : Publication) (planned : List GrantPlan) (p : PublisherTables) (site : SiteId) (key : Key) → Touches publication p (with_grants planned p) site key

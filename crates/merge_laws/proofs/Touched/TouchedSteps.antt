@@ -26,14 +26,14 @@ use Rattle.merge_model.specs.Tables.Keys.{at_number, has_key, put_number, row_at
 use Rattle.merge_model.specs.Laws.{AreSorted}
 use Rattle.merge_model.specs.History.Noting
 use Rattle.merge_model.specs.Laws.Promises.{base_of}
-use Rattle.merge_model.specs.Publisher.{at_moment, closed, empty_publisher, last_closed}
-use Rattle.merge_model.specs.Publisher.PublisherDownload.{asked, inside_keys}
+use Rattle.merge_model.specs.Publisher.{at_moment, empty_publisher, last_closed, tables_after_close}
+use Rattle.merge_model.specs.Publisher.PublisherDownload.{inside_keys, tables_after_download}
 use Rattle.merge_model.specs.Publisher.PublisherJoin.{is_left_of, join_taken}
 use Rattle.merge_model.specs.Publisher.PublisherLocal.{changing_locally, next_dot, with_draw}
 use Rattle.merge_model.specs.Publisher.PublisherPurge.{is_old_left, is_old_tombstone, purge}
 use Rattle.merge_model.specs.Publisher.PublisherRanges.{plans, with_grants}
 use Rattle.merge_model.specs.Publisher.PublisherUpload.{changing_by, with_acts}
-use Rattle.merge_model.specs.Subscriber.Reinit.{reinitialised}
+use Rattle.merge_model.specs.Subscriber.Reinit.{result_of_reinit}
 use Rattle.merge_model.specs.Subscriber.Sending.{upload_sent, with_message}
 use Rattle.merge_model.specs.Subscriber.{subscriber_at_moment, subscriber_closed, subscriber_last_closed, subscriber_made_locally, subscriber_next_dot, subscriber_version_at, with_version_if}
 use Rattle.merge_types.specs.declared.row_key.RowKey.{RowKey as Key}
@@ -41,7 +41,7 @@ use Rattle.merge_gens.specs.declared.moves.Mapping.{Mapping}
 use Rattle.merge_units.specs.declared.site_row.PublisherRow.{PublisherRow}
 use Rattle.merge_gens.specs.declared.moves.RowSite.{RowSite}
 use Rattle.merge_model.specs.Tables.{PublisherTables, SubscriberTables}
-use Rattle.merge_model.specs.Subscriber.Taking.{taken}
+use Rattle.merge_model.specs.Subscriber.Taking.{tables_after_reply}
 use Rattle.merge_model.specs.World.{Saying, World, empty_subscribers, empty_world, subscriber_at, with_subscriber}
 use Rattle.merge_model.proofs.Publishers.Sorted.{closed_filling-rises, key_total, row_site_total}
 use Rattle.merge_laws.specs.Facts.Settled.{OfPublisher, TouchedInOrder, last_used, touched_at}
@@ -116,14 +116,14 @@ module _ (publication : Publication) (p : PublisherTables) (base : ℕ) (site : 
   entered-order valid sorted judge changing = touched-on publication p (changed_by publication judge changing p) base site (omega arith) (entries-within publication judge changing p site sorted within-now) f
       (λ key. changed-touches publication judge changing p valid sorted site key)
 
-  closed-within : WithinUsed (closed p) site
+  closed-within : WithinUsed (tables_after_close p) site
   closed-within = let same = used-closed p.gens.filling in record { changes = λ key. omega (arith, f.changes key, same); moves = λ key. omega (arith, f.moves key, same) }
 
-  closed-order : TouchedInOrder publication (closed p) base site
-  closed-order = touched-on publication p (closed p) base site (closed_filling-rises p.gens.filling) closed-within f (λ key. closed-touches publication p site key)
+  closed-order : TouchedInOrder publication (tables_after_close p) base site
+  closed-order = touched-on publication p (tables_after_close p) base site (closed_filling-rises p.gens.filling) closed-within f (λ key. closed-touches publication p site key)
 
-  asked-order : (m : Download) → TouchedInOrder publication (asked m p) base site
-  asked-order m = touched-on publication p (asked m p) base site (closed_filling-rises p.gens.filling) (record { changes = closed-within.changes; moves = closed-within.moves }) f (λ key. asked-touches publication m p site key)
+  asked-order : (m : Download) → TouchedInOrder publication (tables_after_download m p) base site
+  asked-order m = touched-on publication p (tables_after_download m p) base site (closed_filling-rises p.gens.filling) (record { changes = closed-within.changes; moves = closed-within.moves }) f (λ key. asked-touches publication m p site key)
 
 -- What is dropped.
 
@@ -271,13 +271,13 @@ module _ (publication : Publication) where
         let noted : List Line = Noting.lines_of_entries (last_closed (here w) + 1) (Noting.drawn_entries publication judge change (here w) d) in
         entered-on w h (own_noted publication judge change d (here w) h) (with_draw d (here w)) judge (changing_locally publication change d.value (here w)) g
         (lines-bases noted (Noting.with_change publication (next_dot (here w)) (last_closed (here w) + 1) change d.value h)) o);
-    own_closing = λ w h g o. publisher-on w h h (closed (here w)) (λ site f. closed-order publication (here w) (base_of h site) site (same-lists w.publisher (here w) (base_of h site) site f)) o;
+    own_closing = λ w h g o. publisher-on w h h (tables_after_close (here w)) (λ site f. closed-order publication (here w) (base_of h site) site (same-lists w.publisher (here w) (base_of h site) site f)) o;
     forgetting = λ w h g o. (let judge : PublisherJudge = by_past h (pasts_with h 0) in let q : PublisherTables = (purge publication w.moment w.publisher).0 in let k : History = Noting.noted_purge publication judge (here w) h in
         publisher-on w h k q (λ site f. same-bases q h k site (purge-bases publication judge (here w) h) (purged-order publication w.publisher (base_of h site) site g.sorted f w.moment)) o);
     same = λ w h s g o at. subscriber-on w h h s s refl refl at o;
     subscriber_change = λ w h s change d g o at named fine is. change-on w h s change d at o;
     subscriber_closing = λ w h s g o at. subscriber-on w h h s (subscriber_closed (subscriber_at_moment w.moment s)) refl refl at o;
-    anew = λ w h s g o at. subscriber-on w h (Noting.noted_anew (by_made h s.site) s h) s (reinitialised (by_made h s.site) (subscriber_at_moment w.moment s)).0 (anew-bases (by_history h) s.site (Some s) h) refl at o;
+    anew = λ w h s g o at. subscriber-on w h (Noting.noted_anew (by_made h s.site) s h) s (result_of_reinit (by_made h s.site) (subscriber_at_moment w.moment s)).0 (anew-bases (by_history h) s.site (Some s) h) refl at o;
     sends_join = λ w h s g o at joining. subscriber-on w h h s (with_message ask.Join s) refl refl at o;
     sends_upload = λ w h s g o at fine. subscriber-on w h h s (upload_sent (by_made h s.site) (subscriber_closed (subscriber_at_moment w.moment s))).0 refl refl at o;
     sends_ranges = λ w h s g o at fine. subscriber-on w h h s (with_message ask.Ranges s) refl refl at o;
@@ -293,9 +293,9 @@ module _ (publication : Publication) where
         entered-on w h (Noting.with_acts_noted publication judge m acts (pasts_with h number) (here w) h) (with_acts publication m acts (here w)) judge (changing_by m acts) g (upload-bases publication judge m acts (pasts_with h number) (here w) h) o);
     uploads_again = λ w h number m g o at none. lists-on w h (here w) o;
     answers_ranges = λ w h site m g o. lists-on w h (with_grants (plans publication m w.publisher) (here w)) o;
-    answers_ask = λ w h number site m g o at fine. publisher-on w h h (asked m (here w)) (λ x f. asked-order publication (here w) (base_of h x) x (same-lists w.publisher (here w) (base_of h x) x f) m) o;
+    answers_ask = λ w h number site m g o at fine. publisher-on w h h (tables_after_download m (here w)) (λ x f. asked-order publication (here w) (base_of h x) x (same-lists w.publisher (here w) (base_of h x) x f) m) o;
     replies = λ w h s number m sent g o at there out none.
-        subscriber-on w h (Noting.noted_reply (by_made h s.site) s.site (pasts_with h number) m h) s (taken (by_made h s.site) w.moment m s) (taken-bases (by_history h) s.site (pasts_with h number) m (Some s) h) (reply-site (by_made h s.site) w.moment m s) at o;
+        subscriber-on w h (Noting.noted_reply (by_made h s.site) s.site (pasts_with h number) m h) s (tables_after_reply (by_made h s.site) w.moment m s) (taken-bases (by_history h) s.site (pasts_with h number) m (Some s) h) (reply-site (by_made h s.site) w.moment m s) at o;
   }
 
   -- How it begins: with no row.

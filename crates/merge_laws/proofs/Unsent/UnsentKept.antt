@@ -29,7 +29,7 @@ use Rattle.merge_model.specs.Laws.{SubscriberIsSorted}
 use Rattle.merge_model.specs.History.Model.{Model, empty_model, model, model_step}
 use Rattle.merge_model.specs.History.Noting
 use Rattle.merge_model.specs.History.Pasts.{past_after}
-use Rattle.merge_model.specs.Subscriber.Reinit.{reinitialised}
+use Rattle.merge_model.specs.Subscriber.Reinit.{result_of_reinit}
 use Rattle.merge_model.specs.Tables.Publications.{by_site}
 use Rattle.merge_model.specs.Subscriber.Sending.{upload_sent, with_message}
 use Rattle.merge_model.specs.World.Steps.{Action}
@@ -37,7 +37,7 @@ use Rattle.merge_model.specs.Subscriber.{empty_subscriber, subscriber_at_moment,
 use Rattle.merge_types.specs.declared.row_key.RowKey.{RowKey as Key}
 use Rattle.merge_units.specs.declared.site_row.SubscriberRow.{SubscriberRow}
 use Rattle.merge_model.specs.Tables.{SubscriberTables}
-use Rattle.merge_model.specs.Subscriber.Taking.{row_above, seq_of, taken}
+use Rattle.merge_model.specs.Subscriber.Taking.{row_above, seq_of, tables_after_reply}
 use Rattle.merge_model.specs.World.{Saying, World, empty_world, subscriber_at, with_subscriber}
 use Rattle.merge_model.specs.declared.event.Event.{Event}
 use Rattle.merge_model.proofs.Subscribers.{step-sub-sorted}
@@ -101,7 +101,7 @@ same-rows w h k s t u at same site goes = unsent-on w h k s t u (λ n named diff
 
 reply-rows : (publication : Publication) (made : List MadeChange) (judge : SubscriberJudge) (now : Moment) (sent : Outstanding) (m : Reply) (s : SubscriberTables) → ((key : Key) (received : ℕ) → judge.is_unsent received key ≡ is_changed_above received key made) → SubscriberIsSorted s
     → reply_fault publication sent m s ≡ None → s.outstanding ≡ Some (seq_of m, sent) → ((seq from to : ℕ) → s.outstanding ≡ Some (seq, ask.Upload from to) → s.received ≤ to)
-    → RowsTell made s.received s.rows → RowsTell made (taken judge now m s).received (taken judge now m s).rows
+    → RowsTell made s.received s.rows → RowsTell made (tables_after_reply judge now m s).received (tables_after_reply judge now m s).rows
 reply-rows publication made judge now sent (reply.Joined m) s judges sorted none out knows f = f
 reply-rows publication made judge now sent (reply.Uploaded m) s judges sorted none out knows f = received-rows made s.received m.received s.rows (uploaded-least publication sent m s (seq_of (reply.Uploaded m)) none out knows) f
 reply-rows publication made judge now sent (reply.Ranged m) s judges sorted none out knows f = f
@@ -110,7 +110,7 @@ reply-rows publication made judge now sent (reply.Downloaded m) s judges sorted 
     (received-rows made s.received m.received s.rows (downloaded-least publication sent m s none) f, received-sorted m.received s.rows sorted.rows_ascend)).0
 reply-rows publication made judge now sent (reply.Refused number values) s judges sorted none out knows f = f
 
-pub reply-site : (judge : SubscriberJudge) (now : Moment) (m : Reply) (s : SubscriberTables) → (taken judge now m s).site.0 ≡ s.site.0
+pub reply-site : (judge : SubscriberJudge) (now : Moment) (m : Reply) (s : SubscriberTables) → (tables_after_reply judge now m s).site.0 ≡ s.site.0
 reply-site judge now (reply.Joined m) s = refl
 reply-site judge now (reply.Uploaded m) s = refl
 reply-site judge now (reply.Ranged m) s = refl
@@ -150,24 +150,24 @@ module _ (publication : Publication) (says : Saying) where
       (version-rows (made_at h s.site.0) c w.moment d.1 s found (row-there publication change d.0 s fine) refl o (u s.site.0 s named at))) (version-site key found v)
 
   anew-kept : (w : World) (h : History) (s : SubscriberTables) → Base w h → Unsent w h → subscriber_at w s.site ≡ Some s
-      → (let judge : SubscriberJudge = by_made h s.site in Unsent (with_subscriber (reinitialised judge (subscriber_at_moment w.moment s)).0 w) (Noting.noted_anew judge s h))
+      → (let judge : SubscriberJudge = by_made h s.site in Unsent (with_subscriber (result_of_reinit judge (subscriber_at_moment w.moment s)).0 w) (Noting.noted_anew judge s h))
   anew-kept w h s b u at =
       let judge : SubscriberJudge = by_made h s.site in
       let k : History = Noting.noted_anew judge s h in
       let a : Alike h k = anew-keep (λ (x : History). Alike h x) (alike-notes h) judge s h (alike-itself h) in
       let c : SubscriberTables = subscriber_closed (subscriber_at_moment w.moment s) in
       let closing = closing-tells (made_at h s.site.0) s.site.0 w.moment s (b.1.0.subscribers s.site.0 s at) in
-      same-rows w h k s (reinitialised judge (subscriber_at_moment w.moment s)).0 u at a.made refl
+      same-rows w h k s (result_of_reinit judge (subscriber_at_moment w.moment s)).0 u at a.made refl
       (λ named f. anew-rows c.changes (subscriber_last_closed c) (made_at h s.site.0) (order-closed c.changes (subscriber_last_closed c + 1) (subscriber_last_closed c) (made_at h s.site.0) (closing.order named) (closing.idle (filling-closed s.gens.filling))))
 
   reply-kept : (w : World) (h : History) (s : SubscriberTables) (number : ℕ) (m : Reply) (sent : Outstanding) → Base w h → Unsent w h → subscriber_at w s.site ≡ Some s → s.outstanding ≡ Some (seq_of m, sent) → reply_fault publication sent m s ≡ None
-      → (let judge : SubscriberJudge = by_made h s.site in Unsent (with_subscriber (taken judge w.moment m s) w) (Noting.noted_reply judge s.site (pasts_with h number) m h))
+      → (let judge : SubscriberJudge = by_made h s.site in Unsent (with_subscriber (tables_after_reply judge w.moment m s) w) (Noting.noted_reply judge s.site (pasts_with h number) m h))
   reply-kept w h s number m sent b u at out none =
       let judge : SubscriberJudge = by_made h s.site in
       let k : History = Noting.noted_reply judge s.site (pasts_with h number) m h in
       let a : Alike h k = reply-keep (λ (x : History). Alike h x) (alike-notes h) judge s.site (pasts_with h number) m h (alike-itself h) in
       let sorted : SubscriberIsSorted s = all-found SubscriberIsSorted w.subscribers s.site.0 s b.1.1 at in
-      same-rows w h k s (taken judge w.moment m s) u at a.made (reply-site judge w.moment m s)
+      same-rows w h k s (tables_after_reply judge w.moment m s) u at a.made (reply-site judge w.moment m s)
       (λ named f. reply-rows publication (made_at h s.site.0) judge w.moment sent m s (λ key received. refl) sorted none out (b.1.0.subscribers s.site.0 s at).sent f)
 
   pub unsent-keeps : StepsKeep publication says Base Unsent

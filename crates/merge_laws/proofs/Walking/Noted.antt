@@ -27,7 +27,7 @@ use Rattle.merge_model.specs.History.Pasts.{past_by}
 use Rattle.merge_model.specs.Tables.Publications.{by_site}
 use Rattle.merge_model.specs.Publisher.{last_closed}
 use Rattle.merge_model.specs.Publisher.PublisherLocal.{Drawn}
-use Rattle.merge_model.specs.Subscriber.Reinit.{discarded}
+use Rattle.merge_model.specs.Subscriber.Reinit.{discarded_versions}
 use Rattle.merge_types.specs.declared.row_key.RowKey.{RowKey as Key}
 use Rattle.merge_units.specs.declared.site_row.PublisherRow.{PublisherRow}
 use Rattle.merge_model.specs.Tables.{PublisherTables, SubscriberTables}
@@ -140,8 +140,8 @@ module _ (P : History → Type 0) (keeps : NotesKeep P) where
 
   pub anew-keep : (judge : SubscriberJudge) (s : SubscriberTables) (h : History) → P h → P (Noting.noted_anew judge s h)
   anew-keep judge s h p =
-      let after : History = fold (Noting.with_discarded s.site) h (discarded judge s) in
-      keeps.of_pasts after (put_number after.pasts s.site.0 []) (discarded-keep s.site (discarded judge s) h p)
+      let after : History = fold (Noting.with_discarded s.site) h (discarded_versions judge s) in
+      keeps.of_pasts after (put_number after.pasts s.site.0 []) (discarded-keep s.site (discarded_versions judge s) h p)
 
   -- forgetting
   purged-keep : (keys : List Key) (h : History) → P h → P (fold Noting.with_purged h keys)

@@ -20,7 +20,7 @@ use Rattle.merge_model.specs.History.{History, Line, MadeChange, Past, past_at, 
 use Rattle.merge_model.specs.Judge.{SubscriberJudge}
 use Rattle.merge_model.specs.History.Noting
 use Rattle.merge_model.specs.History.Pasts.{past_by}
-use Rattle.merge_model.specs.Subscriber.Reinit.{discarded}
+use Rattle.merge_model.specs.Subscriber.Reinit.{discarded_versions}
 use Rattle.merge_types.specs.declared.row_key.RowKey.{RowKey as Key}
 use Rattle.merge_model.specs.Tables.{SubscriberTables}
 use Rattle.merge_model.specs.Subscriber.Taking.{key_of_download}
@@ -80,8 +80,8 @@ module _ {X : Type 0} (part : History → X) where
       → (let k : History = elim found [ None ↦ h | Some s ↦ Noting.noted_anew (judges.subscriber site s) s h ] in part k ≡ part h)
   anew-leave pasts lost judges site None h = refl
   anew-leave pasts lost judges site (Some s) h =
-      let after : History = fold (Noting.with_discarded s.site) h (discarded (judges.subscriber site s) s) in
-      pasts after (Noting.noted_anew (judges.subscriber site s) s h).pasts ∙ discarded-leave lost s.site (discarded (judges.subscriber site s) s) h
+      let after : History = fold (Noting.with_discarded s.site) h (discarded_versions (judges.subscriber site s) s) in
+      pasts after (Noting.noted_anew (judges.subscriber site s) s h).pasts ∙ discarded-leave lost s.site (discarded_versions (judges.subscriber site s) s) h
 
   -- Uploads.
 

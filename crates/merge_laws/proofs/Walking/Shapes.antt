@@ -22,12 +22,12 @@ use Rattle.merge_model.specs.Publisher.{close_generation}
 use Rattle.merge_model.specs.Publisher.PublisherDownload.{download}
 use Rattle.merge_model.specs.Publisher.PublisherJoin.{join}
 use Rattle.merge_model.specs.Publisher.PublisherLocal.{local}
-use Rattle.merge_model.specs.Publisher.PublisherRanges.{plans, ranged, ranges_refusal, with_grants}
+use Rattle.merge_model.specs.Publisher.PublisherRanges.{plans, ranges_refusal, reply_to_ranges, with_grants}
 use Rattle.merge_model.specs.Publisher.PublisherUpload.{upload}
 use Rattle.merge_model.specs.Tables.Refusals.{unless}
 use Rattle.merge_model.specs.Subscriber.Reinit.{reinitialise}
 use Rattle.merge_model.specs.Subscriber.Sending.{make_ask, make_join, make_ranges, make_upload}
-use Rattle.merge_model.specs.World.Steps.{Action, CloseAt, Deliver, Forget, Look, Make, MakeAnew, Pass, Send, SendDownload, SendJoin, SendRanges, SendUpload, Sending, answered, at_subscriber, close_publisher, close_subscriber, deliver_letter, deliver_reply, deliver_request, kept_decisions, make_anew, make_at_publisher, make_at_subscriber, post, posted, send_from, step_by, unless_refused, upload_questions}
+use Rattle.merge_model.specs.World.Steps.{Action, CloseAt, Deliver, Forget, Look, Make, MakeAnew, Pass, Send, SendDownload, SendJoin, SendRanges, SendUpload, Sending, at_subscriber, close_publisher, close_subscriber, deliver_letter, deliver_reply, deliver_request, kept_decisions, make_anew, make_at_publisher, make_at_subscriber, post, post_if_made, post_reply, send_from, step_by, unless_refused, upload_questions}
 use Rattle.merge_model.specs.declared.outcome.Outcome.TheVariants.{NoLetter, Refuses}
 use Rattle.merge_model.specs.declared.outcome.Outcome.{Outcome}
 use Rattle.merge_model.specs.Subscriber.{close_subscriber_generation, subscriber_local}
@@ -52,7 +52,7 @@ pub record Shapes (publication : Publication) (w : World) (h : History) (S : Wor
   pub asks : (t : SubscriberTables) (site : SiteId) (m : Request) (k : History) → S (post site (Asks m) (with_subscriber t w)).0 k
   pub answers : (q : PublisherTables) (tallies : List ℕ) (site : SiteId) (m : Reply) (k : History) → is_ranged m ≡ false → S (post site (Replies m) (record w { publisher = q; tallies = tallies })).0 k
   pub ranges : (number : ℕ) (site : SiteId) (m : RangeAsk) → comes w number site (Asks (request.Ranges m))
-      → Sends S site (Replies (reply.Ranged (ranged m (plans publication m w.publisher)))) (with_publisher (with_grants (plans publication m w.publisher) (here w)) w) h
+      → Sends S site (Replies (reply.Ranged (reply_to_ranges m (plans publication m w.publisher)))) (with_publisher (with_grants (plans publication m w.publisher) (here w)) w) h
 
 module _ (publication : Publication) (says : Saying) (w : World) (h : History) (S : World → History → Type 0) (shapes : Shapes publication w h S) where
   if-shaped : (b : Bool) (x y : World × Outcome) (k : History) → S x.0 k → S y.0 k → S (if b then x else y).0 k
@@ -68,7 +68,7 @@ module _ (publication : Publication) (says : Saying) (w : World) (h : History) (
   found-shaped site None act k each = shapes.nothing k
   found-shaped site (Some s) act k each = each s
 
-  posted-shaped : {A : Type 0} (site : SiteId) (message : A → Request) (made : Option (SubscriberTables × A)) (k : History) → S (posted site message w made).0 k
+  posted-shaped : {A : Type 0} (site : SiteId) (message : A → Request) (made : Option (SubscriberTables × A)) (k : History) → S (post_if_made site message w made).0 k
   posted-shaped site message None k = shapes.nothing k
   posted-shaped site message (Some made) k = shapes.asks made.0 site (message made.1) k
 
@@ -84,11 +84,11 @@ module _ (publication : Publication) (says : Saying) (w : World) (h : History) (
   After done after = S done.0 (with_posted done.0 done.1 (noted_if (did_something done.1) after h))
 
   ranges-shaped : (number : ℕ) (site : SiteId) (m : RangeAsk) (refusal : Option Refusal) → comes w number site (Asks (request.Ranges m))
-      → (let done : Result (PublisherTables × Ranged) Refusal = unless refusal (with_grants (plans publication m w.publisher) (here w), ranged m (plans publication m w.publisher)) in After (answered site (λ (made : Ranged). reply.Ranged made) w done) h)
+      → (let done : Result (PublisherTables × Ranged) Refusal = unless refusal (with_grants (plans publication m w.publisher) (here w), reply_to_ranges m (plans publication m w.publisher)) in After (post_reply site (λ (made : Ranged). reply.Ranged made) w done) h)
   ranges-shaped number site m (Some why) at = shapes.nothing h
   ranges-shaped number site m None at =
       let v : World = with_publisher (with_grants (plans publication m w.publisher) (here w)) w in
-      let message : Message = Replies (reply.Ranged (ranged m (plans publication m w.publisher))) in
+      let message : Message = Replies (reply.Ranged (reply_to_ranges m (plans publication m w.publisher))) in
       subst (λ (k : History). S (post site message v).0 k) (sym (posted-noted site message v h)) (shapes.ranges number site m at)
 
   request-shaped : (number : ℕ) (site : SiteId) (m : Request) → comes w number site (Asks m)

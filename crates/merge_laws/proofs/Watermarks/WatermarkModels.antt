@@ -30,12 +30,12 @@ use Rattle.merge_model.specs.Judge.{PublisherJudge, SubscriberJudge}
 use Rattle.merge_model.specs.Tables.Refusals.{first_refusal, refused_if}
 use Rattle.merge_model.specs.Tables.Publications.{by_site}
 use Rattle.merge_model.specs.Publisher.{later, no_state, site_refusal, state_of, state_refusal, unknown_site}
-use Rattle.merge_model.specs.Publisher.PublisherJoin.{join_acts, join_taken, joined, joined_state}
+use Rattle.merge_model.specs.Publisher.PublisherJoin.{join_acts, join_taken, joined_state, tables_after_join}
 use Rattle.merge_model.specs.Publisher.PublisherUpload.{state_seeing, taken_in}
-use Rattle.merge_model.specs.Publisher.PublisherDownload.{asked, download_refusal, reply_to, synced}
+use Rattle.merge_model.specs.Publisher.PublisherDownload.{download_refusal, reply_to, state_after_download, tables_after_download}
 use Rattle.merge_model.specs.Subscriber.{empty_subscriber, subscriber_at_moment, subscriber_closed, subscriber_made_locally}
 use Rattle.merge_model.specs.Subscriber.Sending.{join_of, upload_end, upload_to, want_of, with_message}
-use Rattle.merge_model.specs.Subscriber.Reinit.{reinitialised}
+use Rattle.merge_model.specs.Subscriber.Reinit.{result_of_reinit}
 use Rattle.merge_model.specs.World.{Saying, World, letter_at, subscriber_at, with_publisher, with_subscriber}
 use Rattle.merge_model.specs.declared.letter.Message.TheVariants.{Asks, Replies}
 use Rattle.merge_model.specs.declared.letter.Letter.{Letter}
@@ -45,8 +45,8 @@ use Rattle.merge_model.specs.History.{History, pasts_with}
 use Rattle.merge_model.specs.History.Model.{Model, empty_model, model}
 use Rattle.merge_model.specs.World.Events.{after}
 use Rattle.merge_model.specs.Judge.ByHistory.{by_made, by_past}
-use Rattle.merge_model.specs.Publisher.PublisherRanges.{plans, ranged}
-use Rattle.merge_model.specs.Subscriber.Taking.{seq_of, taken}
+use Rattle.merge_model.specs.Publisher.PublisherRanges.{plans, reply_to_ranges}
+use Rattle.merge_model.specs.Subscriber.Taking.{seq_of, tables_after_reply}
 use Rattle.merge_model.proofs.Runs.Actions.{failing-actions-keep}
 use Rattle.merge_laws.proofs.Runs.Tallied.{received-tallied}
 use Rattle.merge_laws.specs.Facts.Received.{joined_at, JoinFits, MessageFits, LetterFits, Received}
@@ -160,7 +160,7 @@ module _ (w : World) (k : HoldsWatermarks w) where
       (λ n. omega (arith, joins n)) k
 
   -- asks
-  synced-state : (m : Download) (s : SubscriberTables) (state : SiteState) → state.joined_at < m.seq → AskHolds state.joined_at m s → StateHolds state s → StateHolds (synced m (here w) state) s
+  synced-state : (m : Download) (s : SubscriberTables) (state : SiteState) → state.joined_at < m.seq → AskHolds state.joined_at m s → StateHolds state s → StateHolds (state_after_download m (here w) state) s
   synced-state m s state above a f = record {
     at = f.at;
     behind = λ joins. omega (arith, f.behind joins, a.low above joins);
@@ -171,9 +171,9 @@ module _ (w : World) (k : HoldsWatermarks w) where
   found-ask : (joined : ℕ) (m : Download) (found : Option SubscriberTables) (s : SubscriberTables) → IfSome found (AskHolds joined m) → found ≡ Some s → AskHolds joined m s
   found-ask joined m found s asks is = subst (λ (o : Option SubscriberTables). IfSome o (AskHolds joined m)) is asks
 
-  ask-stays : (m : Download) → IfSome (at_number w.subscribers m.site.0) (AskHolds (state_in states m.site.0).joined_at m) → (state_in states m.site.0).joined_at < m.seq → Stays (asked m (here w)).sites
+  ask-stays : (m : Download) → IfSome (at_number w.subscribers m.site.0) (AskHolds (state_in states m.site.0).joined_at m) → (state_in states m.site.0).joined_at < m.seq → Stays (tables_after_download m (here w)).sites
   ask-stays m asks above =
-      let new : SiteState = synced m (here w) (state_of (here w) m.site) in
+      let new : SiteState = state_after_download m (here w) (state_of (here w) m.site) in
       states-move w.subscribers states (put_number states m.site.0 new) w.pool
       (λ n. state-put Goes states m.site.0 new
       (λ s at f. synced-state m s (state_in states m.site.0) above (found-ask (state_in states m.site.0).joined_at m (at_number w.subscribers m.site.0) s asks at) f) (λ j differs s at f. f) n (n == m.site.0) (number-decided n m.site.0))
@@ -189,7 +189,7 @@ module _ (publication : Publication) (says : Saying) where
     same = λ w h s r k at. go w k s at s (quiet (state w k s at) s (holds-here w k s at) s refl refl refl refl refl);
     subscriber_change = λ w h s change d r k at named fine is. go w k s at (subscriber_made_locally publication change d (subscriber_at_moment w.moment s)).0 (made-moves (state w k s at) s (holds-here w k s at) publication w.moment change d);
     subscriber_closing = λ w h s r k at. (let t : SubscriberTables = subscriber_closed (subscriber_at_moment w.moment s) in go w k s at t (quiet (state w k s at) s (holds-here w k s at) t refl refl refl refl refl));
-    anew = λ w h s r k at. (let judge : SubscriberJudge = by_made h s.site in go w k s at (reinitialised judge (subscriber_at_moment w.moment s)).0 (anew-moves (state w k s at) s (holds-here w k s at) judge w.moment));
+    anew = λ w h s r k at. (let judge : SubscriberJudge = by_made h s.site in go w k s at (result_of_reinit judge (subscriber_at_moment w.moment s)).0 (anew-moves (state w k s at) s (holds-here w k s at) judge w.moment));
     sends_join = λ w h s r k at joining. sends w k s at (with_message ask.Join s) (Asks (request.Join (join_of s))) (sent-moves (state w k s at) s (holds-here w k s at) ask.Join s refl refl refl refl tt) tt;
     sends_upload = λ w h s r k at fine. (let c : SubscriberTables = subscriber_closed (subscriber_at_moment w.moment s) in let to : ℕ = upload_end (by_made h s.site) c in
         sends w k s at (with_message (ask.Upload c.received to) c) (Asks (request.Upload (upload_to (by_made h s.site) c to))) (sent-moves (state w k s at) s (holds-here w k s at) (ask.Upload c.received to) c refl refl refl refl tt) tt);
@@ -202,14 +202,14 @@ module _ (publication : Publication) (says : Saying) where
     uploads = λ w h number m r k at fine news. (let judge : PublisherJudge = by_past h (pasts_with h number) in let acts : List Act = acts_in publication says judge m w in
         answers w k m.site (reply.Uploaded (told_by judge m)) (taken_in publication judge m acts (here w)) (upload-stays w k m acts));
     uploads_again = λ w h number m r k at none. answers w k m.site (reply.Uploaded (told_by (by_past h (pasts_with h number)) m)) (here w) k;
-    answers_ranges = λ w h site m r k. answers w k site (reply.Ranged (ranged m (plans publication m w.publisher))) (here w) k;
-    answers_ask = λ w h number site m r k at fine. (let q : PublisherTables = asked m (here w) in
+    answers_ranges = λ w h site m r k. answers w k site (reply.Ranged (reply_to_ranges m (plans publication m w.publisher))) (here w) k;
+    answers_ask = λ w h number site m r k at fine. (let q : PublisherTables = tables_after_download m (here w) in
         let holds = pool-at (LetterHolds w.subscribers w.publisher.sites) w number (record { site = site; message = Asks (request.Download m) }) at k.letters in
         answers w k site (reply.Downloaded (reply_to publication (by_past h (pasts_with h number)) m q)) q
         (ask-stays w k m (subst (λ (x : SiteId). IfSome (at_number w.subscribers x.0) (AskHolds (state_in w.publisher.sites x.0).joined_at m)) (sym holds.0) holds.1) (ask-later publication w.moment m w.publisher fine)));
     replies = λ w h s number m sent r k at there out none. (let judge : SubscriberJudge = by_made h s.site in
         let fits = pool-at (LetterFits w.subscribers w.publisher) w number (record { site = s.site; message = Replies m }) there r.letters in
-        go w k s at (taken judge w.moment m s) (taken-moves (state w k s at) s (holds-here w k s at) publication judge w.moment (seq_of m) sent m
+        go w k s at (tables_after_reply judge w.moment m s) (taken-moves (state w k s at) s (holds-here w k s at) publication judge w.moment (seq_of m) sent m
         (subst (λ (found : Option SubscriberTables). MessageFits (joined_at w.publisher s.site) s.site found (Replies m)) at fits) out (sym ((r.subscribers s.site.0 s at).last (seq_of m) sent out)) none));
   }
 

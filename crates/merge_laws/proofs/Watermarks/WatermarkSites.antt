@@ -18,12 +18,12 @@ use Rattle.merge_schema.specs.declared.publication.Publication.{Publication}
 use Rattle.merge_model.specs.Tables.Changes.{key_of, version_after}
 use Rattle.merge_model.specs.World.Faults.{reply_fault}
 use Rattle.merge_model.specs.Judge.{SubscriberJudge}
-use Rattle.merge_model.specs.Subscriber.Reinit.{reinitialised}
+use Rattle.merge_model.specs.Subscriber.Reinit.{result_of_reinit}
 use Rattle.merge_model.specs.Subscriber.Sending.{with_message}
 use Rattle.merge_model.specs.Subscriber.{subscriber_at_moment, subscriber_made_locally, subscriber_next_dot, subscriber_version_at, with_version_if}
 use Rattle.merge_types.specs.declared.row_key.RowKey.{RowKey as Key}
 use Rattle.merge_model.specs.Tables.{SubscriberTables}
-use Rattle.merge_model.specs.Subscriber.Taking.{seq_of, taken}
+use Rattle.merge_model.specs.Subscriber.Taking.{seq_of, tables_after_reply}
 use Rattle.merge_model.specs.declared.letter.Message.TheVariants.{Replies}
 use Rattle.merge_laws.specs.Facts.Received.{MessageFits}
 use Rattle.merge_laws.specs.Facts.Watermarks.{StateHolds}
@@ -85,7 +85,7 @@ module _ (state : SiteState) (s : SubscriberTables) (f : StateHolds state s) whe
 
   -- Making anew.
 
-  pub anew-moves : (judge : SubscriberJudge) (now : Moment) → Moves state s (reinitialised judge (subscriber_at_moment now s)).0
+  pub anew-moves : (judge : SubscriberJudge) (now : Moment) → Moves state s (result_of_reinit judge (subscriber_at_moment now s)).0
   anew-moves judge now = (
     refl,
     record { at = f.at; behind = λ joins. absurd (grind (arith, joins)); anew = f.anew; asked = λ q from e. absurd (grind (arith, e)) },
@@ -109,7 +109,7 @@ module _ (state : SiteState) (s : SubscriberTables) (f : StateHolds state s) whe
   is-ask publication (ask.Upload low to) m none = absurd (grind (arith, none))
 
   pub taken-moves : (publication : Publication) (judge : SubscriberJudge) (now : Moment) (q : ℕ) (sent : Outstanding) (m : Reply) → MessageFits state.joined_at s.site (Some s) (Replies m) → s.outstanding ≡ Some (q, sent) → s.seq ≡ seq_of m
-      → reply_fault publication sent m s ≡ None → Moves state s (taken judge now m s)
+      → reply_fault publication sent m s ≡ None → Moves state s (tables_after_reply judge now m s)
   taken-moves publication judge now q sent (reply.Joined m) fits out same none =
       let low : s.seq ≤ state.joined_at = omega (arith, fits, same) in (
         refl,

@@ -52,13 +52,13 @@ is_kept_elsewhere lost purged key place dot = is_lost_at lost key place dot || h
 -- A version, by its body and its chains.
 
 -- the change that made a cell or deleted the row was made, and knew what the chain has
-abbrev pub Rooted : List MadeChange → Dot → List Dot → Type 0
-Rooted [] top chain = ⊥
-Rooted (change ∷ made) top chain = ((same_dot change.dot top ≡ true) × ((dot : Dot) → has chain dot ≡ true → has change.past.known dot ≡ true)) ⊎ Rooted made top chain
+abbrev pub ChainIsRooted : List MadeChange → Dot → List Dot → Type 0
+ChainIsRooted [] top chain = ⊥
+ChainIsRooted (change ∷ made) top chain = ((same_dot change.dot top ≡ true) × ((dot : Dot) → has chain dot ≡ true → has change.past.known dot ≡ true)) ⊎ ChainIsRooted made top chain
 
 -- a cell: its chain has no delete besides
 pub record CellGrown (made : List MadeChange) (cell : Cell) (chain : List Dot) : Type 0 where
-  pub rooted : Rooted made cell.top chain
+  pub rooted : ChainIsRooted made cell.top chain
   pub set : (dot : Dot) → has chain dot ≡ true → is_set made dot ≡ true
 
 -- Every version that is held or on its way has a chain for each cell of its body, and as many cells as its article has. A deleted
@@ -71,7 +71,7 @@ Grown cells made key body chains = ⊥
 -- A row that its own site deleted descends from what its delete knew, and from no other delete. At the publisher two deleted
 -- versions may have been united.
 pub record DeletedOnce (made : List MadeChange) (top : Dot) (chain : List Dot) : Type 0 where
-  pub rooted : Rooted made top chain
+  pub rooted : ChainIsRooted made top chain
   pub once : (dot : Dot) → has chain dot ≡ true → (same_dot top dot || is_set made dot) ≡ true
 
 abbrev pub IsNotUnited : List MadeChange → Body → Chains → Type 0

@@ -4,7 +4,7 @@ use Rattle.merge_types.specs.declared.identifiers.SiteId.{SiteId}
 use Rattle.merge_schema.specs.declared.publication.Publication.{Publication}
 use Rattle.merge_batch.specs.declared.reply.Downloaded.{Downloaded}
 use Rattle.merge_model.specs.History.Model.{Model, model}
-use Rattle.merge_model.specs.World.Session.{Session, Stepping, after_download, all_downloads, all_uploads, downloading, exchange, unsent_generations, uploading, with_answer}
+use Rattle.merge_model.specs.World.Session.{Session, Stepping, after_download, all_downloads, all_uploads, downloads_up_to, exchange, unsent_generations, uploads_up_to, with_answer}
 use Rattle.merge_model.specs.World.Steps.{SendDownload}
 use Rattle.merge_model.specs.Tables.{SubscriberTables}
 use Rattle.merge_model.specs.World.{Saying, subscriber_at}
@@ -15,12 +15,12 @@ under_way m uploads downloads = record { world = m; uploads = uploads; downloads
 
 -- with so many more uploads than the session makes at most
 abbrev pub more_uploads : Stepping Model → SiteId → ℕ → Session Model → Session Model
-more_uploads stepping site more s = uploading stepping site (unsent_generations stepping site s.world + more) s
+more_uploads stepping site more s = uploads_up_to stepping site (unsent_generations stepping site s.world + more) s
 
 -- with so many more downloads
 abbrev pub more_downloads : Stepping Model → SiteId → ℕ → Session Model → Session Model
 more_downloads stepping site more s = exchange stepping site SendDownload (with_answer stepping site)
-    (after_download stepping site (λ (m : Downloaded) (t : Session Model). if nat_le m.last m.from then t else downloading stepping site (m.last + 1 - m.from + more) m.last t)) s
+    (after_download stepping site (λ (m : Downloaded) (t : Session Model). if nat_le m.last m.from then t else downloads_up_to stepping site (m.last + 1 - m.from + more) m.last t)) s
 
 abbrev pub UploadsAreEnough : Publication → Saying → Model → Type 0
 UploadsAreEnough publication says m = (s : SubscriberTables) (uploads downloads more : ℕ) → subscriber_at m.world s.site ≡ Some s → s.is_joined ≡ true

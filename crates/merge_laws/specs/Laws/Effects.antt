@@ -9,7 +9,7 @@ use Rattle.merge_model.specs.Publisher.Acts.{acting_items}
 use Rattle.merge_model.specs.Judge.ByHistory.{by_past}
 use Rattle.merge_model.specs.Judge.ByNumbers.{by_numbers}
 use Rattle.merge_model.specs.World.Events.{after}
-use Rattle.merge_model.specs.Failing.{Faulty, Slips, failing, fails, faulty}
+use Rattle.merge_model.specs.Failing.{Faulty, Slips, fails, faulty, faulty_stepping}
 use Rattle.merge_model.specs.History.{is_done, pasts_with}
 use Rattle.merge_model.specs.Judge.{PublisherJudge}
 use Rattle.merge_model.specs.History.Model.{Model, did_something, empty_model, model}
@@ -22,12 +22,12 @@ use Rattle.merge_laws.specs.Laws.ActsOnce.{IsUpload, step_of_delivery}
 
 -- Steps one after the other, of which some may fail.
 abbrev pub behind_actions : Publication → Saying → Faulty Model → List Action → Faulty Model
-behind_actions publication says f actions = after_actions (failing publication (model publication says)) f actions
+behind_actions publication says f actions = after_actions (faulty_stepping publication (model publication says)) f actions
 
 -- Every list of events is such steps, since a session is.
 abbrev pub RunsAreSteps : Type 0
 RunsAreSteps = (publication : Publication) (says : Saying) (f : Faulty Model) (events : List Event)
-    → (actions : List Action) × (behind_actions publication says f actions ≡ after publication (failing publication (model publication says)) f events)
+    → (actions : List Action) × (behind_actions publication says f actions ≡ after publication (faulty_stepping publication (model publication says)) f events)
 
 -- Where an upload is taken, this generation of it takes effect: the upload is more than answered, and the generation is one of its
 -- own that has not acted, by what the publisher decides by.

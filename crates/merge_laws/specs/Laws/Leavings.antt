@@ -16,7 +16,7 @@ use Rattle.merge_model.specs.Tables.Keys.{has_key}
 use Rattle.merge_model.specs.History.Model.{Model}
 use Rattle.merge_model.specs.Laws.Promises.{is_expired_at}
 use Rattle.merge_model.specs.Publisher.PublisherDownload.{inside_keys}
-use Rattle.merge_model.specs.Publisher.PublisherJoin.{join_acts, joined}
+use Rattle.merge_model.specs.Publisher.PublisherJoin.{join_acts, tables_after_join}
 use Rattle.merge_model.specs.Publisher.PublisherPurge.{purge}
 use Rattle.merge_model.specs.Tables.{PublisherTables, SubscriberTables}
 use Rattle.merge_model.specs.World.{letter_at, subscriber_at}
@@ -48,4 +48,4 @@ PurgesTakeNothingOwed publication m = (s : SubscriberTables) (key : Key) → sub
 abbrev pub JoinsTakeNothingOwed : Publication → Model → Type 0
 JoinsTakeNothingOwed publication m = (number : ℕ) (site : SiteId) (j : Join) → letter_at m.world number ≡ Some (record { site = site; message = Asks (request.Join j) }) → join_acts j m.world.publisher ≡ true
     → (s : SubscriberTables) (key : Key) → subscriber_at m.world s.site ≡ Some s
-    → ((s.site.0 ≡ j.site.0) → s.rows ≡ []) × ((s.site.0 ≡ j.site.0 → ⊥) → StaysOwed publication m.world.publisher (joined j m.world.publisher) s.site key)
+    → ((s.site.0 ≡ j.site.0) → s.rows ≡ []) × ((s.site.0 ≡ j.site.0 → ⊥) → StaysOwed publication m.world.publisher (tables_after_join j m.world.publisher) s.site key)

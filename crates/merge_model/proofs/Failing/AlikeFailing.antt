@@ -3,7 +3,7 @@ use Rattle.std.proofs.Common.{◌≡◌, ℕ, List, [], ◌∷◌, Bool, true, f
 use Rattle.merge_resolve.specs.Asked.{tallies_after}
 use Rattle.merge_schema.specs.declared.publication.Publication.{Publication}
 use Rattle.merge_model.specs.World.Events.{after, answers}
-use Rattle.merge_model.specs.Failing.{Faulty, Slip, Slips, acting_with, failing, fails, faulty, is_allowed, questions_by, slip_if}
+use Rattle.merge_model.specs.Failing.{Faulty, Slip, Slips, acting_with, fails, faulty, faulty_stepping, is_allowed, questions_by, slip_if}
 use Rattle.merge_model.specs.World.Session.{Stepping}
 use Rattle.merge_model.specs.World.Steps.{Action, CloseAt, Deliver, Forget, Look, Make, MakeAnew, Pass, Send}
 use Rattle.merge_model.specs.World.{World}
@@ -52,6 +52,6 @@ module _ {V W : Type 0} (publication : Publication) (one : Stepping V) (other : 
   pub fails-alike : (f : Faulty V) (g : Faulty W) (action : Action) → Together f g → Both Together (fails publication one f action) (fails publication other g action)
   fails-alike f g action same = subst (λ (slips : Slips). Both Together (fails publication one f action) (fails publication other (faulty g.world slips) action)) same.0 (fails-from f.slips f.world g.world action same.1)
 
-  pub runs-alike : (slips : Slips) (events : List Event) (v : V) (w : W) → R v w → (answers publication (failing publication one) (faulty v slips) events ≡ answers publication (failing publication other) (faulty w slips) events)
-      × Together (after publication (failing publication one) (faulty v slips) events) (after publication (failing publication other) (faulty w slips) events)
-  runs-alike slips events v w same = events-alike (failing publication one) (failing publication other) Together fails-alike (λ f g both. looks f.world g.world both.1) publication events (faulty v slips) (faulty w slips) (refl, same)
+  pub runs-alike : (slips : Slips) (events : List Event) (v : V) (w : W) → R v w → (answers publication (faulty_stepping publication one) (faulty v slips) events ≡ answers publication (faulty_stepping publication other) (faulty w slips) events)
+      × Together (after publication (faulty_stepping publication one) (faulty v slips) events) (after publication (faulty_stepping publication other) (faulty w slips) events)
+  runs-alike slips events v w same = events-alike (faulty_stepping publication one) (faulty_stepping publication other) Together fails-alike (λ f g both. looks f.world g.world both.1) publication events (faulty v slips) (faulty w slips) (refl, same)

@@ -12,7 +12,7 @@ use Rattle.merge_batch.specs.declared.request.Request.{Request}
 use Rattle.merge_batch.specs.declared.request.Request.TheVariants as request
 use Rattle.merge_model.specs.Failing.{acting_with, commits, faulty, is_made, made_with, posting_by, questions_by}
 use Rattle.merge_model.specs.World.Events.{machine}
-use Rattle.merge_model.specs.World.Steps.{Action, CloseAt, Deliver, Forget, Look, Make, MakeAnew, Pass, Send, after_upload, answered, deliver_letter, deliver_reply, deliver_request, kept_decisions, posted, send_from, SendDownload, Sending, step, unless_refused, upload_questions}
+use Rattle.merge_model.specs.World.Steps.{Action, CloseAt, Deliver, Forget, Look, Make, MakeAnew, Pass, Send, after_upload, post_reply, deliver_letter, deliver_reply, deliver_request, kept_decisions, post_if_made, send_from, SendDownload, Sending, step, unless_refused, upload_questions}
 use Rattle.merge_model.specs.declared.outcome.Outcome.TheVariants.{Closes, NoLetter, NoPost, Posted, Refuses, Took}
 use Rattle.merge_model.specs.declared.outcome.Outcome.{Outcome}
 use Rattle.merge_model.specs.declared.outcome.Taken.{Taken}
@@ -35,8 +35,8 @@ use Rattle.merge_batch.specs.declared.reply.Uploaded.{Uploaded}
 use Rattle.merge_model.specs.declared.letter.Letter.{Letter}
 use Rattle.merge_model.specs.declared.letter.Message.TheVariants.{Asks, Replies}
 use Rattle.merge_model.specs.Failing.Reach.{Acts, Reaches, stepping, with_outcome}
-use Rattle.merge_model.specs.World.Calls.{Called, Counted, always_commits, as_reply, closing_commits, handled, message_commits, message_or_none, questions_on, reply_commits, request_commits, taken_commits}
-use Rattle.merge_model.specs.World.Parts.{after_result, pooled, world_of}
+use Rattle.merge_model.specs.World.Calls.{Called, Counted, always_commits, as_reply, closing_commits, message_commits, message_or_none, questions_on, reply_commits, request_commits, result_of_request, taken_commits}
+use Rattle.merge_model.specs.World.Parts.{after_result, letter_in_pool, world_of}
 use Rattle.merge_resolve.specs.declared.case.ConflictCase.{ConflictCase}
 use Rattle.merge_model.specs.declared.letter.Message.{Message}
 use Rattle.merge_model.specs.Failing.{Slips}
@@ -122,10 +122,10 @@ module _ (p : Publication) (says : Saying) where
   after_call site m w (Ok done) = replied site m w done
   after_call site m w (Err why) = (w, Refuses why)
 
-  request-step : (site : SiteId) (number : ℕ) (m : Request) (w : World) → deliver_request p says (by_numbers w.publisher) site m w ≡ after_call site m w (handled p says w.tallies w.moment m w.publisher)
+  request-step : (site : SiteId) (number : ℕ) (m : Request) (w : World) → deliver_request p says (by_numbers w.publisher) site m w ≡ after_call site m w (result_of_request p says w.tallies w.moment m w.publisher)
   request-step site number (request.Join m) w = by (join p w.moment m w.publisher)
     where
-      by : (done : Result (PublisherTables × Joined) Refusal) → answered site (λ (made : Joined). reply.Joined made) w done ≡ after_call site (request.Join m) w (as_reply reply.Joined done)
+      by : (done : Result (PublisherTables × Joined) Refusal) → post_reply site (λ (made : Joined). reply.Joined made) w done ≡ after_call site (request.Join m) w (as_reply reply.Joined done)
       by (Ok done) = refl
       by (Err why) = refl
   request-step site number (request.Upload m) w = by (upload p (by_numbers w.publisher) w.moment m (kept_decisions says w.tallies (upload_questions p (by_numbers w.publisher) w.moment m w.publisher)) w.publisher)
@@ -135,12 +135,12 @@ module _ (p : Publication) (says : Saying) where
       by (Err why) = refl
   request-step site number (request.Ranges m) w = by (ranges p (by_numbers w.publisher) w.moment m w.publisher)
     where
-      by : (done : Result (PublisherTables × Ranged) Refusal) → answered site (λ (made : Ranged). reply.Ranged made) w done ≡ after_call site (request.Ranges m) w (as_reply reply.Ranged done)
+      by : (done : Result (PublisherTables × Ranged) Refusal) → post_reply site (λ (made : Ranged). reply.Ranged made) w done ≡ after_call site (request.Ranges m) w (as_reply reply.Ranged done)
       by (Ok done) = refl
       by (Err why) = refl
   request-step site number (request.Download m) w = by (download p (by_numbers w.publisher) w.moment m w.publisher)
     where
-      by : (done : Result (PublisherTables × Downloaded) Refusal) → answered site (λ (made : Downloaded). reply.Downloaded made) w done ≡ after_call site (request.Download m) w (as_reply reply.Downloaded done)
+      by : (done : Result (PublisherTables × Downloaded) Refusal) → post_reply site (λ (made : Downloaded). reply.Downloaded made) w done ≡ after_call site (request.Download m) w (as_reply reply.Downloaded done)
       by (Ok done) = refl
       by (Err why) = refl
 
@@ -152,7 +152,7 @@ module _ (p : Publication) (says : Saying) where
 
   -- a request of the pool
   pub delivers : (w : World) (number : ℕ) (site : SiteId) (m : Request) → letter_at w number ≡ Some (record { site = site; message = Asks m })
-      → next p says w (Deliver number) ≡ after_call site m w (handled p says w.tallies w.moment m w.publisher)
+      → next p says w (Deliver number) ≡ after_call site m w (result_of_request p says w.tallies w.moment m w.publisher)
   delivers w number site m found = ap (delivered w number) found ∙ request-step site number m w
 
   questions-here : (w : World) (number : ℕ) (site : SiteId) (m : Request) (outcome : Outcome) → letter_at w number ≡ Some (record { site = site; message = Asks m }) → is_made outcome ≡ true
@@ -161,27 +161,27 @@ module _ (p : Publication) (says : Saying) where
 
   -- a call of the publisher is an action of the world
   pub calls : (w : World) (number : ℕ) (site : SiteId) (m : Request) (new : PublisherTables) (tallies : List ℕ) (a b : ℕ) (r : Result Reply Refusal) → letter_at w number ≡ Some (record { site = site; message = Asks m })
-      → Called (handled p says w.tallies w.moment m w.publisher) (request_commits p w.moment m w.publisher) w.publisher new a b r → Counted (handled p says w.tallies w.moment m w.publisher) (questions_on p w.moment m w.publisher) w.tallies tallies r
+      → Called (result_of_request p says w.tallies w.moment m w.publisher) (request_commits p w.moment m w.publisher) w.publisher new a b r → Counted (result_of_request p says w.tallies w.moment m w.publisher) (questions_on p w.moment m w.publisher) w.tallies tallies r
       → Acts p says (Deliver number) w (after_result r site w new tallies).0 (after_result r site w new tallies).1 a b
   calls w number site m new tallies a b (Ok done) found called counted = made p says (Deliver number) refl w (after_result (Ok done) site w new tallies).0 (Posted (length w.pool + 1)) a b (stayed a b called.1)
       (delivers w number site m found ∙ (ap (after_call site m w) called.0 ∙ ap (λ (t : List ℕ). (record w { publisher = new; tallies = t; pool = w.pool ++ record { site = site; message = Replies done } ∷ [] }, Posted (length w.pool + 1))) (sym counted)))
-  calls w number site m new tallies a b (Err why) found called counted = fails-by (handled p says w.tallies w.moment m w.publisher) refl called.1
+  calls w number site m new tallies a b (Err why) found called counted = fails-by (result_of_request p says w.tallies w.moment m w.publisher) refl called.1
     where
       refused-from : (t : List ℕ) → tallies ≡ t → record w { publisher = new; tallies = tallies } ≡ record w { tallies = t }
       refused-from t e = ap (λ (q : PublisherTables). record w { publisher = q; tallies = tallies }) called.0 ∙ ap (λ (t : List ℕ). record w { tallies = t }) e
 
       -- the questions are asked of a call that is not refused
-      asks-here : (done : PublisherTables × Reply) → handled p says w.tallies w.moment m w.publisher ≡ Ok done
+      asks-here : (done : PublisherTables × Reply) → result_of_request p says w.tallies w.moment m w.publisher ≡ Ok done
           → record w { publisher = new; tallies = tallies } ≡ record w { tallies = tallies_after w.tallies (take counted.0.0 (questions_by p w (Deliver number) (next p says w (Deliver number)).1)) }
       asks-here done is = refused-from (tallies_after w.tallies (take counted.0.0 (questions_by p w (Deliver number) (next p says w (Deliver number)).1)))
           (counted.0.1 ∙ ap (λ (qs : List (ℕ × ConflictCase)). tallies_after w.tallies (take counted.0.0 qs))
           (sym (questions-here w number site m (next p says w (Deliver number)).1 found (ap (λ (x : World × Outcome). is_made x.1) (delivers w number site m found ∙ ap (after_call site m w) is)))))
 
-      commits-here : (done : PublisherTables × Reply) → handled p says w.tallies w.moment m w.publisher ≡ Ok done → request_commits p w.moment m w.publisher done.1 ≡ true → commits p w (Deliver number) (next p says w (Deliver number)).1 ≡ true
+      commits-here : (done : PublisherTables × Reply) → result_of_request p says w.tallies w.moment m w.publisher ≡ Ok done → request_commits p w.moment m w.publisher done.1 ≡ true → commits p w (Deliver number) (next p says w (Deliver number)).1 ≡ true
       commits-here done is commit = ap (λ (x : World × Outcome). commits p w (Deliver number) x.1) (delivers w number site m found ∙ ap (after_call site m w) is)
           ∙ (ap (λ (letter : Option Letter). posting_by p w letter (length w.pool + 1)) found ∙ commit)
 
-      fails-by : (by : Result (PublisherTables × Reply) Refusal) → handled p says w.tallies w.moment m w.publisher ≡ by
+      fails-by : (by : Result (PublisherTables × Reply) Refusal) → result_of_request p says w.tallies w.moment m w.publisher ≡ by
           → ((by ≡ Err why) × (b ≡ a) ⊎ ((why ≡ refusal.NoMemory) × (b ≡ a) ⊎ (why ≡ refusal.StoreFault) × ((done : PublisherTables × Reply) × (by ≡ Ok done) × (request_commits p w.moment m w.publisher done.1 ≡ true)) × (a + 1 ≤ b)))
           → Acts p says (Deliver number) w (after_result (Err why) site w new tallies).0 (after_result (Err why) site w new tallies).1 a b
       fails-by by is (inl refused) = let same = refused-from w.tallies (counted.1 why (is ∙ refused.0)) in
@@ -196,7 +196,7 @@ module _ (p : Publication) (says : Saying) where
 
   -- the same, whatever is counted since
   pub calls-since : (w : World) (number : ℕ) (site : SiteId) (m : Request) (new : PublisherTables) (tallies : List ℕ) (a b n : ℕ) (r : Result Reply Refusal) → letter_at w number ≡ Some (record { site = site; message = Asks m })
-      → Called (handled p says w.tallies w.moment m w.publisher) (request_commits p w.moment m w.publisher) w.publisher new a b r → b ≤ n → Counted (handled p says w.tallies w.moment m w.publisher) (questions_on p w.moment m w.publisher) w.tallies tallies r
+      → Called (result_of_request p says w.tallies w.moment m w.publisher) (request_commits p w.moment m w.publisher) w.publisher new a b r → b ≤ n → Counted (result_of_request p says w.tallies w.moment m w.publisher) (questions_on p w.moment m w.publisher) w.tallies tallies r
       → Acts p says (Deliver number) w (after_result r site w new tallies).0 (after_result r site w new tallies).1 a n
   calls-since w number site m new tallies a b n r found called later counted =
       acts-all p says (Deliver number) w (after_result r site w new tallies).0 (after_result r site w new tallies).1 a b a n (omega (arith, later)) (calls w number site m new tallies a b r found called counted)
@@ -206,7 +206,7 @@ module _ {P S R : Type 0} (tables : P → PublisherTables) (subscriber_tables : 
   abbrev here : P → List S → List R → List Letter → Moment → World
   here p ss rs pool moment = world_of tables subscriber_tables tally p ss rs pool moment
 
-  found-at : (p : P) (ss : List S) (rs : List R) (pool : List Letter) (moment : Moment) (number : ℕ) → letter_at (here p ss rs pool moment) number ≡ pooled pool number
+  found-at : (p : P) (ss : List S) (rs : List R) (pool : List Letter) (moment : Moment) (number : ℕ) → letter_at (here p ss rs pool moment) number ≡ letter_in_pool pool number
   found-at p ss rs pool moment zero = refl
   found-at p ss rs pool moment (suc number) = refl
 
@@ -214,30 +214,30 @@ module _ {P S R : Type 0} (tables : P → PublisherTables) (subscriber_tables : 
       → Acts publication says action (here p ss rs pool moment) (here p ss rs pool' moment) (Refuses refusal.NoMemory) a a
   room-wanted publication says action is p ss rs pool pool' moment a e = wants publication says action is (here p ss rs pool moment) (here p ss rs pool' moment) 0 a a (omega arith) (ap (λ (l : List Letter). here p ss rs l moment) e)
 
-  pub no-letter : (publication : Publication) (says : Saying) (number : ℕ) (p : P) (ss : List S) (rs : List R) (pool pool' : List Letter) (moment : Moment) (a : ℕ) → pool' ≡ pool → None ≡ pooled pool' number
+  pub no-letter : (publication : Publication) (says : Saying) (number : ℕ) (p : P) (ss : List S) (rs : List R) (pool pool' : List Letter) (moment : Moment) (a : ℕ) → pool' ≡ pool → None ≡ letter_in_pool pool' number
       → Acts publication says (Deliver number) (here p ss rs pool moment) (here p ss rs pool' moment) NoLetter a a
   no-letter publication says number p ss rs pool pool' moment a e none = let w = here p ss rs pool moment in made publication says (Deliver number) refl w (here p ss rs pool' moment) NoLetter a a (omega arith)
-      (ap (delivered publication says w number) (found-at p ss rs pool moment number ∙ (ap (λ (l : List Letter). pooled l number) (sym e) ∙ sym none)) ∙ ap (λ (l : List Letter). (here p ss rs l moment, NoLetter)) (sym e))
+      (ap (delivered publication says w number) (found-at p ss rs pool moment number ∙ (ap (λ (l : List Letter). letter_in_pool l number) (sym e) ∙ sym none)) ∙ ap (λ (l : List Letter). (here p ss rs l moment, NoLetter)) (sym e))
 
   pub answered-call : (publication : Publication) (says : Saying) (number : ℕ) (p p' : P) (ss : List S) (rs rs' : List R) (pool pool' pool'' : List Letter) (moment : Moment) (a b n : ℕ) (letter : Letter) (m : Request) (done : Reply)
-      → pool' ≡ pool → Some letter ≡ pooled pool' number → letter.message ≡ Asks m
-      → Called (handled publication says (map tally rs) moment m (tables p)) (request_commits publication moment m (tables p)) (tables p) (tables p') a b (Ok done) → Counted (handled publication says (map tally rs) moment m (tables p)) (questions_on publication moment m (tables p)) (map tally rs) (map tally rs') (Ok done)
+      → pool' ≡ pool → Some letter ≡ letter_in_pool pool' number → letter.message ≡ Asks m
+      → Called (result_of_request publication says (map tally rs) moment m (tables p)) (request_commits publication moment m (tables p)) (tables p) (tables p') a b (Ok done) → Counted (result_of_request publication says (map tally rs) moment m (tables p)) (questions_on publication moment m (tables p)) (map tally rs) (map tally rs') (Ok done)
       → pool'' ≡ pool' ++ record { site = letter.site; message = Replies done } ∷ [] → n ≡ length pool''
       → Acts publication says (Deliver number) (here p ss rs pool moment) (here p' ss rs' pool'' moment) (Posted n) a b
   answered-call publication says number p p' ss rs rs' pool pool' pool'' moment a b n letter m done e is asks called counted more count =
       let all : pool'' ≡ pool ++ record { site = letter.site; message = Replies done } ∷ [] = more ∙ ap (λ (l : List Letter). l ++ record { site = letter.site; message = Replies done } ∷ []) e in
       let long : n ≡ length pool + 1 = count ∙ (ap length all ∙ length-append pool (record { site = letter.site; message = Replies done } ∷ [])) in
-      let found : letter_at (here p ss rs pool moment) number ≡ Some (record { site = letter.site; message = Asks m }) = found-at p ss rs pool moment number ∙ (ap (λ (l : List Letter). pooled l number) (sym e) ∙ (sym is ∙ ap (λ (x : Message). Some (record { site = letter.site; message = x })) asks)) in
+      let found : letter_at (here p ss rs pool moment) number ≡ Some (record { site = letter.site; message = Asks m }) = found-at p ss rs pool moment number ∙ (ap (λ (l : List Letter). letter_in_pool l number) (sym e) ∙ (sym is ∙ ap (λ (x : Message). Some (record { site = letter.site; message = x })) asks)) in
       subst (λ (l : List Letter). Acts publication says (Deliver number) (here p ss rs pool moment) (here p' ss rs' l moment) (Posted n) a b) (sym all)
       (subst (λ (k : ℕ). Acts publication says (Deliver number) (here p ss rs pool moment) (here p' ss rs' (pool ++ record { site = letter.site; message = Replies done } ∷ []) moment) (Posted k) a b) (sym long)
       (calls publication says (here p ss rs pool moment) number letter.site m (tables p') (map tally rs') a b (Ok done) found called counted))
 
   pub failed-call : (publication : Publication) (says : Saying) (number : ℕ) (p p' : P) (ss : List S) (rs rs' : List R) (pool pool' : List Letter) (moment : Moment) (a b : ℕ) (letter : Letter) (m : Request) (why : Refusal)
-      → pool' ≡ pool → Some letter ≡ pooled pool' number → letter.message ≡ Asks m
-      → Called (handled publication says (map tally rs) moment m (tables p)) (request_commits publication moment m (tables p)) (tables p) (tables p') a b (Err why) → Counted (handled publication says (map tally rs) moment m (tables p)) (questions_on publication moment m (tables p)) (map tally rs) (map tally rs') (Err why)
+      → pool' ≡ pool → Some letter ≡ letter_in_pool pool' number → letter.message ≡ Asks m
+      → Called (result_of_request publication says (map tally rs) moment m (tables p)) (request_commits publication moment m (tables p)) (tables p) (tables p') a b (Err why) → Counted (result_of_request publication says (map tally rs) moment m (tables p)) (questions_on publication moment m (tables p)) (map tally rs) (map tally rs') (Err why)
       → Acts publication says (Deliver number) (here p ss rs pool moment) (here p' ss rs' pool' moment) (Refuses why) a b
   failed-call publication says number p p' ss rs rs' pool pool' moment a b letter m why e is asks called counted =
-      let found : letter_at (here p ss rs pool moment) number ≡ Some (record { site = letter.site; message = Asks m }) = found-at p ss rs pool moment number ∙ (ap (λ (l : List Letter). pooled l number) (sym e) ∙ (sym is ∙ ap (λ (x : Message). Some (record { site = letter.site; message = x })) asks)) in
+      let found : letter_at (here p ss rs pool moment) number ≡ Some (record { site = letter.site; message = Asks m }) = found-at p ss rs pool moment number ∙ (ap (λ (l : List Letter). letter_in_pool l number) (sym e) ∙ (sym is ∙ ap (λ (x : Message). Some (record { site = letter.site; message = x })) asks)) in
       subst (λ (l : List Letter). Acts publication says (Deliver number) (here p ss rs pool moment) (here p' ss rs' l moment) (Refuses why) a b) (sym e)
       (calls publication says (here p ss rs pool moment) number letter.site m (tables p') (map tally rs') a b (Err why) found called counted)
 
@@ -300,7 +300,7 @@ module _ (p : Publication) (says : Saying) where
   posting_out w (Some m) = Posted (length w.pool + 1)
 
   posted-as : {A : Type 0} (w : World) (site : SiteId) (message : A → Request) (old : SubscriberTables) (by : Result (Option (SubscriberTables × A)) Refusal)
-      → unless_refused w by (posted site message w) ≡ leads p says w (with_letter_if w site message) (posting_out w) (message_or_none old by)
+      → unless_refused w by (post_if_made site message w) ≡ leads p says w (with_letter_if w site message) (posting_out w) (message_or_none old by)
   posted-as w site message old (Ok None) = refl
   posted-as w site message old (Ok (Some made)) = refl
   posted-as w site message old (Err why) = refl
@@ -317,7 +317,7 @@ module _ (p : Publication) (says : Saying) where
 
   -- a join, an upload or a request for ranges: `by` is what makes it
   pub sends-message : {A : Type 0} (sending : Sending) (message : A → Request) (w : World) (site : SiteId) (old new : SubscriberTables) (by : Result (Option (SubscriberTables × A)) Refusal)
-      → subscriber_at w site ≡ Some old → put_number w.subscribers old.site.0 old ≡ w.subscribers → send_from (by_tables w) sending w old ≡ unless_refused w by (posted old.site message w)
+      → subscriber_at w site ≡ Some old → put_number w.subscribers old.site.0 old ≡ w.subscribers → send_from (by_tables w) sending w old ≡ unless_refused w by (post_if_made old.site message w)
       → (a b : ℕ) (r : Result (Option A) Refusal) → Called (message_or_none old by) message_commits old new a b r
       → Acts p says (Send site sending) w (world_by (with_letter_if w old.site message) (λ (t : SubscriberTables). record w { subscribers = put_number w.subscribers t.site.0 t }) new r) (outcome_by (posting_out w) r) a b
   sends-message sending message w site old new by found same step a b r called = calls-anyhow p says (Send site sending) refl w (with_letter_if w old.site message)

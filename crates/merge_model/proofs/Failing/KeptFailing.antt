@@ -3,7 +3,7 @@ use Rattle.std.proofs.Common.{ℕ, List, [], ◌∷◌, Bool, true, false, Some,
 use Rattle.merge_resolve.specs.Asked.{tallies_after}
 use Rattle.merge_schema.specs.declared.publication.Publication.{Publication}
 use Rattle.merge_model.specs.World.Events.{after}
-use Rattle.merge_model.specs.Failing.{Faulty, Slip, Slips, acting_with, failing, fails, is_allowed, questions_by, slip_if}
+use Rattle.merge_model.specs.Failing.{Faulty, Slip, Slips, acting_with, fails, faulty_stepping, is_allowed, questions_by, slip_if}
 use Rattle.merge_model.specs.World.Session.{Stepping}
 use Rattle.merge_model.specs.World.Steps.{Action, CloseAt, Deliver, Forget, Look, Make, MakeAnew, Pass, Send}
 use Rattle.merge_model.specs.declared.event.Event.{Event}
@@ -30,5 +30,5 @@ module _ {W : Type 0} (publication : Publication) (stepping : Stepping W) (P : W
   fails-keep f Forget h = acting-keeps f.slips Forget f.world (stepping.act f.world Forget) h (of_act f.world Forget h)
   fails-keep f Look h = acting-keeps f.slips Look f.world (stepping.act f.world Look) h (of_act f.world Look h)
 
-  pub runs-keep : (events : List Event) (f : Faulty W) → P f.world → P (after publication (failing publication stepping) f events).world
-  runs-keep events f h = events-keep publication (failing publication stepping) (λ (g : Faulty W). P g.world) fails-keep events f h
+  pub runs-keep : (events : List Event) (f : Faulty W) → P f.world → P (after publication (faulty_stepping publication stepping) f events).world
+  runs-keep events f h = events-keep publication (faulty_stepping publication stepping) (λ (g : Faulty W). P g.world) fails-keep events f h

@@ -37,17 +37,17 @@ use Rattle.merge_model.specs.Judge.ByNumbers.{by_numbers}
 use Rattle.merge_model.specs.World.Calls.{as_reply, is_behind, is_later, is_new_grant, message_commits, message_or_none, taken_commits}
 use Rattle.merge_model.specs.Tables.Keys.{at_number, put_number}
 use Rattle.merge_model.specs.Laws.{AreSorted}
-use Rattle.merge_model.specs.Publisher.{at_moment, closed, counters, last_closed, later, no_state, site_refusal, state_of, state_refusal, unknown_site, with_state}
-use Rattle.merge_model.specs.Publisher.PublisherDownload.{asked, download_refusal, in_step, reply_to, synced}
-use Rattle.merge_model.specs.Publisher.PublisherJoin.{join_acts, join_refusal, join_taken, joined}
-use Rattle.merge_model.specs.Publisher.PublisherRanges.{plans, ranged, ranges_refusal, with_grants}
-use Rattle.merge_model.specs.Publisher.PublisherUpload.{brings_news, taken_in, upload_refusal, uploaded}
+use Rattle.merge_model.specs.Publisher.{at_moment, counters, last_closed, later, no_state, site_refusal, state_of, state_refusal, tables_after_close, unknown_site, with_state}
+use Rattle.merge_model.specs.Publisher.PublisherDownload.{download_refusal, in_step, reply_to, state_after_download, tables_after_download}
+use Rattle.merge_model.specs.Publisher.PublisherJoin.{join_acts, join_refusal, join_taken, tables_after_join}
+use Rattle.merge_model.specs.Publisher.PublisherRanges.{plans, ranges_refusal, reply_to_ranges, with_grants}
+use Rattle.merge_model.specs.Publisher.PublisherUpload.{brings_news, tables_after_upload, taken_in, upload_refusal}
 use Rattle.merge_model.specs.Tables.Refusals.{counter_end, unless}
 use Rattle.merge_model.specs.Laws.Quiet.{QuietClosings, QuietReplies, QuietRequests, QuietSubscriberClosings}
 use Rattle.merge_model.specs.Subscriber.{subscriber_at_moment, subscriber_closed, subscriber_counters, subscriber_last_closed}
 use Rattle.merge_model.specs.World.Steps.{kept_decisions, upload_questions}
 use Rattle.merge_model.specs.Tables.{PublisherTables, SubscriberTables}
-use Rattle.merge_model.specs.Subscriber.Taking.{met_by, seq_of, taken}
+use Rattle.merge_model.specs.Subscriber.Taking.{met_by, seq_of, tables_after_reply}
 use Rattle.merge_model.specs.World.Faults.{reply_fault}
 use Rattle.merge_model.specs.Judge.{SubscriberJudge}
 use Rattle.merge_batch.specs.declared.request.Outstanding.{Outstanding}
@@ -108,7 +108,7 @@ book-stays book moment empty =
     ∙ ap (λ (n : ℕ). (let b : Book = record { filling = book.filling; closings = book.closings ++ map (closing_at moment) (range_with_len (book.filling.last_closed + 1) n) } in b)) (none-between book.filling.last_closed)
     ∙ ap (λ (closings : List Closing). (let b : Book = record { filling = book.filling; closings = closings } in b)) (append-nil book.closings)
 
-closed-stays : (p : PublisherTables) → nat_lt 0 p.gens.filling.filled ≡ false → closed p ≡ p
+closed-stays : (p : PublisherTables) → nat_lt 0 p.gens.filling.filled ≡ false → tables_after_close p ≡ p
 closed-stays p empty = ap (λ (gens : Book). (let q : PublisherTables = record p { gens = gens } in q)) (book-stays p.gens p.latest empty)
 
 sub-closed-stays : (s : SubscriberTables) → nat_lt 0 s.gens.filling.filled ≡ false → subscriber_closed s ≡ s
@@ -117,8 +117,8 @@ sub-closed-stays s empty = ap (λ (gens : Book). (let t : SubscriberTables = rec
 pub closings-quiet : QuietClosings
 closings-quiet now p done made quiet =
     let both = neither (is_later now p.latest) (nat_lt 0 p.gens.filling.filled) quiet in
-    made-same (counter_end (counters p)) (closed (at_moment now p)) p (last_closed (closed (at_moment now p))) done
-    (λ fine. ap closed (moment-stays now p both.0) ∙ closed-stays p both.1) made
+    made-same (counter_end (counters p)) (tables_after_close (at_moment now p)) p (last_closed (tables_after_close (at_moment now p))) done
+    (λ fine. ap tables_after_close (moment-stays now p both.0) ∙ closed-stays p both.1) made
 
 pub sub-closings-quiet : QuietSubscriberClosings
 sub-closings-quiet now s done made quiet =
@@ -142,7 +142,7 @@ met-quiet : (publication : Publication) (judge : SubscriberJudge) (now : Moment)
     → met_by publication judge now m s found ≡ Ok done → taken_commits done.1 ≡ false → done.0 ≡ s
 met-quiet publication judge now m s None done made quiet = ap (tables_in s) (sym made)
 met-quiet publication judge now m s (Some sent) done made quiet =
-    acts-alone (sent.0 == seq_of m) (reply_fault publication sent.1 m s) (taken judge now m s) s (Missed (seq_of m) sent.0) done made quiet
+    acts-alone (sent.0 == seq_of m) (reply_fault publication sent.1 m s) (tables_after_reply judge now m s) s (Missed (seq_of m) sent.0) done made quiet
 
 pub replies-quiet : QuietReplies
 replies-quiet publication judge now (reply.Joined m) s done made quiet = met-quiet publication judge now (reply.Joined m) s s.outstanding done made quiet
@@ -178,7 +178,7 @@ grants-stay grants (plan ∷ planned) old =
 
 -- A site's state.
 
-synced-stays : (m : Download) (p : PublisherTables) (state : SiteState) → is_behind m p state ≡ false → synced m p state ≡ state
+synced-stays : (m : Download) (p : PublisherTables) (state : SiteState) → is_behind m p state ≡ false → state_after_download m p state ≡ state
 synced-stays m p state even =
     let both = neither (nat_lt state.watermark m.from) (nat_lt state.last_sync (in_step m p)) even in
     ap (λ (n : ℕ). (let s : SiteState = record state { watermark = n; last_sync = max state.last_sync (in_step m p) } in s)) (lesser-stays state.watermark m.from both.0)
@@ -209,32 +209,32 @@ site-fine publication now m p fine =
     state-found (at_number p.sites m.site.0) no_state (state-known publication m.seq (later now p.latest) (at_number p.sites m.site.0) state.0)
 
 asked-stays : (publication : Publication) (now : Moment) (m : Download) (p : PublisherTables) → AreSorted p → download_refusal publication now m p ≡ None
-    → is_behind m p (state_of p m.site) ≡ false → nat_lt 0 p.gens.filling.filled ≡ false → asked m p ≡ p
+    → is_behind m p (state_of p m.site) ≡ false → nat_lt 0 p.gens.filling.filled ≡ false → tables_after_download m p ≡ p
 asked-stays publication now m p sorted fine even empty =
-    ap (λ (state : SiteState). closed (with_state m.site state p)) (synced-stays m p (state_of p m.site) even)
-    ∙ ap (λ (sites : List (ℕ × SiteState)). closed (let q : PublisherTables = record p { sites = sites } in q)) (put-stays p.sites m.site.0 (state_of p m.site) sorted.sites_ascend (site-fine publication now m p fine))
+    ap (λ (state : SiteState). tables_after_close (with_state m.site state p)) (synced-stays m p (state_of p m.site) even)
+    ∙ ap (λ (sites : List (ℕ × SiteState)). tables_after_close (let q : PublisherTables = record p { sites = sites } in q)) (put-stays p.sites m.site.0 (state_of p m.site) sorted.sites_ascend (site-fine publication now m p fine))
     ∙ closed-stays p empty
 
 -- Each request.
 pub requests-quiet : QuietRequests
 requests-quiet publication says tallies now (request.Join m) p done sorted made quiet =
     let both = neither (is_later now p.latest) (join_acts m p) quiet in
-    reply-same (λ (j : Joined). reply.Joined j) (join_refusal publication m p) (joined m (at_moment now p)) p (record { seq = m.seq }) done
-    (λ fine. ap (joined m) (moment-stays now p both.0) ∙ if-false (join_acts m p) (join_taken m p) p both.1) made
+    reply-same (λ (j : Joined). reply.Joined j) (join_refusal publication m p) (tables_after_join m (at_moment now p)) p (record { seq = m.seq }) done
+    (λ fine. ap (tables_after_join m) (moment-stays now p both.0) ∙ if-false (join_acts m p) (join_taken m p) p both.1) made
 requests-quiet publication says tallies now (request.Upload m) p done sorted made quiet =
     let both = neither (is_later now p.latest) (brings_news (by_numbers p) m) quiet in
     let decisions : List Decision = kept_decisions says tallies (upload_questions publication (by_numbers p) now m p) in
     let q : PublisherTables = at_moment now p in
-    reply-same (λ (u : Uploaded). reply.Uploaded u) (upload_refusal publication (by_numbers p) now m p) (uploaded publication (by_numbers p) m decisions q) p
+    reply-same (λ (u : Uploaded). reply.Uploaded u) (upload_refusal publication (by_numbers p) now m p) (tables_after_upload publication (by_numbers p) m decisions q) p
     (record { seq = m.seq; received = max m.to ((by_numbers p).received m.site.0) }) done
     (λ fine. if-false (brings_news (by_numbers p) m) (taken_in publication (by_numbers p) m (acts_of (by_numbers p) m decisions q) q) q both.1 ∙ moment-stays now p both.0) made
 requests-quiet publication says tallies now (request.Ranges m) p done sorted made quiet =
     let both = neither (is_later now p.latest) (list_any (λ (plan : GrantPlan). is_new_grant plan.answer) (plans publication m p)) quiet in
-    reply-same (λ (r : Ranged). reply.Ranged r) (ranges_refusal publication (by_numbers p) now m p) (with_grants (plans publication m p) (at_moment now p)) p (ranged m (plans publication m p)) done
+    reply-same (λ (r : Ranged). reply.Ranged r) (ranges_refusal publication (by_numbers p) now m p) (with_grants (plans publication m p) (at_moment now p)) p (reply_to_ranges m (plans publication m p)) done
     (λ fine. ap (λ (grants : List Grant). (let q : PublisherTables = record (at_moment now p) { grants = grants } in q)) (grants-stay p.grants (plans publication m p) both.1) ∙ moment-stays now p both.0) made
 requests-quiet publication says tallies now (request.Download m) p done sorted made quiet =
     let both = neither (is_later now p.latest) (is_behind m p (state_of p m.site) || nat_lt 0 p.gens.filling.filled) quiet in
     let rest = neither (is_behind m p (state_of p m.site)) (nat_lt 0 p.gens.filling.filled) both.1 in
-    let after : PublisherTables = asked m (at_moment now p) in
+    let after : PublisherTables = tables_after_download m (at_moment now p) in
     reply-same (λ (d : Downloaded). reply.Downloaded d) (download_refusal publication now m p) after p (reply_to publication (by_numbers p) m after) done
-    (λ fine. ap (asked m) (moment-stays now p both.0) ∙ asked-stays publication now m p sorted fine rest.0 rest.1) made
+    (λ fine. ap (tables_after_download m) (moment-stays now p both.0) ∙ asked-stays publication now m p sorted fine rest.0 rest.1) made

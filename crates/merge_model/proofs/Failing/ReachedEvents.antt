@@ -10,7 +10,7 @@ use Rattle.merge_model.specs.declared.answer.Answer.TheVariants.{Counts, Now, Re
 use Rattle.merge_model.specs.Publisher.Entries.{live_rows}
 use Rattle.merge_model.specs.World.Reports.{counts_of, subscriber_live_rows}
 use Rattle.merge_model.specs.Tables.{PublisherTables, SubscriberTables}
-use Rattle.merge_model.specs.World.Events.{answered_by, change_answer, happens, is_site, looked, outcome_answer, reported, session_answer}
+use Rattle.merge_model.specs.World.Events.{answered_by, answered_unless_refused, change_answer, happens, is_site, outcome_answer, report_of_site, session_answer}
 use Rattle.merge_model.specs.Failing.{Faulty, faulty}
 use Rattle.merge_model.specs.World.Naming.{insert_by}
 use Rattle.merge_model.specs.World.Session.{Session, session}
@@ -67,19 +67,19 @@ module _ (p : Publication) (says : Saying) where
 -- a report: it looks, or memory is wanting
 module _ (p : Publication) (says : Saying) where
   pub counting : (site : SiteId) (w : World) (a b : ℕ) → is_site p site ≡ true → Acts p says Look w w Passed a b
-      → Happens p says w (event.Count site) w (reported p (stepping p says) site (λ (t : PublisherTables). Counts (counts_of p (live_rows t.rows))) (λ (t : SubscriberTables). Counts (counts_of p (subscriber_live_rows t))) (faulty w [])) a b
+      → Happens p says w (event.Count site) w (report_of_site p (stepping p says) site (λ (t : PublisherTables). Counts (counts_of p (live_rows t.rows))) (λ (t : SubscriberTables). Counts (counts_of p (subscriber_live_rows t))) (faulty w [])) a b
   unfolding Acts
-  counting site w a b is r = let answer : Faulty World → Answer = reported p (stepping p says) site (λ (t : PublisherTables). Counts (counts_of p (live_rows t.rows))) (λ (t : SubscriberTables). Counts (counts_of p (subscriber_live_rows t))) in
-      same-start (λ l. happens p (stepping p says) (faulty w l) (event.Count site)) (λ l. looked p (stepping p says) answer ((stepping p says).act (faulty w l) Look)) (λ l. (faulty w l, answer (faulty w []))) a b
+  counting site w a b is r = let answer : Faulty World → Answer = report_of_site p (stepping p says) site (λ (t : PublisherTables). Counts (counts_of p (live_rows t.rows))) (λ (t : SubscriberTables). Counts (counts_of p (subscriber_live_rows t))) in
+      same-start (λ l. happens p (stepping p says) (faulty w l) (event.Count site)) (λ l. answered_unless_refused p (stepping p says) answer ((stepping p says).act (faulty w l) Look)) (λ l. (faulty w l, answer (faulty w []))) a b
       (λ l. rw is refl)
-      (under (looked p (stepping p says) answer) (λ l. (stepping p says).act (faulty w l) Look) (with_outcome p says w Passed) a b r)
+      (under (answered_unless_refused p (stepping p says) answer) (λ l. (stepping p says).act (faulty w l) Look) (with_outcome p says w Passed) a b r)
 
   pub counting-fails : (site : SiteId) (w : World) (why : Refusal) (a b : ℕ) → is_site p site ≡ true → Acts p says Look w w (Refuses why) a b → Happens p says w (event.Count site) w (Refused why) a b
   unfolding Acts
-  counting-fails site w why a b is r = let answer : Faulty World → Answer = reported p (stepping p says) site (λ (t : PublisherTables). Counts (counts_of p (live_rows t.rows))) (λ (t : SubscriberTables). Counts (counts_of p (subscriber_live_rows t))) in
-      same-start (λ l. happens p (stepping p says) (faulty w l) (event.Count site)) (λ l. looked p (stepping p says) answer ((stepping p says).act (faulty w l) Look)) (λ l. (faulty w l, Refused why)) a b
+  counting-fails site w why a b is r = let answer : Faulty World → Answer = report_of_site p (stepping p says) site (λ (t : PublisherTables). Counts (counts_of p (live_rows t.rows))) (λ (t : SubscriberTables). Counts (counts_of p (subscriber_live_rows t))) in
+      same-start (λ l. happens p (stepping p says) (faulty w l) (event.Count site)) (λ l. answered_unless_refused p (stepping p says) answer ((stepping p says).act (faulty w l) Look)) (λ l. (faulty w l, Refused why)) a b
       (λ l. rw is refl)
-      (under (looked p (stepping p says) answer) (λ l. (stepping p says).act (faulty w l) Look) (with_outcome p says w (Refuses why)) a b r)
+      (under (answered_unless_refused p (stepping p says) answer) (λ l. (stepping p says).act (faulty w l) Look) (with_outcome p says w (Refuses why)) a b r)
 
   pub waiting : (seconds : ℕ) (w : World) (a : ℕ) → Happens p says w (event.Wait seconds) (record w { moment = record { 0 = w.moment.0 + seconds } }) (Now (w.moment.0 + seconds)) a a
   waiting seconds w a = stays (λ l. (faulty (record w { moment = record { 0 = w.moment.0 + seconds } }) l, Now (w.moment.0 + seconds))) a a (omega arith)

@@ -4,7 +4,7 @@ use Rattle.merge_types.specs.declared.identifiers.SiteId.{SiteId}
 use Rattle.merge_batch.specs.declared.refusal.Refusal.{Refusal}
 use Rattle.merge_schema.specs.declared.publication.Publication.{Publication}
 use Rattle.merge_model.specs.Failing.{Faulty, faulty}
-use Rattle.merge_model.specs.World.Session.{Session, answered_as, arrived, ask, exchange, then_deliver, all_uploads, unless_stopped, unsent_generations, uploading, with_upload}
+use Rattle.merge_model.specs.World.Session.{Session, answered_as, session_after_reply, ask, exchange, then_deliver, all_uploads, unless_stopped, unsent_generations, uploads_up_to, with_upload}
 use Rattle.merge_model.specs.World.Events.{machine}
 use Rattle.merge_model.specs.World.Steps.{Action, Deliver, Send, SendUpload, Sending}
 use Rattle.merge_model.specs.declared.outcome.Outcome.TheVariants.{Closes, Discards, Forgot, Made, NoLetter, NoPost, Passed, Posted, Refuses, Took}
@@ -41,7 +41,7 @@ module _ (publication : Publication) (says : Saying) (site : SiteId) where
   answered-any counted next w x y l (f, Refuses refusal) = refl
 
   arrived-any : (next : Part) (w : World) (x y : ℕ) (l : Slips) (p : Faulty World × Outcome)
-      → arrived (stepping publication says) site next (at publication says w x y None l) p ≡ arrived (stepping publication says) site next (at publication says w x y None []) p
+      → session_after_reply (stepping publication says) site next (at publication says w x y None l) p ≡ session_after_reply (stepping publication says) site next (at publication says w x y None []) p
   arrived-any next w x y l (f, Passed) = refl
   arrived-any next w x y l (f, Made row) = refl
   arrived-any next w x y l (f, Closes generation) = refl
@@ -65,17 +65,17 @@ module _ (publication : Publication) (says : Saying) (site : SiteId) where
   -- a message that was answered, and its answer that comes
   pub arrives : (counted next : Part) (sending : Sending) (w v u : World) (x y i j number : ℕ) (outcome : Outcome) (a b c : ℕ) → ((l : Slips) → counted (at publication says v x y None l) ≡ at publication says v i j None l)
       → Asks publication says site sending w v (Posted number) a b → Acts publication says (Deliver number) v u outcome b c
-      → Reaches (λ l. exchange (stepping publication says) site sending counted next (at publication says w x y None l)) (λ l. arrived (stepping publication says) site next (at publication says v i j None []) (faulty u l, outcome)) a c
+      → Reaches (λ l. exchange (stepping publication says) site sending counted next (at publication says w x y None l)) (λ l. session_after_reply (stepping publication says) site next (at publication says v i j None []) (faulty u l, outcome)) a c
   unfolding Acts Asks
   arrives counted next sending w v u x y i j number outcome a b c counts first second = then (λ l. exchange (stepping publication says) site sending counted next (at publication says w x y None l))
-      (λ l. arrived (stepping publication says) site next (counted (at publication says v x y None l)) ((stepping publication says).act (faulty v l) (Deliver number)))
-      (λ l. arrived (stepping publication says) site next (at publication says v i j None []) (faulty u l, outcome)) a b c
+      (λ l. session_after_reply (stepping publication says) site next (counted (at publication says v x y None l)) ((stepping publication says).act (faulty v l) (Deliver number)))
+      (λ l. session_after_reply (stepping publication says) site next (at publication says v i j None []) (faulty u l, outcome)) a b c
       (answers counted next sending w v x y (Posted number) a b first)
-      (same-start (λ l. arrived (stepping publication says) site next (counted (at publication says v x y None l)) ((stepping publication says).act (faulty v l) (Deliver number)))
-      (λ l. arrived (stepping publication says) site next (at publication says v i j None []) ((stepping publication says).act (faulty v l) (Deliver number)))
-      (λ l. arrived (stepping publication says) site next (at publication says v i j None []) (faulty u l, outcome)) b c
-      (λ l. ap (λ (t : Session (Faulty World)). arrived (stepping publication says) site next t ((stepping publication says).act (faulty v l) (Deliver number))) (counts l) ∙ arrived-any next v i j l ((stepping publication says).act (faulty v l) (Deliver number)))
-      (under (arrived (stepping publication says) site next (at publication says v i j None [])) (λ l. (stepping publication says).act (faulty v l) (Deliver number)) (with_outcome publication says u outcome) b c second))
+      (same-start (λ l. session_after_reply (stepping publication says) site next (counted (at publication says v x y None l)) ((stepping publication says).act (faulty v l) (Deliver number)))
+      (λ l. session_after_reply (stepping publication says) site next (at publication says v i j None []) ((stepping publication says).act (faulty v l) (Deliver number)))
+      (λ l. session_after_reply (stepping publication says) site next (at publication says v i j None []) (faulty u l, outcome)) b c
+      (λ l. ap (λ (t : Session (Faulty World)). session_after_reply (stepping publication says) site next t ((stepping publication says).act (faulty v l) (Deliver number))) (counts l) ∙ arrived-any next v i j l ((stepping publication says).act (faulty v l) (Deliver number)))
+      (under (session_after_reply (stepping publication says) site next (at publication says v i j None [])) (λ l. (stepping publication says).act (faulty v l) (Deliver number)) (with_outcome publication says u outcome) b c second))
 
   -- there was none to make, or it was refused
   pub asked-other : (sending : Sending) (w v : World) (c : Outcome) (a b : ℕ) → ((number : ℕ) → c ≡ Posted number → ⊥) → Acts publication says (Send site sending) w v c a b
@@ -98,18 +98,18 @@ module _ (publication : Publication) (says : Saying) (site : SiteId) where
 
   -- one upload more, and what follows
   pub uploads-on : (n : ℕ) (w v u : World) (count number : ℕ) (taken : Taken) (a b c : ℕ) → Asks publication says site SendUpload w v (Posted number) a b → Acts publication says (Deliver number) v u (Took taken) b c
-      → Reaches (λ l. uploading (stepping publication says) site (suc n) (at publication says w count 0 None l)) (λ l. uploading (stepping publication says) site n (at publication says u (count + 1) 0 None l)) a c
-  uploads-on n w v u count number taken a b c first second = arrives (with_upload (stepping publication says) site) (uploading (stepping publication says) site n) SendUpload w v u count 0 (count + 1) 0 number (Took taken) a b c (λ l. refl) first second
+      → Reaches (λ l. uploads_up_to (stepping publication says) site (suc n) (at publication says w count 0 None l)) (λ l. uploads_up_to (stepping publication says) site n (at publication says u (count + 1) 0 None l)) a c
+  uploads-on n w v u count number taken a b c first second = arrives (with_upload (stepping publication says) site) (uploads_up_to (stepping publication says) site n) SendUpload w v u count 0 (count + 1) 0 number (Took taken) a b c (λ l. refl) first second
 
   -- its reply was refused
   pub uploads-fail : (n : ℕ) (w v u : World) (count number : ℕ) (refusal : Refusal) (a b c : ℕ) → Asks publication says site SendUpload w v (Posted number) a b → Acts publication says (Deliver number) v u (Refuses refusal) b c
-      → Reaches (λ l. uploading (stepping publication says) site (suc n) (at publication says w count 0 None l)) (at publication says u (count + 1) 0 (Some refusal)) a c
-  uploads-fail n w v u count number refusal a b c first second = arrives (with_upload (stepping publication says) site) (uploading (stepping publication says) site n) SendUpload w v u count 0 (count + 1) 0 number (Refuses refusal) a b c (λ l. refl) first second
+      → Reaches (λ l. uploads_up_to (stepping publication says) site (suc n) (at publication says w count 0 None l)) (at publication says u (count + 1) 0 (Some refusal)) a c
+  uploads-fail n w v u count number refusal a b c first second = arrives (with_upload (stepping publication says) site) (uploads_up_to (stepping publication says) site n) SendUpload w v u count 0 (count + 1) 0 number (Refuses refusal) a b c (λ l. refl) first second
 
   -- the upload was refused
   pub uploads-refused : (n : ℕ) (w v : World) (count : ℕ) (refusal : Refusal) (a b : ℕ) → Asks publication says site SendUpload w v (Refuses refusal) a b
-      → Reaches (λ l. uploading (stepping publication says) site (suc n) (at publication says w count 0 None l)) (at publication says v count 0 (Some refusal)) a b
-  uploads-refused n w v count refusal a b first = answers (with_upload (stepping publication says) site) (uploading (stepping publication says) site n) SendUpload w v count 0 (Refuses refusal) a b first
+      → Reaches (λ l. uploads_up_to (stepping publication says) site (suc n) (at publication says w count 0 None l)) (at publication says v count 0 (Some refusal)) a b
+  uploads-refused n w v count refusal a b first = answers (with_upload (stepping publication says) site) (uploads_up_to (stepping publication says) site n) SendUpload w v count 0 (Refuses refusal) a b first
 
 -- nothing more was to be made
 module _ (publication : Publication) (says : Saying) (site : SiteId) where
@@ -127,7 +127,7 @@ module _ (publication : Publication) (says : Saying) (site : SiteId) where
   past-ask counted next w v x y l (Refuses refusal) posted refused = absurd (refused refusal refl)
 
   past-arrival : (next : Session (Faulty World) → Session (Faulty World)) (w v : World) (x y : ℕ) (l : Slips) (c : Outcome) → ((taken : Taken) → c ≡ Took taken → ⊥) → ((refusal : Refusal) → c ≡ Refuses refusal → ⊥)
-      → arrived (stepping publication says) site next (at publication says w x y None []) (faulty v l, c) ≡ at publication says v x y None l
+      → session_after_reply (stepping publication says) site next (at publication says w x y None []) (faulty v l, c) ≡ at publication says v x y None l
   past-arrival next w v x y l Passed took refused = refl
   past-arrival next w v x y l (Made row) took refused = refl
   past-arrival next w v x y l (Closes generation) took refused = refl
@@ -140,18 +140,18 @@ module _ (publication : Publication) (says : Saying) (site : SiteId) where
   past-arrival next w v x y l (Refuses refusal) took refused = absurd (refused refusal refl)
 
   pub uploads-past : (n : ℕ) (w v : World) (count : ℕ) (c : Outcome) (a b : ℕ) → ((number : ℕ) → c ≡ Posted number → ⊥) → ((refusal : Refusal) → c ≡ Refuses refusal → ⊥) → Asks publication says site SendUpload w v c a b
-      → Reaches (λ l. uploading (stepping publication says) site (suc n) (at publication says w count 0 None l)) (at publication says v count 0 None) a b
-  uploads-past n w v count c a b posted refused first = same-end (λ l. uploading (stepping publication says) site (suc n) (at publication says w count 0 None l))
-      (λ l. answered_as (stepping publication says) site (with_upload (stepping publication says) site) (uploading (stepping publication says) site n) (at publication says w count 0 None []) (faulty v l, c)) (at publication says v count 0 None) a b
-      (λ l. past-ask (with_upload (stepping publication says) site) (uploading (stepping publication says) site n) w v count 0 l c posted refused) (answers publication says site (with_upload (stepping publication says) site) (uploading (stepping publication says) site n) SendUpload w v count 0 c a b first)
+      → Reaches (λ l. uploads_up_to (stepping publication says) site (suc n) (at publication says w count 0 None l)) (at publication says v count 0 None) a b
+  uploads-past n w v count c a b posted refused first = same-end (λ l. uploads_up_to (stepping publication says) site (suc n) (at publication says w count 0 None l))
+      (λ l. answered_as (stepping publication says) site (with_upload (stepping publication says) site) (uploads_up_to (stepping publication says) site n) (at publication says w count 0 None []) (faulty v l, c)) (at publication says v count 0 None) a b
+      (λ l. past-ask (with_upload (stepping publication says) site) (uploads_up_to (stepping publication says) site n) w v count 0 l c posted refused) (answers publication says site (with_upload (stepping publication says) site) (uploads_up_to (stepping publication says) site n) SendUpload w v count 0 c a b first)
 
   pub uploads-stray : (n : ℕ) (w v u : World) (count number : ℕ) (k : Outcome) (a b c : ℕ) → ((taken : Taken) → k ≡ Took taken → ⊥) → ((refusal : Refusal) → k ≡ Refuses refusal → ⊥)
       → Asks publication says site SendUpload w v (Posted number) a b → Acts publication says (Deliver number) v u k b c
-      → Reaches (λ l. uploading (stepping publication says) site (suc n) (at publication says w count 0 None l)) (at publication says u (count + 1) 0 None) a c
-  uploads-stray n w v u count number k a b c took refused first second = same-end (λ l. uploading (stepping publication says) site (suc n) (at publication says w count 0 None l))
-      (λ l. arrived (stepping publication says) site (uploading (stepping publication says) site n) (at publication says v (count + 1) 0 None []) (faulty u l, k)) (at publication says u (count + 1) 0 None) a c
-      (λ l. past-arrival (uploading (stepping publication says) site n) v u (count + 1) 0 l k took refused)
-      (arrives publication says site (with_upload (stepping publication says) site) (uploading (stepping publication says) site n) SendUpload w v u count 0 (count + 1) 0 number k a b c (λ l. refl) first second)
+      → Reaches (λ l. uploads_up_to (stepping publication says) site (suc n) (at publication says w count 0 None l)) (at publication says u (count + 1) 0 None) a c
+  uploads-stray n w v u count number k a b c took refused first second = same-end (λ l. uploads_up_to (stepping publication says) site (suc n) (at publication says w count 0 None l))
+      (λ l. session_after_reply (stepping publication says) site (uploads_up_to (stepping publication says) site n) (at publication says v (count + 1) 0 None []) (faulty u l, k)) (at publication says u (count + 1) 0 None) a c
+      (λ l. past-arrival (uploads_up_to (stepping publication says) site n) v u (count + 1) 0 l k took refused)
+      (arrives publication says site (with_upload (stepping publication says) site) (uploads_up_to (stepping publication says) site n) SendUpload w v u count 0 (count + 1) 0 number k a b c (λ l. refl) first second)
 
 -- the same words by the same publication and the same resolvers
 pub acts-by : (p p' : Publication) (s s' : Saying) → p ≡ p' → s ≡ s' → (action : Action) (w v : World) (outcome : Outcome) (a b : ℕ) → Acts p s action w v outcome a b → Acts p' s' action w v outcome a b
@@ -166,7 +166,7 @@ module _ (p : Publication) (s : Saying) (site : SiteId) where
   left most i lt = omega (arith, lt)
 
   abbrev from : ℕ → World → ℕ → Slips → Session (Faulty World)
-  from n w count l = uploading (stepping p s) site n (at p s w count 0 None l)
+  from n w count l = uploads_up_to (stepping p s) site n (at p s w count 0 None l)
 
   pub uploads-by : (most i : ℕ) (w v u : World) (count last : ℕ) (stop : Option Refusal) (a b c : ℕ) → i < most → Reaches (from most w 0) (from (most - i) v count) a b
       → ((n : ℕ) → Reaches (from (suc n) v count) (at p s u last 0 stop) b c) → Uploads p s site most w u last stop a c

@@ -32,7 +32,7 @@ use Rattle.merge_units.specs.Cases.{is_conflict}
 use Rattle.merge_model.specs.Publisher.Acts.{Act, Fate, New, Unknown, Met, acts_of}
 use Rattle.merge_model.specs.Publisher.Entries.{Entries}
 use Rattle.merge_model.specs.Publisher.PublisherJoin.{join_acts}
-use Rattle.merge_model.specs.Publisher.PublisherLocal.{drawn, Drawn, next_dot}
+use Rattle.merge_model.specs.Publisher.PublisherLocal.{draw_for_change, Drawn, next_dot}
 use Rattle.merge_model.specs.Publisher.PublisherUpload.{brings_news}
 use Rattle.merge_model.specs.Subscriber.{subscriber_drawn, subscriber_next_dot, subscriber_last_closed}
 use Rattle.merge_model.specs.Publisher.{at_moment, last_closed}
@@ -40,7 +40,7 @@ use Rattle.merge_model.specs.Tables.Publications.{by_site}
 use Rattle.merge_model.specs.Tables.Keys.{put_number}
 use Rattle.merge_model.specs.History.Pasts.{past_by}
 use Rattle.merge_model.specs.Subscriber.Taking.{key_of_download}
-use Rattle.merge_model.specs.Subscriber.Reinit.{discarded}
+use Rattle.merge_model.specs.Subscriber.Reinit.{discarded_versions}
 use Rattle.merge_model.specs.World.{World, Judges, Saying, letter_at, subscriber_at}
 use Rattle.merge_model.specs.declared.letter.Letter.{Letter}
 use Rattle.merge_model.specs.declared.letter.Message.{Message}
@@ -228,7 +228,7 @@ pub make-done : (publication : Publication) (judges : Judges) (site : SiteId) (c
 make-done publication judges site change w h =
     if-done (site.0 == 0) (Noting.noted_at_publisher publication (judges.publisher 0) change (at_moment w.moment w.publisher) h)
     (let k : History = elim (subscriber_at w site) [ None ↦ h | Some s ↦ Noting.noted_at_subscriber publication change s h ] in k) h
-    (publisher-done publication (judges.publisher 0) change (at_moment w.moment w.publisher) (drawn publication (at_moment w.moment w.publisher) change) h)
+    (publisher-done publication (judges.publisher 0) change (at_moment w.moment w.publisher) (draw_for_change publication (at_moment w.moment w.publisher) change) h)
     (made-done publication change (subscriber_at w site) h)
 
 if-once : (b : Bool) (x y : History) → Once x.done → Once y.done → Once (if b then x else y).done
@@ -276,7 +276,7 @@ letter-once publication says judges number w (Some letter) h once = message-once
 pub anew-done : (judges : Judges) (site : SiteId) (found : Option SubscriberTables) (h : History)
     → (let k : History = elim found [ None ↦ h | Some s ↦ Noting.noted_anew (judges.subscriber site s) s h ] in k.done ≡ h.done)
 anew-done judges site None h = refl
-anew-done judges site (Some s) h = discarded-done s.site (discarded (judges.subscriber site s) s) h
+anew-done judges site (Some s) h = discarded-done s.site (discarded_versions (judges.subscriber site s) s) h
 
 pub purge-done : (publication : Publication) (judge : PublisherJudge) (p : PublisherTables) (h : History) → (Noting.noted_purge publication judge p h).done ≡ h.done
 purge-done publication judge p h =

@@ -38,7 +38,7 @@ use Rattle.merge_model.specs.World.{World, Judges, Saying, letter_at, subscriber
 use Rattle.merge_model.specs.declared.letter.Message.{Message}
 use Rattle.merge_model.specs.declared.letter.Message.TheVariants.{Asks, Replies}
 use Rattle.merge_model.specs.declared.letter.Letter.{Letter}
-use Rattle.merge_model.specs.World.Steps.{Action, Pass, Make, CloseAt, Send, Deliver, MakeAnew, Forget, Look, Sending, SendJoin, SendUpload, SendRanges, SendDownload, post, posted, unless_refused, at_subscriber, make_at, make_at_publisher, make_at_subscriber, close_at, close_publisher, close_subscriber, send_from, answered, after_upload, kept_decisions, upload_questions, deliver_request, deliver_reply, deliver_letter, make_anew, step_by}
+use Rattle.merge_model.specs.World.Steps.{Action, Pass, Make, CloseAt, Send, Deliver, MakeAnew, Forget, Look, Sending, SendJoin, SendUpload, SendRanges, SendDownload, post, post_if_made, unless_refused, at_subscriber, make_at, make_at_publisher, make_at_subscriber, close_at, close_publisher, close_subscriber, send_from, post_reply, after_upload, kept_decisions, upload_questions, deliver_request, deliver_reply, deliver_letter, make_anew, step_by}
 use Rattle.merge_model.specs.declared.outcome.Outcome.{Outcome}
 use Rattle.merge_model.specs.declared.outcome.Outcome.TheVariants.{Refuses, Made, Closes, Took, NoLetter, Discards}
 
@@ -91,17 +91,17 @@ module _ (publication : Publication) (Q : PublisherTables → Type 0)
       (at_subscriber-holds site w (close_subscriber w) h
       (λ s. sub-holds w (close_subscriber_generation w.moment s) (λ (done : SubscriberTables × ℕ). (with_subscriber done.0 w, Closes done.1)) h (λ a. h)))
 
-  posted-holds : {A : Type 0} (site : SiteId) (message : A → Request) (w : World) (made : Option (SubscriberTables × A)) → Holds w → Holds (posted site message w made).0
+  posted-holds : {A : Type 0} (site : SiteId) (message : A → Request) (w : World) (made : Option (SubscriberTables × A)) → Holds w → Holds (post_if_made site message w made).0
   posted-holds site message w None h = h
   posted-holds site message w (Some made) h = h
 
   send-holds : (judges : Judges) (sending : Sending) (w : World) (s : SubscriberTables) → Holds w → Holds (send_from judges sending w s).0
-  send-holds judges SendJoin w s h = sub-holds w (make_join s) (posted s.site (λ (m : Join). request.Join m) w) h (λ a. posted-holds s.site (λ (m : Join). request.Join m) w a h)
-  send-holds judges SendUpload w s h = sub-holds w (make_upload (judges.subscriber s.site s) w.moment s) (posted s.site (λ (m : Upload). request.Upload m) w) h (λ a. posted-holds s.site (λ (m : Upload). request.Upload m) w a h)
-  send-holds judges SendRanges w s h = sub-holds w (make_ranges s) (posted s.site (λ (m : RangeAsk). request.Ranges m) w) h (λ a. posted-holds s.site (λ (m : RangeAsk). request.Ranges m) w a h)
+  send-holds judges SendJoin w s h = sub-holds w (make_join s) (post_if_made s.site (λ (m : Join). request.Join m) w) h (λ a. posted-holds s.site (λ (m : Join). request.Join m) w a h)
+  send-holds judges SendUpload w s h = sub-holds w (make_upload (judges.subscriber s.site s) w.moment s) (post_if_made s.site (λ (m : Upload). request.Upload m) w) h (λ a. posted-holds s.site (λ (m : Upload). request.Upload m) w a h)
+  send-holds judges SendRanges w s h = sub-holds w (make_ranges s) (post_if_made s.site (λ (m : RangeAsk). request.Ranges m) w) h (λ a. posted-holds s.site (λ (m : RangeAsk). request.Ranges m) w a h)
   send-holds judges SendDownload w s h = sub-holds w (make_ask s) (λ (made : SubscriberTables × Download). post s.site (Asks (request.Download made.1)) (with_subscriber made.0 w)) h (λ a. h)
 
-  answered-holds : {A : Type 0} (site : SiteId) (message : A → Reply) (w : World) (done : Result (PublisherTables × A) Refusal) → Holds w → IfOk done (λ a. Q a.0) → Holds (answered site message w done).0
+  answered-holds : {A : Type 0} (site : SiteId) (message : A → Reply) (w : World) (done : Result (PublisherTables × A) Refusal) → Holds w → IfOk done (λ a. Q a.0) → Holds (post_reply site message w done).0
   answered-holds {A = A} site message w done h ok = pub-holds w done (λ (made : PublisherTables × A). post site (Replies (message made.1)) (with_publisher made.0 w)) h ok (λ a k. k)
 
   upload-holds : (says : Saying) (judge : PublisherJudge) (site : SiteId) (m : Upload) (w : World) (done : Result (PublisherTables × Uploaded) Refusal) → Holds w → IfOk done (λ a. Q a.0) → Holds (after_upload publication says judge site m w done).0

@@ -12,8 +12,8 @@ use Rattle.merge_schema.specs.declared.publication.Publication.{Publication}
 use Rattle.merge_model.specs.Tables.{PublisherTables}
 use Rattle.merge_model.specs.Judge.{PublisherJudge}
 use Rattle.merge_model.specs.Publisher.Acts.{Act, acts_of}
-use Rattle.merge_model.specs.Publisher.{at_moment, closed}
-use Rattle.merge_model.specs.Publisher.PublisherLocal.{drawn, Drawn, made_locally}
+use Rattle.merge_model.specs.Publisher.{at_moment, tables_after_close}
+use Rattle.merge_model.specs.Publisher.PublisherLocal.{draw_for_change, Drawn, made_locally}
 use Rattle.merge_model.specs.Publisher.PublisherUpload.{taken_in}
 use Rattle.merge_model.specs.World.{World, Judges, Saying}
 use Rattle.merge_model.specs.World.Steps.{Action, step_by}
@@ -29,10 +29,10 @@ moment-rises b p now r = record {
   latest_rises = omega (arith, r.latest_rises);
 }
 
-closed_filling-rises : (filling : Filling) → filling.last_closed ≤ (fill.closed filling).last_closed
+closed_filling-rises : (filling : Filling) → filling.last_closed ≤ (fill.filling_after_close filling).last_closed
 closed_filling-rises filling = grind (arith, nat_tests)
 
-closed-rises : (b p : PublisherTables) → PublisherRises b p → PublisherRises b (closed p)
+closed-rises : (b p : PublisherTables) → PublisherRises b p → PublisherRises b (tables_after_close p)
 closed-rises b p r = record {
   changes_rise = r.changes_rise;
   closed_rises = omega (arith, r.closed_rises, closed_filling-rises p.gens.filling);
@@ -67,7 +67,7 @@ drawn-rises b publication judge now change p (Err refusal) r = tt
 pub step-rises : (publication : Publication) (says : Saying) (judges : Judges) (w : World) (action : Action) → PublisherRises w.publisher (step_by publication says judges w action).0.publisher
 step-rises publication says judges w action =
     step-holds publication (λ (p : PublisherTables). PublisherRises w.publisher p)
-    (λ judge now change p k. local-ok (λ (q : PublisherTables). PublisherRises w.publisher q) publication judge now change p (drawn-rises w.publisher publication judge now change p (drawn publication p change) k))
+    (λ judge now change p k. local-ok (λ (q : PublisherTables). PublisherRises w.publisher q) publication judge now change p (drawn-rises w.publisher publication judge now change p (draw_for_change publication p change) k))
     (λ now p k. close-ok (λ (q : PublisherTables). PublisherRises w.publisher q) now p (closed-rises w.publisher (at_moment now p) (moment-rises w.publisher p now k)))
     (λ now m p k. join-ok (λ (q : PublisherTables). PublisherRises w.publisher q) publication now m p
     (let r = moment-rises w.publisher p now k in record { changes_rise = r.changes_rise; closed_rises = r.closed_rises; conflicts_rise = r.conflicts_rise; latest_rises = r.latest_rises })

@@ -21,7 +21,7 @@ use Rattle.merge_gens.specs.declared.filling.Filling.{Filling}
 use Rattle.merge_gens.specs.declared.sites.SiteState.{SiteState}
 use Rattle.merge_gens.specs.Filling as fill
 use Rattle.merge_gens.specs.declared.closings.Closing.{Closing}
-use Rattle.merge_gens.specs.Book.{Book, IsSound, entered, closed_now}
+use Rattle.merge_gens.specs.Book.{Book, IsSound, book_after_entries, closed_now}
 use Rattle.merge_gens.proofs.ClosedGenerations.{sound_kept, sound_moved}
 use Rattle.std.specs.BTreeMap.{is_at}
 use Rattle.merge_table.proofs.Sorted.{sorted_put, sorted_take}
@@ -38,12 +38,12 @@ use Rattle.merge_model.specs.Tables.Keys.{drop_row_site, put_row}
 use Rattle.merge_model.specs.Judge.{PublisherJudge}
 use Rattle.merge_model.specs.Publisher.Entries.{Entries, changing_entries, entry_count, with_rows, with_move, with_entries}
 use Rattle.merge_model.specs.Publisher.Acts.{Act, acts_of}
-use Rattle.merge_model.specs.Publisher.{at_moment, closed}
-use Rattle.merge_model.specs.Publisher.PublisherLocal.{drawn, Drawn, made_locally, with_draw, changing_locally}
+use Rattle.merge_model.specs.Publisher.{at_moment, tables_after_close}
+use Rattle.merge_model.specs.Publisher.PublisherLocal.{draw_for_change, Drawn, made_locally, with_draw, changing_locally}
 use Rattle.merge_model.specs.Publisher.PublisherJoin.{join_taken}
 use Rattle.merge_model.specs.Publisher.PublisherUpload.{taken_in, with_acts, with_taken, state_seeing, changing_by}
 use Rattle.merge_model.specs.Publisher.PublisherRanges.{plans, with_grants}
-use Rattle.merge_model.specs.Publisher.PublisherDownload.{asked}
+use Rattle.merge_model.specs.Publisher.PublisherDownload.{tables_after_download}
 use Rattle.merge_model.specs.Publisher.PublisherPurge.{purge, cutoff}
 use Rattle.merge_model.specs.World.{World, Judges, Saying}
 use Rattle.merge_model.specs.World.Steps.{Action, step_by}
@@ -89,17 +89,17 @@ gone-sorted mappings [] sorted = sorted
 gone-sorted mappings (place ∷ gone) sorted = gone-sorted (drop_row_site mappings place) gone (sorted_take row_site_cmp row_site_total (is_at (row_site_cmp place)) mappings sorted)
 
 -- generations
-pub entered-sound : (book : Book) (count : ℕ) (moment : Moment) → IsSound book → IsSound (entered book count moment)
+pub entered-sound : (book : Book) (count : ℕ) (moment : Moment) → IsSound book → IsSound (book_after_entries book count moment)
 entered-sound book count moment sound = sound_moved book (fill.filled_by book.filling count) moment sound (omega arith) (omega arith)
 
-pub closed_filling-small : (filling : Filling) → filling.filled < 1000 → (fill.closed filling).filled < 1000
+pub closed_filling-small : (filling : Filling) → filling.filled < 1000 → (fill.filling_after_close filling).filled < 1000
 closed_filling-small filling h = grind (arith, nat_tests)
 
-pub closed_filling-rises : (filling : Filling) → filling.last_closed ≤ (fill.closed filling).last_closed
+pub closed_filling-rises : (filling : Filling) → filling.last_closed ≤ (fill.filling_after_close filling).last_closed
 closed_filling-rises filling = grind (arith, nat_tests)
 
 pub closed-sound : (book : Book) (moment : Moment) → IsSound book → IsSound (closed_now book moment)
-closed-sound book moment sound = sound_moved book (fill.closed book.filling) moment sound (closed_filling-small book.filling sound.unfilled) (closed_filling-rises book.filling)
+closed-sound book moment sound = sound_moved book (fill.filling_after_close book.filling) moment sound (closed_filling-small book.filling sound.unfilled) (closed_filling-rises book.filling)
 
 -- the entries of a step
 entries-sorted : (entries : Entries) (versions : List (Key × Version)) (p : PublisherTables) → AreSorted p → AreSorted (with_entries entries versions p)
@@ -165,7 +165,7 @@ join-sorted m p s = record {
   generations_ascend = s.generations_ascend;
 }
 
-asked-sorted : (m : Download) (p : PublisherTables) → AreSorted p → AreSorted (asked m p)
+asked-sorted : (m : Download) (p : PublisherTables) → AreSorted p → AreSorted (tables_after_download m p)
 asked-sorted m p s = record {
   rows_ascend = s.rows_ascend;
   mappings_ascend = s.mappings_ascend;
@@ -173,7 +173,7 @@ asked-sorted m p s = record {
   generations_ascend = closed-sound p.gens p.latest s.generations_ascend;
 }
 
-closed-sorted : (p : PublisherTables) → AreSorted p → AreSorted (closed p)
+closed-sorted : (p : PublisherTables) → AreSorted p → AreSorted (tables_after_close p)
 closed-sorted p s = record {
   rows_ascend = s.rows_ascend;
   mappings_ascend = s.mappings_ascend;
@@ -199,7 +199,7 @@ purge-sorted publication now p s = record {
 
 pub step-sorted : (publication : Publication) (says : Saying) (judges : Judges) (w : World) (action : Action) → AreSorted w.publisher → AreSorted (step_by publication says judges w action).0.publisher
 step-sorted publication says judges w action s = step-holds publication AreSorted
-    (λ judge now change p k. local-ok AreSorted publication judge now change p (drawn-sorted publication judge now change p (drawn publication p change) k))
+    (λ judge now change p k. local-ok AreSorted publication judge now change p (drawn-sorted publication judge now change p (draw_for_change publication p change) k))
     (λ now p k. close-ok AreSorted now p (closed-sorted (at_moment now p) (moment-sorted p now k)))
     (λ now m p k. join-ok AreSorted publication now m p (join-sorted m (at_moment now p) (moment-sorted p now k)) (moment-sorted p now k))
     (λ judge now m decisions p k. upload-ok AreSorted publication judge now m decisions p

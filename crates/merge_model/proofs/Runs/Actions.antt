@@ -5,7 +5,7 @@ use Rattle.std.proofs.Common.{ap, ◌∙◌, inl, inr}
 use Rattle.merge_schema.specs.declared.publication.Publication.{Publication}
 use Rattle.merge_batch.specs.declared.refusal.Refusal.{Refusal}
 use Rattle.merge_model.specs.World.Events.{after}
-use Rattle.merge_model.specs.Failing.{Faulty, failing}
+use Rattle.merge_model.specs.Failing.{Faulty, faulty_stepping}
 use Rattle.merge_model.specs.Failing.Runs.{after_actions, outcomes}
 use Rattle.merge_model.specs.World.Session.{Stepping}
 use Rattle.merge_model.specs.Laws.SlipLaws.{refused_for}
@@ -31,9 +31,9 @@ module _ {W : Type 0} (stepping : Stepping W) where
 
 -- Where steps may fail, so is what other tallies of resolvers keep too.
 pub failing-actions-keep : {W : Type 0} (publication : Publication) (stepping : Stepping W) (P : W → Type 0) → ((w : W) (action : Action) → P w → P (stepping.act w action).0) → ((w : W) (tallies : List ℕ) → P w → P (stepping.retally tallies w))
-    → (actions : List Action) (f : Faulty W) → P f.world → P (after_actions (failing publication stepping) f actions).world
+    → (actions : List Action) (f : Faulty W) → P f.world → P (after_actions (faulty_stepping publication stepping) f actions).world
 failing-actions-keep {W = W} publication stepping P of_act of_tallies actions f h =
-    actions-keep (failing publication stepping) (λ (g : Faulty W). P g.world) (λ g action k. fails-keep publication stepping P of_act of_tallies g action k) actions f h
+    actions-keep (faulty_stepping publication stepping) (λ (g : Faulty W). P g.world) (λ g action k. fails-keep publication stepping P of_act of_tallies g action k) actions f h
 
 -- Two worlds whose steps are alike do alike.
 module _ {V W : Type 0} (one : Stepping V) (other : Stepping W) (R : V → W → Type 0) (acts : (v : V) (w : W) (action : Action) → R v w → Both R (one.act v action) (other.act w action)) where

@@ -11,14 +11,14 @@ use Rattle.merge_batch.specs.declared.refusal.Refusal.TheVariants.{NoMemory, Unk
 use Rattle.merge_batch.specs.declared.reply.Downloaded.{Downloaded}
 use Rattle.merge_model.specs.declared.answer.Answer.{Answer}
 use Rattle.merge_model.specs.declared.answer.Answer.TheVariants.{Conflicts, Counts, Done, Fine, Grants, Held, Now, Refused, RefusedIn, Rows, Stopped}
-use Rattle.merge_model.specs.World.Events.{after, answers as answers_to, acting, refused_change, answered_by, change_answer, changing, looked, looking, is_site, where_site, where_subscriber, syncing, session_answer, outcome_answer, happens, reported, reporting, showing, watermark_in}
+use Rattle.merge_model.specs.World.Events.{after, answers as answers_to, answered_action, refused_change, answered_by, change_answer, answered_change, answered_unless_refused, answered_look, is_site, where_site, where_subscriber, answered_sync, session_answer, outcome_answer, happens, report_of_site, answered_report, answered_show, watermark_in}
 use Rattle.merge_model.specs.Publisher.Entries.{live_rows}
 use Rattle.merge_model.specs.World.Naming.{article_by, delete_by, insert_by, update_by}
 use Rattle.merge_model.specs.World.Reports.{counts_of, held_report, partition_report, publisher_generations, shown_rows, subscriber_live_rows, subscriber_generations}
 use Rattle.merge_model.specs.Tables.{PublisherTables, SubscriberTables}
 use Rattle.merge_model.specs.declared.event.Event.{Event}
 use Rattle.merge_model.specs.declared.event.Event.TheVariants as event
-use Rattle.merge_model.specs.World.Session.{Session, Stepping, after_download, all_downloads, all_ranges, all_uploads, answered_as, arrived, as_it_is, ask, asking_ranges, downloaded_in, downloading, exchange, has_grant, is_joined_in, joining, last_message, range_asks, session, then_deliver, unless_stopped, unsent_generations, uploading, with_answer, with_download, with_upload}
+use Rattle.merge_model.specs.World.Session.{Session, Stepping, after_download, all_downloads, all_ranges, all_uploads, answered_as, as_it_is, ask, downloaded_in, downloads_up_to, exchange, has_grant, is_joined_in, join_if_due, last_message, range_asks, range_requests_up_to, session, session_after_reply, then_deliver, unless_stopped, unsent_generations, uploads_up_to, with_answer, with_download, with_upload}
 use Rattle.merge_model.specs.World.Steps.{Action, CloseAt, Deliver, Forget, Look, Make, MakeAnew, Pass, Send, SendDownload, SendJoin, SendRanges, SendUpload, Sending}
 use Rattle.merge_model.specs.declared.outcome.Outcome.TheVariants.{Passed, Posted, Refuses, Took}
 use Rattle.merge_model.specs.declared.outcome.Outcome.{Outcome}
@@ -100,18 +100,18 @@ module _ {V W : Type 0} (one : Stepping V) (other : Stepping W) (R : V → W →
     asks sending v w r = delivers (one.act v (Send site sending)) (other.act w (Send site sending)) (acts v w (Send site sending) r)
 
     arrives : (next : Session V → Session V) (onward : Session W → Session W) → Parts next onward → (s : Session V) (t : Session W) → Alike s t → (v : V) (w : W) (outcome : Outcome) → R v w
-        → AlikeOr (arrived one site next s (v, outcome)) (arrived other site onward t (w, outcome))
+        → AlikeOr (session_after_reply one site next s (v, outcome)) (session_after_reply other site onward t (w, outcome))
     arrives next onward each s t a v w (Took taken) r = each (record s { world = v }) (record t { world = w }) (record { world = r; uploads = a.uploads; downloads = a.downloads; stop = a.stop })
     arrives next onward each s t a v w (Refuses refusal) r = inl (record { world = r; uploads = a.uploads; downloads = a.downloads; stop = refl })
     arrives next onward each s t a v w outcome r = inl (record { world = r; uploads = a.uploads; downloads = a.downloads; stop = a.stop })
 
-    arrived-off : (next : Session V → Session V) (s : Session V) (x : V × Outcome) → refused_for off x.1 ≡ true → stops_off off (arrived one site next s x).stop ≡ true
+    arrived-off : (next : Session V → Session V) (s : Session V) (x : V × Outcome) → refused_for off x.1 ≡ true → stops_off off (session_after_reply one site next s x).stop ≡ true
     arrived-off next s (v, Refuses refusal) is = is
     arrived-off next s (v, outcome) is = absurd (cc is)
 
     arrives-pair : (next : Session V → Session V) (onward : Session W → Session W) → Parts next onward → (s : Session V) (t : Session W) → Alike s t → (x : V × Outcome) (y : W × Outcome) → Acted x y
-        → AlikeOr (arrived one site next s x) (arrived other site onward t y)
-    arrives-pair next onward each s t a x y (inl b) = subst (λ (o : Outcome). AlikeOr (arrived one site next s x) (arrived other site onward t (y.0, o))) b.0 (arrives next onward each s t a x.0 y.0 x.1 b.1)
+        → AlikeOr (session_after_reply one site next s x) (session_after_reply other site onward t y)
+    arrives-pair next onward each s t a x y (inl b) = subst (λ (o : Outcome). AlikeOr (session_after_reply one site next s x) (session_after_reply other site onward t (y.0, o))) b.0 (arrives next onward each s t a x.0 y.0 x.1 b.1)
     arrives-pair next onward each s t a x y (inr is) = inr (arrived-off next s x is)
 
     answers : (counted next : Session V → Session V) (counts onward : Session W → Session W) → Counting counted counts → Parts next onward → (s : Session V) (t : Session W) → Alike s t → (v : V) (w : W) (outcome : Outcome) → R v w
@@ -135,17 +135,17 @@ module _ {V W : Type 0} (one : Stepping V) (other : Stepping W) (R : V → W →
     exchanges : (sending : Sending) (counted next : Session V → Session V) (counts onward : Session W → Session W) → Counting counted counts → Parts next onward → Parts (exchange one site sending counted next) (exchange other site sending counts onward)
     exchanges sending counted next counts onward counting each s t a = answers-pair counted next counts onward counting each s t a (ask one site sending s.world) (ask other site sending t.world) (asks sending s.world t.world a.world)
 
-    uploads-alike : (n : ℕ) → Parts (uploading one site n) (uploading other site n)
+    uploads-alike : (n : ℕ) → Parts (uploads_up_to one site n) (uploads_up_to other site n)
     uploads-alike zero s t a = inl a
-    uploads-alike (suc n) s t a = exchanges SendUpload (with_upload one site) (uploading one site n) (with_upload other site) (uploading other site n)
+    uploads-alike (suc n) s t a = exchanges SendUpload (with_upload one site) (uploads_up_to one site n) (with_upload other site) (uploads_up_to other site n)
         (λ s t a. record { world = a.world; uploads = ap (λ k. k + 1) a.uploads; downloads = a.downloads; stop = a.stop }) (uploads-alike n) s t a
 
-    ranges-alike : (n : ℕ) → Parts (asking_ranges one site n) (asking_ranges other site n)
+    ranges-alike : (n : ℕ) → Parts (range_requests_up_to one site n) (range_requests_up_to other site n)
     ranges-alike zero s t a = inl a
-    ranges-alike (suc n) s t a = exchanges SendRanges (as_it_is one site) (λ (u : Session V). if has_grant one site (last_message one site u.world) then asking_ranges one site n u else u) (as_it_is other site) (λ (u : Session W). if has_grant other site (last_message other site u.world) then asking_ranges other site n u else u)
-        (λ s t a. a) (λ s t a. subst (λ (b : Bool). AlikeOr (if has_grant one site (last_message one site s.world) then asking_ranges one site n s else s) (if b then asking_ranges other site n t else t))
+    ranges-alike (suc n) s t a = exchanges SendRanges (as_it_is one site) (λ (u : Session V). if has_grant one site (last_message one site u.world) then range_requests_up_to one site n u else u) (as_it_is other site) (λ (u : Session W). if has_grant other site (last_message other site u.world) then range_requests_up_to other site n u else u)
+        (λ s t a. a) (λ s t a. subst (λ (b : Bool). AlikeOr (if has_grant one site (last_message one site s.world) then range_requests_up_to one site n s else s) (if b then range_requests_up_to other site n t else t))
         (by-look (λ (x : World). has_grant one site (last_message whole site x)) s.world t.world a.world)
-        (if-session (has_grant one site (last_message one site s.world)) (asking_ranges one site n s) s (asking_ranges other site n t) t (ranges-alike n s t a) (inl a))) s t a
+        (if-session (has_grant one site (last_message one site s.world)) (range_requests_up_to one site n s) s (range_requests_up_to other site n t) t (ranges-alike n s t a) (inl a))) s t a
 
     last-alike : (s : Session V) (t : Session W) → R s.world t.world → downloaded_in one site (last_message one site s.world) ≡ downloaded_in other site (last_message other site t.world)
     last-alike s t r = by-look (λ (x : World). downloaded_in one site (last_message whole site x)) s.world t.world r
@@ -167,18 +167,18 @@ module _ {V W : Type 0} (one : Stepping V) (other : Stepping W) (R : V → W →
         by None = inl a
         by (Some m) = each m s t a
 
-    downloads-alike : (n target : ℕ) → Parts (downloading one site n target) (downloading other site n target)
+    downloads-alike : (n target : ℕ) → Parts (downloads_up_to one site n target) (downloads_up_to other site n target)
     downloads-alike zero target s t a = inl a
-    downloads-alike (suc n) target s t a = exchanges SendDownload (with_answer one site) (after_download one site (λ (m : Downloaded) (u : Session V). if nat_le target m.from then u else downloading one site n target u))
-        (with_answer other site) (after_download other site (λ (m : Downloaded) (u : Session W). if nat_le target m.from then u else downloading other site n target u)) with-alike
-        (after-alike (λ (m : Downloaded) (u : Session V). if nat_le target m.from then u else downloading one site n target u) (λ (m : Downloaded) (u : Session W). if nat_le target m.from then u else downloading other site n target u)
-        (λ m u x b. if-session (nat_le target m.from) u (downloading one site n target u) x (downloading other site n target x) (inl b) (downloads-alike n target u x b))) s t a
+    downloads-alike (suc n) target s t a = exchanges SendDownload (with_answer one site) (after_download one site (λ (m : Downloaded) (u : Session V). if nat_le target m.from then u else downloads_up_to one site n target u))
+        (with_answer other site) (after_download other site (λ (m : Downloaded) (u : Session W). if nat_le target m.from then u else downloads_up_to other site n target u)) with-alike
+        (after-alike (λ (m : Downloaded) (u : Session V). if nat_le target m.from then u else downloads_up_to one site n target u) (λ (m : Downloaded) (u : Session W). if nat_le target m.from then u else downloads_up_to other site n target u)
+        (λ m u x b. if-session (nat_le target m.from) u (downloads_up_to one site n target u) x (downloads_up_to other site n target x) (inl b) (downloads-alike n target u x b))) s t a
 
     all-alike : Parts (all_downloads one site) (all_downloads other site)
-    all-alike s t a = exchanges SendDownload (with_answer one site) (after_download one site (λ (m : Downloaded) (u : Session V). if nat_le m.last m.from then u else downloading one site (m.last + 1 - m.from) m.last u))
-        (with_answer other site) (after_download other site (λ (m : Downloaded) (u : Session W). if nat_le m.last m.from then u else downloading other site (m.last + 1 - m.from) m.last u)) with-alike
-        (after-alike (λ (m : Downloaded) (u : Session V). if nat_le m.last m.from then u else downloading one site (m.last + 1 - m.from) m.last u) (λ (m : Downloaded) (u : Session W). if nat_le m.last m.from then u else downloading other site (m.last + 1 - m.from) m.last u)
-        (λ m u x b. if-session (nat_le m.last m.from) u (downloading one site (m.last + 1 - m.from) m.last u) x (downloading other site (m.last + 1 - m.from) m.last x) (inl b) (downloads-alike (m.last + 1 - m.from) m.last u x b))) s t a
+    all-alike s t a = exchanges SendDownload (with_answer one site) (after_download one site (λ (m : Downloaded) (u : Session V). if nat_le m.last m.from then u else downloads_up_to one site (m.last + 1 - m.from) m.last u))
+        (with_answer other site) (after_download other site (λ (m : Downloaded) (u : Session W). if nat_le m.last m.from then u else downloads_up_to other site (m.last + 1 - m.from) m.last u)) with-alike
+        (after-alike (λ (m : Downloaded) (u : Session V). if nat_le m.last m.from then u else downloads_up_to one site (m.last + 1 - m.from) m.last u) (λ (m : Downloaded) (u : Session W). if nat_le m.last m.from then u else downloads_up_to other site (m.last + 1 - m.from) m.last u)
+        (λ m u x b. if-session (nat_le m.last m.from) u (downloads_up_to one site (m.last + 1 - m.from) m.last u) x (downloads_up_to other site (m.last + 1 - m.from) m.last x) (inl b) (downloads-alike (m.last + 1 - m.from) m.last u x b))) s t a
 
     stays-off : (f : Session V → Session V) (s : Session V) (stop : Option Refusal) → s.stop ≡ stop → stops_off off stop ≡ true → (let u : Session V = elim stop [ Some refusal ↦ s | None ↦ f s ] in stops_off off u.stop ≡ true)
     stays-off f s (Some refusal) at is = ap (stops_off off) at ∙ is
@@ -192,45 +192,45 @@ module _ {V W : Type 0} (one : Stepping V) (other : Stepping W) (R : V → W →
         by None = each s t a
     unless-alike f g each s t (inr is) = inr (stays-off f s s.stop refl is)
 
-    joins-alike : Parts (joining one site) (joining other site)
-    joins-alike s t a = subst (λ (b : Bool). AlikeOr (joining one site s) (if b then t else exchange other site SendJoin (as_it_is other site) (as_it_is other site) t)) (by-look (λ (x : World). is_joined_in whole site x) s.world t.world a.world)
+    joins-alike : Parts (join_if_due one site) (join_if_due other site)
+    joins-alike s t a = subst (λ (b : Bool). AlikeOr (join_if_due one site s) (if b then t else exchange other site SendJoin (as_it_is other site) (as_it_is other site) t)) (by-look (λ (x : World). is_joined_in whole site x) s.world t.world a.world)
         (if-session (is_joined_in one site s.world) s (exchange one site SendJoin (as_it_is one site) (as_it_is one site) s) t (exchange other site SendJoin (as_it_is other site) (as_it_is other site) t) (inl a)
         (exchanges SendJoin (as_it_is one site) (as_it_is one site) (as_it_is other site) (as_it_is other site) (λ u x b. b) (λ u x b. inl b) s t a))
 
     all-uploads-alike : Parts (all_uploads one site) (all_uploads other site)
-    all-uploads-alike s t a = subst (λ (n : ℕ). AlikeOr (all_uploads one site s) (uploading other site n t)) (by-look (λ (x : World). unsent_generations whole site x) s.world t.world a.world) (uploads-alike (unsent_generations one site s.world) s t a)
+    all-uploads-alike s t a = subst (λ (n : ℕ). AlikeOr (all_uploads one site s) (uploads_up_to other site n t)) (by-look (λ (x : World). unsent_generations whole site x) s.world t.world a.world) (uploads-alike (unsent_generations one site s.world) s t a)
 
     all-ranges-alike : Parts (all_ranges one site) (all_ranges other site)
-    all-ranges-alike s t a = subst (λ (n : ℕ). AlikeOr (all_ranges one site s) (asking_ranges other site n t)) (by-look (λ (x : World). range_asks whole site x) s.world t.world a.world) (ranges-alike (range_asks one site s.world) s t a)
+    all-ranges-alike s t a = subst (λ (n : ℕ). AlikeOr (all_ranges one site s) (range_requests_up_to other site n t)) (by-look (λ (x : World). range_asks whole site x) s.world t.world a.world) (ranges-alike (range_asks one site s.world) s t a)
 
     abbrev starts : {X : Type 0} → X → Session X
     starts x = record { world = x; uploads = 0; downloads = 0; stop = None }
 
     pub session-alike : (v : V) (w : W) → R v w → AlikeOr (session one site v) (session other site w)
     session-alike v w r = unless-alike (all_downloads one site) (all_downloads other site) all-alike
-        (unless_stopped one site (all_ranges one site) (unless_stopped one site (all_uploads one site) (joining one site (starts v))))
-        (unless_stopped other site (all_ranges other site) (unless_stopped other site (all_uploads other site) (joining other site (starts w))))
+        (unless_stopped one site (all_ranges one site) (unless_stopped one site (all_uploads one site) (join_if_due one site (starts v))))
+        (unless_stopped other site (all_ranges other site) (unless_stopped other site (all_uploads other site) (join_if_due other site (starts w))))
         (unless-alike (all_ranges one site) (all_ranges other site) all-ranges-alike
-        (unless_stopped one site (all_uploads one site) (joining one site (starts v)))
-        (unless_stopped other site (all_uploads other site) (joining other site (starts w)))
-        (unless-alike (all_uploads one site) (all_uploads other site) all-uploads-alike (joining one site (starts v)) (joining other site (starts w))
+        (unless_stopped one site (all_uploads one site) (join_if_due one site (starts v)))
+        (unless_stopped other site (all_uploads other site) (join_if_due other site (starts w)))
+        (unless-alike (all_uploads one site) (all_uploads other site) all-uploads-alike (join_if_due one site (starts v)) (join_if_due other site (starts w))
         (joins-alike (starts v) (starts w) (record { world = r; uploads = refl; downloads = refl; stop = refl }))))
 
   -- Events.
   module _ (publication : Publication) where
-    looked-alike : (f : V → Answer) (g : W → Answer) → ((v : V) (w : W) → R v w → f v ≡ g w) → (v : V) (w : W) (outcome : Outcome) → R v w → Both R (looked publication one f (v, outcome)) (looked publication other g (w, outcome))
+    looked-alike : (f : V → Answer) (g : W → Answer) → ((v : V) (w : W) → R v w → f v ≡ g w) → (v : V) (w : W) (outcome : Outcome) → R v w → Both R (answered_unless_refused publication one f (v, outcome)) (answered_unless_refused publication other g (w, outcome))
     looked-alike f g same v w (Refuses refusal) r = (refl, r)
     looked-alike f g same v w outcome r = (same v w r, r)
 
-    looked-off : (f : V → Answer) (x : V × Outcome) → refused_for off x.1 ≡ true → shows_refusal off (looked publication one f x).1 ≡ true
+    looked-off : (f : V → Answer) (x : V × Outcome) → refused_for off x.1 ≡ true → shows_refusal off (answered_unless_refused publication one f x).1 ≡ true
     looked-off f (v, Refuses refusal) is = is
     looked-off f (v, outcome) is = absurd (cc is)
 
-    looked-pair : (f : V → Answer) (g : W → Answer) → ((v : V) (w : W) → R v w → f v ≡ g w) → (x : V × Outcome) (y : W × Outcome) → Acted x y → Told (looked publication one f x) (looked publication other g y)
-    looked-pair f g same x y (inl b) = inl (subst (λ (o : Outcome). Both R (looked publication one f x) (looked publication other g (y.0, o))) b.0 (looked-alike f g same x.0 y.0 x.1 b.1))
+    looked-pair : (f : V → Answer) (g : W → Answer) → ((v : V) (w : W) → R v w → f v ≡ g w) → (x : V × Outcome) (y : W × Outcome) → Acted x y → Told (answered_unless_refused publication one f x) (answered_unless_refused publication other g y)
+    looked-pair f g same x y (inl b) = inl (subst (λ (o : Outcome). Both R (answered_unless_refused publication one f x) (answered_unless_refused publication other g (y.0, o))) b.0 (looked-alike f g same x.0 y.0 x.1 b.1))
     looked-pair f g same x y (inr is) = inr (looked-off f x is)
 
-    looking-alike : (f : V → Answer) (g : W → Answer) → ((v : V) (w : W) → R v w → f v ≡ g w) → (v : V) (w : W) → R v w → Told (looking publication one f v) (looking publication other g w)
+    looking-alike : (f : V → Answer) (g : W → Answer) → ((v : V) (w : W) → R v w → f v ≡ g w) → (v : V) (w : W) → R v w → Told (answered_look publication one f v) (answered_look publication other g w)
     looking-alike f g same v w r = looked-pair f g same (one.act v Look) (other.act w Look) (acts v w Look r)
 
     -- what is answered by the outcome alone
@@ -250,18 +250,18 @@ module _ {V W : Type 0} (one : Stepping V) (other : Stepping W) (R : V → W →
     change-off change (Refuses refusal) is = refused-off change refusal is
     change-off change outcome is = absurd (cc is)
 
-    acting-alike : (number : ℕ) (action : Action) (v : V) (w : W) → R v w → Told (acting publication one number action v) (acting publication other number action w)
+    acting-alike : (number : ℕ) (action : Action) (v : V) (w : W) → R v w → Told (answered_action publication one number action v) (answered_action publication other number action w)
     acting-alike number action v w r = answered-alike (outcome_answer number) (outcome-off number) (one.act v action) (other.act w action) (acts v w action r)
 
     where-site : (site : SiteId) (f : V → V × Answer) (g : W → W × Answer) → ((v : V) (w : W) → R v w → Told (f v) (g w)) → (v : V) (w : W) → R v w → Told (where_site publication one site v f) (where_site publication other site w g)
-    where-site site f g each v w r = if-told (is_site publication site) (f v) (looking publication one (λ (u : V). Refused (UnknownSite site)) v) (g w) (looking publication other (λ (u : W). Refused (UnknownSite site)) w) (each v w r)
+    where-site site f g each v w r = if-told (is_site publication site) (f v) (answered_look publication one (λ (u : V). Refused (UnknownSite site)) v) (g w) (answered_look publication other (λ (u : W). Refused (UnknownSite site)) w) (each v w r)
         (looking-alike (λ (u : V). Refused (UnknownSite site)) (λ (u : W). Refused (UnknownSite site)) (λ u x b. refl) v w r)
 
     where-subscriber : (site : SiteId) (f : V → V × Answer) (g : W → W × Answer) → ((v : V) (w : W) → R v w → Told (f v) (g w)) → (v : V) (w : W) → R v w → Told (where_subscriber publication one site v f) (where_subscriber publication other site w g)
-    where-subscriber site f g each v w r = if-told (is_subscription publication site.0) (f v) (looking publication one (λ (u : V). Refused (UnknownSite site)) v) (g w) (looking publication other (λ (u : W). Refused (UnknownSite site)) w) (each v w r)
+    where-subscriber site f g each v w r = if-told (is_subscription publication site.0) (f v) (answered_look publication one (λ (u : V). Refused (UnknownSite site)) v) (g w) (answered_look publication other (λ (u : W). Refused (UnknownSite site)) w) (each v w r)
         (looking-alike (λ (u : V). Refused (UnknownSite site)) (λ (u : W). Refused (UnknownSite site)) (λ u x b. refl) v w r)
 
-    changing-alike : (site : SiteId) (named : Result Change (List ℕ)) (v : V) (w : W) → R v w → Told (changing publication one site v named) (changing publication other site w named)
+    changing-alike : (site : SiteId) (named : Result Change (List ℕ)) (v : V) (w : W) → R v w → Told (answered_change publication one site v named) (answered_change publication other site w named)
     changing-alike site (Err name) v w r = looking-alike (λ (u : V). Refused (UnknownName name)) (λ (u : W). Refused (UnknownName name)) (λ u x b. refl) v w r
     changing-alike site (Ok change) v w r = answered-alike (change_answer change) (change-off change) (one.act v (Make site change)) (other.act w (Make site change)) (acts v w (Make site change) r)
 
@@ -279,36 +279,36 @@ module _ {V W : Type 0} (one : Stepping V) (other : Stepping W) (R : V → W →
     synced site s t (inl a) = inl (answer-alike site s t a, a.world)
     synced site s t (inr is) = inr (stopped-off s.uploads s.downloads (watermark_in publication one site s.world) s.stop is)
 
-    syncing-alike : (site : SiteId) (v : V) (w : W) → R v w → Told (syncing publication one site v) (syncing publication other site w)
+    syncing-alike : (site : SiteId) (v : V) (w : W) → R v w → Told (answered_sync publication one site v) (answered_sync publication other site w)
     syncing-alike site v w r = synced site (session one site v) (session other site w) (session-alike site v w r)
 
-    report-alike : (site : SiteId) (f : PublisherTables → Answer) (g : SubscriberTables → Answer) (v : V) (w : W) → R v w → Told (reporting publication one site f g v) (reporting publication other site f g w)
-    report-alike site f g v w r = looking-alike (reported publication one site f g) (reported publication other site f g) (by-look (λ (x : World). reported publication whole site f g x)) v w r
+    report-alike : (site : SiteId) (f : PublisherTables → Answer) (g : SubscriberTables → Answer) (v : V) (w : W) → R v w → Told (answered_report publication one site f g v) (answered_report publication other site f g w)
+    report-alike site f g v w r = looking-alike (report_of_site publication one site f g) (report_of_site publication other site f g) (by-look (λ (x : World). report_of_site publication whole site f g x)) v w r
 
-    reports-alike : (site : SiteId) (f : PublisherTables → Answer) (g : SubscriberTables → Answer) (v : V) (w : W) → R v w → Told (where_site publication one site v (reporting publication one site f g)) (where_site publication other site w (reporting publication other site f g))
-    reports-alike site f g v w r = where-site site (reporting publication one site f g) (reporting publication other site f g) (report-alike site f g) v w r
+    reports-alike : (site : SiteId) (f : PublisherTables → Answer) (g : SubscriberTables → Answer) (v : V) (w : W) → R v w → Told (where_site publication one site v (answered_report publication one site f g)) (where_site publication other site w (answered_report publication other site f g))
+    reports-alike site f g v w r = where-site site (answered_report publication one site f g) (answered_report publication other site f g) (report-alike site f g) v w r
 
-    shows : (site : SiteId) (named : Result ℕ (List ℕ)) (v : V) (w : W) → R v w → Told (showing publication one site v named) (showing publication other site w named)
+    shows : (site : SiteId) (named : Result ℕ (List ℕ)) (v : V) (w : W) → R v w → Told (answered_show publication one site v named) (answered_show publication other site w named)
     shows site (Err name) v w r = looking-alike (λ (u : V). Refused (UnknownName name)) (λ (u : W). Refused (UnknownName name)) (λ u x b. refl) v w r
     shows site (Ok article) v w r = report-alike site (λ (p : PublisherTables). Rows (shown_rows article (live_rows p.rows))) (λ (s : SubscriberTables). Rows (shown_rows article (subscriber_live_rows s))) v w r
 
     pub happens-or : (v : V) (w : W) (e : Event) → R v w → Told (happens publication one v e) (happens publication other w e)
     happens-or v w (event.Wait seconds) r = (let a = passes v w seconds r in inl (by-look (λ (x : World). Now x.moment.0) (one.act v (Pass seconds)).0 (other.act w (Pass seconds)).0 a.1, a.1))
-    happens-or v w (event.Insert site article values) r = where-site site (λ (u : V). changing publication one site u (insert_by publication article values)) (λ (u : W). changing publication other site u (insert_by publication article values)) (changing-alike site (insert_by publication article values)) v w r
-    happens-or v w (event.Update site article row values) r = where-site site (λ (u : V). changing publication one site u (update_by publication article row values)) (λ (u : W). changing publication other site u (update_by publication article row values)) (changing-alike site (update_by publication article row values)) v w r
-    happens-or v w (event.Delete site article row) r = where-site site (λ (u : V). changing publication one site u (delete_by publication article row)) (λ (u : W). changing publication other site u (delete_by publication article row)) (changing-alike site (delete_by publication article row)) v w r
-    happens-or v w (event.Close site) r = where-site site (acting publication one 0 (CloseAt site)) (acting publication other 0 (CloseAt site)) (acting-alike 0 (CloseAt site)) v w r
-    happens-or v w (event.Sync site) r = where-subscriber site (syncing publication one site) (syncing publication other site) (syncing-alike site) v w r
-    happens-or v w (event.SendJoin site) r = where-subscriber site (acting publication one 0 (Send site SendJoin)) (acting publication other 0 (Send site SendJoin)) (acting-alike 0 (Send site SendJoin)) v w r
-    happens-or v w (event.SendUpload site) r = where-subscriber site (acting publication one 0 (Send site SendUpload)) (acting publication other 0 (Send site SendUpload)) (acting-alike 0 (Send site SendUpload)) v w r
-    happens-or v w (event.SendRanges site) r = where-subscriber site (acting publication one 0 (Send site SendRanges)) (acting publication other 0 (Send site SendRanges)) (acting-alike 0 (Send site SendRanges)) v w r
-    happens-or v w (event.SendDownload site) r = where-subscriber site (acting publication one 0 (Send site SendDownload)) (acting publication other 0 (Send site SendDownload)) (acting-alike 0 (Send site SendDownload)) v w r
+    happens-or v w (event.Insert site article values) r = where-site site (λ (u : V). answered_change publication one site u (insert_by publication article values)) (λ (u : W). answered_change publication other site u (insert_by publication article values)) (changing-alike site (insert_by publication article values)) v w r
+    happens-or v w (event.Update site article row values) r = where-site site (λ (u : V). answered_change publication one site u (update_by publication article row values)) (λ (u : W). answered_change publication other site u (update_by publication article row values)) (changing-alike site (update_by publication article row values)) v w r
+    happens-or v w (event.Delete site article row) r = where-site site (λ (u : V). answered_change publication one site u (delete_by publication article row)) (λ (u : W). answered_change publication other site u (delete_by publication article row)) (changing-alike site (delete_by publication article row)) v w r
+    happens-or v w (event.Close site) r = where-site site (answered_action publication one 0 (CloseAt site)) (answered_action publication other 0 (CloseAt site)) (acting-alike 0 (CloseAt site)) v w r
+    happens-or v w (event.Sync site) r = where-subscriber site (answered_sync publication one site) (answered_sync publication other site) (syncing-alike site) v w r
+    happens-or v w (event.SendJoin site) r = where-subscriber site (answered_action publication one 0 (Send site SendJoin)) (answered_action publication other 0 (Send site SendJoin)) (acting-alike 0 (Send site SendJoin)) v w r
+    happens-or v w (event.SendUpload site) r = where-subscriber site (answered_action publication one 0 (Send site SendUpload)) (answered_action publication other 0 (Send site SendUpload)) (acting-alike 0 (Send site SendUpload)) v w r
+    happens-or v w (event.SendRanges site) r = where-subscriber site (answered_action publication one 0 (Send site SendRanges)) (answered_action publication other 0 (Send site SendRanges)) (acting-alike 0 (Send site SendRanges)) v w r
+    happens-or v w (event.SendDownload site) r = where-subscriber site (answered_action publication one 0 (Send site SendDownload)) (answered_action publication other 0 (Send site SendDownload)) (acting-alike 0 (Send site SendDownload)) v w r
     happens-or v w (event.Deliver number) r = acting-alike number (Deliver number) v w r
-    happens-or v w (event.Reinit site) r = where-subscriber site (acting publication one 0 (MakeAnew site)) (acting publication other 0 (MakeAnew site)) (acting-alike 0 (MakeAnew site)) v w r
+    happens-or v w (event.Reinit site) r = where-subscriber site (answered_action publication one 0 (MakeAnew site)) (answered_action publication other 0 (MakeAnew site)) (acting-alike 0 (MakeAnew site)) v w r
     happens-or v w event.Purge r = acting-alike 0 Forget v w r
-    happens-or v w (event.Restart site) r = where-site site (looking publication one (λ (u : V). Fine)) (looking publication other (λ (u : W). Fine)) (looking-alike (λ (u : V). Fine) (λ (u : W). Fine) (λ u x b. refl)) v w r
-    happens-or v w (event.Show site article) r = where-site site (λ (u : V). showing publication one site u (article_by publication article)) (λ (u : W). showing publication other site u (article_by publication article)) (shows site (article_by publication article)) v w r
-    happens-or v w (event.Partition site) r = where-subscriber site (looking publication one (λ (u : V). partition_report publication site (one.look u).publisher)) (looking publication other (λ (u : W). partition_report publication site (other.look u).publisher))
+    happens-or v w (event.Restart site) r = where-site site (answered_look publication one (λ (u : V). Fine)) (answered_look publication other (λ (u : W). Fine)) (looking-alike (λ (u : V). Fine) (λ (u : W). Fine) (λ u x b. refl)) v w r
+    happens-or v w (event.Show site article) r = where-site site (λ (u : V). answered_show publication one site u (article_by publication article)) (λ (u : W). answered_show publication other site u (article_by publication article)) (shows site (article_by publication article)) v w r
+    happens-or v w (event.Partition site) r = where-subscriber site (answered_look publication one (λ (u : V). partition_report publication site (one.look u).publisher)) (answered_look publication other (λ (u : W). partition_report publication site (other.look u).publisher))
         (looking-alike (λ (u : V). partition_report publication site (one.look u).publisher) (λ (u : W). partition_report publication site (other.look u).publisher) (by-look (λ (x : World). partition_report publication site x.publisher))) v w r
     happens-or v w (event.Conflicts site) r = reports-alike site (λ (p : PublisherTables). Conflicts p.conflicts) (λ (s : SubscriberTables). Conflicts s.conflicts) v w r
     happens-or v w (event.Ranges site) r = reports-alike site (λ (p : PublisherTables). Grants p.grants) (λ (s : SubscriberTables). Held (held_report s)) v w r

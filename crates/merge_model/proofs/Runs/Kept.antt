@@ -6,7 +6,7 @@ use Rattle.merge_batch.specs.declared.reply.Downloaded.{Downloaded}
 use Rattle.merge_model.specs.World.Steps.{Action, Deliver, Send, Sending, SendJoin, SendUpload, SendRanges, SendDownload}
 use Rattle.merge_model.specs.declared.outcome.Outcome.{Outcome}
 use Rattle.merge_model.specs.declared.outcome.Outcome.TheVariants.{Posted, Took, Refuses}
-use Rattle.merge_model.specs.World.Session.{Stepping, Session, then_deliver, ask, arrived, answered_as, as_it_is, exchange, unless_stopped, joining, is_joined_in, with_upload, uploading, all_uploads, unsent_generations, has_grant, last_message, asking_ranges, all_ranges, range_asks, with_download, with_answer, after_download, downloaded_in, downloading, all_downloads, session}
+use Rattle.merge_model.specs.World.Session.{Stepping, Session, then_deliver, ask, session_after_reply, answered_as, as_it_is, exchange, unless_stopped, join_if_due, is_joined_in, with_upload, uploads_up_to, all_uploads, unsent_generations, has_grant, last_message, range_requests_up_to, all_ranges, range_asks, with_download, with_answer, after_download, downloaded_in, downloads_up_to, all_downloads, session}
 
 module _ {W : Type 0} (stepping : Stepping W) (P : W → Type 0) (of_act : (w : W) (action : Action) → P w → P (stepping.act w action).0) where
   module _ (site : SiteId) where
@@ -21,7 +21,7 @@ module _ {W : Type 0} (stepping : Stepping W) (P : W → Type 0) (of_act : (w : 
     abbrev Keeps : (Session W → Session W) → Type 0
     Keeps next = (t : Session W) → P t.world → P (next t).world
 
-    arrived-keeps : (next : Session W → Session W) (s : Session W) (made : W × Outcome) → Keeps next → P made.0 → P (arrived stepping site next s made).world
+    arrived-keeps : (next : Session W → Session W) (s : Session W) (made : W × Outcome) → Keeps next → P made.0 → P (session_after_reply stepping site next s made).world
     arrived-keeps next s (w, Took taken) more h = more (record s { world = w }) h
     arrived-keeps next s (w, Refuses refusal) more h = h
     arrived-keeps next s (w, outcome) more h = h
@@ -44,18 +44,18 @@ module _ {W : Type 0} (stepping : Stepping W) (P : W → Type 0) (of_act : (w : 
     if-keeps true x y first second = first
     if-keeps false x y first second = second
 
-    joining-keeps : (s : Session W) → P s.world → P (joining stepping site s).world
+    joining-keeps : (s : Session W) → P s.world → P (join_if_due stepping site s).world
     joining-keeps s h = if-keeps (is_joined_in stepping site s.world) s (exchange stepping site SendJoin (as_it_is stepping site) (as_it_is stepping site) s) h
         (exchange-keeps SendJoin (as_it_is stepping site) (as_it_is stepping site) s (λ t. refl) (λ t k. k) h)
 
-    uploading-keeps : (n : ℕ) (s : Session W) → P s.world → P (uploading stepping site n s).world
+    uploading-keeps : (n : ℕ) (s : Session W) → P s.world → P (uploads_up_to stepping site n s).world
     uploading-keeps zero s h = h
-    uploading-keeps (suc n) s h = exchange-keeps SendUpload (with_upload stepping site) (uploading stepping site n) s (λ t. refl) (uploading-keeps n) h
+    uploading-keeps (suc n) s h = exchange-keeps SendUpload (with_upload stepping site) (uploads_up_to stepping site n) s (λ t. refl) (uploading-keeps n) h
 
-    asking-keeps : (n : ℕ) (s : Session W) → P s.world → P (asking_ranges stepping site n s).world
+    asking-keeps : (n : ℕ) (s : Session W) → P s.world → P (range_requests_up_to stepping site n s).world
     asking-keeps zero s h = h
-    asking-keeps (suc n) s h = exchange-keeps SendRanges (as_it_is stepping site) (λ (t : Session W). if has_grant stepping site (last_message stepping site t.world) then asking_ranges stepping site n t else t) s (λ t. refl)
-        (λ t k. if-keeps (has_grant stepping site (last_message stepping site t.world)) (asking_ranges stepping site n t) t (asking-keeps n t k) k) h
+    asking-keeps (suc n) s h = exchange-keeps SendRanges (as_it_is stepping site) (λ (t : Session W). if has_grant stepping site (last_message stepping site t.world) then range_requests_up_to stepping site n t else t) s (λ t. refl)
+        (λ t k. if-keeps (has_grant stepping site (last_message stepping site t.world)) (range_requests_up_to stepping site n t) t (asking-keeps n t k) k) h
 
     with_answer-stays : (s : Session W) → (with_answer stepping site s).world ≡ s.world
     with_answer-stays s = of (downloaded_in stepping site (last_message stepping site s.world))
@@ -75,14 +75,14 @@ module _ {W : Type 0} (stepping : Stepping W) (P : W → Type 0) (of_act : (w : 
     download-keeps : (next : Downloaded → Session W → Session W) (s : Session W) → ((m : Downloaded) → Keeps (next m)) → P s.world → P (exchange stepping site SendDownload (with_answer stepping site) (after_download stepping site next) s).world
     download-keeps next s more h = exchange-keeps SendDownload (with_answer stepping site) (after_download stepping site next) s with_answer-stays (λ t k. after_download-keeps next t more k) h
 
-    downloading-keeps : (n target : ℕ) (s : Session W) → P s.world → P (downloading stepping site n target s).world
+    downloading-keeps : (n target : ℕ) (s : Session W) → P s.world → P (downloads_up_to stepping site n target s).world
     downloading-keeps zero target s h = h
-    downloading-keeps (suc n) target s h = download-keeps (λ (m : Downloaded) (t : Session W). if nat_le target m.from then t else downloading stepping site n target t) s
-        (λ m u j. if-keeps (nat_le target m.from) u (downloading stepping site n target u) j (downloading-keeps n target u j)) h
+    downloading-keeps (suc n) target s h = download-keeps (λ (m : Downloaded) (t : Session W). if nat_le target m.from then t else downloads_up_to stepping site n target t) s
+        (λ m u j. if-keeps (nat_le target m.from) u (downloads_up_to stepping site n target u) j (downloading-keeps n target u j)) h
 
     downloads-keep : (s : Session W) → P s.world → P (all_downloads stepping site s).world
-    downloads-keep s h = download-keeps (λ (m : Downloaded) (t : Session W). if nat_le m.last m.from then t else downloading stepping site (m.last + 1 - m.from) m.last t) s
-        (λ m u j. if-keeps (nat_le m.last m.from) u (downloading stepping site (m.last + 1 - m.from) m.last u) j (downloading-keeps (m.last + 1 - m.from) m.last u j)) h
+    downloads-keep s h = download-keeps (λ (m : Downloaded) (t : Session W). if nat_le m.last m.from then t else downloads_up_to stepping site (m.last + 1 - m.from) m.last t) s
+        (λ m u j. if-keeps (nat_le m.last m.from) u (downloads_up_to stepping site (m.last + 1 - m.from) m.last u) j (downloading-keeps (m.last + 1 - m.from) m.last u j)) h
 
     start_of : W → Session W
     start_of w = record {
@@ -94,7 +94,7 @@ module _ {W : Type 0} (stepping : Stepping W) (P : W → Type 0) (of_act : (w : 
 
     pub session-keeps : (w : W) → P w → P (session stepping site w).world
     session-keeps w h =
-        let joined : Session W = joining stepping site (record { world = w; uploads = 0; downloads = 0; stop = None }) in
+        let joined : Session W = join_if_due stepping site (record { world = w; uploads = 0; downloads = 0; stop = None }) in
         let sent : Session W = unless_stopped stepping site (all_uploads stepping site) joined in
         let ranged : Session W = unless_stopped stepping site (all_ranges stepping site) sent in
         unless_stopped-keeps (all_downloads stepping site) ranged downloads-keep

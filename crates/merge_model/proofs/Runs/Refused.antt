@@ -30,7 +30,7 @@ use Rattle.merge_model.specs.World.{World, Judges, Saying, letter_at, subscriber
 use Rattle.merge_model.specs.declared.letter.Message.{Message}
 use Rattle.merge_model.specs.declared.letter.Message.TheVariants.{Asks, Replies}
 use Rattle.merge_model.specs.declared.letter.Letter.{Letter}
-use Rattle.merge_model.specs.World.Steps.{Action, Pass, Make, CloseAt, Send, Deliver, MakeAnew, Forget, Look, answered, after_upload, kept_decisions, upload_questions, deliver_request, deliver_reply, deliver_letter, Sending, SendJoin, SendUpload, SendRanges, SendDownload, post, posted, send_from, unless_refused, step_by, at_subscriber, make_at, make_at_publisher, make_at_subscriber}
+use Rattle.merge_model.specs.World.Steps.{Action, Pass, Make, CloseAt, Send, Deliver, MakeAnew, Forget, Look, post_reply, after_upload, kept_decisions, upload_questions, deliver_request, deliver_reply, deliver_letter, Sending, SendJoin, SendUpload, SendRanges, SendDownload, post, post_if_made, send_from, unless_refused, step_by, at_subscriber, make_at, make_at_publisher, make_at_subscriber}
 use Rattle.merge_model.specs.declared.outcome.Outcome.{Outcome}
 use Rattle.merge_model.specs.declared.outcome.Outcome.TheVariants.{Refuses, Made, Took, NoLetter}
 use Rattle.merge_types.specs.declared.identifiers.SiteId.{SiteId}
@@ -65,19 +65,19 @@ make-leaves publication judges site change w =
     (unless_refused-leaves w (local publication (judges.publisher 0) w.moment change w.publisher) (λ (done : PublisherTables × RowId). (with_publisher done.0 w, Made done.1)) (λ done refusal e. grind (arith)))
     (at_subscriber-leaves site w (make_at_subscriber publication change w) (λ s. unless_refused-leaves w (subscriber_local publication w.moment change s) (λ (done : SubscriberTables × RowId). (with_subscriber done.0 w, Made done.1)) (λ done refusal e. grind (arith))))
 
-posted-leaves : {A : Type 0} (site : SiteId) (message : A → Request) (w : World) (made : Option (SubscriberTables × A)) → LeavesIfRefused w (posted site message w made)
+posted-leaves : {A : Type 0} (site : SiteId) (message : A → Request) (w : World) (made : Option (SubscriberTables × A)) → LeavesIfRefused w (post_if_made site message w made)
 posted-leaves site message w None refusal e = refl
 posted-leaves site message w (Some made) refusal e = grind (arith)
 
 send-leaves : (judges : Judges) (sending : Sending) (w : World) (s : SubscriberTables) → LeavesIfRefused w (send_from judges sending w s)
-send-leaves judges SendJoin w s = unless_refused-leaves w (make_join s) (posted s.site (λ (m : Join). request.Join m) w) (posted-leaves s.site (λ (m : Join). request.Join m) w)
-send-leaves judges SendUpload w s = unless_refused-leaves w (make_upload (judges.subscriber s.site s) w.moment s) (posted s.site (λ (m : Upload). request.Upload m) w) (posted-leaves s.site (λ (m : Upload). request.Upload m) w)
-send-leaves judges SendRanges w s = unless_refused-leaves w (make_ranges s) (posted s.site (λ (m : RangeAsk). request.Ranges m) w) (posted-leaves s.site (λ (m : RangeAsk). request.Ranges m) w)
+send-leaves judges SendJoin w s = unless_refused-leaves w (make_join s) (post_if_made s.site (λ (m : Join). request.Join m) w) (posted-leaves s.site (λ (m : Join). request.Join m) w)
+send-leaves judges SendUpload w s = unless_refused-leaves w (make_upload (judges.subscriber s.site s) w.moment s) (post_if_made s.site (λ (m : Upload). request.Upload m) w) (posted-leaves s.site (λ (m : Upload). request.Upload m) w)
+send-leaves judges SendRanges w s = unless_refused-leaves w (make_ranges s) (post_if_made s.site (λ (m : RangeAsk). request.Ranges m) w) (posted-leaves s.site (λ (m : RangeAsk). request.Ranges m) w)
 send-leaves judges SendDownload w s = unless_refused-leaves w (make_ask s)
     (λ (made : SubscriberTables × Download). post s.site (Asks (request.Download made.1)) (with_subscriber made.0 w))
     (λ made refusal e. grind (arith))
 
-answered-leaves : {A : Type 0} (site : SiteId) (message : A → Reply) (w : World) (done : Result (PublisherTables × A) Refusal) → LeavesIfRefused w (answered site message w done)
+answered-leaves : {A : Type 0} (site : SiteId) (message : A → Reply) (w : World) (done : Result (PublisherTables × A) Refusal) → LeavesIfRefused w (post_reply site message w done)
 answered-leaves {A = A} site message w done = unless_refused-leaves w done
     (λ (made : PublisherTables × A). post site (Replies (message made.1)) (with_publisher made.0 w))
     (λ made refusal e. grind (arith))

@@ -47,7 +47,7 @@ use Rattle.merge_model.specs.World.{World, Judges, Saying, letter_at, subscriber
 use Rattle.merge_model.specs.declared.letter.Message.{Message}
 use Rattle.merge_model.specs.declared.letter.Message.TheVariants.{Asks, Replies}
 use Rattle.merge_model.specs.declared.letter.Letter.{Letter}
-use Rattle.merge_model.specs.World.Steps.{Action, Pass, Make, CloseAt, Send, Deliver, MakeAnew, Forget, Look, Sending, SendJoin, SendUpload, SendRanges, SendDownload, post, posted, unless_refused, at_subscriber, make_at, make_at_publisher, make_at_subscriber, close_at, close_publisher, close_subscriber, send_from, answered, after_upload, kept_decisions, upload_questions, deliver_request, deliver_reply, deliver_letter, make_anew, step_by}
+use Rattle.merge_model.specs.World.Steps.{Action, Pass, Make, CloseAt, Send, Deliver, MakeAnew, Forget, Look, Sending, SendJoin, SendUpload, SendRanges, SendDownload, post, post_if_made, unless_refused, at_subscriber, make_at, make_at_publisher, make_at_subscriber, close_at, close_publisher, close_subscriber, send_from, post_reply, after_upload, kept_decisions, upload_questions, deliver_request, deliver_reply, deliver_letter, make_anew, step_by}
 use Rattle.merge_model.specs.declared.outcome.Outcome.{Outcome}
 use Rattle.merge_model.specs.declared.outcome.Outcome.TheVariants.{Refuses, Made, Closes, Took, NoLetter, Discards}
 
@@ -136,12 +136,12 @@ module _ (publication : Publication) (S : SubscriberTables → Type 0)
   made-step None = Unit {0}
   made-step (Some made) = S made.0
 
-  posted-holds : {A : Type 0} (site : SiteId) (message : A → Request) (w : World) (made : Option (SubscriberTables × A)) → Holds w → made-step made → Holds (posted site message w made).0
+  posted-holds : {A : Type 0} (site : SiteId) (message : A → Request) (w : World) (made : Option (SubscriberTables × A)) → Holds w → made-step made → Holds (post_if_made site message w made).0
   posted-holds site message w None h new = h
   posted-holds site message w (Some made) h new = with-holds made.0 w new h
 
   sent-holds : {A : Type 0} (site : SiteId) (message : A → Request) (w : World) (refusal : Option Refusal) (made : Option (SubscriberTables × A)) → Holds w → made-step made
-      → Holds (unless_refused w (unless refusal made) (posted site message w)).0
+      → Holds (unless_refused w (unless refusal made) (post_if_made site message w)).0
   sent-holds site message w (Some why) made h new = h
   sent-holds site message w None made h new = posted-holds site message w made h new
 
@@ -182,7 +182,7 @@ module _ (publication : Publication) (S : SubscriberTables → Type 0)
       sub-holds w (make_ask s) (λ (made : SubscriberTables × Download). post s.site (Asks (request.Download made.1)) (with_subscriber made.0 w)) h
       (asked-ok (sending_refusal s) (with_message (ask.Download s.watermark) s) asked (of_message (ask.Download s.watermark) s k)) (λ a new. with-holds a.0 w new h)
 
-  answered-holds : {A : Type 0} (site : SiteId) (message : A → Reply) (w : World) (done : Result (PublisherTables × A) Refusal) → Holds w → Holds (answered site message w done).0
+  answered-holds : {A : Type 0} (site : SiteId) (message : A → Reply) (w : World) (done : Result (PublisherTables × A) Refusal) → Holds w → Holds (post_reply site message w done).0
   answered-holds {A = A} site message w done h = pub-holds w done (λ (made : PublisherTables × A). post site (Replies (message made.1)) (with_publisher made.0 w)) h (λ a. h)
 
   upload-holds : (says : Saying) (judge : PublisherJudge) (site : SiteId) (m : Upload) (w : World) (done : Result (PublisherTables × Uploaded) Refusal) → Holds w → Holds (after_upload publication says judge site m w done).0

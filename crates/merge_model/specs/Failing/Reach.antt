@@ -5,8 +5,8 @@ use Rattle.merge_batch.specs.declared.refusal.Refusal.{Refusal}
 use Rattle.merge_types.specs.declared.identifiers.SiteId.{SiteId}
 use Rattle.merge_model.specs.declared.answer.Answer.{Answer}
 use Rattle.merge_model.specs.World.Events.{after, answers, happens, machine}
-use Rattle.merge_model.specs.Failing.{Faulty, Slip, Slips, failing, faulty}
-use Rattle.merge_model.specs.World.Session.{Session, Stepping, ask, uploading}
+use Rattle.merge_model.specs.Failing.{Faulty, Slip, Slips, faulty, faulty_stepping}
+use Rattle.merge_model.specs.World.Session.{Session, Stepping, ask, uploads_up_to}
 use Rattle.merge_model.specs.World.Steps.{Action, Sending}
 use Rattle.merge_model.specs.World.{Saying, World}
 use Rattle.merge_model.specs.declared.event.Event.{Event}
@@ -31,7 +31,7 @@ pub record Reaches {A : Type 0} (a b : Slips → A) (before after : ℕ) : Type 
 
 module _ (publication : Publication) (says : Saying) where
   abbrev pub stepping : Stepping (Faulty World)
-  stepping = failing publication (machine publication says)
+  stepping = faulty_stepping publication (machine publication says)
 
   abbrev pub with_outcome : World → Outcome → Slips → Faulty World × Outcome
   with_outcome w outcome slips = (faulty w slips, outcome)
@@ -50,7 +50,7 @@ module _ (publication : Publication) (says : Saying) where
 
   -- uploads, from none
   unfoldable pub Uploads : SiteId → ℕ → World → World → ℕ → Option Refusal → ℕ → ℕ → Type 0
-  Uploads site n w v uploads stop before after = Reaches (λ slips. uploading stepping site n (at w 0 0 None slips)) (at v uploads 0 stop) before after
+  Uploads site n w v uploads stop before after = Reaches (λ slips. uploads_up_to stepping site n (at w 0 0 None slips)) (at v uploads 0 stop) before after
 
   -- an event happens
   abbrev pub Happens : World → Event → World → Answer → ℕ → ℕ → Type 0

@@ -30,10 +30,10 @@ use Rattle.merge_model.specs.History.Pasts.{cells_made, is_delete, past_after, p
 use Rattle.merge_model.specs.Tables.Publications.{by_site}
 use Rattle.merge_model.specs.Publisher.{last_closed}
 use Rattle.merge_model.specs.Publisher.PublisherJoin.{join_acts}
-use Rattle.merge_model.specs.Publisher.PublisherLocal.{Drawn, changing_locally, drawn, next_dot, with_draw}
+use Rattle.merge_model.specs.Publisher.PublisherLocal.{Drawn, changing_locally, draw_for_change, next_dot, with_draw}
 use Rattle.merge_model.specs.Publisher.PublisherPurge.{is_old, is_old_tombstone}
 use Rattle.merge_model.specs.Publisher.PublisherUpload.{brings_news, changing_by, with_acts}
-use Rattle.merge_model.specs.Subscriber.Reinit.{discarded}
+use Rattle.merge_model.specs.Subscriber.Reinit.{discarded_versions}
 use Rattle.merge_model.specs.Subscriber.{subscriber_drawn, subscriber_last_closed, subscriber_next_dot}
 use Rattle.merge_gens.specs.declared.moves.MoveKind.TheVariants.{Entered, Left}
 use Rattle.merge_types.specs.declared.row_key.RowKey.{RowKey as Key}
@@ -100,7 +100,7 @@ abbrev pub drawn_entries : Publication → PublisherJudge → Change → Publish
 drawn_entries publication judge change p drawn = changing_entries publication judge (changing_locally publication change drawn.value p) (with_draw drawn p)
 
 abbrev pub noted_at_publisher : Publication → PublisherJudge → Change → PublisherTables → History → History
-noted_at_publisher publication judge change p h = elim (drawn publication p change) [
+noted_at_publisher publication judge change p h = elim (draw_for_change publication p change) [
   | Err refusal ↦ h
   | Ok draw ↦ with_lines (lines_of_entries (last_closed p + 1) (drawn_entries publication judge change p draw)) (with_change publication (next_dot p) (last_closed p + 1) change draw.value h)
 ]
@@ -213,7 +213,7 @@ abbrev pub with_discarded : SiteId → History → Key × Version → History
 with_discarded site h row = with_lost site.0 row.0 (past_at h site.0 row.0) h
 
 abbrev pub noted_anew : SubscriberJudge → SubscriberTables → History → History
-noted_anew judge s h = let after = fold (with_discarded s.site) h (discarded judge s) in record after { pasts = put_number after.pasts s.site.0 [] }
+noted_anew judge s h = let after = fold (with_discarded s.site) h (discarded_versions judge s) in record after { pasts = put_number after.pasts s.site.0 [] }
 
 -- Forgetting: old tombstones, and the old lines that say that a row left.
 

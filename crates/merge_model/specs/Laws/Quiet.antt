@@ -4,7 +4,7 @@ use Rattle.merge_types.specs.declared.identifiers.Moment.{Moment}
 use Rattle.merge_schema.specs.declared.publication.Publication.{Publication}
 use Rattle.merge_batch.specs.declared.reply.Reply.{Reply}
 use Rattle.merge_batch.specs.declared.request.Request.{Request}
-use Rattle.merge_model.specs.World.Calls.{closing_commits, handled, reply_commits, request_commits}
+use Rattle.merge_model.specs.World.Calls.{closing_commits, reply_commits, request_commits, result_of_request}
 use Rattle.merge_model.specs.Judge.{SubscriberJudge}
 use Rattle.merge_model.specs.Laws.{AreSorted}
 use Rattle.merge_model.specs.Publisher.{close_generation}
@@ -17,7 +17,7 @@ use Rattle.merge_model.specs.declared.outcome.Taken.{Taken}
 -- a request, at a publisher whose lists ascend
 abbrev pub QuietRequests : Type 0
 QuietRequests = (publication : Publication) (says : Saying) (tallies : List ℕ) (now : Moment) (m : Request) (p : PublisherTables) (done : PublisherTables × Reply) → AreSorted p
-    → handled publication says tallies now m p ≡ Ok done → request_commits publication now m p done.1 ≡ false → done.0 ≡ p
+    → result_of_request publication says tallies now m p ≡ Ok done → request_commits publication now m p done.1 ≡ false → done.0 ≡ p
 
 -- a closing
 abbrev pub QuietClosings : Type 0

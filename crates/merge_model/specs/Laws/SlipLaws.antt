@@ -8,9 +8,9 @@ use Rattle.merge_batch.specs.declared.reply.Reply.{Reply}
 use Rattle.merge_batch.specs.declared.request.Request.{Request}
 use Rattle.merge_model.specs.declared.answer.Answer.{Answer}
 use Rattle.merge_model.specs.declared.answer.Answer.TheVariants.{Refused, RefusedIn, Stopped}
-use Rattle.merge_model.specs.World.Calls.{Called, Counted, handled, questions_on, request_commits}
+use Rattle.merge_model.specs.World.Calls.{Called, Counted, questions_on, request_commits, result_of_request}
 use Rattle.merge_model.specs.World.Events.{after, answers, machine}
-use Rattle.merge_model.specs.Failing.{Slips, failing, faulty}
+use Rattle.merge_model.specs.Failing.{Slips, faulty, faulty_stepping}
 use Rattle.merge_model.specs.History.Model.{Model, model}
 use Rattle.merge_model.specs.World.Parts.{after_result}
 use Rattle.merge_model.specs.Failing.Reach.{Acts, AreNone, stepping}
@@ -52,9 +52,9 @@ FailuresShow = (publication : Publication) (says : Saying) (w : World) (slips : 
 -- And the same of the model.
 abbrev pub FailuresShowInModel : Type 0
 FailuresShowInModel = (publication : Publication) (says : Saying) (m : Model) (slips : Slips) (events : List Event)
-    → list_any (shows_refusal is_slip) (answers publication (failing publication (model publication says)) (faulty m slips) events) ≡ false
-    → (answers publication (failing publication (model publication says)) (faulty m slips) events ≡ answers publication (model publication says) m events)
-    × ((after publication (failing publication (model publication says)) (faulty m slips) events).world ≡ after publication (model publication says) m events)
+    → list_any (shows_refusal is_slip) (answers publication (faulty_stepping publication (model publication says)) (faulty m slips) events) ≡ false
+    → (answers publication (faulty_stepping publication (model publication says)) (faulty m slips) events ≡ answers publication (model publication says) m events)
+    × ((after publication (faulty_stepping publication (model publication says)) (faulty m slips) events).world ≡ after publication (model publication says) m events)
 
 -- Where no step fails, events are answered as by a world in which none can, and the same world is behind them.
 abbrev pub NoneFails : Type 0
@@ -65,15 +65,15 @@ NoneFails = (publication : Publication) (says : Saying) (w : World) (slips : Sli
 -- And the same of the model.
 abbrev pub NoneFailsInModel : Type 0
 NoneFailsInModel = (publication : Publication) (says : Saying) (m : Model) (slips : Slips) (events : List Event) → AreNone slips
-    → (answers publication (failing publication (model publication says)) (faulty m slips) events ≡ answers publication (model publication says) m events)
-    × ((after publication (failing publication (model publication says)) (faulty m slips) events).world ≡ after publication (model publication says) m events)
+    → (answers publication (faulty_stepping publication (model publication says)) (faulty m slips) events ≡ answers publication (model publication says) m events)
+    × ((after publication (faulty_stepping publication (model publication says)) (faulty m slips) events).world ≡ after publication (model publication says) m events)
 
 -- A call of the publisher that makes a request, or fails, is a step of a world that may fail, whatever else is in it and
 -- whatever faults are counted since.
 abbrev pub CallsAreSteps : Type 0
 CallsAreSteps = (publication : Publication) (says : Saying) (w : World) (number : ℕ) (site : SiteId) (m : Request) (new : PublisherTables) (tallies : List ℕ) (before now after : ℕ) (result : Result Reply Refusal)
     → letter_at w number ≡ Some (record { site = site; message = Asks m })
-    → Called (handled publication says w.tallies w.moment m w.publisher) (request_commits publication w.moment m w.publisher) w.publisher new before now result
+    → Called (result_of_request publication says w.tallies w.moment m w.publisher) (request_commits publication w.moment m w.publisher) w.publisher new before now result
     → now ≤ after
-    → Counted (handled publication says w.tallies w.moment m w.publisher) (questions_on publication w.moment m w.publisher) w.tallies tallies result
+    → Counted (result_of_request publication says w.tallies w.moment m w.publisher) (questions_on publication w.moment m w.publisher) w.tallies tallies result
     → Acts publication says (Deliver number) w (after_result result site w new tallies).0 (after_result result site w new tallies).1 before after

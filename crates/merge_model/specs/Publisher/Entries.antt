@@ -6,7 +6,7 @@ use Rattle.merge_units.specs.declared.version.Body.{Body}
 use Rattle.merge_units.specs.declared.version.Body.TheVariants.{Dead, Live}
 use Rattle.merge_units.specs.declared.version.Cell.{Cell}
 use Rattle.merge_units.specs.declared.version.Version.{Version}
-use Rattle.merge_gens.specs.Book.{entered}
+use Rattle.merge_gens.specs.Book.{book_after_entries}
 use Rattle.merge_gens.specs.Filling.{generations_of}
 use Rattle.merge_schema.specs.Partition.{LiveRow, partition_of}
 use Rattle.merge_schema.specs.declared.publication.Publication.{Publication}
@@ -119,7 +119,7 @@ abbrev pub with_entries : Entries → List (Key × Version) → PublisherTables 
 with_entries entries versions p = record p {
   rows = with_rows p.rows (zip versions (map (λ (entry : Key × ℕ). entry.1) entries.changed));
   mappings = fold drop_row_site (fold with_move p.mappings entries.moved) entries.gone;
-  gens = entered p.gens (entry_count entries) p.latest;
+  gens = book_after_entries p.gens (entry_count entries) p.latest;
 }
 
 -- A step that gives these rows these versions, in this order.

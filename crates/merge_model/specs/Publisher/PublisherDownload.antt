@@ -17,7 +17,7 @@ use Rattle.merge_model.specs.Publisher.Entries.{keys_of, partition_keys}
 use Rattle.merge_model.specs.Judge.{PublisherJudge}
 use Rattle.merge_model.specs.Tables.Keys.{has_key}
 use Rattle.merge_resolve.specs.Priorities.{subscription_at}
-use Rattle.merge_model.specs.Publisher.{at_moment, closed, counters, last_closed, site_refusal, state_of, with_state}
+use Rattle.merge_model.specs.Publisher.{at_moment, counters, last_closed, site_refusal, state_of, tables_after_close, with_state}
 use Rattle.merge_model.specs.Publisher.PublisherLocal.{version_at}
 use Rattle.merge_model.specs.Tables.Refusals.{counter_end, first_refusal, refused_if, unless}
 use Rattle.merge_types.specs.declared.row_key.RowKey.{RowKey as Key}
@@ -28,15 +28,15 @@ use Rattle.merge_model.specs.Tables.{PublisherTables}
 abbrev pub in_step : Download → PublisherTables → ℕ
 in_step m p = if (m.from == last_closed p) && (p.gens.filling.filled == 0) then p.latest.0 else unwrap_or (moment_of p.gens.closings m.from) 0
 
-abbrev pub synced : Download → PublisherTables → SiteState → SiteState
-synced m p state = record state {
+abbrev pub state_after_download : Download → PublisherTables → SiteState → SiteState
+state_after_download m p state = record state {
   watermark = max state.watermark m.from;
   last_sync = max state.last_sync (in_step m p);
 }
 
 -- the open generation closes, so that all that was done is in the reply or behind it
-abbrev pub asked : Download → PublisherTables → PublisherTables
-asked m p = closed (with_state m.site (synced m p (state_of p m.site)) p)
+abbrev pub tables_after_download : Download → PublisherTables → PublisherTables
+tables_after_download m p = tables_after_close (with_state m.site (state_after_download m p (state_of p m.site)) p)
 
 -- The reply.
 
@@ -91,5 +91,5 @@ download_refusal publication now m p = first_refusal (
     ∷ [])
 
 abbrev pub download : Publication → PublisherJudge → Moment → Download → PublisherTables → Result (PublisherTables × Downloaded) Refusal
-download publication judge now m p = let after = asked m (at_moment now p) in
+download publication judge now m p = let after = tables_after_download m (at_moment now p) in
     unless (download_refusal publication now m p) (after, reply_to publication judge m after)

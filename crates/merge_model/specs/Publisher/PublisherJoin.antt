@@ -39,8 +39,8 @@ join_acts m p = nat_lt (state_of p m.site).joined_at m.seq
 abbrev pub join_taken : Join → PublisherTables → PublisherTables
 join_taken m p = without_left m.site (with_state m.site (joined_state m p.latest (state_of p m.site)) p)
 
-abbrev pub joined : Join → PublisherTables → PublisherTables
-joined m p = if join_acts m p then join_taken m p else p
+abbrev pub tables_after_join : Join → PublisherTables → PublisherTables
+tables_after_join m p = if join_acts m p then join_taken m p else p
 
 abbrev pub join_refusal : Publication → Join → PublisherTables → Option Refusal
 join_refusal publication m p = first_refusal (
@@ -51,4 +51,4 @@ join_refusal publication m p = first_refusal (
     ∷ [])
 
 abbrev pub join : Publication → Moment → Join → PublisherTables → Result (PublisherTables × Joined) Refusal
-join publication now m p = unless (join_refusal publication m p) (joined m (at_moment now p), record { seq = m.seq })
+join publication now m p = unless (join_refusal publication m p) (tables_after_join m (at_moment now p), record { seq = m.seq })

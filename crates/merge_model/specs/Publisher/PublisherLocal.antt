@@ -63,12 +63,12 @@ drawn_from publication p article holder (Ok value) = taken_from p p.grants artic
 drawn_from publication p article holder (Err used_up) = after_answer p article holder (answer_of (rules_of publication) p.grants (own_ask p article))
 
 -- the identity value of a new row, where its article has an identity column
-abbrev pub drawn : Publication → PublisherTables → Change → Result Drawn Refusal
-drawn publication p (Insert article values) = elim (at_number p.held article) [
+abbrev pub draw_for_change : Publication → PublisherTables → Change → Result Drawn Refusal
+draw_for_change publication p (Insert article values) = elim (at_number p.held article) [
   | None ↦ Ok (no_draw p)
   | Some holder ↦ drawn_from publication p article holder (answer_to_take holder)
 ]
-drawn publication p change = Ok (no_draw p)
+draw_for_change publication p change = Ok (no_draw p)
 
 abbrev pub local_refusal : Publication → Change → PublisherTables → Option Refusal
 local_refusal publication change p = let dot = next_dot p in first_refusal (
@@ -98,7 +98,7 @@ made_locally publication judge change drawn p = let key = key_of (next_dot p) ch
 abbrev pub local : Publication → PublisherJudge → Moment → Change → PublisherTables → Result (PublisherTables × RowId) Refusal
 local publication judge now change p = elim (local_refusal publication change p) [
   | Some refusal ↦ Err refusal
-  | None ↦ elim (drawn publication p change) [
+  | None ↦ elim (draw_for_change publication p change) [
     | Err refusal ↦ Err refusal
     | Ok drawn ↦ Ok (made_locally publication judge change drawn (at_moment now p))
   ]

@@ -2,7 +2,7 @@
 use Rattle.std.specs.Prelude.{Bool, None, Some, count_by, false, filter, nat_lt, not, ℕ, ◌&&◌, ◌*◌, ◌+◌, ◌-◌}
 use Rattle.merge_types.specs.declared.identifiers.Moment.{Moment}
 use Rattle.merge_units.specs.Version.{is_live}
-use Rattle.merge_gens.specs.Book.{moment_of, purged}
+use Rattle.merge_gens.specs.Book.{book_after_purge, moment_of}
 use Rattle.merge_gens.specs.declared.closings.Closing.{Closing}
 use Rattle.merge_schema.specs.declared.publication.Publication.{Publication}
 use Rattle.merge_model.specs.Publisher.{at_moment}
@@ -48,7 +48,7 @@ abbrev pub after_purge : Publication → PublisherTables → PublisherTables
 after_purge publication p = record p {
   rows = filter (λ (row : Key × PublisherRow). not (is_old_tombstone publication p row)) p.rows;
   mappings = filter (λ (entry : RowSite × Mapping). not (is_old_left publication p entry)) p.mappings;
-  gens = purged p.gens (cutoff publication p);
+  gens = book_after_purge p.gens (cutoff publication p);
 }
 
 abbrev pub purge : Publication → Moment → PublisherTables → PublisherTables × Forgotten

@@ -43,8 +43,8 @@ abbrev pub ended_by : ℕ → Answer → Option Ended
 ended_by article (Err (NoRange next greatest)) = Some (record { article = article; next = next; greatest = greatest })
 ended_by article answer = None
 
-abbrev pub ranged : RangeAsk → List GrantPlan → Ranged
-ranged m planned = record {
+abbrev pub reply_to_ranges : RangeAsk → List GrantPlan → Ranged
+reply_to_ranges m planned = record {
   seq = m.seq;
   grants = filter_map (λ (plan : GrantPlan). granted_by plan.ask.article plan.answer) planned;
   ended = filter_map (λ (plan : GrantPlan). ended_by plan.ask.article plan.answer) planned;
@@ -62,4 +62,4 @@ ranges_refusal publication judge now m p = first_refusal (
 
 abbrev pub ranges : Publication → PublisherJudge → Moment → RangeAsk → PublisherTables → Result (PublisherTables × Ranged) Refusal
 ranges publication judge now m p = unless (ranges_refusal publication judge now m p)
-    (with_grants (plans publication m p) (at_moment now p), ranged m (plans publication m p))
+    (with_grants (plans publication m p) (at_moment now p), reply_to_ranges m (plans publication m p))

@@ -53,8 +53,8 @@ brings_news judge m = nat_lt (judge.received m.site.0) m.to
 abbrev pub taken_in : Publication → PublisherJudge → Upload → List Act → PublisherTables → PublisherTables
 taken_in publication judge m acts p = changed_by publication judge (changing_by m acts) (with_acts publication m acts p)
 
-abbrev pub uploaded : Publication → PublisherJudge → Upload → List Decision → PublisherTables → PublisherTables
-uploaded publication judge m decisions p = if brings_news judge m then taken_in publication judge m (acts_of judge m decisions p) p else p
+abbrev pub tables_after_upload : Publication → PublisherJudge → Upload → List Decision → PublisherTables → PublisherTables
+tables_after_upload publication judge m decisions p = if brings_news judge m then taken_in publication judge m (acts_of judge m decisions p) p else p
 
 -- Refusals.
 
@@ -82,4 +82,4 @@ upload_refusal publication judge now m p = first_refusal (
 -- the step, with what the decisions of its conflicts count as, in the order of the items
 abbrev pub upload : Publication → PublisherJudge → Moment → Upload → List Decision → PublisherTables → Result (PublisherTables × Uploaded) Refusal
 upload publication judge now m decisions p = unless (upload_refusal publication judge now m p)
-    (uploaded publication judge m decisions (at_moment now p), record { seq = m.seq; received = max m.to (judge.received m.site.0) })
+    (tables_after_upload publication judge m decisions (at_moment now p), record { seq = m.seq; received = max m.to (judge.received m.site.0) })

@@ -26,15 +26,15 @@ discarded_row s number key version = record {
 }
 
 -- the rows with a change that the publisher has not taken, by article and row
-abbrev pub discarded : SubscriberJudge → SubscriberTables → List (Key × Version)
-discarded judge s = filter_map (λ (row : Key × SubscriberRow). if judge.is_unsent s.received row.0 then Some (row.0, row.1.version) else None) s.rows
+abbrev pub discarded_versions : SubscriberJudge → SubscriberTables → List (Key × Version)
+discarded_versions judge s = filter_map (λ (row : Key × SubscriberRow). if judge.is_unsent s.received row.0 then Some (row.0, row.1.version) else None) s.rows
 
-abbrev pub numbered_from : SubscriberTables → ℕ → List (Key × Version) → List ConflictRow
-numbered_from s number [] = []
-numbered_from s number (row ∷ rows) = discarded_row s number row.0 row.1 ∷ numbered_from s (number + 1) rows
+abbrev pub discarded_rows_from : SubscriberTables → ℕ → List (Key × Version) → List ConflictRow
+discarded_rows_from s number [] = []
+discarded_rows_from s number (row ∷ rows) = discarded_row s number row.0 row.1 ∷ discarded_rows_from s (number + 1) rows
 
-abbrev pub made_anew : List ConflictRow → SubscriberTables → SubscriberTables
-made_anew lost s = record s {
+abbrev pub tables_made_anew : List ConflictRow → SubscriberTables → SubscriberTables
+tables_made_anew lost s = record s {
   gens = record s.gens { closings = [] };
   conflict_count = s.conflict_count + length lost;
   conflicts = s.conflicts ++ lost;
@@ -45,8 +45,8 @@ made_anew lost s = record s {
   rows = [];
 }
 
-abbrev pub reinitialised : SubscriberJudge → SubscriberTables → SubscriberTables × ℕ
-reinitialised judge s = let lost = numbered_from s (s.conflict_count + 1) (discarded judge s) in (made_anew lost (subscriber_closed s), length lost)
+abbrev pub result_of_reinit : SubscriberJudge → SubscriberTables → SubscriberTables × ℕ
+result_of_reinit judge s = let lost = discarded_rows_from s (s.conflict_count + 1) (discarded_versions judge s) in (tables_made_anew lost (subscriber_closed s), length lost)
 
 abbrev pub reinitialise : SubscriberJudge → Moment → SubscriberTables → Result (SubscriberTables × ℕ) Refusal
-reinitialise judge now s = unless (counter_end (subscriber_counters s)) (reinitialised judge (subscriber_at_moment now s))
+reinitialise judge now s = unless (counter_end (subscriber_counters s)) (result_of_reinit judge (subscriber_at_moment now s))

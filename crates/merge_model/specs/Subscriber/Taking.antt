@@ -3,7 +3,7 @@ use Rattle.std.specs.List.{fold}
 use Rattle.std.specs.Prelude.{List, None, Ok, Option, Result, Some, [], filter, if◌then◌else◌, map, nat_lt, true, ℕ, ◌==◌}
 use Rattle.merge_types.specs.declared.identifiers.Moment.{Moment}
 use Rattle.merge_units.specs.declared.version.Body.TheVariants.{Live}
-use Rattle.merge_gens.specs.Book.{forgotten}
+use Rattle.merge_gens.specs.Book.{book_after_forgetting}
 use Rattle.merge_ident.specs.Holders.{Holder, after_receive}
 use Rattle.merge_schema.specs.declared.publication.Publication.{Publication}
 use Rattle.merge_batch.specs.declared.refusal.Refusal.{Refusal}
@@ -35,7 +35,7 @@ abbrev pub with_received : ℕ → SubscriberTables → SubscriberTables
 with_received received s = record s {
   received = received;
   rows = map (row_above received) s.rows;
-  gens = forgotten s.gens received;
+  gens = book_after_forgetting s.gens received;
 }
 
 -- ranges that were granted
@@ -84,14 +84,14 @@ seq_of (reply.Refused number values) = 0
 
 -- One that doesn't act is told with its number and that of the outstanding message, 0 where none is.
 
-abbrev pub taken : SubscriberJudge → Moment → Reply → SubscriberTables → SubscriberTables
-taken judge now m s = after_reply judge m (record (subscriber_at_moment now s) { outstanding = None })
+abbrev pub tables_after_reply : SubscriberJudge → Moment → Reply → SubscriberTables → SubscriberTables
+tables_after_reply judge now m s = after_reply judge m (record (subscriber_at_moment now s) { outstanding = None })
 
 abbrev pub met_by : Publication → SubscriberJudge → Moment → Reply → SubscriberTables → Option (ℕ × Outstanding) → Result (SubscriberTables × Taken) Refusal
 met_by publication judge now m s None = Ok (s, Missed (seq_of m) 0)
 met_by publication judge now m s (Some sent) =
     if sent.0 == seq_of m
-    then unless (reply_fault publication sent.1 m s) (taken judge now m s, Acted)
+    then unless (reply_fault publication sent.1 m s) (tables_after_reply judge now m s, Acted)
     else Ok (s, Missed (seq_of m) sent.0)
 
 abbrev pub take_reply : Publication → SubscriberJudge → Moment → Reply → SubscriberTables → Result (SubscriberTables × Taken) Refusal

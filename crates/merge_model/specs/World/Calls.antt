@@ -37,11 +37,11 @@ as_reply message (Ok done) = Ok (done.0, message done.1)
 as_reply message (Err refusal) = Err refusal
 
 -- what the publisher does with a request, where each resolver says what it says and was asked so often before
-abbrev pub handled : Publication → Saying → List ℕ → Moment → Request → PublisherTables → Result (PublisherTables × Reply) Refusal
-handled publication says tallies now (request.Join m) p = as_reply reply.Joined (join publication now m p)
-handled publication says tallies now (request.Upload m) p = as_reply reply.Uploaded (upload publication (by_numbers p) now m (kept_decisions says tallies (upload_questions publication (by_numbers p) now m p)) p)
-handled publication says tallies now (request.Ranges m) p = as_reply reply.Ranged (ranges publication (by_numbers p) now m p)
-handled publication says tallies now (request.Download m) p = as_reply reply.Downloaded (download publication (by_numbers p) now m p)
+abbrev pub result_of_request : Publication → Saying → List ℕ → Moment → Request → PublisherTables → Result (PublisherTables × Reply) Refusal
+result_of_request publication says tallies now (request.Join m) p = as_reply reply.Joined (join publication now m p)
+result_of_request publication says tallies now (request.Upload m) p = as_reply reply.Uploaded (upload publication (by_numbers p) now m (kept_decisions says tallies (upload_questions publication (by_numbers p) now m p)) p)
+result_of_request publication says tallies now (request.Ranges m) p = as_reply reply.Ranged (ranges publication (by_numbers p) now m p)
+result_of_request publication says tallies now (request.Download m) p = as_reply reply.Downloaded (download publication (by_numbers p) now m p)
 
 -- the questions of a request that is not refused
 abbrev pub questions_on : Publication → Moment → Request → PublisherTables → List (ℕ × ConflictCase)

@@ -59,29 +59,29 @@ module _ {W : Type 0} (publication : Publication) (stepping : Stepping W) where
   abbrev pub answered_by : (Outcome → Answer) → W × Outcome → W × Answer
   answered_by answer (w, outcome) = (w, answer outcome)
 
-  abbrev pub acting : ℕ → Action → W → W × Answer
-  acting number action w = answered_by (outcome_answer number) (stepping.act w action)
+  abbrev pub answered_action : ℕ → Action → W → W × Answer
+  answered_action number action w = answered_by (outcome_answer number) (stepping.act w action)
 
   -- an event that looks and changes nothing: only memory can be wanting
-  abbrev pub looked : (W → Answer) → W × Outcome → W × Answer
-  looked answer (w, Refuses refusal) = (w, Refused refusal)
-  looked answer (w, outcome) = (w, answer w)
+  abbrev pub answered_unless_refused : (W → Answer) → W × Outcome → W × Answer
+  answered_unless_refused answer (w, Refuses refusal) = (w, Refused refusal)
+  answered_unless_refused answer (w, outcome) = (w, answer w)
 
-  abbrev pub looking : (W → Answer) → W → W × Answer
-  looking answer w = looked answer (stepping.act w Look)
+  abbrev pub answered_look : (W → Answer) → W → W × Answer
+  answered_look answer w = answered_unless_refused answer (stepping.act w Look)
 
   -- an event of a site that there must be
   abbrev pub where_site : SiteId → W → (W → W × Answer) → W × Answer
-  where_site site w next = if is_site publication site then next w else looking (λ (v : W). Refused (UnknownSite site)) w
+  where_site site w next = if is_site publication site then next w else answered_look (λ (v : W). Refused (UnknownSite site)) w
 
   -- and that is no publisher
   abbrev pub where_subscriber : SiteId → W → (W → W × Answer) → W × Answer
-  where_subscriber site w next = if is_subscription publication site.0 then next w else looking (λ (v : W). Refused (UnknownSite site)) w
+  where_subscriber site w next = if is_subscription publication site.0 then next w else answered_look (λ (v : W). Refused (UnknownSite site)) w
 
   -- local changes: names become places
-  abbrev pub changing : SiteId → W → Result Change (List ℕ) → W × Answer
-  changing site w (Err name) = looking (λ (v : W). Refused (UnknownName name)) w
-  changing site w (Ok change) = answered_by (change_answer change) (stepping.act w (Make site change))
+  abbrev pub answered_change : SiteId → W → Result Change (List ℕ) → W × Answer
+  answered_change site w (Err name) = answered_look (λ (v : W). Refused (UnknownName name)) w
+  answered_change site w (Ok change) = answered_by (change_answer change) (stepping.act w (Make site change))
 
   -- sessions
   abbrev pub watermark_in : SiteId → W → ℕ
@@ -93,53 +93,53 @@ module _ {W : Type 0} (publication : Publication) (stepping : Stepping W) where
     | Some refusal ↦ Stopped s.uploads s.downloads refusal
   ]
 
-  abbrev pub syncing : SiteId → W → W × Answer
-  syncing site w = let done = session stepping site w in (done.world, session_answer site done)
+  abbrev pub answered_sync : SiteId → W → W × Answer
+  answered_sync site w = let done = session stepping site w in (done.world, session_answer site done)
 
   -- reports: of the publisher's tables, or of a subscriber's
-  abbrev pub reported : SiteId → (PublisherTables → Answer) → (SubscriberTables → Answer) → W → Answer
-  reported site of_publisher of_subscriber w =
+  abbrev pub report_of_site : SiteId → (PublisherTables → Answer) → (SubscriberTables → Answer) → W → Answer
+  report_of_site site of_publisher of_subscriber w =
       if site.0 == 0 then of_publisher (stepping.look w).publisher
       else elim (subscriber_at (stepping.look w) site) [
         | None ↦ Refused (UnknownSite site)
         | Some s ↦ of_subscriber s
       ]
 
-  abbrev pub reporting : SiteId → (PublisherTables → Answer) → (SubscriberTables → Answer) → W → W × Answer
-  reporting site of_publisher of_subscriber w = looking (reported site of_publisher of_subscriber) w
+  abbrev pub answered_report : SiteId → (PublisherTables → Answer) → (SubscriberTables → Answer) → W → W × Answer
+  answered_report site of_publisher of_subscriber w = answered_look (report_of_site site of_publisher of_subscriber) w
 
-  abbrev pub showing : SiteId → W → Result ℕ (List ℕ) → W × Answer
-  showing site w (Err name) = looking (λ (v : W). Refused (UnknownName name)) w
-  showing site w (Ok article) = reporting site
+  abbrev pub answered_show : SiteId → W → Result ℕ (List ℕ) → W × Answer
+  answered_show site w (Err name) = answered_look (λ (v : W). Refused (UnknownName name)) w
+  answered_show site w (Ok article) = answered_report site
       (λ (p : PublisherTables). Rows (shown_rows article (live_rows p.rows)))
       (λ (s : SubscriberTables). Rows (shown_rows article (subscriber_live_rows s))) w
 
   -- what an event does, and what is answered
   abbrev pub happens : W → Event → W × Answer
   happens w (event.Wait seconds) = let after = (stepping.act w (Pass seconds)).0 in (after, Now (stepping.look after).moment.0)
-  happens w (event.Insert site article values) = where_site site w (λ (v : W). changing site v (insert_by publication article values))
-  happens w (event.Update site article row values) = where_site site w (λ (v : W). changing site v (update_by publication article row values))
-  happens w (event.Delete site article row) = where_site site w (λ (v : W). changing site v (delete_by publication article row))
-  happens w (event.Close site) = where_site site w (acting 0 (CloseAt site))
-  happens w (event.Sync site) = where_subscriber site w (syncing site)
-  happens w (event.SendJoin site) = where_subscriber site w (acting 0 (Send site SendJoin))
-  happens w (event.SendUpload site) = where_subscriber site w (acting 0 (Send site SendUpload))
-  happens w (event.SendRanges site) = where_subscriber site w (acting 0 (Send site SendRanges))
-  happens w (event.SendDownload site) = where_subscriber site w (acting 0 (Send site SendDownload))
-  happens w (event.Deliver number) = acting number (Deliver number) w
-  happens w (event.Reinit site) = where_subscriber site w (acting 0 (MakeAnew site))
-  happens w event.Purge = acting 0 Forget w
-  happens w (event.Restart site) = where_site site w (looking (λ (v : W). Fine))
-  happens w (event.Show site article) = where_site site w (λ (v : W). showing site v (article_by publication article))
-  happens w (event.Partition site) = where_subscriber site w (looking (λ (v : W). partition_report publication site (stepping.look v).publisher))
-  happens w (event.Conflicts site) = where_site site w (reporting site
+  happens w (event.Insert site article values) = where_site site w (λ (v : W). answered_change site v (insert_by publication article values))
+  happens w (event.Update site article row values) = where_site site w (λ (v : W). answered_change site v (update_by publication article row values))
+  happens w (event.Delete site article row) = where_site site w (λ (v : W). answered_change site v (delete_by publication article row))
+  happens w (event.Close site) = where_site site w (answered_action 0 (CloseAt site))
+  happens w (event.Sync site) = where_subscriber site w (answered_sync site)
+  happens w (event.SendJoin site) = where_subscriber site w (answered_action 0 (Send site SendJoin))
+  happens w (event.SendUpload site) = where_subscriber site w (answered_action 0 (Send site SendUpload))
+  happens w (event.SendRanges site) = where_subscriber site w (answered_action 0 (Send site SendRanges))
+  happens w (event.SendDownload site) = where_subscriber site w (answered_action 0 (Send site SendDownload))
+  happens w (event.Deliver number) = answered_action number (Deliver number) w
+  happens w (event.Reinit site) = where_subscriber site w (answered_action 0 (MakeAnew site))
+  happens w event.Purge = answered_action 0 Forget w
+  happens w (event.Restart site) = where_site site w (answered_look (λ (v : W). Fine))
+  happens w (event.Show site article) = where_site site w (λ (v : W). answered_show site v (article_by publication article))
+  happens w (event.Partition site) = where_subscriber site w (answered_look (λ (v : W). partition_report publication site (stepping.look v).publisher))
+  happens w (event.Conflicts site) = where_site site w (answered_report site
       (λ (p : PublisherTables). Conflicts p.conflicts)
       (λ (s : SubscriberTables). Conflicts s.conflicts))
-  happens w (event.Ranges site) = where_site site w (reporting site
+  happens w (event.Ranges site) = where_site site w (answered_report site
       (λ (p : PublisherTables). Grants p.grants)
       (λ (s : SubscriberTables). Held (held_report s)))
-  happens w (event.Generations site) = where_site site w (reporting site (publisher_generations publication) subscriber_generations)
-  happens w (event.Count site) = where_site site w (reporting site
+  happens w (event.Generations site) = where_site site w (answered_report site (publisher_generations publication) subscriber_generations)
+  happens w (event.Count site) = where_site site w (answered_report site
       (λ (p : PublisherTables). Counts (counts_of publication (live_rows p.rows)))
       (λ (s : SubscriberTables). Counts (counts_of publication (subscriber_live_rows s))))
 

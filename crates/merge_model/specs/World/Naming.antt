@@ -39,15 +39,15 @@ abbrev pub and_then : {A B : Type 0} → Result A (List ℕ) → (A → Result B
 and_then (Ok done) next = next done
 and_then (Err name) next = Err name
 
-abbrev pub placed : List Column → List (ℕ × Value) → List NamedValue → Result (List (ℕ × Value)) (List ℕ)
-placed columns others [] = Ok others
-placed columns others (named ∷ rest) = and_then (set_at others named (column_place columns named.column)) (λ (more : List (ℕ × Value)). placed columns more rest)
+abbrev pub values_at_places : List Column → List (ℕ × Value) → List NamedValue → Result (List (ℕ × Value)) (List ℕ)
+values_at_places columns others [] = Ok others
+values_at_places columns others (named ∷ rest) = and_then (set_at others named (column_place columns named.column)) (λ (more : List (ℕ × Value)). values_at_places columns more rest)
 
 abbrev pub setting_of : ℕ × Value → Setting
 setting_of pair = record { column = pair.0; value = pair.1 }
 
 abbrev pub settings_by : List Column → List NamedValue → Result (List Setting) (List ℕ)
-settings_by columns named = and_then (placed columns [] named) (λ (pairs : List (ℕ × Value)). Ok (map setting_of pairs))
+settings_by columns named = and_then (values_at_places columns [] named) (λ (pairs : List (ℕ × Value)). Ok (map setting_of pairs))
 
 -- the place of an event's article, or its name where the publication has none of it
 abbrev pub article_by : Publication → List ℕ → Result ℕ (List ℕ)

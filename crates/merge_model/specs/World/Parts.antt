@@ -22,9 +22,9 @@ world_of tables subscriber_tables tally p ss rs pool moment = record {
 }
 
 -- the message with a number
-abbrev pub pooled : List Letter → ℕ → Option Letter
-pooled pool zero = None
-pooled pool (suc number) = slice_get pool number
+abbrev pub letter_in_pool : List Letter → ℕ → Option Letter
+letter_in_pool pool zero = None
+letter_in_pool pool (suc number) = slice_get pool number
 
 -- the world and the outcome behind a call of the publisher that makes a request
 abbrev pub after_result : Result Reply Refusal → SiteId → World → PublisherTables → List ℕ → World × Outcome

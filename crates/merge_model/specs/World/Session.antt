@@ -8,7 +8,7 @@ use Rattle.merge_model.specs.World.Steps.{Action, Deliver, Send, SendDownload, S
 use Rattle.merge_model.specs.declared.outcome.Outcome.{Outcome}
 use Rattle.merge_model.specs.declared.outcome.Outcome.TheVariants.{Posted, Refuses, Took}
 use Rattle.merge_model.specs.Tables.{SubscriberTables}
-use Rattle.merge_model.specs.Subscriber.Taking.{taken}
+use Rattle.merge_model.specs.Subscriber.Taking.{tables_after_reply}
 use Rattle.merge_model.specs.World.{World, subscriber_at}
 use Rattle.merge_model.specs.declared.letter.Letter.{Letter}
 use Rattle.merge_model.specs.declared.letter.Message.{Message}
@@ -40,14 +40,14 @@ module _ {W : Type 0} (stepping : Stepping W) (site : SiteId) where
   ask sending w = then_deliver (stepping.act w (Send site sending))
 
   -- the reply comes to the site. The session goes on where it acted, and ends where something was refused
-  abbrev pub arrived : (Session W → Session W) → Session W → W × Outcome → Session W
-  arrived next s (w, Took taken) = next (record s { world = w })
-  arrived next s (w, Refuses refusal) = record s { world = w; stop = Some refusal }
-  arrived next s (w, outcome) = record s { world = w }
+  abbrev pub session_after_reply : (Session W → Session W) → Session W → W × Outcome → Session W
+  session_after_reply next s (w, Took taken) = next (record s { world = w })
+  session_after_reply next s (w, Refuses refusal) = record s { world = w; stop = Some refusal }
+  session_after_reply next s (w, outcome) = record s { world = w }
 
   -- an answer is counted before it comes to the site. The session is past this message where there was none to make
   abbrev pub answered_as : (Session W → Session W) → (Session W → Session W) → Session W → W × Outcome → Session W
-  answered_as counted next s (w, Posted number) = arrived next (counted (record s { world = w })) (stepping.act w (Deliver number))
+  answered_as counted next s (w, Posted number) = session_after_reply next (counted (record s { world = w })) (stepping.act w (Deliver number))
   answered_as counted next s (w, Refuses refusal) = record s { world = w; stop = Some refusal }
   answered_as counted next s (w, outcome) = record s { world = w }
 
@@ -71,22 +71,22 @@ module _ {W : Type 0} (stepping : Stepping W) (site : SiteId) where
   abbrev pub is_joined_in : W → Bool
   is_joined_in w = unwrap_or (option_map (λ (s : SubscriberTables). s.is_joined) (tables_in w)) true
 
-  abbrev pub joining : Session W → Session W
-  joining s = if is_joined_in s.world then s else exchange SendJoin as_it_is as_it_is s
+  abbrev pub join_if_due : Session W → Session W
+  join_if_due s = if is_joined_in s.world then s else exchange SendJoin as_it_is as_it_is s
 
   abbrev pub with_upload : Session W → Session W
   with_upload s = record s { uploads = s.uploads + 1 }
 
   -- uploads, until there is none to make. Each takes at least one generation
-  abbrev pub uploading : ℕ → Session W → Session W
-  uploading zero s = s
-  uploading (suc n) s = exchange SendUpload with_upload (uploading n) s
+  abbrev pub uploads_up_to : ℕ → Session W → Session W
+  uploads_up_to zero s = s
+  uploads_up_to (suc n) s = exchange SendUpload with_upload (uploads_up_to n) s
 
   abbrev pub unsent_generations : W → ℕ
   unsent_generations w = unwrap_or (option_map (λ (s : SubscriberTables). s.gens.filling.last_closed + 2 - s.received) (tables_in w)) 0
 
   abbrev pub all_uploads : Session W → Session W
-  all_uploads s = uploading (unsent_generations s.world) s
+  all_uploads s = uploads_up_to (unsent_generations s.world) s
 
   -- range requests, until a reply has no grant
   abbrev pub last_message : W → Option Message
@@ -98,15 +98,15 @@ module _ {W : Type 0} (stepping : Stepping W) (site : SiteId) where
 
   -- A range that was granted and not heard of comes first. Then a site is granted at most two more of an article
   -- before it is not due.
-  abbrev pub asking_ranges : ℕ → Session W → Session W
-  asking_ranges zero s = s
-  asking_ranges (suc n) s = exchange SendRanges as_it_is (λ (t : Session W). if has_grant (last_message t.world) then asking_ranges n t else t) s
+  abbrev pub range_requests_up_to : ℕ → Session W → Session W
+  range_requests_up_to zero s = s
+  range_requests_up_to (suc n) s = exchange SendRanges as_it_is (λ (t : Session W). if has_grant (last_message t.world) then range_requests_up_to n t else t) s
 
   abbrev pub range_asks : W → ℕ
   range_asks w = length (stepping.look w).publisher.grants + 4
 
   abbrev pub all_ranges : Session W → Session W
-  all_ranges s = asking_ranges (range_asks s.world) s
+  all_ranges s = range_requests_up_to (range_asks s.world) s
 
   -- Downloads: with the last closed generation that the first reply tells, the site asks until it asked from there.
   abbrev pub downloaded_in : Option Message → Option Downloaded
@@ -131,17 +131,17 @@ module _ {W : Type 0} (stepping : Stepping W) (site : SiteId) where
     | Some m ↦ next m s
   ]
 
-  abbrev pub downloading : ℕ → ℕ → Session W → Session W
-  downloading zero target s = s
-  downloading (suc n) target s = exchange SendDownload with_answer
-      (after_download (λ (m : Downloaded) (t : Session W). if nat_le target m.from then t else downloading n target t)) s
+  abbrev pub downloads_up_to : ℕ → ℕ → Session W → Session W
+  downloads_up_to zero target s = s
+  downloads_up_to (suc n) target s = exchange SendDownload with_answer
+      (after_download (λ (m : Downloaded) (t : Session W). if nat_le target m.from then t else downloads_up_to n target t)) s
 
   abbrev pub all_downloads : Session W → Session W
   all_downloads s = exchange SendDownload with_answer
-      (after_download (λ (m : Downloaded) (t : Session W). if nat_le m.last m.from then t else downloading (m.last + 1 - m.from) m.last t)) s
+      (after_download (λ (m : Downloaded) (t : Session W). if nat_le m.last m.from then t else downloads_up_to (m.last + 1 - m.from) m.last t)) s
 
   abbrev pub session : W → Session W
-  session w = unless_stopped all_downloads (unless_stopped all_ranges (unless_stopped all_uploads (joining (record {
+  session w = unless_stopped all_downloads (unless_stopped all_ranges (unless_stopped all_uploads (join_if_due (record {
     world = w;
     uploads = 0;
     downloads = 0;

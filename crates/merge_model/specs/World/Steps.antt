@@ -22,7 +22,7 @@ use Rattle.merge_batch.specs.declared.request.RangeAsk.{RangeAsk}
 use Rattle.merge_batch.specs.declared.request.Request.{Request}
 use Rattle.merge_batch.specs.declared.request.Upload.{Upload}
 use Rattle.merge_model.specs.Publisher.Acts.{questions_of}
-use Rattle.merge_resolve.specs.Questions.{counted, question_of as asked_of}
+use Rattle.merge_resolve.specs.Questions.{decision_for_question, question_of as asked_of}
 use Rattle.merge_resolve.specs.declared.asking.Question.{Question}
 use Rattle.merge_model.specs.Judge.{PublisherJudge}
 use Rattle.merge_model.specs.Publisher.{at_moment, close_generation}
@@ -113,14 +113,14 @@ close_at site w = if site.0 == 0 then close_publisher w else at_subscriber site 
 
 -- Messages.
 
-abbrev pub posted : {A : Type 0} → SiteId → (A → Request) → World → Option (SubscriberTables × A) → World × Outcome
-posted site message w None = (w, NoPost)
-posted site message w (Some made) = post site (Asks (message made.1)) (with_subscriber made.0 w)
+abbrev pub post_if_made : {A : Type 0} → SiteId → (A → Request) → World → Option (SubscriberTables × A) → World × Outcome
+post_if_made site message w None = (w, NoPost)
+post_if_made site message w (Some made) = post site (Asks (message made.1)) (with_subscriber made.0 w)
 
 abbrev pub send_from : Judges → Sending → World → SubscriberTables → World × Outcome
-send_from judges SendJoin w s = unless_refused w (make_join s) (posted s.site (λ (m : Join). request.Join m) w)
-send_from judges SendUpload w s = unless_refused w (make_upload (judges.subscriber s.site s) w.moment s) (posted s.site (λ (m : Upload). request.Upload m) w)
-send_from judges SendRanges w s = unless_refused w (make_ranges s) (posted s.site (λ (m : RangeAsk). request.Ranges m) w)
+send_from judges SendJoin w s = unless_refused w (make_join s) (post_if_made s.site (λ (m : Join). request.Join m) w)
+send_from judges SendUpload w s = unless_refused w (make_upload (judges.subscriber s.site s) w.moment s) (post_if_made s.site (λ (m : Upload). request.Upload m) w)
+send_from judges SendRanges w s = unless_refused w (make_ranges s) (post_if_made s.site (λ (m : RangeAsk). request.Ranges m) w)
 send_from judges SendDownload w s = unless_refused w (make_ask s)
     (λ (made : SubscriberTables × Download). post s.site (Asks (request.Download made.1)) (with_subscriber made.0 w))
 
@@ -130,7 +130,7 @@ send judges site sending w = at_subscriber site w (send_from judges sending w)
 -- The questions of an upload that is not refused are asked one after the other.
 
 abbrev pub kept_decision : Question × Option Decision → Decision
-kept_decision pair = counted pair.0 (unwrap_or pair.1 KeepPublisher)
+kept_decision pair = decision_for_question pair.0 (unwrap_or pair.1 KeepPublisher)
 
 -- what the decisions on questions count as
 abbrev pub kept_decisions : Saying → List ℕ → List Question → List Decision
@@ -150,15 +150,15 @@ abbrev pub deliver_upload : Publication → Saying → PublisherJudge → SiteId
 deliver_upload publication says judge site m w = after_upload publication says judge site m w
     (upload publication judge w.moment m (kept_decisions says w.tallies (upload_questions publication judge w.moment m w.publisher)) w.publisher)
 
-abbrev pub answered : {A : Type 0} → SiteId → (A → Reply) → World → Result (PublisherTables × A) Refusal → World × Outcome
-answered {A = A} site message w done = unless_refused w done
+abbrev pub post_reply : {A : Type 0} → SiteId → (A → Reply) → World → Result (PublisherTables × A) Refusal → World × Outcome
+post_reply {A = A} site message w done = unless_refused w done
     (λ (made : PublisherTables × A). post site (Replies (message made.1)) (with_publisher made.0 w))
 
 abbrev pub deliver_request : Publication → Saying → PublisherJudge → SiteId → Request → World → World × Outcome
-deliver_request publication says judge site (request.Join m) w = answered site (λ (made : Joined). reply.Joined made) w (join publication w.moment m w.publisher)
+deliver_request publication says judge site (request.Join m) w = post_reply site (λ (made : Joined). reply.Joined made) w (join publication w.moment m w.publisher)
 deliver_request publication says judge site (request.Upload m) w = deliver_upload publication says judge site m w
-deliver_request publication says judge site (request.Ranges m) w = answered site (λ (made : Ranged). reply.Ranged made) w (ranges publication judge w.moment m w.publisher)
-deliver_request publication says judge site (request.Download m) w = answered site (λ (made : Downloaded). reply.Downloaded made) w (download publication judge w.moment m w.publisher)
+deliver_request publication says judge site (request.Ranges m) w = post_reply site (λ (made : Ranged). reply.Ranged made) w (ranges publication judge w.moment m w.publisher)
+deliver_request publication says judge site (request.Download m) w = post_reply site (λ (made : Downloaded). reply.Downloaded made) w (download publication judge w.moment m w.publisher)
 
 abbrev pub deliver_reply : Publication → Judges → Reply → World → SubscriberTables → World × Outcome
 deliver_reply publication judges m w s = unless_refused w (take_reply publication (judges.subscriber s.site s) w.moment m s)

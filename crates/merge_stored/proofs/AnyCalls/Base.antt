@@ -37,11 +37,11 @@ use Rattle.merge_keeper.specs.SubscriberRules.{Numbered}
 use Rattle.merge_model.specs.Judge.{PublisherJudge}
 use Rattle.merge_model.specs.Publisher.Acts.{Act, acting_items, acts_of, changes_by, key_of_item, lost_from}
 use Rattle.merge_model.specs.Publisher.Entries.{Changing, changed_by, changing_entries, entry_count, with_rows}
-use Rattle.merge_model.specs.Publisher.{at_moment, closed, counters, last_closed}
+use Rattle.merge_model.specs.Publisher.{at_moment, counters, last_closed, tables_after_close}
 use Rattle.merge_model.specs.Publisher.PublisherJoin.{is_left_of, join_taken}
-use Rattle.merge_model.specs.Publisher.PublisherLocal.{Drawn, changing_locally, drawn, local_refusal, made_locally, next_dot, version_at, with_draw}
+use Rattle.merge_model.specs.Publisher.PublisherLocal.{Drawn, changing_locally, draw_for_change, local_refusal, made_locally, next_dot, version_at, with_draw}
 use Rattle.merge_model.specs.Publisher.PublisherPurge.{cutoff, is_old_left, is_old_tombstone, purge}
-use Rattle.merge_model.specs.Publisher.PublisherUpload.{changing_by, taken_in, upload_refusal, uploaded, brings_news, with_acts}
+use Rattle.merge_model.specs.Publisher.PublisherUpload.{changing_by, taken_in, upload_refusal, tables_after_upload, brings_news, with_acts}
 use Rattle.merge_model.specs.Tables.Keys.{put_row, row_at}
 use Rattle.merge_model.specs.Tables.Refusals.{counter_end}
 use Rattle.merge_model.specs.Tables.{PublisherTables}
@@ -110,7 +110,7 @@ module _ (publication : Publication) where
   pub at-base : (now : Moment) (p : PublisherTables) → Base p → Base (at_moment now p)
   at-base now p b = record { changes = b.changes; closed = b.closed; conflict_count = b.conflict_count; rows = b.rows; moves = b.moves; lost = b.lost; numbered = b.numbered; closings = b.closings }
 
-  pub closed-base : (p : PublisherTables) → last_closed p < counter_limit → Base p → Base (closed p)
+  pub closed-base : (p : PublisherTables) → last_closed p < counter_limit → Base p → Base (tables_after_close p)
   closed-base p low b = record {
     changes = b.changes;
     closed = (let one = closed-one p.gens.filling in omega (arith, one, low));
@@ -119,7 +119,7 @@ module _ (publication : Publication) where
     moves = b.moves;
     lost = b.lost;
     numbered = b.numbered;
-    closings = moved-closings p.gens.filling.last_closed (fill.closed p.gens.filling).last_closed p.latest p.gens.closings (closed-up p.gens.filling) b.closings;
+    closings = moved-closings p.gens.filling.last_closed (fill.filling_after_close p.gens.filling).last_closed p.latest p.gens.closings (closed-up p.gens.filling) b.closings;
   }
 
   pub join-base : (m : Join) (p : PublisherTables) (b : Bool) → Base p → Base (if b then join_taken m p else p)
@@ -201,13 +201,13 @@ module _ (publication : Publication) where
     one-long key None = omega arith
     one-long key (Some version) = omega arith
 
-    takes-whole : (p : PublisherTables) (change : Change) (d : Drawn) → HasKeys publication p.held → drawn publication p change ≡ Ok d → TakesWhole publication change d.value
-    takes-whole p (Insert article settings) d keys is = λ some. ok-of IsWhole (drawn publication p (Insert article settings)) d (draw-whole publication p article settings keys some) is
+    takes-whole : (p : PublisherTables) (change : Change) (d : Drawn) → HasKeys publication p.held → draw_for_change publication p change ≡ Ok d → TakesWhole publication change d.value
+    takes-whole p (Insert article settings) d keys is = λ some. ok-of IsWhole (draw_for_change publication p (Insert article settings)) d (draw-whole publication p article settings keys some) is
     takes-whole p (Update article row settings) d keys is = tt
     takes-whole p (Delete article row) d keys is = tt
 
     pub made-base : (judge : PublisherJudge) (now : Moment) (change : Change) (p : PublisherTables) (d : Drawn) → has_article publication (article_of change) ≡ true → Base p → p.gens.filling.filled < entry_limit → length p.rows < 2 ^ 64 → HasKeys publication p.held
-        → local_refusal publication change p ≡ None → drawn publication p change ≡ Ok d → Base (made_locally publication judge change d (at_moment now p)).0
+        → local_refusal publication change p ≡ None → draw_for_change publication p change ≡ Ok d → Base (made_locally publication judge change d (at_moment now p)).0
     made-base judge now change p d exists b unfilled rows keys fine is =
         let counted = first-none (counter_end (counters p)) _ fine in
         let refused = first-none (change_refusal publication (next_dot p) change (version_at p (key_of (next_dot p) change)) (length p.rows)) _ counted.1 in
@@ -289,5 +289,5 @@ module _ (publication : Publication) where
       news-base true = taken-base
       news-base false = at-base now p b
 
-      pub upload-base : Base (uploaded publication judge m decisions here)
+      pub upload-base : Base (tables_after_upload publication judge m decisions here)
       upload-base = news-base (brings_news judge m)

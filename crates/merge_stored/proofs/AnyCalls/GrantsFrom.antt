@@ -25,7 +25,7 @@ use Rattle.merge_keeper.specs.Entries.{held_ranges, was_received}
 use Rattle.merge_keeper.specs.PublisherRules as of_publisher
 use Rattle.merge_keeper.specs.PublisherRules.{IsRangeRecord, held_pair, own_ranges, with_records}
 use Rattle.merge_keeper.specs.PublisherStart.{grant_is_sound, holds, is_held, is_sound, own_is_sound, with_record}
-use Rattle.merge_keeper.specs.Start.{KeepOneByOne, are_kept, holder_of, holds_last, identity_at, last_own, own_count, replaced, same_range, with_held}
+use Rattle.merge_keeper.specs.Start.{KeepOneByOne, are_kept, holder_of, holds_last, identity_at, last_own, own_count, same_range, with_held, with_value_at}
 use Rattle.merge_keeper.specs.declared.publisher_record.PublisherRecord.{PublisherRecord}
 use Rattle.merge_keeper.specs.declared.publisher_record.PublisherRecord.TheVariants.{Closed, Granted, Held, Lost, Mapped, Row, State, Subscribed}
 use Rattle.merge_keeper.specs.declared.stored.PublisherStored.{PublisherStored}
@@ -126,14 +126,14 @@ module _ (publication : Publication) (article : ℕ) where
   replaced-by false a new p true z some more = (let rest = more refl in grind (arith, rest))
   replaced-by false a new p false z some more = grind (arith, some)
 
-  any-replaced : (a : ℕ) (new : Holder) (held : List (ℕ × Holder)) → list_any (holds article) (replaced held a new) ≡ true → (holds article (a, new) || list_any (holds article) held) ≡ true
+  any-replaced : (a : ℕ) (new : Holder) (held : List (ℕ × Holder)) → list_any (holds article) (with_value_at held a new) ≡ true → (holds article (a, new) || list_any (holds article) held) ≡ true
   any-replaced a new [] some = absurd cc
-  any-replaced a new (p ∷ held) some = replaced-by (p.0 == a) a new p (list_any (holds article) (replaced held a new)) (list_any (holds article) held) some (any-replaced a new held)
+  any-replaced a new (p ∷ held) some = replaced-by (p.0 == a) a new p (list_any (holds article) (with_value_at held a new)) (list_any (holds article) held) some (any-replaced a new held)
 
   or-right : (a b : Bool) → b ≡ true → (a || b) ≡ true
   or-right a b is = grind (arith, is)
 
-  held-by : (found : Option Identity) (a : ℕ) (ranges : HeldRanges) (held : List (ℕ × Holder)) → is_held (option_map_or (λ (identity : Identity). replaced held a (holder_of identity ranges)) found held) article ≡ true → (((a == article) && nat_lt 0 ranges.have) || is_held held article) ≡ true
+  held-by : (found : Option Identity) (a : ℕ) (ranges : HeldRanges) (held : List (ℕ × Holder)) → is_held (option_map_or (λ (identity : Identity). with_value_at held a (holder_of identity ranges)) found held) article ≡ true → (((a == article) && nat_lt 0 ranges.have) || is_held held article) ≡ true
   held-by None a ranges held some = or-right ((a == article) && nat_lt 0 ranges.have) (is_held held article) some
   held-by (Some identity) a ranges held some = any-replaced a (holder_of identity ranges) held some
 

@@ -13,7 +13,7 @@ use Rattle.merge_schema.specs.declared.publication.Identity.{Identity}
 use Rattle.merge_schema.specs.declared.publication.Publication.{Publication}
 use Rattle.merge_keeper.specs.Entries.{held_ranges, was_received}
 use Rattle.merge_keeper.specs.Start as start
-use Rattle.merge_keeper.specs.Start.{are_kept, holder_of, identity_at, is_next_in, replaced, replaced_at}
+use Rattle.merge_keeper.specs.Start.{are_kept, holder_of, identity_at, is_next_in, replaced_at, with_value_at}
 use Rattle.merge_keeper.specs.SubscriberRules.{held_with}
 use Rattle.merge_model.specs.Publisher.{holder_for, new_holders}
 use Rattle.merge_model.specs.Tables.Publications.{identities}
@@ -28,13 +28,13 @@ module _ (P : ℕ × Holder → Type 0) where
   one-by true n new p here other = here
   one-by false n new p here other = other
 
-  all-replaced : (n : ℕ) (new : Holder) (held : List (ℕ × Holder)) → P (n, new) → AllByRecursion P held → AllByRecursion P (replaced held n new)
+  all-replaced : (n : ℕ) (new : Holder) (held : List (ℕ × Holder)) → P (n, new) → AllByRecursion P held → AllByRecursion P (with_value_at held n new)
   all-replaced n new [] here all = tt
   all-replaced n new (p ∷ held) here all = (one-by (p.0 == n) n new p here all.0, all-replaced n new held here all.1)
 
   pub all-with : (ps held : List (ℕ × Holder)) → AllByRecursion P ps → AllByRecursion P held → AllByRecursion P (held_with held ps)
   all-with [] held news all = all
-  all-with (p ∷ ps) held news all = all-with ps (replaced held p.0 p.1) news.1 (all-replaced p.0 p.1 held news.0 all)
+  all-with (p ∷ ps) held news all = all-with ps (with_value_at held p.0 p.1) news.1 (all-replaced p.0 p.1 held news.0 all)
 
 -- Thresholds stay those of the articles.
 
@@ -52,14 +52,14 @@ module _ (publication : Publication) where
       ap (λ (k : ℕ). (let q : ℕ × ℕ = (k, new.threshold) in q)) same ∙ ap (λ (k : ℕ). (let q : ℕ × ℕ = (p.0, k) in q)) threshold
   key-by false n new p is here other = refl
 
-  keys-replaced : (n : ℕ) (new : Holder) (held : List (ℕ × Holder)) → IsOfIdentity publication (n, new) → AllByRecursion (IsOfIdentity publication) held → map key_threshold (replaced held n new) ≡ map key_threshold held
+  keys-replaced : (n : ℕ) (new : Holder) (held : List (ℕ × Holder)) → IsOfIdentity publication (n, new) → AllByRecursion (IsOfIdentity publication) held → map key_threshold (with_value_at held n new) ≡ map key_threshold held
   keys-replaced n new [] here all = refl
   keys-replaced n new (p ∷ held) here all =
-      ap (λ (k : ℕ × ℕ). k ∷ map key_threshold (replaced held n new)) (key-by (p.0 == n) n new p refl here all.0) ∙ ap (λ (l : List (ℕ × ℕ)). key_threshold p ∷ l) (keys-replaced n new held here all.1)
+      ap (λ (k : ℕ × ℕ). k ∷ map key_threshold (with_value_at held n new)) (key-by (p.0 == n) n new p refl here all.0) ∙ ap (λ (l : List (ℕ × ℕ)). key_threshold p ∷ l) (keys-replaced n new held here all.1)
 
   keys-with : (ps held : List (ℕ × Holder)) → AllByRecursion (IsOfIdentity publication) ps → AllByRecursion (IsOfIdentity publication) held → map key_threshold (held_with held ps) ≡ map key_threshold held
   keys-with [] held news all = refl
-  keys-with (p ∷ ps) held news all = keys-with ps (replaced held p.0 p.1) news.1 (all-replaced (IsOfIdentity publication) p.0 p.1 held news.0 all) ∙ keys-replaced p.0 p.1 held news.0 all
+  keys-with (p ∷ ps) held news all = keys-with ps (with_value_at held p.0 p.1) news.1 (all-replaced (IsOfIdentity publication) p.0 p.1 held news.0 all) ∙ keys-replaced p.0 p.1 held news.0 all
 
   -- what reads back is of its article
   abbrev ReadsBack : ℕ × Holder → Type 0

@@ -37,7 +37,7 @@ use Rattle.merge_model.specs.History.{MadeChange, no_past}
 use Rattle.merge_model.specs.History.Noting
 use Rattle.merge_model.specs.History.Pasts.{past_after}
 use Rattle.merge_model.specs.Publisher.{new_holders}
-use Rattle.merge_model.specs.Publisher.PublisherLocal.{Drawn, after_answer, drawn, drawn_from, no_draw, own_ask, taken_from}
+use Rattle.merge_model.specs.Publisher.PublisherLocal.{Drawn, after_answer, draw_for_change, drawn_from, no_draw, own_ask, taken_from}
 use Rattle.merge_model.specs.Tables.Keys.{at_number}
 use Rattle.merge_model.specs.Tables.Publications.{rules_of}
 use Rattle.merge_model.specs.Tables.{PublisherTables}
@@ -85,7 +85,7 @@ pub column-there : (found : Option Article) → is_some (option_map (λ (identit
 column-there None some = absurd cc
 column-there (Some article) some = mapped-some (λ (identity : Identity). identity.column) article.identity some
 
-pub draw-whole : (publication : Publication) (p : PublisherTables) (article : ℕ) (settings : List Setting) → HasKeys publication p.held → is_some (identity_column publication article) ≡ true → IfOk (drawn publication p (Insert article settings)) IsWhole
+pub draw-whole : (publication : Publication) (p : PublisherTables) (article : ℕ) (settings : List Setting) → HasKeys publication p.held → is_some (identity_column publication article) ≡ true → IfOk (draw_for_change publication p (Insert article settings)) IsWhole
 draw-whole publication p article settings keys some =
     let one = there publication p.held article (keys-same p.held (new_holders publication) keys) (column-there (article_at publication article) some) in
     found-whole publication p article (at_number p.held article) one.0 one.1

@@ -25,17 +25,17 @@ use Rattle.merge_batch.specs.declared.request.Request.TheVariants as request
 use Rattle.merge_batch.specs.declared.request.Upload.{Upload}
 use Rattle.merge_model.specs.Judge.ByNumbers.{by_numbers}
 use Rattle.merge_model.specs.Judge.{PublisherJudge}
-use Rattle.merge_model.specs.Publisher.{at_moment, close_generation, closed, counters, last_closed, site_refusal, state_of, with_state}
-use Rattle.merge_model.specs.Publisher.PublisherDownload.{asked, download, download_refusal, synced}
-use Rattle.merge_model.specs.Publisher.PublisherJoin.{join, join_acts, join_refusal, joined}
+use Rattle.merge_model.specs.Publisher.{at_moment, close_generation, counters, last_closed, site_refusal, state_of, tables_after_close, with_state}
+use Rattle.merge_model.specs.Publisher.PublisherDownload.{download, download_refusal, state_after_download, tables_after_download}
+use Rattle.merge_model.specs.Publisher.PublisherJoin.{join, join_acts, join_refusal, tables_after_join}
 use Rattle.merge_model.specs.Publisher.PublisherLocal.{local}
 use Rattle.merge_model.specs.Publisher.PublisherPurge.{purge}
 use Rattle.merge_model.specs.Publisher.PublisherRanges.{plans, ranges, ranges_refusal, with_grants}
-use Rattle.merge_model.specs.Publisher.PublisherUpload.{upload, upload_refusal, uploaded}
+use Rattle.merge_model.specs.Publisher.PublisherUpload.{tables_after_upload, upload, upload_refusal}
 use Rattle.merge_model.specs.Tables.Publications.{rules_of}
 use Rattle.merge_model.specs.Tables.Refusals.{counter_end, refused_if}
 use Rattle.merge_model.specs.Tables.{PublisherTables}
-use Rattle.merge_model.specs.World.Calls.{as_reply, handled}
+use Rattle.merge_model.specs.World.Calls.{as_reply, result_of_request}
 use Rattle.merge_model.specs.World.Steps.{kept_decisions, upload_questions}
 use Rattle.merge_model.specs.World.{Saying}
 use Rattle.merge_model.proofs.Runs.Refusals.{first-none}
@@ -65,7 +65,7 @@ as-ok S message (Ok done) is = is
 as-ok S message (Err refusal) is = tt
 
 -- what each call keeps, every request keeps
-keeps-handled : (publication : Publication) (S : PublisherTables → Type 0) → PublisherCallsKeep publication S → (says : Saying) (tallies : List ℕ) (now : Moment) (m : Request) (p : PublisherTables) → S p → IfOk (handled publication says tallies now m p) (λ done. S done.0)
+keeps-handled : (publication : Publication) (S : PublisherTables → Type 0) → PublisherCallsKeep publication S → (says : Saying) (tallies : List ℕ) (now : Moment) (m : Request) (p : PublisherTables) → S p → IfOk (result_of_request publication says tallies now m p) (λ done. S done.0)
 keeps-handled publication S keeps says tallies now (request.Join m) p s = as-ok S (λ (a : Joined). reply.Joined a) (join publication now m p) (keeps.of_join now m p s)
 keeps-handled publication S keeps says tallies now (request.Upload m) p s = (let decisions : List Decision = kept_decisions says tallies (upload_questions publication (by_numbers p) now m p) in
     as-ok S (λ (a : Uploaded). reply.Uploaded a) (upload publication (by_numbers p) now m decisions p) (keeps.of_upload (by_numbers p) now m decisions p s))
@@ -76,40 +76,40 @@ module _ (resolvers : ℕ) (publication : Publication) (valid : IsValid resolver
   abbrev B : PublisherTables → Type 0
   B p = Base publication p
 
-  asked-base : (now : Moment) (m : Download) (p : PublisherTables) → B p → download_refusal publication now m p ≡ None → B (asked m (at_moment now p))
+  asked-base : (now : Moment) (m : Download) (p : PublisherTables) → B p → download_refusal publication now m p ≡ None → B (tables_after_download m (at_moment now p))
   asked-base now m p b fine =
       let passed = first-none (site_refusal publication m.site m.seq now p) _ fine in
       let mark = first-none (refused_if (nat_lt (last_closed p) m.from) (WrongWatermark m.from (last_closed p))) _ passed.1 in
       let counted = first-none (counter_end (counters p)) _ mark.1 in
       let q : PublisherTables = at_moment now p in
-      let with_site : PublisherTables = with_state m.site (synced m q (state_of q m.site)) q in
+      let with_site : PublisherTables = with_state m.site (state_after_download m q (state_of q m.site)) q in
       let base : B with_site = record { changes = b.changes; closed = b.closed; conflict_count = b.conflict_count; rows = b.rows; moves = b.moves; lost = b.lost; numbered = b.numbered; closings = b.closings } in
       closed-base publication with_site (publisher-low p counted.0).1 base
 
   -- What each call leaves of the base.
 
   close-call : (now : Moment) (p : PublisherTables) → B p → IfOk (close_generation now p) (λ done. B done.0)
-  close-call now p b = unless-ok (λ (done : PublisherTables × ℕ). B done.0) (counter_end (counters p)) (closed (at_moment now p), last_closed (closed (at_moment now p)))
+  close-call now p b = unless-ok (λ (done : PublisherTables × ℕ). B done.0) (counter_end (counters p)) (tables_after_close (at_moment now p), last_closed (tables_after_close (at_moment now p)))
       (λ fine. closed-base publication (at_moment now p) (publisher-low p fine).1 (at-base publication now p b))
 
   join-call : (now : Moment) (m : Join) (p : PublisherTables) → B p → IfOk (join publication now m p) (λ done. B done.0)
-  join-call now m p b = unless-ok (λ (done : PublisherTables × Joined). B done.0) (join_refusal publication m p) (joined m (at_moment now p), _) (λ fine. join-base publication m (at_moment now p) (join_acts m (at_moment now p)) (at-base publication now p b))
+  join-call now m p b = unless-ok (λ (done : PublisherTables × Joined). B done.0) (join_refusal publication m p) (tables_after_join m (at_moment now p), _) (λ fine. join-base publication m (at_moment now p) (join_acts m (at_moment now p)) (at-base publication now p b))
 
   ranges-call : (now : Moment) (m : RangeAsk) (p : PublisherTables) → B p → IfOk (ranges publication (by_numbers p) now m p) (λ done. B done.0)
   ranges-call now m p b = unless-ok (λ (done : PublisherTables × Ranged). B done.0) (ranges_refusal publication (by_numbers p) now m p) (with_grants (plans publication m p) (at_moment now p), _)
       (λ fine. record { changes = b.changes; closed = b.closed; conflict_count = b.conflict_count; rows = b.rows; moves = b.moves; lost = b.lost; numbered = b.numbered; closings = b.closings })
 
   ask-call : (now : Moment) (m : Download) (p : PublisherTables) → B p → IfOk (download publication (by_numbers p) now m p) (λ done. B done.0)
-  ask-call now m p b = unless-ok (λ (done : PublisherTables × Downloaded). B done.0) (download_refusal publication now m p) (asked m (at_moment now p), _) (λ fine. asked-base now m p b fine)
+  ask-call now m p b = unless-ok (λ (done : PublisherTables × Downloaded). B done.0) (download_refusal publication now m p) (tables_after_download m (at_moment now p), _) (λ fine. asked-base now m p b fine)
 
   upload-call : (says : Saying) (tallies : List ℕ) (now : Moment) (m : Upload) (p : PublisherTables) → length p.rows < 2 ^ 64 → Parts publication p
       → IfOk (upload publication (by_numbers p) now m (kept_decisions says tallies (upload_questions publication (by_numbers p) now m p)) p) (λ done. B done.0)
   upload-call says tallies now m p rows parts =
       let decisions : List Decision = kept_decisions says tallies (upload_questions publication (by_numbers p) now m p) in
-      unless-ok (λ (done : PublisherTables × Uploaded). B done.0) (upload_refusal publication (by_numbers p) now m p) (uploaded publication (by_numbers p) m decisions (at_moment now p), _)
+      unless-ok (λ (done : PublisherTables × Uploaded). B done.0) (upload_refusal publication (by_numbers p) now m p) (tables_after_upload publication (by_numbers p) m decisions (at_moment now p), _)
       (λ fine. upload-base publication resolvers valid (by_numbers p) says tallies now m p parts.base parts.rooms.unfilled rows fine)
 
-  handled-call : (says : Saying) (tallies : List ℕ) (now : Moment) (m : Request) (p : PublisherTables) → length p.rows < 2 ^ 64 → Parts publication p → IfOk (handled publication says tallies now m p) (λ done. B done.0)
+  handled-call : (says : Saying) (tallies : List ℕ) (now : Moment) (m : Request) (p : PublisherTables) → length p.rows < 2 ^ 64 → Parts publication p → IfOk (result_of_request publication says tallies now m p) (λ done. B done.0)
   handled-call says tallies now (request.Join m) p rows parts = as-ok B (λ (a : Joined). reply.Joined a) (join publication now m p) (join-call now m p parts.base)
   handled-call says tallies now (request.Upload m) p rows parts =
       as-ok B (λ (a : Uploaded). reply.Uploaded a) (upload publication (by_numbers p) now m (kept_decisions says tallies (upload_questions publication (by_numbers p) now m p)) p) (upload-call says tallies now m p rows parts)
@@ -135,8 +135,8 @@ module _ (resolvers : ℕ) (publication : Publication) (valid : IsValid resolver
   abbrev Keyed : PublisherTables → Type 0
   Keyed p = HasKeys publication p.held × AllByRecursion EntryIsWell p.held
 
-  pub handled-parts : (says : Saying) (tallies : List ℕ) (now : Moment) (m : Request) (p : PublisherTables) → length p.rows < 2 ^ 64 → Parts publication p → IfOk (handled publication says tallies now m p) (λ done. Parts publication done.0)
-  handled-parts says tallies now m p rows parts = all-parts (handled publication says tallies now m p) (handled-call says tallies now m p rows parts)
+  pub handled-parts : (says : Saying) (tallies : List ℕ) (now : Moment) (m : Request) (p : PublisherTables) → length p.rows < 2 ^ 64 → Parts publication p → IfOk (result_of_request publication says tallies now m p) (λ done. Parts publication done.0)
+  handled-parts says tallies now m p rows parts = all-parts (result_of_request publication says tallies now m p) (handled-call says tallies now m p rows parts)
       (keeps-handled publication HasRooms (rooms-keep publication) says tallies now m p parts.rooms) (keeps-handled publication Sites (sites-keep publication) says tallies now m p parts.sites)
       (keeps-handled publication Grants (grants-keep publication) says tallies now m p parts.grants) (keeps-handled publication Owned (own-keep publication resolvers valid) says tallies now m p parts.own)
       (keeps-handled publication Keyed (keys-keep publication (valid-rules resolvers publication valid)) says tallies now m p parts.keys)

@@ -30,14 +30,14 @@ use Rattle.merge_model.specs.Judge.ByNumbers.{by_numbers}
 use Rattle.merge_model.specs.Publisher.{at_moment, close_generation, empty_publisher, holder_for}
 use Rattle.merge_model.specs.Publisher.PublisherDownload.{download}
 use Rattle.merge_model.specs.Publisher.PublisherJoin.{join}
-use Rattle.merge_model.specs.Publisher.PublisherLocal.{Drawn, drawn, local}
+use Rattle.merge_model.specs.Publisher.PublisherLocal.{Drawn, draw_for_change, local}
 use Rattle.merge_model.specs.Publisher.PublisherPurge.{purge}
 use Rattle.merge_model.specs.Publisher.PublisherRanges.{ranges}
-use Rattle.merge_model.specs.Publisher.PublisherUpload.{upload, upload_refusal, uploaded}
+use Rattle.merge_model.specs.Publisher.PublisherUpload.{tables_after_upload, upload, upload_refusal}
 use Rattle.merge_model.specs.Tables.Publications.{identities}
 use Rattle.merge_model.specs.Tables.{PublisherTables}
 use Rattle.merge_model.specs.Tables.Refusals.{unless}
-use Rattle.merge_model.specs.World.Calls.{handled}
+use Rattle.merge_model.specs.World.Calls.{result_of_request}
 use Rattle.merge_model.specs.World.Faults.{known_by}
 use Rattle.merge_model.specs.World.Steps.{kept_decisions, upload_questions}
 use Rattle.merge_model.specs.World.{Saying}
@@ -122,7 +122,7 @@ module _ (resolvers : ℕ) (publication : Publication) (valid : IsValid resolver
     upload-fit m has =
         let decisions : List Decision = kept_decisions says tallies (upload_questions publication judge now m p) in
         let done : Result (PublisherTables × Uploaded) Refusal = upload publication judge now m decisions p in
-        fit-by (upload_refusal publication judge now m p) (uploaded publication judge m decisions (at_moment now p), record { seq = m.seq; received = max m.to (judge.received m.site.0) })
+        fit-by (upload_refusal publication judge now m p) (tables_after_upload publication judge m decisions (at_moment now p), record { seq = m.seq; received = max m.to (judge.received m.site.0) })
         (λ fine. all-fit done (tables-of Ranges (Any Uploaded) done (ranges-uploaded publication fitting now p f.ranges judge m decisions)) (tables-of OwnMoments (Any Uploaded) done (moments-uploaded publication now p low f.moments judge m decisions))
         (tables-of OwnValues (Any Uploaded) done (values-uploaded publication now p low f.values says said judge m tallies (items-typed m fine has))))
       where
@@ -144,7 +144,7 @@ module _ (resolvers : ℕ) (publication : Publication) (valid : IsValid resolver
         all-fit done (tables-of Ranges (Any Downloaded) done (ranges-asked publication fitting now p f.ranges judge m)) (tables-of OwnMoments (Any Downloaded) done (moments-asked publication now p low f.moments judge m))
         (tables-of OwnValues (λ (a : Downloaded). AllByRecursion (λ (item : DownloadItem). OrderIsTyped item.act) a.items) done (values-asked publication now p low f.values judge m)))
 
-    pub handled-fit : (m : Request) → RequestHasTypes m → IfOk (handled publication says tallies now m p) (λ a. Fit a.0)
+    pub handled-fit : (m : Request) → RequestHasTypes m → IfOk (result_of_request publication says tallies now m p) (λ a. Fit a.0)
     handled-fit (request.Join m) is = as-ok Fit (λ (a : Joined). reply.Joined a) (join publication now m p) (join-fit m)
     handled-fit (request.Upload m) is = as-ok Fit (λ (a : Uploaded). reply.Uploaded a) (upload publication judge now m (kept_decisions says tallies (upload_questions publication judge now m p)) p) (upload-fit m is)
     handled-fit (request.Ranges m) is = as-ok Fit (λ (a : Ranged). reply.Ranged a) (ranges publication judge now m p) (ranges-fit m)
@@ -153,7 +153,7 @@ module _ (resolvers : ℕ) (publication : Publication) (valid : IsValid resolver
   module _ (now : Moment) (low : MomentFits now) (p : PublisherTables) (f : Fit p) where
     pub changed-fit : (change : Change) → ChangeIsTyped change → IfOk (local publication (by_numbers p) now change p) (λ a. Fit a.0)
     changed-fit change is =
-        let value : IfOk (drawn publication p change) (λ d. IsValue d.value) = ok-weaker (Drew publication fitting) (λ (d : Drawn). IsValue d.value) (λ d drew. drew.value) (drawn publication p change) (draws publication fitting p change f.ranges) in
+        let value : IfOk (draw_for_change publication p change) (λ d. IsValue d.value) = ok-weaker (Drew publication fitting) (λ (d : Drawn). IsValue d.value) (λ d drew. drew.value) (draw_for_change publication p change) (draws publication fitting p change f.ranges) in
         all-fit (local publication (by_numbers p) now change p) (ranges-local publication fitting now p f.ranges (by_numbers p) change) (moments-local publication now p low f.moments (by_numbers p) change) (values-local publication now p low f.values (by_numbers p) change is value)
 
     pub closed-fit : IfOk (close_generation now p) (λ a. Fit a.0)

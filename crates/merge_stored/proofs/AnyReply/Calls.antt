@@ -28,9 +28,9 @@ use Rattle.merge_batch.specs.declared.request.Outstanding.TheVariants as ask
 use Rattle.merge_batch.specs.declared.request.RangeAsk.{RangeAsk}
 use Rattle.merge_batch.specs.declared.request.Upload.{Upload}
 use Rattle.merge_model.specs.Judge.{SubscriberJudge}
-use Rattle.merge_model.specs.Subscriber.Reinit.{reinitialise, reinitialised}
+use Rattle.merge_model.specs.Subscriber.Reinit.{reinitialise, result_of_reinit}
 use Rattle.merge_model.specs.Subscriber.Sending.{join_made, join_of, make_ask, make_join, make_ranges, make_upload, ranges_made, sending_refusal, unsent_rows, upload_end, upload_made, upload_sent, want_of, with_message}
-use Rattle.merge_model.specs.Subscriber.Taking.{take_reply, taken, with_received}
+use Rattle.merge_model.specs.Subscriber.Taking.{tables_after_reply, take_reply, with_received}
 use Rattle.merge_model.specs.Subscriber.{close_subscriber_generation, is_joining, subscriber_at_moment, subscriber_closed, subscriber_counters, subscriber_drawn, subscriber_last_closed, subscriber_local, subscriber_local_refusal, subscriber_made_locally, subscriber_next_dot, subscriber_version_at}
 use Rattle.merge_model.specs.Tables.Keys.{row_at}
 use Rattle.merge_model.specs.Tables.Publications.{rules_of}
@@ -165,7 +165,7 @@ module _ (resolvers : ℕ) (publication : Publication) (valid : IsValid resolver
 
     pub begins-anew : (judge : SubscriberJudge) (now : Moment) → MomentFits now → length s.rows ≤ counter_limit → LeavesRules publication (reinitialise judge now s)
     begins-anew judge now fits few = with-holders s holders (reinitialise judge now s)
-        (unless-ok (λ (x : SubscriberTables × ℕ). R x.0 × (x.0.held ≡ s.held)) (counter_end (subscriber_counters s)) (reinitialised judge (moved now))
+        (unless-ok (λ (x : SubscriberTables × ℕ). R x.0 × (x.0.held ≡ s.held)) (counter_end (subscriber_counters s)) (result_of_reinit judge (moved now))
         (λ fine. (anew-rest publication judge (moved now) (conflicts-low fine) (sub-low s fine).closed few (at-rest publication now s fits rest), refl)))
 
     -- Replies.
@@ -173,7 +173,7 @@ module _ (resolvers : ℕ) (publication : Publication) (valid : IsValid resolver
     answered-at : (now : Moment) → MomentFits now → R (record (moved now) { outstanding = None })
     answered-at now fits = answered-rest publication (moved now) (at-rest publication now s fits rest)
 
-    reply-rest : (judge : SubscriberJudge) (now : Moment) (sent : Outstanding) (m : Reply) → MomentFits now → ReplyHasTypes m → reply_fault publication sent m s ≡ None → R (taken judge now m s)
+    reply-rest : (judge : SubscriberJudge) (now : Moment) (sent : Outstanding) (m : Reply) → MomentFits now → ReplyHasTypes m → reply_fault publication sent m s ≡ None → R (tables_after_reply judge now m s)
     reply-rest judge now sent (reply.Joined m) fits types fine = joined-rest publication true (record (moved now) { outstanding = None }) (answered-at now fits)
     reply-rest judge now sent (reply.Uploaded m) fits types fine = received-rest publication m.received (record (moved now) { outstanding = None }) (uploaded-low publication sent m s fine) (uploaded-bound publication sent m s fine) (answered-at now fits)
     reply-rest judge now sent (reply.Ranged m) fits types fine = granted-rest publication m (record (moved now) { outstanding = None }) (answered-at now fits)

@@ -120,7 +120,7 @@ moved-made from to changes closings made = all-append (IsMade changes) closings 
 
 pub closed-closings : (s : SubscriberTables) → ClosingsStand s → ClosingsStand (subscriber_closed s)
 closed-closings s b =
-    let to : ℕ = (fill.closed s.gens.filling).last_closed in record {
+    let to : ℕ = (fill.filling_after_close s.gens.filling).last_closed in record {
       run = run-moved (subscriber_last_closed s) to (s.received + 1) (record { 0 = s.changes }) s.gens.closings (closed-up s.gens.filling) b.run;
       rise = moved-rise (subscriber_last_closed s) to s.changes s.gens.closings b.rise b.made;
       made = moved-made (subscriber_last_closed s) to s.changes s.gens.closings b.made;

@@ -16,7 +16,7 @@ use Rattle.merge_keeper.specs.Start.{KeepOneByOne, conflict_is_sound, version_is
 use Rattle.merge_keeper.specs.SubscriberRules.{Numbered}
 use Rattle.merge_model.specs.Judge.{SubscriberJudge}
 use Rattle.merge_model.specs.Laws.Promises.{key_of_conflict}
-use Rattle.merge_model.specs.Subscriber.Reinit.{discarded, numbered_from, reinitialised}
+use Rattle.merge_model.specs.Subscriber.Reinit.{discarded_rows_from, discarded_versions, result_of_reinit}
 use Rattle.merge_model.specs.Tables.{SubscriberTables}
 use Rattle.merge_model.proofs.Lists.Finding.{all-weaker}
 use Rattle.merge_model.proofs.Lists.{OfSome, all-append, all-filter_map}
@@ -81,18 +81,18 @@ module _ (publication : Publication) where
   if-lost true row is = is
   if-lost false row is = tt
 
-  discards-stand : (judge : SubscriberJudge) (s : SubscriberTables) → AllByRecursion (λ (row : Key × SubscriberRow). CanBeLost row.0 row.1.version) s.rows → AllByRecursion (λ (row : Key × Version). CanBeLost row.0 row.1) (discarded judge s)
+  discards-stand : (judge : SubscriberJudge) (s : SubscriberTables) → AllByRecursion (λ (row : Key × SubscriberRow). CanBeLost row.0 row.1.version) s.rows → AllByRecursion (λ (row : Key × Version). CanBeLost row.0 row.1) (discarded_versions judge s)
   discards-stand judge s rows = all-filter_map (λ (row : Key × SubscriberRow). CanBeLost row.0 row.1.version) (λ (row : Key × Version). CanBeLost row.0 row.1)
       (λ (row : Key × SubscriberRow). if judge.is_unsent s.received row.0 then Some (row.0, row.1.version) else None) (λ row is. if-lost (judge.is_unsent s.received row.0) (row.0, row.1.version) is) s.rows rows
 
-  lost-stand : (s : SubscriberTables) (number : ℕ) (rows : List (Key × Version)) → is_site publication s.site.0 ≡ true → MomentFits s.latest → AllByRecursion (λ (row : Key × Version). CanBeLost row.0 row.1) rows → AllByRecursion LostIs (numbered_from s number rows)
+  lost-stand : (s : SubscriberTables) (number : ℕ) (rows : List (Key × Version)) → is_site publication s.site.0 ≡ true → MomentFits s.latest → AllByRecursion (λ (row : Key × Version). CanBeLost row.0 row.1) rows → AllByRecursion LostIs (discarded_rows_from s number rows)
   lost-stand s number [] site fits all = tt
   lost-stand s number (row ∷ rows) site fits all = (((all.0.0, site), (all.0.1, fits)), lost-stand s (number + 1) rows site fits all.1)
 
-  pub anew-conflicts : (judge : SubscriberJudge) (s : SubscriberTables) → is_site publication s.site.0 ≡ true → MomentFits s.latest → AllByRecursion (λ (row : Key × SubscriberRow). CanBeLost row.0 row.1.version) s.rows → ConflictsStand s → ConflictsStand (reinitialised judge s).0
+  pub anew-conflicts : (judge : SubscriberJudge) (s : SubscriberTables) → is_site publication s.site.0 ≡ true → MomentFits s.latest → AllByRecursion (λ (row : Key × SubscriberRow). CanBeLost row.0 row.1.version) s.rows → ConflictsStand s → ConflictsStand (result_of_reinit judge s).0
   anew-conflicts judge s site fits rows b =
-      let found : List (Key × Version) = discarded judge s in
-      let lost : List ConflictRow = numbered_from s (s.conflict_count + 1) found in
+      let found : List (Key × Version) = discarded_versions judge s in
+      let lost : List ConflictRow = discarded_rows_from s (s.conflict_count + 1) found in
       let long : length lost ≡ length found = anew-long s (s.conflict_count + 1) found in
       record {
         numbered = numbered-append 0 s.conflict_count (s.conflict_count + length lost) s.conflicts lost b.numbered

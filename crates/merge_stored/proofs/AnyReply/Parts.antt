@@ -15,7 +15,7 @@ use Rattle.merge_batch.specs.Lineages.{is_site}
 use Rattle.merge_batch.specs.declared.reply.Ranged.{Ranged}
 use Rattle.merge_batch.specs.declared.request.Outstanding.{Outstanding}
 use Rattle.merge_model.specs.Judge.{SubscriberJudge}
-use Rattle.merge_model.specs.Subscriber.Reinit.{discarded, numbered_from, reinitialised}
+use Rattle.merge_model.specs.Subscriber.Reinit.{discarded_rows_from, discarded_versions, result_of_reinit}
 use Rattle.merge_model.specs.Subscriber.Sending.{with_message}
 use Rattle.merge_model.specs.Subscriber.Taking.{with_grants, with_received}
 use Rattle.merge_model.specs.Subscriber.{subscriber_at_moment, subscriber_closed, subscriber_last_closed, with_version_if}
@@ -173,17 +173,17 @@ module _ (publication : Publication) where
       let low : s.changes ≤ most = omega (arith, changes) in
       all-weaker (RowIs publication s.site.0 s.changes (subscriber_last_closed s)) (λ (row : Key × SubscriberRow). CanBeLost publication row.0 row.1.version) (λ row is. (own-any publication s.site.0 s.changes low row.0 row.1.version is.0, is.1.0)) s.rows r.rows.each
 
-  anew-low : (judge : SubscriberJudge) (s : SubscriberTables) → s.conflict_count < counter_limit → length s.rows ≤ counter_limit → s.conflict_count + length (numbered_from s (s.conflict_count + 1) (discarded judge s)) < number_limit
+  anew-low : (judge : SubscriberJudge) (s : SubscriberTables) → s.conflict_count < counter_limit → length s.rows ≤ counter_limit → s.conflict_count + length (discarded_rows_from s (s.conflict_count + 1) (discarded_versions judge s)) < number_limit
   anew-low judge s low few =
-      let long = anew-long s (s.conflict_count + 1) (discarded judge s) in
-      let short : length (discarded judge s) ≤ length s.rows = given-short _ s.rows in
+      let long = anew-long s (s.conflict_count + 1) (discarded_versions judge s) in
+      let short : length (discarded_versions judge s) ≤ length s.rows = given-short _ s.rows in
       omega (arith, long, short, low, few)
 
-  pub anew-rest : (judge : SubscriberJudge) (s : SubscriberTables) → s.conflict_count < counter_limit → subscriber_last_closed s < counter_limit → length s.rows ≤ counter_limit → Rest s → Rest (reinitialised judge s).0
+  pub anew-rest : (judge : SubscriberJudge) (s : SubscriberTables) → s.conflict_count < counter_limit → subscriber_last_closed s < counter_limit → length s.rows ≤ counter_limit → Rest s → Rest (result_of_reinit judge s).0
   anew-rest judge s counted closed few r = (let t = closed-state s closed r.state in record {
     subscribes = r.subscribes;
     state = record { site = t.site; changes = t.changes; closed = t.closed; conflict_count = anew-low judge s counted few; unfilled = t.unfilled; latest = t.latest; seq = t.seq; own = omega arith; mark = omega arith; sent = none-sent };
     closings = record { run = refl; rise = tt; made = tt };
     conflicts = anew-conflicts publication judge s (site-of s.site.0 r.subscribes) r.state.latest (lost-rows s r) r.conflicts;
-    rows = no-rows publication (reinitialised judge s).0 refl;
+    rows = no-rows publication (result_of_reinit judge s).0 refl;
   })

@@ -33,7 +33,7 @@ use Rattle.merge_model.proofs.Lists.KeyLookUps.{keys-tied}
 use Rattle.merge_model.proofs.Lists.{all-append, all-filter, all-kept, all-map, all-of}
 use Rattle.merge_model.proofs.Publishers.Sorted.{key_total}
 use Rattle.merge_typed.specs.Typed.{BodyIsTyped}
-use Rattle.merge_stored.specs.Entries.{Ascends, room_of, times, total}
+use Rattle.merge_stored.specs.Entries.{Ascends, room_of, times_kept, total_kept}
 use Rattle.merge_stored.proofs.Generations.{kept-ascends, open-ascends, times-open, times-weigh}
 use Rattle.merge_stored.proofs.Outstanding.{closed-up}
 use Rattle.merge_stored.proofs.SubscriberRows.{Rows, above-shrinks, closed-room, entered-room, gens-ascend, items-shrink, put-total}
@@ -56,7 +56,7 @@ module _ (publication : Publication) where
   pub closed-rows : (s : SubscriberTables) → s.gens.filling.filled < entry_limit → RowsStand publication s → RowsStand publication (subscriber_closed s)
   closed-rows s low b = record {
     ascending = b.ascending;
-    each = rows-later s.site.0 s.changes s.changes (subscriber_last_closed s) (fill.closed s.gens.filling).last_closed (omega arith) (closed-up s.gens.filling) s.rows b.each;
+    each = rows-later s.site.0 s.changes s.changes (subscriber_last_closed s) (fill.filling_after_close s.gens.filling).last_closed (omega arith) (closed-up s.gens.filling) s.rows b.each;
     room = λ g above. (let up = b.room g above in let room = closed-room s.gens.filling g low in omega (arith, up, room));
   }
 
@@ -78,7 +78,7 @@ module _ (publication : Publication) where
     each = above-each s.site.0 s.changes (subscriber_last_closed s) received s.rows b.each;
     room = λ g above. (
         let low = b.room g (omega (arith, up, above)) in
-        let sums = (above-shrinks received s.rows).sums (times g) (times-weigh g) in omega (arith, low, sums));
+        let sums = (above-shrinks received s.rows).sums (times_kept g) (times-weigh g) in omega (arith, low, sums));
   }
 
   -- Rows that are put and dropped.
@@ -129,7 +129,7 @@ module _ (publication : Publication) where
   items-rows judge m s news b = record {
     ascending = items-sorted judge m.received m.items s.rows b.ascending;
     each = items-each s.site.0 s.changes (subscriber_last_closed s) judge m.received m.items s.rows news b.each;
-    room = λ g above. (let low = b.room g above in let sums = (items-shrink judge m.received m.items s.rows).sums (times g) (times-weigh g) in omega (arith, low, sums));
+    room = λ g above. (let low = b.room g above in let sums = (items-shrink judge m.received m.items s.rows).sums (times_kept g) (times-weigh g) in omega (arith, low, sums));
   }
 
   -- A local change.
@@ -168,7 +168,7 @@ module _ (publication : Publication) where
         each = row-put s.site.0 (s.changes + 1) later key row s.rows (new.0, (new.1, open-opened (subscriber_last_closed s) later gens (entered-rises s.gens.filling) ascend))
             (rows-later s.site.0 s.changes (s.changes + 1) (subscriber_last_closed s) later (omega arith) (entered-rises s.gens.filling) s.rows b.each);
         room = λ g above. (
-            let sums = put-total (times g) (cond (g == current) 1 0) key version current s.rows b.ascending refl (times-open g current gens) in
+            let sums = put-total (times_kept g) (cond (g == current) 1 0) key version current s.rows b.ascending refl (times-open g current gens) in
             let up = b.room g above in
             let room = entered-room s.gens.filling g low in omega (arith, sums, up, room));
       }
@@ -180,5 +180,5 @@ unfolding IsStrictlySortedBy
 no-rows publication t none = record {
   ascending = subst (λ (rows : Rows). IsStrictlySortedBy key_cmp (keys_of rows)) (sym none) tt;
   each = subst (λ (rows : Rows). AllByRecursion (RowIs publication t.site.0 t.changes (subscriber_last_closed t)) rows) (sym none) tt;
-  room = λ g above. subst (λ (rows : Rows). total (times g) rows ≤ room_of t.gens.filling g) (sym none) (omega arith);
+  room = λ g above. subst (λ (rows : Rows). total_kept (times_kept g) rows ≤ room_of t.gens.filling g) (sym none) (omega arith);
 }

@@ -23,7 +23,7 @@ use Rattle.merge_model.specs.Tables.{SubscriberTables}
 use Rattle.merge_model.proofs.Lists.Finding.{all-weaker}
 use Rattle.merge_typed.specs.Typed.{BodyIsTyped}
 use Rattle.merge_honest.proofs.KnownItems.{all-true}
-use Rattle.merge_stored.specs.Entries.{room_of, times, total}
+use Rattle.merge_stored.specs.Entries.{room_of, times_kept, total_kept}
 use Rattle.merge_stored.specs.Loading.{SubscriberRowLoads}
 use Rattle.merge_stored.specs.Stored.{subscriber_stored}
 use Rattle.merge_stored.specs.Versions.{VersionIsStored}
@@ -48,11 +48,11 @@ RowIs publication site changes last row = OwnStands publication site changes row
 pub record RowsStand (publication : Publication) (s : SubscriberTables) : Type 0 where
   pub ascending : IsStrictlySortedBy key_cmp (keys_of s.rows)
   pub each : AllByRecursion (RowIs publication s.site.0 s.changes (subscriber_last_closed s)) s.rows
-  pub room : (g : ℕ) → s.received < g → total (times g) s.rows ≤ room_of s.gens.filling g
+  pub room : (g : ℕ) → s.received < g → total_kept (times_kept g) s.rows ≤ room_of s.gens.filling g
 
 -- Numbers that ascend come once, and are few below a bound.
 
-absent-behind : (g low : ℕ) (xs : List ℕ) → g ≤ low → ascend_behind low xs ≡ true → times g xs ≡ 0
+absent-behind : (g low : ℕ) (xs : List ℕ) → g ≤ low → ascend_behind low xs ≡ true → times_kept g xs ≡ 0
 absent-behind g low [] up ascend = refl
 absent-behind g low (x ∷ xs) up ascend =
     let above : nat_lt low x ≡ true = grind (arith, ascend) in
@@ -64,14 +64,14 @@ absent-behind g low (x ∷ xs) up ascend =
     let none : cond (g == x) 1 0 ≡ 0 = ap (λ (b : Bool). (let n : ℕ = cond b 1 0 in n)) differs in
     omega (arith, one, none, rest)
 
-once-by : (b : Bool) (g x : ℕ) (xs : List ℕ) → (g == x) ≡ b → ascend_behind x xs ≡ true → times g xs ≤ 1 → cond b 1 0 + times g xs ≤ 1
+once-by : (b : Bool) (g x : ℕ) (xs : List ℕ) → (g == x) ≡ b → ascend_behind x xs ≡ true → times_kept g xs ≤ 1 → cond b 1 0 + times_kept g xs ≤ 1
 once-by true g x xs is later rest =
     let same : g ≤ x = grind (arith, nat_tests, is) in
     let none = absent-behind g x xs same later in
     omega (arith, none)
 once-by false g x xs is later rest = omega (arith, rest)
 
-once-behind : (g low : ℕ) (xs : List ℕ) → ascend_behind low xs ≡ true → times g xs ≤ 1
+once-behind : (g low : ℕ) (xs : List ℕ) → ascend_behind low xs ≡ true → times_kept g xs ≤ 1
 once-behind g low [] ascend = omega arith
 once-behind g low (x ∷ xs) ascend =
     let later : ascend_behind x xs ≡ true = grind (arith, ascend) in
@@ -79,7 +79,7 @@ once-behind g low (x ∷ xs) ascend =
     let here = once-by (g == x) g x xs refl later (once-behind g x xs later) in
     omega (arith, one, here)
 
-once : (g : ℕ) (xs : List ℕ) → numbers_ascend xs ≡ true → times g xs ≤ 1
+once : (g : ℕ) (xs : List ℕ) → numbers_ascend xs ≡ true → times_kept g xs ≤ 1
 once g [] ascend = omega arith
 once g (x ∷ xs) ascend =
     let one = times-cons g x xs in
@@ -104,11 +104,11 @@ there-by : (b : Bool) (test : ℕ → Bool) (g x n : ℕ) → (g == x) ≡ b →
 there-by true test g x n is here some rest = (let same : x ≡ g = grind (arith, nat_tests, is) in subst (λ (k : ℕ). test k ≡ true) same here)
 there-by false test g x n is here some rest = rest (omega (arith, some))
 
-passes : (test : ℕ → Bool) (g : ℕ) (xs : List ℕ) → list_all test xs ≡ true → 1 ≤ times g xs → test g ≡ true
+passes : (test : ℕ → Bool) (g : ℕ) (xs : List ℕ) → list_all test xs ≡ true → 1 ≤ times_kept g xs → test g ≡ true
 passes test g [] all some = absurd (omega (arith, some))
 passes test g (x ∷ xs) all some =
     let one = times-cons g x xs in
-    there-by (g == x) test g x (times g xs) refl (grind (arith, all)) (omega (arith, one, some)) (λ more. passes test g xs (grind (arith, all)) more)
+    there-by (g == x) test g x (times_kept g xs) refl (grind (arith, all)) (omega (arith, one, some)) (λ more. passes test g xs (grind (arith, all)) more)
 
 -- Where a start sees room for one more there is.
 
@@ -181,7 +181,7 @@ module _ (publication : Publication) (s : SubscriberTables) (b : StateStands s) 
   each-from front (row ∷ rows) all = (one-from front row all.0, each-from (front ++ row ∷ []) rows all.1)
 
   -- how often a row has a generation, once or not at all
-  one-by : (n : ℕ) (front : Rows) (row : Key × SubscriberRow) (g : ℕ) → times g row.1.generations ≡ n → s.received < g → Loads front row → total (times g) front ≤ room_of s.gens.filling g → total (times g) front + times g row.1.generations ≤ room_of s.gens.filling g
+  one-by : (n : ℕ) (front : Rows) (row : Key × SubscriberRow) (g : ℕ) → times_kept g row.1.generations ≡ n → s.received < g → Loads front row → total_kept (times_kept g) front ≤ room_of s.gens.filling g → total_kept (times_kept g) front + times_kept g row.1.generations ≤ room_of s.gens.filling g
   one-by zero front row g is above loads low = omega (arith, is, low)
   one-by (suc n) front row g is above loads low =
       let parts = parts-of front row loads.2 in
@@ -191,12 +191,12 @@ module _ (publication : Publication) (s : SubscriberTables) (b : StateStands s) 
       let room = space-room s.received (sum_by (start_subscriber.times_in g) front) s.gens.filling g (nat_le g s.gens.filling.last_closed) (g == s.gens.filling.last_closed + 1) refl refl above space in
       omega (arith, most, entries, room)
 
-  rooms-from : (g : ℕ) → s.received < g → (front rows : Rows) → KeepOneByOne Loads front rows → total (times g) front ≤ room_of s.gens.filling g → total (times g) front + total (times g) rows ≤ room_of s.gens.filling g
+  rooms-from : (g : ℕ) → s.received < g → (front rows : Rows) → KeepOneByOne Loads front rows → total_kept (times_kept g) front ≤ room_of s.gens.filling g → total_kept (times_kept g) front + total_kept (times_kept g) rows ≤ room_of s.gens.filling g
   rooms-from g above front [] all low = omega (arith, low)
   rooms-from g above front (row ∷ rows) all low =
-      let here = one-by (times g row.1.generations) front row g refl above all.0 low in
-      let more = total-more (times g) front row in
-      let one = total-cons (times g) row rows in
+      let here = one-by (times_kept g row.1.generations) front row g refl above all.0 low in
+      let more = total-more (times_kept g) front row in
+      let one = total-cons (times_kept g) row rows in
       let rest = rooms-from g above (front ++ row ∷ []) rows all.1 (omega (arith, here, more)) in
       omega (arith, more, one, rest)
 
@@ -209,8 +209,8 @@ module _ (publication : Publication) (s : SubscriberTables) (b : StateStands s) 
 
   -- And to it.
 
-  module _ (front : Rows) (row : Key × SubscriberRow) (room : (g : ℕ) → s.received < g → total (times g) front + times g row.1.generations ≤ room_of s.gens.filling g) where
-    space-by : (g : ℕ) (received : Bool) → nat_le g s.received ≡ received → 1 ≤ times g row.1.generations → has_space front g ≡ true
+  module _ (front : Rows) (row : Key × SubscriberRow) (room : (g : ℕ) → s.received < g → total_kept (times_kept g) front + times_kept g row.1.generations ≤ room_of s.gens.filling g) where
+    space-by : (g : ℕ) (received : Bool) → nat_le g s.received ≡ received → 1 ≤ times_kept g row.1.generations → has_space front g ≡ true
     space-by g true is some = grind (arith, is)
     space-by g false is some =
         let above : s.received < g = grind (arith, nat_tests, is) in
@@ -221,7 +221,7 @@ module _ (publication : Publication) (s : SubscriberTables) (b : StateStands s) 
 
     spaces : list_all (has_space front) row.1.generations ≡ true
     spaces = all-true (has_space front) row.1.generations
-        (all-weaker (λ (g : ℕ). 1 ≤ times g row.1.generations) (λ (g : ℕ). has_space front g ≡ true) (λ g some. space-by g (nat_le g s.received) refl some) row.1.generations (each-there row.1.generations))
+        (all-weaker (λ (g : ℕ). 1 ≤ times_kept g row.1.generations) (λ (g : ℕ). has_space front g ≡ true) (λ g some. space-by g (nat_le g s.received) refl some) row.1.generations (each-there row.1.generations))
 
     row-sound : version_is_sound publication row.0.article row.1.version ≡ true → row_was_made s.site.0 s.changes row.0 row.1.version ≡ true → start_subscriber.row_is_sound publication (with_front front) row.0 row.1 ≡ true
     unfolding start_subscriber.row_is_sound
@@ -239,11 +239,11 @@ module _ (publication : Publication) (s : SubscriberTables) (b : StateStands s) 
         let stored : VersionIsStored publication s.site.0 s.changes row.0 row.1.version = own-stored publication resolvers valid s.site.0 s.changes (omega (arith, changes)) row.0 row.1.version is.0 is.1.0 in
         (stored.loads.key_fits, (stored.loads.has_record, generations-fit is.1.1), row-sound stored.loads.sound stored.made)
 
-  each-loads : (resolvers : ℕ) → IsValid resolvers publication → (front rows : Rows) → ((g : ℕ) → s.received < g → total (times g) front + total (times g) rows ≤ room_of s.gens.filling g) → AllByRecursion (RowIs publication s.site.0 s.changes (subscriber_last_closed s)) rows → KeepOneByOne Loads front rows
+  each-loads : (resolvers : ℕ) → IsValid resolvers publication → (front rows : Rows) → ((g : ℕ) → s.received < g → total_kept (times_kept g) front + total_kept (times_kept g) rows ≤ room_of s.gens.filling g) → AllByRecursion (RowIs publication s.site.0 s.changes (subscriber_last_closed s)) rows → KeepOneByOne Loads front rows
   each-loads resolvers valid front [] room all = tt
   each-loads resolvers valid front (row ∷ rows) room all = (
-    row-loads front row (λ g above. (let up = room g above in let one = total-cons (times g) row rows in omega (arith, up, one))) resolvers valid all.0,
-    each-loads resolvers valid (front ++ row ∷ []) rows (λ g above. (let up = room g above in let one = total-cons (times g) row rows in let more = total-more (times g) front row in omega (arith, up, one, more))) all.1,
+    row-loads front row (λ g above. (let up = room g above in let one = total-cons (times_kept g) row rows in omega (arith, up, one))) resolvers valid all.0,
+    each-loads resolvers valid (front ++ row ∷ []) rows (λ g above. (let up = room g above in let one = total-cons (times_kept g) row rows in let more = total-more (times_kept g) front row in omega (arith, up, one, more))) all.1,
   )
 
   pub rows-load : (resolvers : ℕ) → IsValid resolvers publication → RowsStand publication s → KeepOneByOne Loads [] s.rows

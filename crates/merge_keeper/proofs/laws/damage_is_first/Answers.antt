@@ -1,5 +1,5 @@
-use Rattle.merge_keeper.specs.PublisherStart.{loading as publisher_loading}
-use Rattle.merge_keeper.specs.SubscriberStart.{loading as subscriber_loading}
+use Rattle.merge_keeper.specs.PublisherStart.{loading_of_publisher as publisher_loading}
+use Rattle.merge_keeper.specs.SubscriberStart.{loading_of_subscriber as subscriber_loading}
 use Rattle.merge_keeper.proofs.First.{first_is_named, named_is_first}
 use Rattle.merge_keeper.proofs.laws.damage_is_first.Goals as goal
 

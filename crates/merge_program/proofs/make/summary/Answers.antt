@@ -2,7 +2,7 @@
 use Rattle.std.proofs.Common.{map, refl, subst, sym, ◌∙◌, ◌≡◌}
 use Rattle.std.proofs.lemmas.Result.{err_from_is_err_and}
 use Rattle.merge_schema.specs.declared.publication.Publication.{Publication}
-use Rattle.merge_program.specs.Stores.{at_no_path, fresh_publisher, fresh_subscribers, untold, untold_publisher}
+use Rattle.merge_program.specs.Stores.{at_no_path, fresh_publisher, fresh_subscribers, untold_publisher, untold_subscriber}
 use Rattle.merge_program.proofs.Makes.{unmade}
 use Rattle.merge_program.proofs.Plays.{empty-of, unstarted-of}
 use Rattle.merge_program.proofs.make.summary.Goals as goal
@@ -11,7 +11,7 @@ pub make_started-requires-clause-publisher : goal.make_started-requires-clause-p
 make_started-requires-clause-publisher g c = subst (λ (q : Publication). untold_publisher c.in_ok-started.started.0 ≡ fresh_publisher q) c.in_ok-publication.ensures.made c.in_ok-started.ensures.publisher
 
 pub make_started-requires-clause-subscribers : goal.make_started-requires-clause-subscribers
-make_started-requires-clause-subscribers g c = subst (λ (q : Publication). map untold c.in_ok-started.started.1.items ≡ fresh_subscribers q) c.in_ok-publication.ensures.made c.in_ok-started.ensures.subscribers
+make_started-requires-clause-subscribers g c = subst (λ (q : Publication). map untold_subscriber c.in_ok-started.started.1.items ≡ fresh_subscribers q) c.in_ok-publication.ensures.made c.in_ok-started.ensures.subscribers
 
 pub returns-in_err-started-clause-unmade : goal.returns-in_err-started-clause-unmade
 returns-in_err-started-clause-unmade g c =

@@ -2,10 +2,10 @@ use Rattle.std.proofs.Common.{◌≡◌, All, length, drop, map, true, None}
 use Rattle.toml.specs.View.{view}
 use Rattle.merge_script.specs.Names.{is_name_text}
 use Rattle.merge_types.specs.declared.values.Column.{Column}
-use Rattle.merge_schema.specs.Tables.{columns_from}
+use Rattle.merge_schema.specs.FileTables.{columns_from}
 use Rattle.merge_schema.specs.Valid.{HasValidIdentity}
 use Rattle.merge_schema.proofs.Each.{with_columns}
-use Rattle.merge_schema.proofs.tables.columns_of.Given as goal
+use Rattle.merge_schema.proofs.file_tables.columns_of.Given as goal
 
 abbrev pub invariant-loop-value : goal.invariant-loop-value
 invariant-loop-value l = record {

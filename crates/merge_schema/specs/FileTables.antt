@@ -19,7 +19,7 @@ use Rattle.merge_schema.specs.declared.publication.SubscriptionKind.TheVariants.
 use Rattle.merge_schema.specs.declared.publication.Subscription.{Subscription}
 use Rattle.merge_schema.specs.Keys.{known_only}
 use Rattle.merge_schema.specs.Steps.{◌>>=◌, each}
-use Rattle.merge_schema.specs.Values.{or_bad, needed, optional, any_text, some_text, text_within, some_text_within, name_text, integer_from, count_from, tables_from, one_table}
+use Rattle.merge_schema.specs.FileValues.{or_bad, needed, optional, any_text, some_text, text_within, some_text_within, name_text, integer_from, count_from, tables_from, one_table}
 
 -- words that name a choice
 

@@ -1,10 +1,10 @@
 use Rattle.std.proofs.Common.{◌≡◌, All, length, drop, map, codes}
 use Rattle.toml.specs.View.{view}
-use Rattle.merge_schema.specs.Tables.{each_table, subscription_of}
+use Rattle.merge_schema.specs.FileTables.{each_table, subscription_of}
 use Rattle.merge_schema.specs.declared.publication.Subscription.{Subscription}
 use Rattle.merge_schema.specs.Valid.{IsValidSubscription}
 use Rattle.merge_schema.proofs.Each.{with_front}
-use Rattle.merge_schema.proofs.tables.subscriptions_of.Given as goal
+use Rattle.merge_schema.proofs.file_tables.subscriptions_of.Given as goal
 
 abbrev pub invariant-loop-value : goal.invariant-loop-value
 invariant-loop-value l = record {

@@ -2,13 +2,13 @@ use Rattle.std.proofs.Common.{◌≡◌, ℕ, ◌+◌, true, None, List, All, le
 use Rattle.toml.specs.View.{view, table_view}
 use Rattle.merge_types.specs.declared.values.Column.{Column}
 use Rattle.merge_script.specs.Names.{is_name_text}
-use Rattle.merge_schema.specs.Tables.{columns_from}
+use Rattle.merge_schema.specs.FileTables.{columns_from}
 use Rattle.merge_schema.specs.Valid.{HasValidIdentity}
 use Rattle.merge_schema.proofs.Each.{with_columns, columns_go_on}
 use Rattle.merge_schema.proofs.Identities.{kept_valid}
 use Rattle.std.proofs.lemmas.List.Elements.{All-push}
 use Rattle.merge_schema.proofs.Placed.{one_longer}
-use Rattle.merge_schema.proofs.tables.columns_of.Goals as goal
+use Rattle.merge_schema.proofs.file_tables.columns_of.Goals as goal
 
 pub loop-value-preserved : goal.loop-value-preserved
 loop-value-preserved c =

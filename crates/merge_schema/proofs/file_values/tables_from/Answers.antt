@@ -1,6 +1,6 @@
 use Rattle.std.proofs.Common.{ap, sym, ◌∙◌, Err}
 use Rattle.merge_schema.proofs.Arrays.{tables_read, tables_unlike}
-use Rattle.merge_schema.proofs.values.tables_from.Goals as goal
+use Rattle.merge_schema.proofs.file_values.tables_from.Goals as goal
 
 pub returns-then-are_tables-clause-tables : goal.returns-then-are_tables-clause-tables
 returns-then-are_tables-clause-tables c = tables_read _ _ _ _ c.in-Some.values.now c.in-Some.ensures c.if-values-least.false c.if-values-most.false c.if-are_tables.ensures

@@ -1,12 +1,12 @@
 use Rattle.std.proofs.Common.{◌≡◌, ◌+◌, List, All, length, map, drop, codes, sym, subst}
 use Rattle.toml.specs.View.{view, table_view}
 use Rattle.merge_schema.specs.declared.draft.ArticleDraft.{ArticleDraft}
-use Rattle.merge_schema.specs.Tables.{each_table, article_of}
+use Rattle.merge_schema.specs.FileTables.{each_table, article_of}
 use Rattle.merge_schema.specs.ValidTables.{IsValidDraft}
 use Rattle.merge_schema.proofs.Each.{with_front, tables_go_on}
 use Rattle.std.proofs.lemmas.List.Elements.{All-push}
 use Rattle.merge_schema.proofs.Placed.{one_longer}
-use Rattle.merge_schema.proofs.tables.articles_of.Goals as goal
+use Rattle.merge_schema.proofs.file_tables.articles_of.Goals as goal
 
 pub loop-value-preserved : goal.loop-value-preserved
 loop-value-preserved c =

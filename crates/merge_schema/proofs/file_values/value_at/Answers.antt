@@ -1,6 +1,6 @@
 use Rattle.std.proofs.Common.{sym}
 use Rattle.toml.proofs.Views.{table_get}
-use Rattle.merge_schema.proofs.values.value_at.Goals as goal
+use Rattle.merge_schema.proofs.file_values.value_at.Goals as goal
 
 pub returns : goal.returns
 returns c = sym (table_get c.get.result c.args.key.now c.args.table.now.entries c.get.ensures.value)

@@ -5,7 +5,7 @@ ghost use Rattle.toml.specs.Data.{get_member};
 ghost use Rattle.toml.specs.View.{table_view, view};
 ghost use Rattle.merge_schema.specs.declared.fault.SchemaFault.TheVariants.{Missing, BadValue, TooMany, NoMemory};
 ghost use Rattle.merge_schema.specs.Steps.{Gives};
-ghost use Rattle.merge_schema.specs.Values.{or_missing, or_bad, needed, optional, natural, is_table, any_text, some_text, text_within, some_text_within, name_text, integer_from, count_from, as_list, tables_from, one_table};
+ghost use Rattle.merge_schema.specs.FileValues.{or_missing, or_bad, needed, optional, natural, is_table, any_text, some_text, text_within, some_text_within, name_text, integer_from, count_from, as_list, tables_from, one_table};
 ghost use Rattle.std.specs.List.{list_all};
 
 use crate::fault::SchemaFault;

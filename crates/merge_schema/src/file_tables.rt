@@ -10,18 +10,18 @@ ghost use Rattle.merge_schema.specs.declared.publication.Subscription.{Subscript
 ghost use Rattle.merge_schema.specs.Valid.{HasValidRanges, HasValidIdentity, IsValidSubscription};
 ghost use Rattle.merge_schema.specs.ValidTables.{IsNewIdentity, IsColumnIdentity, IsValidDraft, HasValidTables};
 ghost use Rattle.merge_schema.specs.Steps.{Gives};
-ghost use Rattle.merge_schema.specs.Tables.{tracking_at, resolver_at, type_at, kind_at, needs_column, resolver_column, each_table, identity_table, priority_for, identity_of, identity_within, column_of, columns_from, join_of, article_of, subscription_of, draft_of};
-ghost use Rattle.merge_schema.specs.Values.{optional};
+ghost use Rattle.merge_schema.specs.FileTables.{tracking_at, resolver_at, type_at, kind_at, needs_column, resolver_column, each_table, identity_table, priority_for, identity_of, identity_within, column_of, columns_from, join_of, article_of, subscription_of, draft_of};
+ghost use Rattle.merge_schema.specs.FileValues.{optional};
 
 use crate::choices::{kind_named, needs_column, resolver_within, tracking_named, type_named};
 use crate::draft::{ArticleDraft, Draft, JoinDraft};
 use crate::fault::SchemaFault;
-use crate::keys::{Shape, known_only};
-use crate::publication::{Identity, Subscription, SubscriptionKind};
-use crate::values::{
+use crate::file_values::{
     bad_value, count_at, count_from, count_or, fitting, integer_or, missing, name_at, one_table,
     short_text_at, short_text_if, tables_at, tables_or_none, text_at, text_if, text_or, value_at,
 };
+use crate::keys::{Shape, known_only};
+use crate::publication::{Identity, Subscription, SubscriptionKind};
 use merge_types::limits::FILTER_LIMIT;
 use merge_types::{Column, ColumnType, HostName, Listing, SiteId, Tracking, Words};
 use std::alloc::Global;
@@ -116,7 +116,7 @@ fn identity_at<'a>(
     }
 }
 
-#[tactic(auto, unfolding(crate::specs::Tables::identity_of))]
+#[tactic(auto, unfolding(crate::specs::FileTables::identity_of))]
 fn identity_of(alloc: Global, table: &Table, column: u8) -> Result<Identity, SchemaFault>
     ensures identity { Gives (λ x. x) result (identity_of column (table_view table.now)) }
     ensures valid { IfOk result (λ x. (x.column ≡ column) × HasValidRanges x) }
@@ -152,7 +152,7 @@ fn identity_within(
     }
 }
 
-#[tactic(auto, using(crate::proofs::Identities::brought), unfolding(crate::specs::Tables::column_of))]
+#[tactic(auto, using(crate::proofs::Identities::brought), unfolding(crate::specs::FileTables::column_of))]
 fn column_of(
     alloc: Global,
     table: &Table,
@@ -194,7 +194,7 @@ fn columns_of(
     Ok((columns, identity))
 }
 
-#[tactic(auto, unfolding(crate::specs::Tables::join_of))]
+#[tactic(auto, unfolding(crate::specs::FileTables::join_of))]
 fn join_of(alloc: Global, table: &Table) -> Result<JoinDraft, SchemaFault>
     ensures { Gives (λ x. x) result (join_of (table_view table.now)) }
 {
@@ -221,7 +221,7 @@ fn joins_of(alloc: Global, values: &[Value]) -> Result<Listing<JoinDraft>, Schem
     Ok(joins)
 }
 
-#[tactic(auto, unfolding(crate::specs::Tables::article_of))]
+#[tactic(auto, unfolding(crate::specs::FileTables::article_of))]
 fn article_of(alloc: Global, table: &Table, resolvers: usize) -> Result<ArticleDraft, SchemaFault>
     ensures article { Gives (λ x. x) result (article_of resolvers (table_view table.now)) }
     ensures valid { IfOk result (λ article. IsValidDraft resolvers article) }
@@ -279,7 +279,7 @@ fn priority_at(alloc: Global, table: &Table, kind: SubscriptionKind) -> Result<u
     }
 }
 
-#[tactic(auto, unfolding(crate::specs::Tables::subscription_of))]
+#[tactic(auto, unfolding(crate::specs::FileTables::subscription_of))]
 fn subscription_of(alloc: Global, table: &Table) -> Result<Subscription, SchemaFault>
     ensures subscription { Gives (λ x. x) result (subscription_of (table_view table.now)) }
     ensures valid { IfOk result (λ x. IsValidSubscription x) }
@@ -311,7 +311,7 @@ fn subscriptions_of(alloc: Global, values: &[Value]) -> Result<Listing<Subscript
 }
 
 /// What the document's tables say: the top table's keys, then each article, then each subscription.
-#[tactic(auto, unfolding(crate::specs::Tables::draft_of))]
+#[tactic(auto, unfolding(crate::specs::FileTables::draft_of))]
 pub fn draft_of(alloc: Global, table: &Table, resolvers: usize) -> Result<Draft, SchemaFault>
     ensures draft { Gives (λ x. x) result (draft_of resolvers (table_view table.now)) }
     ensures valid { IfOk result (λ draft. HasValidTables resolvers draft) }
