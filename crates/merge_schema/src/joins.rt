@@ -59,7 +59,8 @@ fn all_joins_alike(articles: &[Article]) -> Result<(), SchemaFault>
     Ok(())
 }
 
-fn mark(marks: &[bool], place: usize) -> bool
+/// Whether the article at a place is marked.
+pub fn mark(marks: &[bool], place: usize) -> bool
     ensures { result ≡ slice_index_or marks.now place false }
 {
     match marks.get(place) {
@@ -91,8 +92,12 @@ fn step_back(
     Ok(stepped)
 }
 
-// For each article, whether joins lead from it to the article at a place.
-fn descendants(alloc: Global, articles: &[Article], place: usize) -> Result<Listing<bool>, NoMemory>
+/// For each article, whether joins lead from it to the article at a place.
+pub fn descendants(
+    alloc: Global,
+    articles: &[Article],
+    place: usize,
+) -> Result<Listing<bool>, NoMemory>
     ensures { IfOk result (λ marks. marks ≡ descendants_within (length articles.now) articles.now place) }
 {
     let mut marks = Listing::empty(alloc);
@@ -102,8 +107,8 @@ fn descendants(alloc: Global, articles: &[Article], place: usize) -> Result<List
     Ok(marks)
 }
 
-/// Whether an article is an ancestor of another.
-pub fn is_ancestor(
+// Whether an article is an ancestor of another.
+fn is_ancestor(
     alloc: Global,
     articles: &[Article],
     ancestor: usize,

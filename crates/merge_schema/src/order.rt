@@ -1,13 +1,15 @@
 //! The order in which the articles of a publication are evaluated.
-ghost use Rattle.std.specs.Prelude.{◌≡◌, ◌≤◌, ℕ, List, IfOk, OnOk, length, map, nat_le, position};
+ghost use Rattle.std.specs.Prelude.{◌≡◌, ◌≤◌, ℕ, List, IfOk, OnOk, count_by, false, length, map, nat_le, position, slice_index_or};
+ghost use Rattle.std.specs.List.{range_with_len};
+ghost use Rattle.merge_schema.specs.Ancestors.{descendants_within};
 ghost use Rattle.merge_schema.specs.EvaluationOrder.{IsEvaluationOrder};
 ghost use Rattle.merge_schema.specs.ParentsFirst.{ancestors_of, put_by, ordered_below, evaluation_order};
 ghost use Rattle.merge_schema.specs.declared.order.Ranked.{Ranked as OneRanked};
 ghost use Rattle.merge_schema.specs.Ranks.{ancestors_in, place_in, ranked_at};
 
-use crate::joins::is_ancestor;
+use crate::joins::{descendants, mark};
 use crate::publication::{Article, Publication};
-use merge_types::{NoMemory, Octets};
+use merge_types::{Listing, NoMemory, Octets};
 use std::alloc::Global;
 
 /// The place of an article, and how many ancestors it has.
@@ -31,17 +33,25 @@ impl Publication {
     }
 }
 
-#[tactic(auto, using(crate::proofs::Counts::count_within))]
-fn ancestors_of(alloc: Global, articles: &[Article], place: usize) -> Result<usize, NoMemory>
-    ensures { IfOk result (λ count. count ≡ ancestors_of articles.now place) }
+// The descendants of each article.
+fn descendants_of_each(alloc: Global, articles: &[Article]) -> Result<Vec<Listing<bool>>, NoMemory>
+    ensures { IfOk result (λ marked. marked.items ≡ map (descendants_within (length articles.now) articles.now) (range_with_len 0 (length articles.now))) }
 {
-    let mut count = 0;
-    for ancestor in 0..articles.len() {
-        if is_ancestor(alloc, articles, ancestor, place)? {
-            count += 1;
-        }
+    let mut marked = Vec::new(alloc);
+    for place in 0..articles.len() {
+        marked.push(descendants(alloc, articles, place)?)?;
     }
-    Ok(count)
+    Ok(marked)
+}
+
+// How many of these lists of descendants have the article at a place.
+fn ancestors_among(marked: &[Listing<bool>], place: usize) -> usize
+    ensures { result ≡ count_by (λ marks. slice_index_or marks place false) marked.now }
+{
+    marked
+        .iter()
+        .filter(|marks| mark(marks.as_slice(), place))
+        .count()
 }
 
 // The place of the first article that has no fewer ancestors.
@@ -62,14 +72,14 @@ fn put(order: &mut Vec<Ranked>, next: Ranked) -> Result<(), NoMemory>
 }
 
 // The articles, by how many ancestors each has.
-#[tactic(auto, using(crate::proofs::Ranks::put_ranked))]
 fn by_ancestors(alloc: Global, articles: &[Article]) -> Result<Vec<Ranked>, NoMemory>
     requires { length articles.now ≤ 256 }
     ensures { IfOk result (λ order. order.items ≡ map (ranked_at articles.now) (ordered_below (ancestors_of articles.now) (length articles.now))) }
 {
+    let marked = descendants_of_each(alloc, articles)?;
     let mut order = Vec::new(alloc);
     for place in 0..articles.len() {
-        let ancestors = ancestors_of(alloc, articles, place)?;
+        let ancestors = ancestors_among(marked.as_slice(), place);
         put(
             &mut order,
             Ranked {
