@@ -1,6 +1,6 @@
 -- Decisions that count fit their rows.
 use Rattle.std.proofs.Common.{◌≡◌, ℕ, ◌+◌, ◌≤◌, Bool, true, false, List, [], ◌∷◌, ◌++◌, length, take, drop, sum_by, Option, Some, None, if◌then◌else◌, refl, sym, ap, ◌∙◌, subst, arith}
-use Rattle.std.specs.Prelude.{filter_map, All, ◌==◌, slice_set}
+use Rattle.std.specs.Prelude.{filter_map, All, ◌&&◌, ◌==◌, slice_set}
 use Rattle.std.specs.List.{list_any, enumerate_from}
 use Rattle.std.proofs.lemmas.Bool.Decides.{nat_tests}
 use Rattle.std.proofs.lemmas.List.{length-set, length-take-le, length-drop, take-append-drop, length-map}
@@ -33,7 +33,8 @@ use Rattle.merge_resolve.specs.declared.case.CaseKind.{CaseKind}
 use Rattle.merge_resolve.specs.declared.case.ConflictCase.{ConflictCase}
 use Rattle.merge_resolve.specs.declared.question.Meeting.{Meeting}
 use Rattle.merge_types.specs.Fitting.{fits_column}
-use Rattle.merge_resolve.specs.Counted.{is_by_row, fits_place, fit_all, fit_columns, own_placed, with_own, side_length, kept_length, is_within, within_or_kept}
+use Rattle.merge_resolve.specs.Counted.{is_by_row, fits_place, fit_all, fit_columns, own_placed, with_own, side_length, kept_length, is_short_row, is_within, within_or_kept}
+use Rattle.merge_resolve.specs.ValueTypes.{are_typed}
 use Rattle.merge_resolve.specs.Columns.{body_value}
 use Rattle.merge_resolve.specs.Questions.{Asked, tracking_kind, both_place, case_asked, question_asked, decision_for_question}
 use Rattle.merge_resolve.specs.CountedLaws.{HasColumns, CountedFits, CountedStaysInLimit}
@@ -123,8 +124,15 @@ by_tests P true true kept keep custom = custom refl refl
 by_tests P true false kept keep custom = keep
 by_tests P false within kept keep custom = keep
 
+short_row_bytes : (ss : List Side) (ps is : List Cell) (values : List Value) → is_short_row ss ps is values ≡ true → row_length values + kept_length ss ps is ≤ row_limit
+short_row_bytes ss ps is values short = grind (arith, nat_tests)
+
+second_true : (a b : Bool) → (a && b) ≡ true → b ≡ true
+second_true true b both = both
+second_true false b both = absurd cc
+
 is_within_bytes : (ss : List Side) (ps is : List Cell) (values : List Value) → is_within ss ps is values ≡ true → row_length values + kept_length ss ps is ≤ row_limit
-is_within_bytes ss ps is values within = grind (arith, nat_tests)
+is_within_bytes ss ps is values within = short_row_bytes ss ps is values (second_true (are_typed values) (is_short_row ss ps is values) within)
 
 module _ (meeting : Meeting) (asked : Asked) where
   -- two live bodies in conflict, and a list

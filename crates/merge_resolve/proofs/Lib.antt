@@ -3,3 +3,4 @@ pub mod Asked
 pub mod Tallies
 pub mod FitLists
 pub mod CountedRows
+pub mod Ranges

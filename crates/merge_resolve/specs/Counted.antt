@@ -18,6 +18,7 @@ use Rattle.merge_resolve.specs.declared.case.CaseKind.{CaseKind}
 use Rattle.merge_resolve.specs.declared.case.CaseKind.TheVariants as kind
 use Rattle.merge_resolve.specs.declared.case.ConflictCase.{ConflictCase}
 use Rattle.merge_resolve.specs.Columns.{body_value}
+use Rattle.merge_resolve.specs.ValueTypes.{are_typed}
 
 -- whether the column at a place may have a value
 abbrev pub fits_some : Option ColumnType → Value → Bool
@@ -68,16 +69,20 @@ kept_length (s ∷ sides) (p ∷ ours) [] = 0
 kept_length (s ∷ sides) (p ∷ ours) (i ∷ theirs) = side_length s p i + kept_length sides ours theirs
 
 -- each cell has its side, and the row that the values give is within its limit
-abbrev pub is_within : List Side → List Cell → List Cell → List Value → Bool
-is_within sides ours theirs values =
+abbrev pub is_short_row : List Side → List Cell → List Cell → List Value → Bool
+is_short_row sides ours theirs values =
     length sides == length ours && length sides == length theirs && nat_le (row_length values + kept_length sides ours theirs) row_limit
+
+-- and the values are of their types, as each value that a resolver gives is
+abbrev pub is_within : List Side → List Cell → List Cell → List Value → Bool
+is_within sides ours theirs values = are_typed values && is_short_row sides ours theirs values
 
 abbrev pub within_or_kept : Bool → List Value → Decision
 within_or_kept true values = Custom values
 within_or_kept false values = KeepPublisher
 
--- a list that fits counts as one with the identity column's own value. One that does not fit, or gives too long a row,
--- and each list where one of the bodies is a delete, counts as keeping the publisher's version
+-- a list that fits counts as one with the identity column's own value. One that does not fit, has a value that is none of its type, or gives
+-- too long a row, and each list where one of the bodies is a delete, counts as keeping the publisher's version
 abbrev pub counted_list : List ColumnType → Option ℕ → List Side → ConflictCase → Body → Body → List Value → Decision
 counted_list types identity sides case (Live ours) (Live theirs) values =
     if fit_columns case.kind types case.cells values

@@ -2,6 +2,7 @@ pub mod Changes
 pub mod Asked
 pub mod AskingLaws
 pub mod Columns
+pub mod ValueTypes
 pub mod Rules
 pub mod Extremes
 pub mod Counted

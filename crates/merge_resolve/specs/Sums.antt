@@ -1,5 +1,5 @@
 -- The column that the article names gets the sum of both values.
-use Rattle.std.specs.Prelude.{ℕ, ℤ, pos, negsuc, ◌+ℤ◌, int_le, ◌&&◌, Bool, List, map, Option, Some, None, unwrap_or, slice_set, if◌then◌else◌, ◌==◌}
+use Rattle.std.specs.Prelude.{ℕ, ℤ, ◌+ℤ◌, Bool, List, map, Option, Some, None, unwrap_or, slice_set, if◌then◌else◌, ◌==◌}
 use Rattle.std.specs.List.{list_any}
 use Rattle.merge_types.specs.declared.Value.{Value}
 use Rattle.merge_types.specs.declared.Value.TheVariants.{Null, Int}
@@ -14,10 +14,7 @@ use Rattle.merge_units.specs.Results.{winner_body}
 use Rattle.merge_resolve.specs.Columns.{value_in, body_value, first_values}
 use Rattle.merge_resolve.specs.Rules.{by_priority}
 use Rattle.merge_resolve.specs.Extremes.{answer_on_both}
-
--- whether an i64 can hold it
-abbrev pub is_i64 : ℤ → Bool
-is_i64 sum = int_le (negsuc 9223372036854775807) sum && int_le sum (pos 9223372036854775807)
+pub use Rattle.merge_resolve.specs.ValueTypes.{is_i64}
 
 abbrev pub int_sum : ℤ → ℤ → Option Value
 int_sum our their = if is_i64 (our +ℤ their) then Some (Int (our +ℤ their)) else None

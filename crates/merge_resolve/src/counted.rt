@@ -3,8 +3,9 @@ ghost use Rattle.std.specs.Prelude.{◌≡◌, ◌-◌, ◌^◌, ◌==◌, ◌&&
 ghost use Rattle.std.specs.Option.{option_copied};
 ghost use Rattle.merge_types.specs.Fitting.{fits_column};
 ghost use Rattle.merge_types.specs.Length.{row_length};
-ghost use Rattle.merge_resolve.specs.Counted.{is_custom, is_by_row, fits_place, fit_all, fit_columns, own_placed, with_own_value, with_own, side_length, kept_length, is_within, counted_list, counted_decision};
+ghost use Rattle.merge_resolve.specs.Counted.{is_custom, is_by_row, fits_place, fit_all, fit_columns, own_placed, with_own_value, with_own, side_length, kept_length, is_short_row, is_within, counted_list, counted_decision};
 
+use crate::typed::values_are_typed;
 use crate::values::body_value;
 use crate::{CaseKind, ConflictCase};
 use merge_types::limits::ROW_LIMIT;
@@ -195,9 +196,16 @@ fn own_or_decided(is_own: bool, own: &Value, value: &Value) -> Result<Value, NoM
     }
 }
 
-// Whether the row that the values give is within its limit.
+// Whether the row that the values give is within its limit. They are of their types.
 fn is_within(sides: &[Side], ours: &[Cell], theirs: &[Cell], values: &[Value]) -> bool
     ensures { result ≡ is_within sides.now ours.now theirs.now values.now }
+{
+    values_are_typed(values);
+    is_short_row(sides, ours, theirs, values)
+}
+
+fn is_short_row(sides: &[Side], ours: &[Cell], theirs: &[Cell], values: &[Value]) -> bool
+    ensures { result ≡ is_short_row sides.now ours.now theirs.now values.now }
 {
     if sides.len() != ours.len() {
         return false;

@@ -12,6 +12,7 @@ mod priorities;
 mod priority;
 mod question;
 mod resolver;
+mod typed;
 mod values;
 
 pub use additive::Additive;

@@ -1,6 +1,5 @@
 -- What every call of the publisher keeps, whoever sent the message.
 -- The room holds what is kept, part by part, and how it comes from the rules of a start and leads to them.
-pub mod Tops
 pub mod Bodies
 pub mod Versions
 pub mod Items

@@ -22,6 +22,7 @@ use Rattle.merge_model.specs.Tables.Keys.{at_number, put_number}
 use Rattle.merge_model.specs.Tables.Publications.{identities, identity_of}
 use Rattle.merge_model.specs.Publisher.{holder_for, new_holders}
 use Rattle.merge_model.proofs.Lists.Finding.{all-weaker, some_same}
+use Rattle.merge_honest.proofs.HeldRanges.{each-step as place-step}
 
 -- what stays of what is held
 abbrev pub key_threshold : ℕ × Holder → ℕ × ℕ
@@ -86,11 +87,6 @@ place-here : (article : Article) (articles : List Article) (place : ℕ) (identi
 place-here article articles place identity is =
     let none : place - place ≡ 0 = omega arith in
     (omega arith, ap (λ (k : ℕ). slice_get (article ∷ articles) k >>= λ a. a.identity) none ∙ is)
-
-place-step : (P : ℕ × Identity → Type 0) (place : ℕ) (found : Option Identity) (rest : List (ℕ × Identity)) → ((identity : Identity) → found ≡ Some identity → P (place, identity)) → AllByRecursion P rest
-    → AllByRecursion P (cons_option (option_map (λ (identity : Identity). (place, identity)) found) rest)
-place-step P place None rest here all = all
-place-step P place (Some identity) rest here all = (here identity refl, all)
 
 places-each : (articles : List Article) (place : ℕ) → AllByRecursion (IsPlaceOf articles place) (filter_map identity_of (enumerate_from place articles))
 places-each [] place = tt

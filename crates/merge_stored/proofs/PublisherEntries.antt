@@ -51,6 +51,7 @@ use Rattle.merge_model.specs.Tables.{PublisherTables}
 use Rattle.merge_model.specs.World.{Saying, World}
 use Rattle.merge_model.specs.declared.event.Event.{Event}
 use Rattle.merge_laws.proofs.Runs.Ground.{grounded-always}
+use Rattle.merge_honest.proofs.Fillings.{none-yet as after-none}
 use Rattle.merge_stored.specs.Entries.{room_of, times_kept}
 use Rattle.merge_stored.proofs.Generations.{times-append, times-cons}
 use Rattle.merge_stored.proofs.PublisherCalls.{PublisherCallsKeep, publisher-step}
@@ -104,11 +105,6 @@ after-more : (f : Filling) (n : ℕ) → f.filled < entry_limit → fill.filled_
 after-more f n low =
     ap (λ (last : ℕ). (let g : Filling = record { last_closed = last; filled = (f.filled + (n + 1)) % entry_limit } in g)) (filled-more f.last_closed f.filled n low)
     ∙ ap (λ (filled : ℕ). (let g : Filling = record { last_closed = f.last_closed + (f.filled + n) / entry_limit + ((f.filled + n) % entry_limit + 1) / entry_limit; filled = filled } in g)) (rest-more f.filled n)
-
-after-none : (f : Filling) → f.filled < entry_limit → fill.filled_by f 0 ≡ f
-after-none f low =
-    ap (λ (last : ℕ). (let g : Filling = record { last_closed = last; filled = (f.filled + 0) % entry_limit } in g)) (let same : f.last_closed + (f.filled + 0) / entry_limit ≡ f.last_closed = omega (arith, low) in same)
-    ∙ ap (λ (filled : ℕ). (let g : Filling = record { last_closed = f.last_closed; filled = filled } in g)) (let same : (f.filled + 0) % entry_limit ≡ f.filled = omega (arith, low) in same)
 
 unfilled-by : (f : Filling) (n : ℕ) → (fill.filled_by f n).filled < entry_limit
 unfilled-by f n = omega arith

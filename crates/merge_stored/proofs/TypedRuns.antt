@@ -10,9 +10,9 @@ use Rattle.merge_stored.proofs.SubscribersLoad.{subscribers-load}
 use Rattle.merge_stored.proofs.ValidPublications.{valid-typed}
 
 pub rules-hold : OfEveryValidTypedRun RulesHold
-rules-hold resolvers publication valid says said tallies slips events typed =
+rules-hold resolvers publication valid says tallies slips events typed =
     let m : Model = model_behind publication says tallies slips events in
-    let t : TablesAreTyped m = tables-are-typed publication (valid-rules resolvers publication valid) (valid-typed resolvers publication valid) says said tallies slips events typed in
+    let t : TablesAreTyped m = tables-are-typed publication (valid-rules resolvers publication valid) (valid-typed resolvers publication valid) says tallies slips events typed in
     record {
       publisher = publisher-loads resolvers publication valid says tallies slips events t.publisher;
       subscribers = λ n s at. subscribers-load resolvers publication valid says tallies slips events n s at (t.subscribers n s at);

@@ -18,7 +18,7 @@ use Rattle.merge_model.specs.Publisher.PublisherPurge.{purge}
 use Rattle.merge_model.specs.Tables.{PublisherTables}
 use Rattle.merge_model.specs.World.Calls.{result_of_request}
 use Rattle.merge_model.specs.World.{Saying}
-use Rattle.merge_typed.specs.Outside.{ChangeIsTyped, SayingIsTyped}
+use Rattle.merge_typed.specs.Outside.{ChangeIsTyped}
 use Rattle.merge_typed.specs.Typed.{MomentFits}
 use Rattle.merge_stored.specs.HasTypes.{RequestHasTypes}
 use Rattle.merge_stored.specs.Stored.{publisher_stored}
@@ -55,7 +55,7 @@ after_calls publication p (call ∷ calls) = after_calls publication (after_call
 
 -- Values are those of their types, and a local change names an article that there is. Nothing else is asked of a call.
 abbrev pub CallFits : Publication → Call → Type 0
-CallFits publication (Receives says tallies now m) = SayingIsTyped says × MomentFits now × RequestHasTypes m
+CallFits publication (Receives says tallies now m) = MomentFits now × RequestHasTypes m
 CallFits publication (Changes now change) = MomentFits now × ChangeIsTyped change × (has_article publication (article_of change) ≡ true)
 CallFits publication (ClosesAt now) = MomentFits now
 CallFits publication (PurgesAt now) = MomentFits now

@@ -15,12 +15,12 @@ use Rattle.merge_model.specs.Failing.Runs.{model_behind}
 use Rattle.merge_model.specs.Tables.{SubscriberTables}
 use Rattle.merge_model.specs.World.{Saying}
 use Rattle.merge_model.specs.declared.event.Event.{Event}
-use Rattle.merge_typed.specs.Outside.{EventsAreTyped, SayingIsTyped}
+use Rattle.merge_typed.specs.Outside.{EventsAreTyped}
 use Rattle.merge_stored.specs.Stored.{publisher_stored, subscriber_stored}
 
--- of publications that a file can say, and resolvers and events as every program hands them in
+-- of publications that a file can say, and events as every program hands them in
 abbrev pub OfEveryValidTypedRun : (Publication → Model → Type 0) → Type 0
-OfEveryValidTypedRun Holds = (resolvers : ℕ) (publication : Publication) → IsValid resolvers publication → (says : Saying) → SayingIsTyped says → (tallies : List ℕ) (slips : Slips) (events : List Event) → EventsAreTyped events
+OfEveryValidTypedRun Holds = (resolvers : ℕ) (publication : Publication) → IsValid resolvers publication → (says : Saying) (tallies : List ℕ) (slips : Slips) (events : List Event) → EventsAreTyped events
     → Holds publication (model_behind publication says tallies slips events)
 
 -- all rules, of each site

@@ -24,9 +24,8 @@ use Rattle.merge_model.specs.Publisher.Acts.{Act, Fate, Met, New, Unknown, act_o
 use Rattle.merge_model.specs.Judge.{PublisherJudge}
 use Rattle.merge_model.specs.Tables.Keys.{row_at}
 use Rattle.merge_model.specs.Tables.{PublisherTables}
-use Rattle.merge_model.proofs.Lists.{OfSome, all-append, all-filter, all-filter_map}
+use Rattle.merge_model.proofs.Lists.{OfSome, all-append, all-filter_map, all-unit}
 use Rattle.merge_typed.specs.Messages.{ItemIsTyped}
-use Rattle.merge_typed.specs.Outside.{CaseIsTyped}
 use Rattle.merge_typed.specs.Typed.{BodyIsTyped, LostIsTyped, MomentFits}
 use Rattle.merge_typed.proofs.Entries.{values-found}
 use Rattle.merge_typed.proofs.Results.{DecisionFits, body-is}
@@ -41,26 +40,26 @@ RowsAreTyped rows = AllByRecursion (λ (row : Key × PublisherRow). RowIsTyped r
 row-found : (rows : List (Key × PublisherRow)) (key : Key) → RowsAreTyped rows → OfSome RowIsTyped (row_at rows key)
 row-found rows key typed = values-found RowIsTyped (is_at (key_cmp key)) rows typed
 
--- The questions that are asked.
+-- The questions that are asked, of rows that are typed.
 
 abbrev QuestionIsTyped : Question → Type 0
-QuestionIsTyped question = CaseIsTyped question.case
+QuestionIsTyped question = BodyIsTyped question.case.publisher
 
 some-if : (b : Bool) (question : Question) → QuestionIsTyped question → OfSome QuestionIsTyped (if b then Some question else None)
 some-if true question is = is
 some-if false question is = tt
 
 module _ (publication : Publication) (judge : PublisherJudge) (site : SiteId) where
-  question-is : (moment : Moment) (key : Key) (incoming : Version) (found : Option PublisherRow) → MomentFits moment → VersionIsTyped incoming → OfSome RowIsTyped found → OfSome QuestionIsTyped (question_on publication judge site moment key incoming found)
-  question-is moment key incoming None low typed held = tt
-  question-is moment key incoming (Some row) low typed held =
+  question-is : (moment : Moment) (key : Key) (incoming : Version) (found : Option PublisherRow) → OfSome RowIsTyped found → OfSome QuestionIsTyped (question_on publication judge site moment key incoming found)
+  question-is moment key incoming None held = tt
+  question-is moment key incoming (Some row) held =
       let c : Case = case_met judge key row.version incoming in
-      some-if (is_conflict c) (question_asked (meeting_of publication judge site moment key row.version incoming) (asked_at publication key.article) row.version.body incoming.body c) (record { publisher = held; incoming = typed; moment = low })
+      some-if (is_conflict c) (question_asked (meeting_of publication judge site moment key row.version incoming) (asked_at publication key.article) row.version.body incoming.body c) held
 
-pub questions-are : (publication : Publication) (judge : PublisherJudge) (m : Upload) (p : PublisherTables) → MomentFits p.latest → RowsAreTyped p.rows → AllByRecursion ItemIsTyped m.items → AllByRecursion QuestionIsTyped (questions_of publication judge m p)
-questions-are publication judge m p low rows items =
-    all-filter_map ItemIsTyped QuestionIsTyped (question_of publication judge m.site p) (λ item is. question-is publication judge m.site p.latest (key_of_item item) item.version (row_at p.rows (key_of_item item)) low is (row-found p.rows (key_of_item item) rows))
-    (acting_items judge m) (all-filter ItemIsTyped _ m.items items)
+pub questions-are : (publication : Publication) (judge : PublisherJudge) (m : Upload) (p : PublisherTables) → RowsAreTyped p.rows → AllByRecursion QuestionIsTyped (questions_of publication judge m p)
+questions-are publication judge m p rows =
+    all-filter_map (λ (item : UploadItem). Unit {0}) QuestionIsTyped (question_of publication judge m.site p) (λ item none. question-is publication judge m.site p.latest (key_of_item item) item.version (row_at p.rows (key_of_item item)) (row-found p.rows (key_of_item item) rows))
+    (acting_items judge m) (all-unit (acting_items judge m))
 
 -- The acts.
 

@@ -45,7 +45,7 @@ use Rattle.merge_model.proofs.Lists.Finding.{all-weaker}
 use Rattle.merge_model.proofs.Lists.{OfSome, all-both, all-map, all-unit}
 use Rattle.merge_typed.specs.Laws.{MessagesAreTyped, OfEveryTypedRun, TablesAreTyped}
 use Rattle.merge_typed.specs.Messages.{LetterIsTyped, MessageIsTyped, RequestIsTyped}
-use Rattle.merge_typed.specs.Outside.{EventsAreTyped, RuleIsTyped, SayingIsTyped}
+use Rattle.merge_typed.specs.Outside.{EventsAreTyped, RuleIsTyped}
 use Rattle.merge_typed.specs.Typed.{HolderIsTyped}
 use Rattle.merge_typed.proofs.Calls.{any-ok, any-some, ok-weaker}
 use Rattle.merge_typed.proofs.Entries.{values-found}
@@ -88,7 +88,7 @@ new-held publication = all-map (λ (place : ℕ × Identity). Unit {0}) (λ (ent
 new-own : (publication : Publication) → AllByRecursion (OwnFits []) (new_holders publication)
 new-own publication = all-map (λ (place : ℕ × Identity). Unit {0}) (OwnFits []) holder_for (λ place none. record { fits = new-fits place.1.threshold; few = omega arith }) (identities publication) (all-unit (identities publication))
 
-module _ (publication : Publication) (rules : All IsRule (rules_of publication)) (typed : AllByRecursion RuleIsTyped (rules_of publication)) (says : Saying) (said : SayingIsTyped says) where
+module _ (publication : Publication) (rules : All IsRule (rules_of publication)) (typed : AllByRecursion RuleIsTyped (rules_of publication)) (says : Saying) where
   abbrev Ranges : PublisherTables → Type 0
   Ranges p = OwnRanges publication typed p
 
@@ -124,7 +124,7 @@ module _ (publication : Publication) (rules : All IsRule (rules_of publication))
     of_close = λ now p low v. values-closed publication now p low v;
     of_purge = λ now p low v. values-purged publication now p low v;
     of_join = λ now m p low v. values-joined publication now p low v m;
-    of_upload = λ judge now m tallies p low is v. values-uploaded publication now p low v says said judge m tallies is;
+    of_upload = λ judge now m tallies p low is v. values-uploaded publication now p low v says judge m tallies is;
     of_ranges = λ judge now m p low v. values-ranged publication now p low v judge m;
     of_ask = λ judge now m p low v. values-asked publication now p low v judge m;
     of_subscriber_local = λ now change s low is r v. values-sub-local s v publication now change low is (sub-value s change r);
@@ -249,9 +249,9 @@ module _ (publication : Publication) (rules : All IsRule (rules_of publication))
       (λ letter ranges values. message-typed letter.message ranges values) m.world.pool f.ranges.letters f.values.letters
 
 pub tables-are-typed : OfEveryTypedRun TablesAreTyped
-tables-are-typed publication rules typed says said tallies slips events is =
-    let fit = always publication rules typed says said tallies slips events is in tables-typed publication rules typed says said fit.0 (model_behind publication says tallies slips events) fit.1
+tables-are-typed publication rules typed says tallies slips events is =
+    let fit = always publication rules typed says tallies slips events is in tables-typed publication rules typed says fit.0 (model_behind publication says tallies slips events) fit.1
 
 pub messages-are-typed : OfEveryTypedRun MessagesAreTyped
-messages-are-typed publication rules typed says said tallies slips events is =
-    let fit = always publication rules typed says said tallies slips events is in messages-typed publication rules typed says said fit.0 (model_behind publication says tallies slips events) fit.1
+messages-are-typed publication rules typed says tallies slips events is =
+    let fit = always publication rules typed says tallies slips events is in messages-typed publication rules typed says fit.0 (model_behind publication says tallies slips events) fit.1

@@ -15,6 +15,5 @@ pub mod Grants
 pub mod OwnRanges
 pub mod SubscriberRanges
 pub mod Always
-pub mod Rules
 pub mod ValidRanges
 pub mod Scripts

@@ -45,7 +45,7 @@ use Rattle.merge_model.specs.World.{Saying}
 use Rattle.merge_model.proofs.Lists.{OfSome, all-append, all-filter, all-map, all-unit, some-map}
 use Rattle.merge_model.proofs.Runs.Refusals.{first-none}
 use Rattle.merge_typed.specs.Messages.{ItemIsTyped, OrderIsTyped}
-use Rattle.merge_typed.specs.Outside.{ChangeIsTyped, SayingIsTyped}
+use Rattle.merge_typed.specs.Outside.{ChangeIsTyped}
 use Rattle.merge_typed.specs.Typed.{LostIsTyped, MomentFits}
 use Rattle.merge_typed.proofs.Acts.{ActIsTyped, PutIsTyped, RowIsTyped, RowsAreTyped, acts-are, lost-are, puts-are, questions-are}
 use Rattle.merge_typed.proofs.Calls.{local-ok, ok-of, unless-ok}
@@ -150,13 +150,13 @@ module _ (publication : Publication) (now : Moment) (p : PublisherTables) (low :
   pub values-joined : (m : Join) → IfOk (join publication now m p) (λ done. OwnValues done.0 × Unit {0})
   values-joined m = unless-ok (λ (done : PublisherTables × Joined). OwnValues done.0 × Unit {0}) (join_refusal publication m p) (tables_after_join m (at_moment now p), record { seq = m.seq }) (λ fine. (join-by m (at_moment now p) (join_acts m (at_moment now p)) (moved now p low v), tt))
 
-  pub values-uploaded : (says : Saying) → SayingIsTyped says → (judge : PublisherJudge) (m : Upload) (tallies : List ℕ) → AllByRecursion ItemIsTyped m.items
+  pub values-uploaded : (says : Saying) (judge : PublisherJudge) (m : Upload) (tallies : List ℕ) → AllByRecursion ItemIsTyped m.items
       → IfOk (upload publication judge now m (kept_decisions says tallies (upload_questions publication judge now m p)) p) (λ done. OwnValues done.0 × Unit {0})
-  values-uploaded says typed judge m tallies items =
+  values-uploaded says judge m tallies items =
       let q : PublisherTables = at_moment now p in
       let w : OwnValues q = moved now p low v in
       let decisions : List Decision = kept_decisions says tallies (upload_questions publication judge now m p) in
-      let fit : AllByRecursion DecisionFits decisions = answers-fit says typed tallies (upload_questions publication judge now m p) (questions-are publication judge m q w.latest w.rows items) in
+      let fit : AllByRecursion DecisionFits decisions = answers-fit says tallies (upload_questions publication judge now m p) (questions-are publication judge m q w.rows) in
       unless-ok (λ (done : PublisherTables × Uploaded). OwnValues done.0 × Unit {0}) (upload_refusal publication judge now m p) (tables_after_upload publication judge m decisions q, record { seq = m.seq; received = max m.to (judge.received m.site.0) })
       (λ fine. (upload-by publication judge m decisions q (brings_news judge m) items fit w, tt))
 

@@ -50,7 +50,7 @@ cells-are dot decision values (s ∷ sides) (p ∷ ours) (i ∷ theirs) all here
   cells-are dot decision (drop (taken decision s p) values) sides ours theirs (all-left IsValue (taken decision s p) values all) here.1 there.1,
 )
 
-pub winner-is : (decision : Decision) (ours theirs : Body) → BodyIsTyped ours → BodyIsTyped theirs → BodyIsTyped (winner_body decision ours theirs)
+winner-is : (decision : Decision) (ours theirs : Body) → BodyIsTyped ours → BodyIsTyped theirs → BodyIsTyped (winner_body decision ours theirs)
 winner-is KeepPublisher ours theirs here there = here
 winner-is TakeSubscriber ours theirs here there = there
 winner-is (Custom values) ours theirs here there = here

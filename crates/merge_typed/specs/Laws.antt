@@ -12,12 +12,12 @@ use Rattle.merge_model.specs.Tables.{SubscriberTables}
 use Rattle.merge_model.specs.World.{Saying}
 use Rattle.merge_model.specs.declared.event.Event.{Event}
 use Rattle.merge_typed.specs.Messages.{LetterIsTyped}
-use Rattle.merge_typed.specs.Outside.{EventsAreTyped, PublicationIsTyped, SayingIsTyped}
+use Rattle.merge_typed.specs.Outside.{EventsAreTyped, PublicationIsTyped}
 use Rattle.merge_typed.specs.Typed.{PublisherIsTyped, SubscriberIsTyped}
 
 -- what a model is after some events, whatever they were, where the publication's ranges have values
 abbrev pub OfEveryTypedRun : (Model → Type 0) → Type 0
-OfEveryTypedRun Holds = (publication : Publication) → All IsRule (rules_of publication) → PublicationIsTyped publication → (says : Saying) → SayingIsTyped says → (tallies : List ℕ) (slips : Slips) (events : List Event) → EventsAreTyped events
+OfEveryTypedRun Holds = (publication : Publication) → All IsRule (rules_of publication) → PublicationIsTyped publication → (says : Saying) (tallies : List ℕ) (slips : Slips) (events : List Event) → EventsAreTyped events
     → Holds (model_behind publication says tallies slips events)
 
 pub record TablesAreTyped (m : Model) : Type 0 where

@@ -1,24 +1,19 @@
--- What comes from outside is of its types: the values and moments of events, what resolvers decide, and where identity ranges end.
+-- What comes from outside is of its types: the values and moments of events, and where identity ranges end.
 use Rattle.std.specs.Int.{w32, w64}
 use Rattle.std.specs.List.{AllByRecursion}
-use Rattle.std.specs.Prelude.{FitsSigned, IfSome, List, [], true, ℕ, ◌+◌, ◌<◌, ◌^◌, ◌≡◌, ◌∷◌}
+use Rattle.std.specs.Prelude.{FitsSigned, List, [], true, ℕ, ◌+◌, ◌<◌, ◌^◌, ◌≡◌, ◌∷◌}
 use Rattle.std.specs.Str.{is_utf8}
 use Rattle.merge_types.specs.declared.changes.Change.{Change}
 use Rattle.merge_types.specs.declared.changes.Setting.{Setting}
 use Rattle.merge_types.specs.declared.values.Value.{Value}
 use Rattle.merge_types.specs.declared.values.Value.TheVariants.{Day, Guid, Int, Text}
-use Rattle.merge_units.specs.declared.result.Decision.{Decision}
-use Rattle.merge_units.specs.declared.result.Decision.TheVariants.{Custom}
 use Rattle.merge_ident.specs.declared.grants.Rule.{Rule}
-use Rattle.merge_resolve.specs.declared.case.ConflictCase.{ConflictCase}
 use Rattle.merge_schema.specs.declared.publication.Publication.{Publication}
 use Rattle.merge_batch.specs.LocalChanges.{settings_of}
 use Rattle.merge_model.specs.Tables.Publications.{rules_of}
-use Rattle.merge_model.specs.World.{Saying}
 use Rattle.merge_model.specs.declared.event.Event.{Event}
 use Rattle.merge_model.specs.declared.event.Event.TheVariants as event
 use Rattle.merge_model.specs.declared.event.NamedValue.{NamedValue}
-use Rattle.merge_typed.specs.Typed.{BodyIsTyped, MomentFits}
 
 -- What the type of values gives. How long a text is, and whether the calendar has a day, is a matter of rules.
 abbrev pub ValueIsTyped : Value → Type 0
@@ -57,20 +52,6 @@ SettingIsTyped setting = ValueIsTyped setting.value
 
 abbrev pub ChangeIsTyped : Change → Type 0
 ChangeIsTyped change = AllByRecursion SettingIsTyped (settings_of change)
-
--- Resolvers: where what they are asked of is typed, so is what they say.
-
-abbrev pub DecisionIsTyped : Decision → Type 0
-DecisionIsTyped (Custom values) = AllByRecursion ValueIsTyped values
-DecisionIsTyped decision = Unit {0}
-
-pub record CaseIsTyped (case : ConflictCase) : Type 0 where
-  pub publisher : BodyIsTyped case.publisher
-  pub incoming : BodyIsTyped case.incoming
-  pub moment : MomentFits case.moment
-
-abbrev pub SayingIsTyped : Saying → Type 0
-SayingIsTyped says = (place times : ℕ) (case : ConflictCase) → CaseIsTyped case → IfSome (says place times case) DecisionIsTyped
 
 -- The greatest value of each identity column fits.
 abbrev pub RuleIsTyped : Rule → Type 0

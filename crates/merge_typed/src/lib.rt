@@ -4,6 +4,4 @@
 
 mod typed;
 
-pub use typed::{
-    messages_are_typed, own_resolvers_are_typed, script_events_are_typed, tables_are_typed,
-};
+pub use typed::{messages_are_typed, script_events_are_typed, tables_are_typed};

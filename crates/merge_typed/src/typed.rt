@@ -1,7 +1,5 @@
 //! Laws on values and moments.
-ghost use Rattle.merge_model.specs.Script.Resolvers.{rules_say};
 ghost use Rattle.merge_typed.specs.Laws.{MessagesAreTyped, OfEveryTypedRun, TablesAreTyped};
-ghost use Rattle.merge_typed.specs.Outside.{SayingIsTyped};
 ghost use Rattle.merge_typed.specs.Scripts.{ScriptsAreTyped};
 
 /// The values, moments and ranges in the tables of each site are those of their types.
@@ -12,11 +10,6 @@ pub fn tables_are_typed()
 /// And so are those in each message, on its way or delivered.
 pub fn messages_are_typed()
     ensures { OfEveryTypedRun MessagesAreTyped }
-{}
-
-/// The resolvers that the program hands in decide typed values, where they are asked of typed versions.
-pub fn own_resolvers_are_typed()
-    ensures { SayingIsTyped rules_say }
 {}
 
 /// The events of a script are typed, where it has at most 2^32 lines.

@@ -27,6 +27,7 @@ use Rattle.merge_model.proofs.Lists.Finding.{some_same}
 use Rattle.merge_owed.proofs.CellValues.{HasColumns, HaveOne}
 use Rattle.merge_honest.proofs.RowsFit.{BodyIsRight, RightAt}
 use Rattle.merge_honest.proofs.TypedCells.{CellsFrom, CellsTyped, ValuesFrom}
+use Rattle.merge_honest.proofs.FittingRows.{place-fits}
 
 -- The shape.
 
@@ -76,9 +77,6 @@ at-first types n column columns at = ap (λ (place : ℕ). slice_get types place
 
 at-later : (types : List ColumnType) (n : ℕ) (column : Column) (columns : List Column) → At types n (column ∷ columns) → At types (n + 1) columns
 at-later types n column columns at = λ k. ap (λ (place : ℕ). slice_get types place) (let same : n + 1 + k ≡ n + suc k = omega arith in same) ∙ at (suc k)
-
-place-fits : (types : List ColumnType) (place : ℕ) (ty : ColumnType) (value : Value) → slice_get types place ≡ Some ty → fits_column ty value ≡ true → fits_place types place value ≡ true
-place-fits types place ty value is fit = grind (arith, is, fit)
 
 values-from : (types : List ColumnType) (n : ℕ) (columns : List Column) (values : List Value) → At types n columns → values_fit columns values ≡ true → ValuesFrom (fits_place types) n values
 values-from types n columns [] at fits = tt

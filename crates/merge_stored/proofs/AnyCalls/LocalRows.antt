@@ -45,12 +45,12 @@ use Rattle.merge_model.proofs.Lists.Finding.{all-weaker, some_same}
 use Rattle.merge_model.proofs.Lists.{OfSome}
 use Rattle.merge_laws.proofs.Lineages.LineageLists.{made-dot, made-none}
 use Rattle.merge_laws.proofs.Told.ToldRows.{HeldFits}
+use Rattle.merge_laws.proofs.Told.ToldVersions.{cells-tops, changed-tops, new-tops}
 use Rattle.merge_owed.proofs.VersionKept.{IsCarried}
 use Rattle.merge_honest.proofs.RowsFit.{IsRight, changed-right}
 use Rattle.merge_stored.proofs.HeldKeys.{HasKeys, keys-same}
 use Rattle.merge_stored.proofs.RangeRule.{there}
 use Rattle.merge_stored.proofs.AnyCalls.Items.{key-fits}
-use Rattle.merge_stored.proofs.AnyCalls.Tops.{cells-tops, changed-tops, new-tops}
 use Rattle.merge_stored.proofs.AnyCalls.Versions.{RowStands, TopStands, bound, dotted-more, dotted-own, dotted-sites, own_dot, row-later}
 
 -- The identity value of a new row is a whole number, where its article has an identity column.

@@ -37,7 +37,7 @@ module _ (resolvers : ℕ) (publication : Publication) (valid : IsValid resolver
   refused-stands p (Err refusal) s parts fit = s
 
   call-stands : (p : PublisherTables) (call : Call) → length p.rows < 2 ^ 64 → CallFits publication call → Stands p → Stands (after_call publication p call)
-  call-stands p (Receives says tallies now m) few is s = refused-stands p (result_of_request publication says tallies now m p) s (handled-parts resolvers publication valid says tallies now m p few s.parts) (handled-fit resolvers publication valid says is.0 tallies now is.1 p s.fit m is.2)
+  call-stands p (Receives says tallies now m) few is s = refused-stands p (result_of_request publication says tallies now m p) s (handled-parts resolvers publication valid says tallies now m p few s.parts) (handled-fit resolvers publication valid says tallies now is.0 p s.fit m is.1)
   call-stands p (Changes now change) few is s = refused-stands p (local publication (by_numbers p) now change p) s (changed-parts resolvers publication valid now change p is.2 few s.parts) (changed-fit resolvers publication valid now is.0 p s.fit change is.1)
   call-stands p (ClosesAt now) few is s = refused-stands p (close_generation now p) s (closed-parts resolvers publication valid now p s.parts) (closed-fit resolvers publication valid now is p s.fit)
   call-stands p (PurgesAt now) few is s = record { parts = purged-parts resolvers publication valid now p s.parts; fit = purged-fit resolvers publication valid now is p s.fit }

@@ -46,7 +46,7 @@ use Rattle.merge_model.proofs.Lists.{all-both, all-map, all-unit}
 use Rattle.merge_laws.proofs.Runs.ValidRules.{valid-rules}
 use Rattle.merge_record.specs.Versions.{IsValue}
 use Rattle.merge_typed.specs.Messages.{ItemIsTyped, OrderIsTyped, RequestIsTyped, ToldIsTyped}
-use Rattle.merge_typed.specs.Outside.{ChangeIsTyped, PublicationIsTyped, SayingIsTyped}
+use Rattle.merge_typed.specs.Outside.{ChangeIsTyped, PublicationIsTyped}
 use Rattle.merge_typed.specs.Typed.{HolderIsTyped, MomentFits, PublisherIsTyped}
 use Rattle.merge_typed.proofs.Calls.{ok-weaker}
 use Rattle.merge_typed.proofs.Holders.{holder-typed, new-fits}
@@ -107,7 +107,7 @@ module _ (resolvers : ℕ) (publication : Publication) (valid : IsValid resolver
   abbrev Any : (A : Type 0) → A → Type 0
   Any A answer = Unit {0}
 
-  module _ (says : Saying) (said : SayingIsTyped says) (tallies : List ℕ) (now : Moment) (low : MomentFits now) (p : PublisherTables) (f : Fit p) where
+  module _ (says : Saying) (tallies : List ℕ) (now : Moment) (low : MomentFits now) (p : PublisherTables) (f : Fit p) where
     abbrev judge : PublisherJudge
     judge = by_numbers p
 
@@ -124,7 +124,7 @@ module _ (resolvers : ℕ) (publication : Publication) (valid : IsValid resolver
         let done : Result (PublisherTables × Uploaded) Refusal = upload publication judge now m decisions p in
         fit-by (upload_refusal publication judge now m p) (tables_after_upload publication judge m decisions (at_moment now p), record { seq = m.seq; received = max m.to (judge.received m.site.0) })
         (λ fine. all-fit done (tables-of Ranges (Any Uploaded) done (ranges-uploaded publication fitting now p f.ranges judge m decisions)) (tables-of OwnMoments (Any Uploaded) done (moments-uploaded publication now p low f.moments judge m decisions))
-        (tables-of OwnValues (Any Uploaded) done (values-uploaded publication now p low f.values says said judge m tallies (items-typed m fine has))))
+        (tables-of OwnValues (Any Uploaded) done (values-uploaded publication now p low f.values says judge m tallies (items-typed m fine has))))
       where
         fit-by : (refusal : Option Refusal) (done : PublisherTables × Uploaded) → (refusal ≡ None → IfOk (unless refusal done) (λ a. Fit a.0)) → IfOk (unless refusal done) (λ a. Fit a.0)
         fit-by None done each = each refl

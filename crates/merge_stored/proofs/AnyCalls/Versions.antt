@@ -35,6 +35,7 @@ use Rattle.merge_model.proofs.Lists.{all-both}
 use Rattle.merge_typed.specs.Typed.{BodyIsTyped}
 use Rattle.merge_laws.specs.Facts.Lineages.{IsOfMade}
 use Rattle.merge_laws.proofs.Lineages.LineageLists.{made-dot, made-joined}
+use Rattle.merge_laws.proofs.Told.ToldVersions.{OwnHolds, body-tops}
 use Rattle.merge_honest.proofs.ItemFacts.{IsNumbered, lineage-numbered}
 use Rattle.merge_honest.proofs.KnownItems.{all-true}
 use Rattle.merge_honest.proofs.RowRules.{found-passes}
@@ -43,7 +44,6 @@ use Rattle.merge_stored.specs.Versions.{VersionIsStored, VersionLoads}
 use Rattle.merge_stored.proofs.Records.{cells-fit, rising-short}
 use Rattle.merge_stored.proofs.Sites.{site-low}
 use Rattle.merge_stored.proofs.AnyCalls.Bodies.{fits-right, fits-there}
-use Rattle.merge_stored.proofs.AnyCalls.Tops.{OwnHolds, body-tops}
 
 -- the greatest number that a field has
 abbrev pub most : ℕ
@@ -56,14 +56,14 @@ bound changes site = if site == 0 then changes else most
 abbrev pub any : ℕ → ℕ
 any site = most
 
-bound-by : (b : Bool) (changes : ℕ) → changes ≤ most → (let n : ℕ = if b then changes else most in n ≤ most)
+pub bound-by : (b : Bool) (changes : ℕ) → changes ≤ most → (let n : ℕ = if b then changes else most in n ≤ most)
 bound-by true changes low = low
 bound-by false changes low = omega arith
 
 pub bound-low : (changes : ℕ) → changes ≤ most → (site : ℕ) → bound changes site ≤ most
 bound-low changes low site = bound-by (site == 0) changes low
 
-up-by : (b : Bool) (changes later : ℕ) → changes ≤ later → (let n : ℕ = if b then changes else most in n ≤ (if b then later else most))
+pub up-by : (b : Bool) (changes later : ℕ) → changes ≤ later → (let n : ℕ = if b then changes else most in n ≤ (if b then later else most))
 up-by true changes later up = up
 up-by false changes later up = omega arith
 

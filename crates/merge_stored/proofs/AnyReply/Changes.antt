@@ -41,6 +41,7 @@ use Rattle.merge_model.proofs.Lists.Finding.{all-weaker, some_same}
 use Rattle.merge_model.proofs.Lists.{OfSome}
 use Rattle.merge_laws.proofs.Lineages.LineageLists.{made-dot, made-none}
 use Rattle.merge_laws.proofs.Told.ToldRows.{HeldFits}
+use Rattle.merge_laws.proofs.Told.ToldVersions.{cells-tops, changed-tops, new-tops}
 use Rattle.merge_owed.proofs.VersionKept.{IsCarried}
 use Rattle.merge_honest.proofs.RowsFit.{IsRight, changed-right}
 use Rattle.merge_stored.proofs.HeldKeys.{HasKeys, keys-same}
@@ -48,7 +49,6 @@ use Rattle.merge_stored.proofs.RangeRule.{there}
 use Rattle.merge_stored.proofs.Sites.{site-low}
 use Rattle.merge_stored.proofs.AnyCalls.Items.{key-fits}
 use Rattle.merge_stored.proofs.AnyCalls.LocalRows.{TakesWhole, column-there}
-use Rattle.merge_stored.proofs.AnyCalls.Tops.{cells-tops, changed-tops, new-tops}
 use Rattle.merge_stored.proofs.AnyCalls.Versions.{TopStands, dotted-more, dotted-own, dotted-sites, most}
 use Rattle.merge_stored.proofs.AnyReply.Versions.{OwnStands, own-later, own_bound}
 

@@ -27,7 +27,7 @@ use Rattle.merge_stored.specs.Stored.{subscriber_stored}
 use Rattle.merge_stored.proofs.ClosingLists.{last-of-more, run-forgotten, run-moved}
 use Rattle.merge_stored.proofs.Outstanding.{closed-up}
 use Rattle.merge_stored.proofs.SubscriberClosings.{ClosingsRun}
-use Rattle.merge_stored.proofs.AnyReply.States.{StateStands}
+use Rattle.merge_stored.proofs.AnyReply.States.{StateStands, entered-rises}
 
 -- The number of the last change in a generation is one of a change that was made, and does not fall from one to the next.
 abbrev pub NumbersRise : ℕ → List Closing → Type 0
@@ -127,9 +127,6 @@ closed-closings s b =
     }
 
 -- A local change.
-
-entered-rises : (filling : Filling) → filling.last_closed ≤ (fill.filled_by filling 1).last_closed
-entered-rises filling = omega arith
 
 pub changed-closings : (key : Key) (found : Option Version) (held : List (ℕ × Holder)) (s : SubscriberTables) → ClosingsStand s → (let u : SubscriberTables = record s { changes = s.changes + 1; held = held } in ClosingsStand (with_version_if key found u))
 changed-closings key None held s b = record { run = b.run; rise = b.rise; made = made-more s.changes (s.changes + 1) s.gens.closings (omega arith) b.made }

@@ -26,6 +26,7 @@ use Rattle.merge_model.specs.Subscriber.Taking.{key_of_download}
 use Rattle.merge_model.specs.Tables.{SubscriberTables}
 use Rattle.merge_model.specs.World.Faults.{fault_of, reply_fault, standing_of}
 use Rattle.merge_model.proofs.Lists.{all-both}
+use Rattle.merge_laws.proofs.Told.ToldItems.{fault-none}
 use Rattle.merge_stored.specs.HasTypes.{ItemHasTypes, OrderHasTypes}
 use Rattle.merge_stored.proofs.AnyReply.RowSteps.{OrderStands}
 use Rattle.merge_stored.proofs.AnyReply.Versions.{put-stands, put-typed}
@@ -61,10 +62,6 @@ last-two a b c fits = (grind (arith, fits), grind (arith, fits))
 item-good : (publication : Publication) (own : Standing) (before : Option DownloadItem) (item : DownloadItem) → first_broken (item_rules publication own before item) ≡ None → ItemFits publication own item
 item-good publication own before item none =
     last-two (row_rises before item) (act_fits publication own item.article item.act) (maker_fits own (maker_of item.row.0)) (first-met (item_fits publication own before item) none)
-
-fault-none : (found : Option BrokenRule) → fault_of found ≡ None → found ≡ None
-fault-none None none = refl
-fault-none (Some broken) none = absurd cc
 
 items-by : (publication : Publication) (own : Standing) (from : ℕ) (m : Downloaded) → broken_by_download publication own from m ≡ None → AllByRecursion (ItemFits publication own) m.items
 items-by publication own from m none =

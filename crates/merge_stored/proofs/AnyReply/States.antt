@@ -159,7 +159,7 @@ sent-state sent s low fits b = record {
 
 -- A local change.
 
-entered-rises : (filling : Filling) → filling.last_closed ≤ (fill.filled_by filling 1).last_closed
+pub entered-rises : (filling : Filling) → filling.last_closed ≤ (fill.filled_by filling 1).last_closed
 entered-rises filling = omega arith
 
 entered-up : (filling : Filling) → filling.filled < entry_limit → (fill.filled_by filling 1).last_closed ≤ filling.last_closed + 1

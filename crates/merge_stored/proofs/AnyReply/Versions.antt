@@ -30,22 +30,14 @@ use Rattle.merge_stored.proofs.Versions.{article-low}
 use Rattle.merge_stored.proofs.AnyCalls.Bodies.{fits-right, fits-there}
 use Rattle.merge_stored.proofs.AnyCalls.Items.{ascends-from, each-pair, tops-sites}
 use Rattle.merge_stored.proofs.AnyCalls.TypedValues.{fits-typed}
-use Rattle.merge_stored.proofs.AnyCalls.Versions.{VersionStands, any, known-none, most, numbers-low, tops-stand, version-from, version-loads, version-weaker}
+use Rattle.merge_stored.proofs.AnyCalls.Versions.{VersionStands, any, bound-by, known-none, most, numbers-low, tops-stand, up-by, version-from, version-loads, version-weaker}
 
 -- of a site no change is known that it has yet to make
 abbrev pub own_bound : ℕ → ℕ → ℕ → ℕ
 own_bound site changes n = if n == site then changes else most
 
-bound-by : (b : Bool) (changes : ℕ) → changes ≤ most → (let n : ℕ = if b then changes else most in n ≤ most)
-bound-by true changes low = low
-bound-by false changes low = omega arith
-
 pub own-low : (site changes : ℕ) → changes ≤ most → (n : ℕ) → own_bound site changes n ≤ most
 own-low site changes low n = bound-by (n == site) changes low
-
-up-by : (b : Bool) (changes later : ℕ) → changes ≤ later → (let n : ℕ = if b then changes else most in n ≤ (if b then later else most))
-up-by true changes later up = up
-up-by false changes later up = omega arith
 
 pub own-up : (site changes later : ℕ) → changes ≤ later → (n : ℕ) → own_bound site changes n ≤ own_bound site later n
 own-up site changes later up n = up-by (n == site) changes later up

@@ -7,7 +7,7 @@ use Rattle.merge_stored.proofs.loading.typed_runs_load.Goals as goal
 pub returns : goal.returns
 returns c = record {
   rules = rules-hold;
-  loads = λ resolvers publication valid says said tallies slips events typed. (let hold = rules-hold resolvers publication valid says said tallies slips events typed in record {
+  loads = λ resolvers publication valid says tallies slips events typed. (let hold = rules-hold resolvers publication valid says tallies slips events typed in record {
     publisher = c.publisher_stored_tables_load.ensures publication (new_holders publication) (publisher_stored (model_behind publication says tallies slips events).world.publisher) hold.publisher;
     subscribers = λ n s at. c.stored_tables_load.ensures publication (new_holders publication) (subscriber_stored s) (hold.subscribers n s at);
   });
