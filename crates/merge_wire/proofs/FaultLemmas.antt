@@ -10,7 +10,7 @@ use Rattle.merge_ports.proofs.Known.{Consumes-append}
 use Rattle.merge_wire.specs.declared.fault.WireFault.{WireFault}
 use Rattle.merge_wire.specs.declared.fault.WireFault.TheVariants as fault
 use Rattle.merge_wire.specs.Fields.{Pair, HasLength, IsLengthFault, body_limit}
-use Rattle.merge_wire.specs.Heads.{NoRequestCan}
+use Rattle.merge_wire.specs.Heads.{TurnsBad}
 use Rattle.merge_wire.specs.Faults.{Took, TookLast, HasLengthFault, LacksBody, IsRequestFault, IsHeadFault, IsBodyFault}
 use Rattle.merge_wire.proofs.MessageLemmas.{Parsed}
 
@@ -23,8 +23,8 @@ head_fault old new before after fault.ReadFault h = h
 head_fault old new before after fault.WriteFault h = absurd h
 head_fault old new before after fault.NoMemory h = tt
 
-pub bad_head : (old new : Option (List ℕ)) (before after : ℕ) (bytes : List ℕ) (e : WireFault) → e ≡ fault.BadHead → Consumes old new bytes → NoRequestCan bytes → IsHeadFault old new before after e
-bad_head old new before after bytes e is took bad = subst (λ (x : WireFault). IsHeadFault old new before after x) (sym is) (bytes, took, inl bad)
+pub bad_head : (old new : Option (List ℕ)) (before after : ℕ) (bytes : List ℕ) (e : WireFault) → e ≡ fault.BadHead → Consumes old new bytes → TurnsBad bytes → IsHeadFault old new before after e
+bad_head old new before after bytes e is took bad = subst (λ (x : WireFault). IsHeadFault old new before after x) (sym is) (bytes, took, bad)
 
 -- the fields that the spans cover are those of the head
 with_pairs : (fs gs : List Pair) (e : WireFault) → fs ≡ gs → IsLengthFault fs e → IsLengthFault gs e

@@ -11,5 +11,6 @@ pub mod PieceLemmas
 pub mod NoFault
 pub mod LineEnds
 pub mod Targets
+pub mod TextFronts
 pub mod BadHeads
 pub mod OneFault

@@ -7,7 +7,7 @@ use Rattle.std.proofs.lemmas.List.{append-nil, length-append, take-append-drop}
 use Rattle.std.proofs.lemmas.List.Elements.{All-head, All-tail, filter-append}
 use Rattle.std.proofs.lemmas.List.Sums.{length-filter, sum_by-cons}
 use Rattle.std.proofs.Math.Seq.{take-append_seam, take-append-add}
-use Rattle.httparse.specs.Grammar.{LineEnd, crlf, lf, print_end, print_blank, print_version, print_reason, reason_phrase, AllPass, Field, IsField, print_field, print_section, is_token_byte, is_uri_byte, is_value_byte, RequestHead, IsRequestHead, print_request, HasNoRequest, EndsInTarget, ResponseHead, IsResponseHead, print_response, HasNoResponse}
+use Rattle.httparse.specs.Grammar.{LineEnd, crlf, lf, print_end, print_blank, print_version, print_reason, reason_phrase, AllPass, Field, IsField, print_field, print_section, is_token_byte, is_uri_byte, is_value_byte, RequestHead, IsRequestHead, print_request, HasNoRequest, ResponseHead, IsResponseHead, print_response, HasNoResponse}
 use Rattle.httparse.specs.Pieces.{Stops, is_newline}
 use Rattle.httparse.specs.Spans.{RequestOverflows, RequestExceeds, ResponseOverflows, ResponseExceeds}
 use Rattle.httparse.proofs.GrammarLemmas.{print_request-append, print_response-append}
@@ -192,14 +192,6 @@ lines_of_request h rest is =
     (ends_none is_token_byte token_ends h.method is.method.1) (ends_none is_uri_byte refl h.target is.target.1) (ends_of_version h.minor) (ends_of_end h.line_end) in
     ap lines (print_request-append h rest) ∙ ap line_ends (blank_lines h.blank _ (Stops_token h.method _ is.method.0 is.method.1))
     ∙ omega (arith, text, ends_of_section h.fields h.last is.fields)
-
--- bytes that end in a target end no line of a head
-pub lines_in_target : (bytes : List ℕ) → EndsInTarget bytes → lines bytes ≡ 0
-lines_in_target bytes (blank, method, target, token, uri, is) =
-    let a = ends_append method (32 ∷ target) in
-    let b = ends_other 32 refl target in
-    ap lines (is ∙ append_assoc (print_blank blank) method (32 ∷ target)) ∙ ap line_ends (blank_lines blank (method ++ 32 ∷ target) (Stops_token method (32 ∷ target) token.0 token.1))
-    ∙ omega (arith, a, b, ends_none is_token_byte token_ends method token.1, ends_none is_uri_byte refl target uri)
 
 closes_request : (h : RequestHead) → Closes (print_request h)
 unfolding print_request

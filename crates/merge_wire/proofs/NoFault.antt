@@ -68,7 +68,7 @@ pub request_at_no_fault : (bytes front rest : List ℕ) (m : Message) (new : Opt
     → (e ≡ fault.ReadFault) ⊎ (e ≡ fault.NoMemory)
 request_at_no_fault bytes front rest m new count fault.BadHead p x f =
     let t = took_is bytes new f.0 f.1 in
-    absurd (no_bad_head bytes f.0 t.0 x.head (m.body ++ rest) x.taken (reads bytes front rest m p x) t.2 f.2)
+    absurd (no_bad_head bytes f.0 t.0 x.head (m.body ++ rest) x.taken (reads bytes front rest m p x) t.2 f.2.bad)
 request_at_no_fault bytes front rest m new count fault.BadLength p x f =
     let t = took_is bytes new f.0 f.1 in
     let other : ReadsRequest bytes f.2.0 t.0 = (f.2.1.valid, t.2 ∙ ap (λ (l : List ℕ). l ++ t.0) f.2.2) in

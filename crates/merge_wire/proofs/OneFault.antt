@@ -2,18 +2,17 @@
 use Rattle.std.proofs.Common.{◌≡◌, ◌∙◌, ◌≤◌, ◌⊎◌, inl, inr, ℕ, List, [], ◌++◌, length, map, take, Some, refl, sym, ap, subst, append_assoc, arith}
 use Rattle.std.specs.declared.option.Option.{Option}
 use Rattle.std.proofs.lemmas.List.{append-nil, length-append, take_all}
-use Rattle.httparse.specs.Grammar.{RequestHead, print_request, ReadsRequest, EndsInTarget, ResponseHead, ReadsResponse}
+use Rattle.httparse.specs.Grammar.{RequestHead, print_request, ReadsRequest, ResponseHead, ReadsResponse}
 use Rattle.httparse.specs.Spans.{name_and_value}
 use Rattle.httparse.proofs.GrammarLemmas.{request_unique, response_unique}
 use Rattle.merge_wire.specs.declared.fault.WireFault.{WireFault}
 use Rattle.merge_wire.specs.declared.fault.WireFault.TheVariants as fault
 use Rattle.merge_wire.specs.Fields.{Pair, HasLength, IsLengthFault, body_limit}
-use Rattle.merge_wire.specs.Heads.{IsTakenRequest, IsTakenResponse, IsBadRequest, IsBadResponse, CanBecomeRequest, AwaitsRequest, AwaitsResponse, lines}
+use Rattle.merge_wire.specs.Heads.{IsTakenRequest, IsTakenResponse, IsBadRequest, IsBadResponse, AwaitsRequest, AwaitsResponse, lines}
 use Rattle.merge_wire.specs.Faults.{IsOfOutside, IsRequestFault, IsResponseFault}
 use Rattle.merge_wire.proofs.LineEnds.{lines_grow}
 use Rattle.merge_wire.proofs.NoFault.{took_is, end_is, no_bad_head, no_bad_response}
 use Rattle.merge_wire.proofs.OneMessage.{one_length}
-use Rattle.merge_wire.proofs.Targets.{front_of_target}
 
 -- ---- what the fields of a head tell
 
@@ -75,7 +74,7 @@ abbrev Cause : List ℕ → WireFault → Type 0
 Cause bytes e = ((e ≡ fault.BadHead) × Refused bytes) ⊎ (((e ≡ fault.Ended) × AwaitsRequest bytes) ⊎ (Headed bytes e ⊎ IsOfOutside e))
 
 cause : (bytes : List ℕ) (new : Option (List ℕ)) (count : ℕ) (e : WireFault) → IsRequestFault (Some bytes) new count count e → Cause bytes e
-cause bytes new count fault.BadHead f = let t = took_is bytes new f.0 f.1 in inl (refl, (f.0, t.0, t.2, f.2))
+cause bytes new count fault.BadHead f = let t = took_is bytes new f.0 f.1 in inl (refl, (f.0, t.0, t.2, f.2.bad))
 cause bytes new count fault.BadLength f =
     let t = took_is bytes new f.0 f.1 in
     inr (inr (inl (f.2.0, t.0, f.2.1, (f.2.1.valid, t.2 ∙ ap (λ (l : List ℕ). l ++ t.0) f.2.2), f.2.3)))
@@ -95,18 +94,10 @@ cause bytes new count fault.WriteFault f = absurd f
 cause bytes new count fault.NoMemory f = inr (inr (inr (inr refl)))
 
 apart : (bytes q r : List ℕ) → bytes ≡ q ++ r → IsBadRequest q → AwaitsRequest bytes → ⊥
-apart bytes q r e (inl bad) w = by w.hopeful
-  where
-    never : CanBecomeRequest q → ⊥
-    never can = omega (arith, bad.many can, lines_grow q r, ap lines e, w.few)
-
-    open_target : EndsInTarget q ⊎ CanBecomeRequest q → ⊥
-    open_target (inl target) = bad.judged target
-    open_target (inr can) = never can
-
-    by : ((more : List ℕ) × (h : RequestHead) × ReadsRequest (bytes ++ more) h []) ⊎ EndsInTarget bytes → ⊥
-    by (inl x) = never (r ++ x.0, x.1, [], subst (λ (l : List ℕ). ReadsRequest l x.1 []) (ap (λ (l : List ℕ). l ++ x.0) e ∙ append_assoc q r x.0) x.2)
-    by (inr target) = open_target (front_of_target bytes q r e target)
+apart bytes q r e (inl bad) w =
+    let x = w.hopeful in
+    let many = bad.many (r ++ x.0, x.1, x.2, subst (λ (l : List ℕ). ReadsRequest l x.1 x.2) (ap (λ (l : List ℕ). l ++ x.0) e ∙ append_assoc q r x.0) x.3) in
+    omega (arith, many, lines_grow q r, ap lines e, w.few)
 apart bytes q r e (inr full) w = omega (arith, full.0, w.short, ap length e, length-append q r)
 
 headed_not_bad : (bytes : List ℕ) (e : WireFault) → Refused bytes → Headed bytes e → ⊥

@@ -1,19 +1,18 @@
--- Bytes that end in a target: what stands up to the first space opens it.
-use Rattle.std.proofs.Common.{◌≡◌, ◌∙◌, ◌≤◌, ◌<◌, ◌+◌, ◌⊎◌, inl, inr, ℕ, Bool, true, false, not, cond, eqb, List, [], ◌∷◌, ◌++◌, length, take, drop, take_while, codes, Result, Err, OnErr, refl, sym, ap, subst, arith, append_assoc}
+-- Bytes that may end in a target: what stands behind their first space is its front.
+use Rattle.std.proofs.Common.{◌≡◌, ◌∙◌, ◌<◌, ◌+◌, inl, inr, ℕ, Bool, true, false, not, cond, eqb, List, [], ◌∷◌, ◌++◌, length, drop, take_while, codes, IsUtf8, refl, sym, ap, subst, arith, append_assoc}
 use Rattle.std.specs.List.{prefix_len}
-use Rattle.std.proofs.lemmas.Bool.{true≢false, ne_eqb, eqb-true, not-false, cases_lt}
-use Rattle.std.proofs.lemmas.List.{append_cancel_left, length-append, get_or_append_left}
+use Rattle.std.proofs.lemmas.Bool.{true≢false, ne_eqb, eqb-true, not-false}
+use Rattle.std.proofs.lemmas.List.{length-append}
 use Rattle.std.proofs.lemmas.List.Elements.{All-nil, All-cons, All-head, All-tail, All-append}
 use Rattle.std.proofs.lemmas.List.Folds.{length-prefix_len}
-use Rattle.std.proofs.Math.Seq.{take-append-add, drop-append-add}
-use Rattle.httparse.specs.Grammar.{LineEnd, crlf, lf, print_end, print_blank, print_version, print_section, AllPass, IsToken, is_token_byte, is_uri_byte, ReadsRequest, HasNoRequest, MayBecomeRequest, EndsInTarget}
-use Rattle.httparse.specs.Spans.{RequestOverflows}
+use Rattle.std.proofs.lemmas.Str.{IsUtf8-append}
+use Rattle.std.proofs.Math.Seq.{drop-append-add}
+use Rattle.httparse.specs.Grammar.{LineEnd, crlf, lf, print_end, print_blank, print_version, print_section, AllPass, IsToken, is_token_byte, is_uri_byte, print_request, MayBecomeRequest, EndsInTarget}
 use Rattle.httparse.proofs.GrammarLemmas.{print_request-append}
 use Rattle.httparse.proofs.PieceLemmas.{space_ends_token}
 use Rattle.httparse.proofs.RunLemmas.{run_unique}
-use Rattle.merge_wire.specs.Heads.{CanBecomeRequest, EndsAtSpace, is_no_space, lines}
-use Rattle.merge_wire.proofs.HeadLemmas.{shortest, shortest_valid}
-use Rattle.merge_wire.proofs.LineEnds.{begins, lines_in_target, lines_of_request}
+use Rattle.merge_wire.specs.Heads.{CanBecomeRequest, BeginsText, is_no_space}
+use Rattle.merge_wire.proofs.HeadLemmas.{shortest, shortest_valid, slash_uri, slash_text}
 
 -- ---- no space stands before a target's method ends
 
@@ -40,47 +39,6 @@ one_word : (word rest : List ℕ) (blank : List LineEnd) (method more : List ℕ
 one_word word rest blank method more all token e =
     let same = run_unique is_no_space word (print_blank blank ++ method) (32 ∷ rest) (32 ∷ more) all (word_spaceless blank method token) refl refl e in
     (same.0, ap (λ (l : List ℕ). drop 1 l) same.1)
-
--- ---- a head can come of what opens a target, and none is there
-
-abbrev opening : List LineEnd → List ℕ → List ℕ
-opening blank method = (print_blank blank ++ method) ++ 32 ∷ []
-
--- what the shortest head has behind it
-abbrev behind_opening : List ℕ
-behind_opening = codes "/" ++ 32 ∷ (print_version 1 ++ (print_end lf ++ (print_section [] lf ++ [])))
-
-opens : (blank : List LineEnd) (method : List ℕ) → IsToken method → ReadsRequest (opening blank method ++ behind_opening) (shortest blank method) []
-opens blank method token = (
-  shortest_valid blank method token,
-  append_assoc (print_blank blank ++ method) (32 ∷ []) behind_opening
-      ∙ append_assoc (print_blank blank) method (32 ∷ behind_opening)
-      ∙ sym (print_request-append (shortest blank method) []),
-)
-
-opening_before : (blank : List LineEnd) (method target : List ℕ) → opening blank method ++ target ≡ (print_blank blank ++ method) ++ 32 ∷ target
-opening_before blank method target = append_assoc (print_blank blank ++ method) (32 ∷ []) target
-
-pub no_head_in_target : (bytes : List ℕ) → EndsInTarget bytes → HasNoRequest bytes
-no_head_in_target bytes target h rest reads = omega (arith, lines_in_target bytes target, ap lines reads.1, lines_of_request h rest reads.0)
-
--- ---- the parser wants more of what opens a target, and of no other bytes that end at their first space
-
-pub on_err : {A E : Type 0} {r : Result A E} {e : E} {P : Type 0} → r ≡ Err e → OnErr r P → P
-on_err {P} is h = subst (λ x. OnErr x P) is h
-
-pub opened : (front : List ℕ) → EndsAtSpace front → MayBecomeRequest front → EndsInTarget front
-opened front at (inr target) = target
-opened front (word, all, e) (inl (more, h, reads)) =
-    let same = one_word word more h.blank h.method _ all reads.0.method (sym (append_assoc word (32 ∷ []) more) ∙ ap (λ (l : List ℕ). l ++ more) (sym e) ∙ reads.1 ∙ print_request-append h [] ∙ sym (append_assoc (print_blank h.blank) h.method _)) in
-    (h.blank, h.method, [], reads.0.method, All-nil (λ b. is_uri_byte b ≡ true), e ∙ ap (λ (l : List ℕ). l ++ 32 ∷ []) same.0)
-
-pub not_refused : (room : ℕ) (front : List ℕ) → EndsAtSpace front → RequestOverflows room front → EndsInTarget front → ⊥
-not_refused room front (word, all, e) over (blank, method, target, token, uri, is) =
-    let same = one_word word [] blank method target all token (sym e ∙ is) in
-    let whole : front ≡ opening blank method = is ∙ ap (λ (l : List ℕ). (print_blank blank ++ method) ++ 32 ∷ l) (sym same.1) in
-    let none : room < 0 = over behind_opening (shortest blank method) [] (subst (λ (l : List ℕ). ReadsRequest (l ++ behind_opening) (shortest blank method) []) (sym whole) (opens blank method token)) in
-    omega (arith, none)
 
 -- ---- bytes that are cut behind their first space
 
@@ -120,56 +78,79 @@ spaceless_ends bytes n is all (blank, method, target, token, uri, e) =
     let counted : prefix_len is_no_space bytes ≡ length word = ap (λ (l : List ℕ). prefix_len is_no_space l) whole ∙ word_counts word target (word_spaceless blank method token) in
     omega (arith, is, all, length-prefix_len is_no_space bytes, counted, ap length whole, length-append word (32 ∷ target))
 
-front_is : (bytes : List ℕ) (n : ℕ) (c : Cut bytes n) → take (n + 1) bytes ≡ c.0 ++ 32 ∷ []
-front_is bytes n (word, rest, all, e, long) =
-    ap (λ (l : List ℕ). take (n + 1) l) e ∙ ap (λ (k : ℕ). take (k + 1) (word ++ 32 ∷ rest)) long ∙ take-append-add word (32 ∷ rest) 1
-
 behind_is : (bytes : List ℕ) (n : ℕ) (c : Cut bytes n) → drop (n + 1) bytes ≡ c.1
 behind_is bytes n (word, rest, all, e, long) =
     ap (λ (l : List ℕ). drop (n + 1) l) e ∙ ap (λ (k : ℕ). drop (k + 1) (word ++ 32 ∷ rest)) long ∙ drop-append-add word (32 ∷ rest) 1
 
-pub ends_at_space : (bytes front : List ℕ) (n : ℕ) → n ≡ length (take_while is_no_space bytes) → n < length bytes → front ≡ take (n + 1) bytes → EndsAtSpace front
-ends_at_space bytes front n is less f = let c = cut_at bytes n is less in (c.0, c.2, f ∙ front_is bytes n c)
-
-pub target_cut : (bytes front behind : List ℕ) (n : ℕ) → n ≡ length (take_while is_no_space bytes) → n < length bytes → front ≡ take (n + 1) bytes → behind ≡ drop (n + 1) bytes
-    → EndsInTarget bytes → EndsInTarget front × AllPass is_uri_byte behind
-target_cut bytes front behind n is less f b (blank, method, target, token, uri, e) =
+-- those that end in a target have all its bytes behind their first space
+in_target : (bytes behind : List ℕ) (n : ℕ) → n ≡ length (take_while is_no_space bytes) → n < length bytes → behind ≡ drop (n + 1) bytes → EndsInTarget bytes
+    → (blank : List LineEnd) × (method : List ℕ) × IsToken method × AllPass is_uri_byte behind × (bytes ≡ (print_blank blank ++ method) ++ 32 ∷ behind)
+in_target bytes behind n is less b (blank, method, target, token, uri, e) =
     let c = cut_at bytes n is less in
-    let same = one_word c.0 c.1 blank method target c.2 token (sym c.3 ∙ e) in (
-      (blank, method, [], token, All-nil (λ v. is_uri_byte v ≡ true), f ∙ front_is bytes n c ∙ ap (λ (l : List ℕ). l ++ 32 ∷ []) same.0),
-      subst (λ (l : List ℕ). AllPass is_uri_byte l) (sym (b ∙ behind_is bytes n c ∙ same.1)) uri,
-    )
+    let same : behind ≡ target = b ∙ behind_is bytes n c ∙ (one_word c.0 c.1 blank method target c.2 token (sym c.3 ∙ e)).1 in
+    (blank, method, token, subst (λ (l : List ℕ). AllPass is_uri_byte l) (sym same) uri, e ∙ ap (λ (l : List ℕ). (print_blank blank ++ method) ++ 32 ∷ l) (sym same))
 
-pub target_joined : (bytes front behind : List ℕ) (n : ℕ) → n ≡ length (take_while is_no_space bytes) → n < length bytes → front ≡ take (n + 1) bytes → behind ≡ drop (n + 1) bytes
-    → EndsInTarget front → AllPass is_uri_byte behind → EndsInTarget bytes
-target_joined bytes front behind n is less f b (blank, method, target, token, uri, e) all =
+-- ---- a head that comes of a target
+
+back_passes : (test : ℕ → Bool) (a b : List ℕ) → AllPass test (a ++ b) → AllPass test b
+back_passes test [] b all = all
+back_passes test (x ∷ a) b all = back_passes test a b (All-tail (λ v. test v ≡ true) x (a ++ b) all)
+
+-- bytes of a target that stand where one stands are its front
+front_of_target : (behind more target rest : List ℕ) → AllPass is_uri_byte behind → behind ++ more ≡ target ++ 32 ∷ rest → (k : List ℕ) × (target ≡ behind ++ k)
+front_of_target [] more target rest all e = (target, refl)
+front_of_target (x ∷ xs) more [] rest all e =
+    let blank : x ≡ 32 = cc in
+    absurd (true≢false (sym (subst (λ (v : ℕ). is_uri_byte v ≡ true) blank (All-head (λ v. is_uri_byte v ≡ true) x xs all))))
+front_of_target (x ∷ xs) more (y ∷ target) rest all e =
+    let same : y ≡ x = cc in
+    let r = front_of_target xs more target rest (All-tail (λ v. is_uri_byte v ≡ true) x xs all) (cc) in
+    (r.0, ap (λ (v : ℕ). v ∷ target) same ∙ ap (λ (l : List ℕ). x ∷ l) r.1)
+
+text_of_head : (bytes word behind : List ℕ) → AllPass is_no_space word → bytes ≡ word ++ 32 ∷ behind → AllPass is_uri_byte behind → CanBecomeRequest bytes → BeginsText behind
+text_of_head bytes word behind all e uri (more, h, rest, (valid, is)) =
+    let same = one_word word (behind ++ more) h.blank h.method _ all valid.method (sym (append_assoc word (32 ∷ behind) more) ∙ ap (λ (l : List ℕ). l ++ more) (sym e) ∙ is ∙ print_request-append h rest ∙ sym (append_assoc (print_blank h.blank) h.method _)) in
+    let t = front_of_target behind more h.target _ uri same.1 in
+    (t.0, back_passes is_uri_byte behind t.0 (subst (λ (l : List ℕ). AllPass is_uri_byte l) t.1 valid.target.1), subst IsUtf8 t.1 valid.target_text)
+
+-- what the shortest head has behind its target
+abbrev ending : List ℕ
+ending = 32 ∷ (print_version 1 ++ (print_end lf ++ (print_section [] lf ++ [])))
+
+spelled : (blank : List LineEnd) (method target more : List ℕ) → ((print_blank blank ++ method) ++ 32 ∷ target) ++ (more ++ (codes "/" ++ ending)) ≡ print_request (shortest blank method ((target ++ more) ++ codes "/")) ++ []
+spelled blank method target more =
+    append_assoc (print_blank blank ++ method) (32 ∷ target) (more ++ (codes "/" ++ ending))
+    ∙ append_assoc (print_blank blank) method (32 ∷ (target ++ (more ++ (codes "/" ++ ending))))
+    ∙ ap (λ (l : List ℕ). print_blank blank ++ (method ++ 32 ∷ l)) (sym (append_assoc target more (codes "/" ++ ending)) ∙ sym (append_assoc (target ++ more) (codes "/") ending))
+    ∙ sym (print_request-append (shortest blank method ((target ++ more) ++ codes "/")) [])
+
+head_of_text : (blank : List LineEnd) (method target : List ℕ) → IsToken method → AllPass is_uri_byte target → BeginsText target → CanBecomeRequest ((print_blank blank ++ method) ++ 32 ∷ target)
+head_of_text blank method target token uri (more, uris, text) =
+    let one : length (codes "/") ≡ 1 = refl in
+    let some : 0 < length ((target ++ more) ++ codes "/") = omega (arith, one, length-append (target ++ more) (codes "/")) in
+    let all = All-append (λ b. is_uri_byte b ≡ true) (target ++ more) (codes "/") (All-append (λ b. is_uri_byte b ≡ true) target more uri uris) slash_uri in
+    let valid = shortest_valid blank method ((target ++ more) ++ codes "/") token (some, all) (IsUtf8-append (target ++ more) (codes "/") text slash_text) in
+    (more ++ (codes "/" ++ ending), shortest blank method ((target ++ more) ++ codes "/"), [], (valid, spelled blank method target more))
+
+-- ---- bytes of which the parser wants more
+
+pub unspaced_can : (bytes : List ℕ) (n : ℕ) → n ≡ length (take_while is_no_space bytes) → n ≡ length bytes → MayBecomeRequest bytes → CanBecomeRequest bytes
+unspaced_can bytes n is all (inl (more, h, reads)) = (more, h, [], reads)
+unspaced_can bytes n is all (inr target) = absurd (spaceless_ends bytes n is all target)
+
+-- no target stands at their end
+pub closed_can : (bytes behind : List ℕ) (n : ℕ) → n ≡ length (take_while is_no_space bytes) → n < length bytes → behind ≡ drop (n + 1) bytes → (AllPass is_uri_byte behind → ⊥) → MayBecomeRequest bytes → CanBecomeRequest bytes
+closed_can bytes behind n is less b none (inl (more, h, reads)) = (more, h, [], reads)
+closed_can bytes behind n is less b none (inr target) = let t = in_target bytes behind n is less b target in absurd (none t.3)
+
+-- one may, and it can become a text
+pub open_can : (bytes behind : List ℕ) (n : ℕ) → n ≡ length (take_while is_no_space bytes) → n < length bytes → behind ≡ drop (n + 1) bytes → BeginsText behind → MayBecomeRequest bytes → CanBecomeRequest bytes
+open_can bytes behind n is less b text (inl (more, h, reads)) = (more, h, [], reads)
+open_can bytes behind n is less b text (inr target) =
+    let t = in_target bytes behind n is less b target in
+    subst (λ (l : List ℕ). CanBecomeRequest l) (sym t.4) (head_of_text t.0 t.1 behind t.2 t.3 text)
+
+pub open_text : (bytes behind : List ℕ) (n : ℕ) → n ≡ length (take_while is_no_space bytes) → n < length bytes → behind ≡ drop (n + 1) bytes → AllPass is_uri_byte behind → CanBecomeRequest bytes → BeginsText behind
+open_text bytes behind n is less b uri can =
     let c = cut_at bytes n is less in
-    let same = one_word c.0 [] blank method target c.2 token (sym (f ∙ front_is bytes n c) ∙ e) in (
-      blank,
-      method,
-      c.1,
-      token,
-      subst (λ (l : List ℕ). AllPass is_uri_byte l) (b ∙ behind_is bytes n c) all,
-      c.3 ∙ ap (λ (l : List ℕ). l ++ 32 ∷ c.1) same.0,
-    )
-
--- ---- the bytes before them
-
-front_passes : (test : ℕ → Bool) (a b : List ℕ) → AllPass test (a ++ b) → AllPass test a
-front_passes test a b all k d less = subst (λ (v : ℕ). test v ≡ true) (get_or_append_left a b d k less) (all k d (omega (arith, less, length-append a b)))
-
--- they end in that target too, or a head can come of them
-pub front_of_target : (bytes q r : List ℕ) → bytes ≡ q ++ r → EndsInTarget bytes → EndsInTarget q ⊎ CanBecomeRequest q
-front_of_target bytes q r e (blank, method, target, token, uri, is) = by (cases_lt (length q) (length (opening blank method)))
-  where
-    whole : q ++ r ≡ opening blank method ++ target
-    whole = sym e ∙ is ∙ sym (opening_before blank method target)
-
-    by : (length q < length (opening blank method)) ⊎ (length (opening blank method) ≤ length q) → EndsInTarget q ⊎ CanBecomeRequest q
-    by (inl less) =
-        let b = begins (opening blank method) target q r (sym whole) (omega (arith, less)) in
-        inr (b.0 ++ behind_opening, shortest blank method, [], subst (λ (l : List ℕ). ReadsRequest l (shortest blank method) []) (ap (λ (l : List ℕ). l ++ behind_opening) b.1 ∙ append_assoc q b.0 behind_opening) (opens blank method token))
-    by (inr le) =
-        let b = begins q r (opening blank method) target whole le in
-        let same : b.0 ++ r ≡ target = append_cancel_left (opening blank method) (b.0 ++ r) target (sym (append_assoc (opening blank method) b.0 r) ∙ ap (λ (l : List ℕ). l ++ r) (sym b.1) ∙ whole) in
-        inl (blank, method, b.0, token, front_passes is_uri_byte b.0 r (subst (λ (l : List ℕ). AllPass is_uri_byte l) (sym same) uri), b.1 ∙ opening_before blank method b.0)
+    text_of_head bytes c.0 behind c.2 (c.3 ∙ ap (λ (l : List ℕ). c.0 ++ 32 ∷ l) (sym (behind_is bytes n c) ∙ sym b)) uri can

@@ -8,7 +8,7 @@ use Rattle.merge_ports.specs.Faults.{Rose}
 use Rattle.merge_wire.specs.declared.fault.WireFault.{WireFault}
 use Rattle.merge_wire.specs.declared.fault.WireFault.TheVariants as fault
 use Rattle.merge_wire.specs.Fields.{HasLength, IsLengthFault, body_limit}
-use Rattle.merge_wire.specs.Heads.{IsTakenRequest, IsTakenResponse, IsBadRequest, IsBadResponse, AwaitsRequest, AwaitsResponse}
+use Rattle.merge_wire.specs.Heads.{IsTakenRequest, IsTakenResponse, IsBadResponse, AwaitsRequest, AwaitsResponse, TurnsBad}
 
 -- such bytes were taken from a source, where it tells them
 abbrev pub Took : Option (List ℕ) → Option (List ℕ) → (List ℕ → Type 0) → Type 0
@@ -39,7 +39,7 @@ IsUnfinished bytes = AwaitsRequest bytes ⊎ LacksBody bytes
 
 -- Each fault of reading a request, by what was taken from the source and how its count of faults moved.
 abbrev pub IsRequestFault : Option (List ℕ) → Option (List ℕ) → ℕ → ℕ → WireFault → Type 0
-IsRequestFault old new before after fault.BadHead = Took old new IsBadRequest
+IsRequestFault old new before after fault.BadHead = Took old new TurnsBad
 IsRequestFault old new before after fault.BadLength = Took old new (HasLengthFault fault.BadLength)
 IsRequestFault old new before after (fault.TooLong n) = Took old new (HasLengthFault (fault.TooLong n))
 IsRequestFault old new before after fault.Ended = TookLast old new IsUnfinished
@@ -49,7 +49,7 @@ IsRequestFault old new before after fault.NoMemory = Unit {0}
 
 -- the same of the head alone
 abbrev pub IsHeadFault : Option (List ℕ) → Option (List ℕ) → ℕ → ℕ → WireFault → Type 0
-IsHeadFault old new before after fault.BadHead = Took old new IsBadRequest
+IsHeadFault old new before after fault.BadHead = Took old new TurnsBad
 IsHeadFault old new before after fault.Ended = TookLast old new AwaitsRequest
 IsHeadFault old new before after fault.ReadFault = Rose before after
 IsHeadFault old new before after fault.NoMemory = Unit {0}

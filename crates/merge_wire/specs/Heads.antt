@@ -1,8 +1,8 @@
 -- Heads of messages, in the grammar of `httparse`.
-use Rattle.std.specs.Prelude.{◌≡◌, ◌<◌, ◌≤◌, ◌⊎◌, ◌==◌, ℕ, Bool, not, List, [], ◌∷◌, ◌++◌, length, take, drop, count_by}
+use Rattle.std.specs.Prelude.{◌≡◌, ◌<◌, ◌≤◌, ◌⊎◌, ◌==◌, ℕ, Bool, not, List, [], ◌∷◌, ◌++◌, length, take, drop, count_by, IsUtf8}
 use Rattle.std.specs.List.{prefix_len}
 use Rattle.httparse.specs.Ascii.{space}
-use Rattle.httparse.specs.Grammar.{AllPass, EndsInTarget, RequestHead, IsRequestHead, print_request, ReadsRequest, HasNoRequest, MayBecomeRequest, ResponseHead, IsResponseHead, print_response, ReadsResponse, HasNoResponse, MayBecomeResponse}
+use Rattle.httparse.specs.Grammar.{AllPass, is_uri_byte, RequestHead, IsRequestHead, print_request, ReadsRequest, HasNoRequest, ResponseHead, IsResponseHead, print_response, ReadsResponse, HasNoResponse, MayBecomeResponse}
 use Rattle.httparse.specs.Pieces.{is_newline}
 use Rattle.httparse.specs.Spans.{RequestOverflows, ResponseOverflows}
 
@@ -51,12 +51,10 @@ CanBecomeRequest bytes = (more : List ℕ) × (h : RequestHead) × (rest : List 
 abbrev pub CanBecomeResponse : List ℕ → Type 0
 CanBecomeResponse bytes = (more : List ℕ) × (h : ResponseHead) × (rest : List ℕ) × ReadsResponse (bytes ++ more) h rest
 
--- no head with few fields can come of the bytes, and where one with more can, too many have ended. A target is
--- judged at its end, so they do not end in one
+-- no head with few fields can come of the bytes, and where one with more can, too many have ended
 pub record NoRequestCan (bytes : List ℕ) : Type 0 where
   pub over : RequestOverflows field_limit bytes
   pub many : CanBecomeRequest bytes → line_limit < lines bytes
-  pub judged : EndsInTarget bytes → ⊥
 
 -- the same of a response
 pub record NoResponseCan (bytes : List ℕ) : Type 0 where
@@ -71,12 +69,11 @@ IsBadRequest bytes = NoRequestCan bytes ⊎ ((length bytes ≡ head_limit) × Ha
 abbrev pub IsBadResponse : List ℕ → Type 0
 IsBadResponse bytes = NoResponseCan (take head_limit bytes) ⊎ ((head_limit ≤ length bytes) × HasNoResponse (take head_limit bytes))
 
--- no head is there yet, and more bytes can bring one: too many fields have not ended. The target of a request is
--- judged at its end
+-- no head is there yet, and more bytes can bring one: too many fields have not ended
 pub record AwaitsRequest (bytes : List ℕ) : Type 0 where
   pub short : length bytes < head_limit
   pub open_head : HasNoRequest bytes
-  pub hopeful : MayBecomeRequest bytes
+  pub hopeful : CanBecomeRequest bytes
   pub few : lines bytes ≤ line_limit
 
 -- the same of a response
@@ -86,11 +83,19 @@ pub record AwaitsResponse (bytes : List ℕ) : Type 0 where
   pub hopeful : MayBecomeResponse bytes
   pub few : lines bytes ≤ line_limit
 
--- ---- the method of a request and its space
+-- a head within the limits could come before the last of the bytes, and none can with it
+pub record TurnsBad (bytes : List ℕ) : Type 0 where
+  pub before : List ℕ
+  pub last : ℕ
+  pub spelled : bytes ≡ before ++ last ∷ []
+  pub awaited : AwaitsRequest before
+  pub bad : IsBadRequest bytes
+
+-- ---- the method of a request and its target
 
 abbrev pub is_no_space : ℕ → Bool
 is_no_space b = not (b == space)
 
--- the last byte is the first space
-abbrev pub EndsAtSpace : List ℕ → Type 0
-EndsAtSpace bytes = (word : List ℕ) × AllPass is_no_space word × (bytes ≡ word ++ space ∷ [])
+-- bytes of a target can follow with which they are a text
+abbrev pub BeginsText : List ℕ → Type 0
+BeginsText bytes = (more : List ℕ) × AllPass is_uri_byte more × IsUtf8 (bytes ++ more)

@@ -5,6 +5,7 @@ ghost use Rattle.merge_ports.specs.Parts.{ConsumesFront};
 ghost use Rattle.merge_wire.specs.Faults.{IsBodyFault};
 
 use crate::WireFault;
+use crate::gathered::Gathered;
 use merge_ports::Source;
 use merge_types::Octets;
 use std::alloc::Global;
@@ -19,18 +20,18 @@ pub fn read_body<S: Source>(alloc: Global, source: &mut S, length: u64) -> Resul
     ensures later { S.count source.old ≤ S.count source.new }
     ensures kept { (result ≡ Err WireFault.ReadFault → ⊥) → S.count source.new ≡ S.count source.old }
 {
-    let mut body = Octets::empty(alloc);
+    let mut body = Gathered::none(alloc);
     let mut piece = [0; 4096];
     'pieces: loop {
         let missing = length - body.len() as u64;
         if missing == 0 {
-            return Ok(body);
+            return Ok(body.into_octets());
         }
         let wanted = missing.min(4096) as usize;
         let taken = source.read(&mut piece[..wanted])?;
         if taken == 0 {
             return Err(WireFault::Ended);
         }
-        body.extend(&piece[..taken])?;
+        body = body.with(alloc, &piece[..taken])?;
     }
 }

@@ -4,6 +4,7 @@
 mod body;
 mod fault;
 mod fields;
+mod gathered;
 mod head;
 mod laws;
 mod lines;

@@ -1,22 +1,27 @@
-//! Bytes that end in the target of a request.
+//! Bytes that may end in the target of a request.
 ghost use Rattle.std.specs.Prelude.{◌≡◌, ◌≤◌, ◌↔◌, IsTrue, length, take_while};
-ghost use Rattle.httparse.specs.Grammar.{AllPass, EndsInTarget, is_uri_byte};
-ghost use Rattle.merge_wire.specs.Heads.{EndsAtSpace, is_no_space};
+ghost use Rattle.httparse.specs.Grammar.{AllPass, MayBecomeRequest, is_uri_byte};
+ghost use Rattle.merge_wire.specs.Heads.{BeginsText, CanBecomeRequest, is_no_space};
 
-use httparse::Status;
-use httparse::spans::{HeaderSpan, parse_request};
+use std::str;
 
-/// Whether the bytes end in a target: a method and its space come first, and bytes of a target behind them.
-/// The spans are for the parser alone.
-pub fn ends_in_target(bytes: &[u8], spans: &mut [HeaderSpan]) -> bool
-    ensures { IsTrue result ↔ EndsInTarget bytes.now }
+/// Whether a head can come of bytes of which the parser wants more. It tests a target as UTF-8 at its end alone, so
+/// they may end in one that can become no text.
+pub fn can_become_request(bytes: &[u8]) -> bool
+    requires { MayBecomeRequest bytes.now }
+    ensures { IsTrue result ↔ CanBecomeRequest bytes.now }
 {
     let at = word_len(bytes);
     if at == bytes.len() {
-        return false;
+        return true;
     }
-    let (front, behind) = bytes.split_at(at + 1);
-    are_parts(front, behind, spans)
+    let (_, behind) = bytes.split_at(at + 1);
+    // else the target has ended
+    if is_target(behind) {
+        begins_text(behind)
+    } else {
+        true
+    }
 }
 
 // How many bytes stand before the first space.
@@ -33,26 +38,6 @@ fn is_no_space(byte: u8) -> bool
     byte != b' '
 }
 
-// Whether the bytes up to the first space open a target, and those behind it are bytes of one.
-fn are_parts(front: &[u8], behind: &[u8], spans: &mut [HeaderSpan]) -> bool
-    requires { EndsAtSpace front.now }
-    ensures { IsTrue result ↔ (EndsInTarget front.now × AllPass is_uri_byte behind.now) }
-{
-    opens_target(front, spans) && is_target(behind)
-}
-
-// The parser wants more of them.
-fn opens_target(front: &[u8], spans: &mut [HeaderSpan]) -> bool
-    requires { EndsAtSpace front.now }
-    ensures { IsTrue result ↔ EndsInTarget front.now }
-{
-    match parse_request(front, spans) {
-        Ok(Status::Complete(_)) => false,
-        Ok(Status::Partial) => true,
-        Err(_) => false,
-    }
-}
-
 fn is_target(bytes: &[u8]) -> bool
     ensures { IsTrue result ↔ AllPass is_uri_byte bytes.now }
 {
@@ -63,4 +48,14 @@ fn is_target_byte(byte: u8) -> bool
     ensures { result ≡ is_uri_byte byte }
 {
     (byte > b' ') & (byte != 0x7f)
+}
+
+// A character that is not at fault, and lacks bytes, can get them.
+fn begins_text(bytes: &[u8]) -> bool
+    ensures { IsTrue result ↔ BeginsText bytes.now }
+{
+    match str::from_utf8(bytes) {
+        Ok(_) => true,
+        Err(fault) => fault.error_len().is_none(),
+    }
 }

@@ -2,8 +2,8 @@
 use Rattle.merge_ports.proofs.Known.{Consumes-append}
 use Rattle.merge_wire.proofs.body.read_body.Goals as goal
 
-pub returns-in_err-extend-clause-front : goal.returns-in_err-extend-clause-front
-returns-in_err-extend-clause-front g c = (
+pub returns-in_err-body-clause-front : goal.returns-in_err-body-clause-front
+returns-in_err-body-clause-front g c = (
   _,
   Consumes-append _ (g.S.Source.left c.pieces.source) _ _ _ c.pieces.invariant.taken c.in_ok-taken.ensures.bytes.0,
 )
