@@ -40,6 +40,7 @@ use Rattle.merge_model.specs.declared.letter.Message.{Message}
 use Rattle.merge_model.specs.declared.letter.Message.TheVariants.{Asks, Replies}
 use Rattle.merge_model.proofs.Lists.Finding.{all-weaker, at_put_other, at_put_same, some_same}
 use Rattle.merge_laws.proofs.Received.Subscribing.{number-decided, same_number}
+use Rattle.merge_laws.proofs.Identities.IdentityTakes.{heard_in}
 use Rattle.merge_honest.specs.Answered.{IsHeard, IsNextOf, IsOutstanding, LetterAnswers, LettersAnswer, MessageAnswers, TakesAll, number_in}
 
 -- A subscriber goes on: an older message that is still outstanding was so before, and it heard of no more ranges since.
@@ -107,9 +108,6 @@ message-goes made s c site seq = record {
 }
 
 -- a value that is taken leaves what was heard of
-
-abbrev pub heard_in : List (ℕ × Holder) → ℕ → Option ℕ
-heard_in held article = option_map (λ (holder : Holder). holder.have) (at_number held article)
 
 take-by : (held : List (ℕ × Holder)) (place : ℕ) (holder : Holder) (article : ℕ) (b : Bool) → same_number article place b → at_number held place ≡ Some holder → heard_in (put_number held place (after_take holder)) article ≡ heard_in held article
 take-by held place holder article true same at =

@@ -49,9 +49,10 @@ use Rattle.merge_laws.specs.Facts.Received.{Received}
 use Rattle.merge_laws.proofs.Alike.AlikeFields.{received-alike}
 use Rattle.merge_laws.proofs.Runs.Ground.{Ground, grounded-always}
 use Rattle.merge_laws.proofs.Walking.{StepsKeep, comes, here, told_by}
+use Rattle.merge_laws.proofs.Identities.IdentityTakes.{heard_in}
 use Rattle.merge_honest.specs.Answered.{HasRanges, IsHeard, IsNextOf, IsOutstanding, LetterAnswers, LettersAnswer, MessageAnswers, number_in}
 use Rattle.merge_honest.specs.HeldRanges.{AsksWell, MessageIsGranted}
-use Rattle.merge_honest.proofs.Answered.{answer-by, change-onward, heard_in, message-goes, next-heard, none-onward, same-onward, sent-number, subscriber-on, taken-onward, takes-all, wants-outstanding}
+use Rattle.merge_honest.proofs.Answered.{answer-by, change-onward, message-goes, next-heard, none-onward, same-onward, sent-number, subscriber-on, taken-onward, takes-all, wants-outstanding}
 use Rattle.merge_honest.proofs.HeldRanges.{HeldIn, held-begins, held-step}
 use Rattle.merge_honest.proofs.RangeAnswers.{ascend-distinct, plans-tell, plans-values, told-ascend}
 use Rattle.merge_honest.proofs.RangedWalk.{Before, RangedKeep, Silent, no-silence, ranged-step}

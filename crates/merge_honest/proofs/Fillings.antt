@@ -54,7 +54,7 @@ fills-from filling (suc n) k counted more f each =
     subst (λ (count : ℕ). Fills more (filled_by filling count)) same
     (fills-from filling n (k + 1) next more here (λ generation. (let is = each generation in let first = times-cons (generation_of filling k) (map (generation_of filling) (range_with_len (k + 1) n)) generation in omega (arith, is, first))))
 
-none-yet : (filling : Filling) → filling.filled < entry_limit → filled_by filling 0 ≡ filling
+pub none-yet : (filling : Filling) → filling.filled < entry_limit → filled_by filling 0 ≡ filling
 none-yet filling low =
     let last : filling.last_closed + (filling.filled + 0) / entry_limit ≡ filling.last_closed = omega (arith, low) in
     let filled : (filling.filled + 0) % entry_limit ≡ filling.filled = omega (arith, low) in

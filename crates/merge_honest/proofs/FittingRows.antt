@@ -63,7 +63,7 @@ int-fits : (number : ℤ) → fits_column column.Int (Int number) ≡ true
 unfolding has_type
 int-fits number = grind (arith, nat_tests)
 
-place-fits : (types : List ColumnType) (place : ℕ) (ty : ColumnType) (value : Value) → slice_get types place ≡ Some ty → fits_column ty value ≡ true → fits_place types place value ≡ true
+pub place-fits : (types : List ColumnType) (place : ℕ) (ty : ColumnType) (value : Value) → slice_get types place ≡ Some ty → fits_column ty value ≡ true → fits_place types place value ≡ true
 place-fits types place ty value is fit = grind (arith, is, fit)
 
 unset-fits : (types : List ColumnType) (place : ℕ) (ty : ColumnType) (found : Option Value) → slice_get types place ≡ Some ty → ((value : Value) → found ≡ Some value → fits_place types place value ≡ true) → fits_place types place (unwrap_or found Null) ≡ true

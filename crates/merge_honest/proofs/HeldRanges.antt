@@ -76,10 +76,12 @@ use Rattle.merge_model.proofs.Lists.{all-map}
 use Rattle.merge_laws.specs.Facts.Identities.{told_range}
 use Rattle.merge_laws.specs.Facts.Received.{Received}
 use Rattle.merge_laws.proofs.Runs.Ground.{Ground}
+use Rattle.merge_laws.proofs.Identities.IdentityTakes.{heard-other, heard_in, others-fit}
 use Rattle.merge_laws.proofs.Received.Models.{begins-with}
 use Rattle.merge_laws.proofs.Unsent.UnsentKept.{reply-site, version-site}
 use Rattle.merge_laws.proofs.Runs.ValidRules.{valid-rules}
 use Rattle.merge_laws.proofs.Walking.{StepsKeep, comes, here, told_by}
+use Rattle.merge_owed.proofs.HeldThresholds.{version-held}
 use Rattle.merge_honest.specs.HeldRanges.{AsksWell, HasGranted, HeldRanges, HolderHas, IsHeldWell, IsNumbered, MessageIsGranted, WantHas}
 use Rattle.merge_honest.proofs.PutFound.{put-each}
 use Rattle.merge_honest.proofs.RangeAnswers.{Grows, all-grow, new-grows, plans-book, plans-granted}
@@ -190,9 +192,6 @@ module _ (publication : Publication) (grants : List Grant) (site : ℕ) where
   draw-well s (Delete article row) well = well
 
   -- ranges are received: each has the next number, which was granted
-  abbrev heard_in : List (ℕ × Holder) → ℕ → Option ℕ
-  heard_in held article = option_map (λ (holder : Holder). holder.have) (at_number held article)
-
   one-well : (held : List (ℕ × Holder)) (told : RangeGrant) (found : Option Holder) → at_number held told.article ≡ found → grant_fits (heard_in held) told ≡ true → IsNumbered grants site told → Well held
       → (let after : List (ℕ × Holder) = elim found [ None ↦ held | Some holder ↦ put_number held told.article (after_receive holder (told_range told)) ] in Well after)
   one-well held told None at fits low well = well
@@ -201,23 +200,6 @@ module _ (publication : Publication) (grants : List Grant) (site : ℕ) where
       let number : told.number ≡ holder.have + 1 = grind (arith, nat_tests, heard, fits) in
       let has = found-has held told.article holder well.each at in
       put-well held told.article (after_receive holder (told_range told)) (record { identity = has.identity; granted = omega (arith, number, low) }) well
-
-  heard-other : (held : List (ℕ × Holder)) (told : RangeGrant) (found : Option Holder) (article : ℕ) → (article ≡ told.article → ⊥)
-      → (let after : List (ℕ × Holder) = elim found [ None ↦ held | Some holder ↦ put_number held told.article (after_receive holder (told_range told)) ] in heard_in after article ≡ heard_in held article)
-  heard-other held told None article differs = refl
-  heard-other held told (Some holder) article differs = ap (λ (o : Option Holder). option_map (λ (h : Holder). h.have) o) (at_put_other told.article article (after_receive holder (told_range told)) held differs)
-
-  fits-other : (before after : ℕ → Option ℕ) (told : RangeGrant) → after told.article ≡ before told.article → grant_fits before told ≡ true → grant_fits after told ≡ true
-  fits-other before after told same fits = grind (arith, nat_tests, same, fits)
-
-  others-fit : (before after : ℕ → Option ℕ) (article : ℕ) → ((other : ℕ) → (other ≡ article → ⊥) → after other ≡ before other) → (told : List RangeGrant) → list_any (λ (m : ℕ). m == article) (map granted_article told) ≡ false
-      → list_all (grant_fits before) told ≡ true → list_all (grant_fits after) told ≡ true
-  others-fit before after article same [] none fits = refl
-  others-fit before after article same (first ∷ told) none fits =
-      let differs : first.article ≡ article → ⊥ = λ e. grind (arith, nat_tests, none, e) in
-      let now : grant_fits after first ≡ true = fits-other before after first (same first.article differs) (grind (arith, fits)) in
-      let rest : list_all (grant_fits after) told ≡ true = others-fit before after article same told (grind (arith, none)) (grind (arith, fits)) in
-      grind (arith, now, rest)
 
   received-well : (told : List RangeGrant) (held : List (ℕ × Holder)) → list_all (grant_fits (heard_in held)) told ≡ true → are_distinct (map granted_article told) ≡ true → AllByRecursion (IsNumbered grants site) told → Well held → Well (fold with_grant held told)
   received-well [] held fits distinct all well = well
@@ -265,7 +247,7 @@ identity-here article articles place identity is =
     let none : place - place ≡ 0 = omega arith in
     (omega arith, ap (λ (k : ℕ). option_map_or (λ (a : Article). is_some a.identity) (slice_get (article ∷ articles) k) false) none ∙ ap (λ (found : Option Identity). is_some found) is)
 
-each-step : (P : ℕ × Identity → Type 0) (place : ℕ) (found : Option Identity) (rest : List (ℕ × Identity)) → ((identity : Identity) → found ≡ Some identity → P (place, identity)) → AllByRecursion P rest
+pub each-step : (P : ℕ × Identity → Type 0) (place : ℕ) (found : Option Identity) (rest : List (ℕ × Identity)) → ((identity : Identity) → found ≡ Some identity → P (place, identity)) → AllByRecursion P rest
     → AllByRecursion P (cons_option (option_map (λ (identity : Identity). (place, identity)) found) rest)
 each-step P place None rest here all = all
 each-step P place (Some identity) rest here all = (here identity refl, all)
@@ -305,10 +287,6 @@ new-well publication site = record {
 }
 
 -- Worlds.
-
-version-held : (key : Key) (found : Option Version) (u : SubscriberTables) → (with_version_if key found u).held ≡ u.held
-version-held key None u = refl
-version-held key (Some version) u = refl
 
 module _ (publication : Publication) where
   abbrev LetterIs : List Grant → Letter → Type 0

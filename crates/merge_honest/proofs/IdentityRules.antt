@@ -42,6 +42,7 @@ use Rattle.merge_laws.proofs.Told.ToldLetters.{letter-fits}
 use Rattle.merge_laws.proofs.Told.ToldRows.{HeldFits}
 use Rattle.merge_laws.proofs.Told.ToldSites.{Every, publisher-begins}
 use Rattle.merge_laws.proofs.Runs.ValidRules.{valid-rules}
+use Rattle.merge_laws.proofs.Identities.IdentityCalls.{counts-cons}
 use Rattle.merge_owed.specs.Identity.{HasIdentity, HasValue, MadeWith, TakenStands, ValueWasTaken, WasTaken}
 use Rattle.merge_owed.proofs.IdentityFits.{taken-out}
 use Rattle.merge_honest.specs.Delivered.{IsRequest, NoneIsRefusedFor, breaks}
@@ -49,9 +50,6 @@ use Rattle.merge_honest.proofs.Breaking.{follows-all}
 use Rattle.merge_honest.proofs.Rules.{Known, ItemMeets, UploadsKeep, head-met, held_against, known-always, uploads-in}
 
 -- What passes a test is counted, and what is counted passes.
-
-counts-cons : {X : Type 0} (test : X → Bool) (x : X) (xs : List X) → count_by test (x ∷ xs) ≡ cond (test x) 1 0 + count_by test xs
-counts-cons {X = X} test x xs = sum_by-cons (λ (y : X). cond (test y) 1 0) x xs
 
 one-more : (b : Bool) (n : ℕ) → b ≡ true → 1 ≤ cond b 1 0 + n
 one-more true n is = omega arith

@@ -30,6 +30,8 @@ use Rattle.merge_batch.specs.declared.reply.RangeGrant.{RangeGrant}
 use Rattle.merge_batch.specs.declared.request.Want.{Want}
 use Rattle.merge_model.specs.Publisher.PublisherRanges.{ask_by, grant_of, granted_by}
 use Rattle.merge_model.proofs.Lists.Finding.{some_same}
+use Rattle.merge_laws.proofs.Identities.IdentityGrants.{ruled-kept}
+use Rattle.merge_owed.proofs.RangeSteps.{kept-granted}
 
 -- The counts of grants only rise.
 
@@ -79,19 +81,6 @@ ruled-number : (rule : Option Rule) (site k greatest number : ℕ) (range : Rang
 ruled-number None site k greatest number range e = absurd cc
 ruled-number (Some rule) site k greatest number range e =
     next-number (nat_le (next_end rule site greatest) (natural rule.greatest)) k number (record { begin = pos (next_begin rule greatest); end = pos (next_end rule site greatest) }) range (NoRange (next_begin rule greatest) rule.greatest) e
-
-next-kept : (b : Bool) (k number : ℕ) (made range : Range) (fault : IdentityFault) → (let answer : Answer = if b then Ok (Granted k made) else Err fault in answer) ≡ Ok (Kept number range) → ⊥
-next-kept true k number made range fault e = cc
-next-kept false k number made range fault e = cc
-
-ruled-kept : (rule : Option Rule) (site k greatest number : ℕ) (range : Range) → ruled_answer rule site k greatest ≡ Ok (Kept number range) → ⊥
-ruled-kept None site k greatest number range e = cc
-ruled-kept (Some rule) site k greatest number range e =
-    next-kept (nat_le (next_end rule site greatest) (natural rule.greatest)) k number (record { begin = pos (next_begin rule greatest); end = pos (next_end rule site greatest) }) range (NoRange (next_begin rule greatest) rule.greatest) e
-
-kept-granted : (found : Option Grant) (number : ℕ) (range : Range) → kept_answer found ≡ Ok (Granted number range) → ⊥
-kept-granted None number range e = cc
-kept-granted (Some grant) number range e = cc
 
 -- what the table says of a range that is granted, and of one that is kept
 granted-by : (order : Ordering) (due : Bool) (kept next : Answer) (many number : ℕ) (range : Range) → (kept ≡ Ok (Granted number range) → ⊥) → answer_by order due kept (Err (TooMany many)) next ≡ Ok (Granted number range) → (order ≡ Equal) × (next ≡ Ok (Granted number range))

@@ -18,30 +18,9 @@ use Rattle.merge_model.specs.declared.letter.Letter.{Letter}
 use Rattle.merge_model.specs.declared.letter.Message.{Message}
 use Rattle.merge_model.specs.declared.letter.Message.TheVariants.{Asks, Replies}
 use Rattle.merge_laws.specs.Facts.Received.{Received}
+use Rattle.merge_laws.proofs.Identities.IdentitySteps.{none-tells, not-both, posted-tells, tells_ranges}
 use Rattle.merge_laws.proofs.Walking.Shapes.{Shapes, is_ranged, step-shaped}
 use Rattle.merge_laws.proofs.Walking.{Sends, StepsKeep, comes, here, step-keeps}
-
--- whether ranges are told in the letter after these
-abbrev pub tells_ranges : List Letter → World → Bool
-tells_ranges pool w = elim (slice_get w.pool (length pool)) [
-  | None ↦ false
-  | Some letter ↦ elim letter.message [
-    | Asks m ↦ false
-    | Replies m ↦ is_ranged m
-  ]
-]
-
-posted-tells : (pool : List Letter) (w : World) (site : SiteId) (message : Message) → w.pool ≡ pool → tells_ranges pool (post site message w).0 ≡ (let b : Bool = elim message [ Asks m ↦ false | Replies m ↦ is_ranged m ] in b)
-posted-tells pool w site message same =
-    let letter : Letter = record { site = site; message = message } in
-    ap (λ (xs : List Letter). tells_ranges xs (post site message w).0) (sym same)
-    ∙ ap (λ (found : Option Letter). (let b : Bool = elim found [ None ↦ false | Some x ↦ elim x.message [ Asks m ↦ false | Replies m ↦ is_ranged m ] ] in b)) (slice_get-append_past w.pool (letter ∷ []) (length w.pool) 0 (omega arith))
-
-none-tells : (w : World) → tells_ranges w.pool w ≡ false
-none-tells w = ap (λ (found : Option Letter). (let b : Bool = elim found [ None ↦ false | Some x ↦ elim x.message [ Asks m ↦ false | Replies m ↦ is_ranged m ] ] in b)) (slice_get_past w.pool (length w.pool) (omega arith))
-
-not-both : {A : Type 0} (b : Bool) → b ≡ false → b ≡ true → A
-not-both b none some = absurd (grind (arith, none, some))
 
 decided : {A : Type 0} (b : Bool) → (b ≡ true → A) → (b ≡ false → A) → A
 decided true one other = one refl

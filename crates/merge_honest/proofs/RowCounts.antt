@@ -185,7 +185,7 @@ module _ (publication : Publication) (few : length publication.subscriptions ≤
       let all = length-map (by_site publication) (λ (s : ℕ × Subscription). (let part : Parts = record { site = s.0; before = partition_keys publication s.1 p.rows; after = partition_keys publication s.1 (rows_after changing p.rows) } in part)) in
       omega (arith, sites, all, few)
 
-  moves-few : length (step_moves publication judge changing p) ≤ (length p.rows + length changing.versions + length changing.acted) * 63
+  pub moves-few : length (step_moves publication judge changing p) ≤ (length p.rows + length changing.versions + length changing.acted) * 63
   moves-few =
       let touched : Touched = touched_by changing in
       let rows : List (Key × PublisherRow) = rows_after changing p.rows in

@@ -70,7 +70,7 @@ use Rattle.merge_owed.specs.Identity.{HasIdentity, IsMaker}
 use Rattle.merge_owed.proofs.BodyValues.{BodyFits, CellsFit, IsCounted, case-fits, inserted-fits, updated-fits}
 use Rattle.merge_owed.proofs.CellValues.{HasColumns, HaveOne, asked_by}
 use Rattle.merge_owed.proofs.Decided.{FateCounts}
-use Rattle.merge_owed.proofs.IdentityFits.{column-within}
+use Rattle.merge_owed.proofs.IdentityFits.{article-valid, column-within}
 use Rattle.merge_owed.proofs.VersionKept.{GoesOn, IsCarried}
 use Rattle.merge_honest.proofs.FittingRows.{new-row-long, new-values-fit, set-fits}
 use Rattle.merge_honest.proofs.TypedCells.{BodyTyped, CellsTyped, HasShape, after-typed, case-typed, new-typed}
@@ -197,11 +197,6 @@ whole-by : (resolvers : ℕ) (all : List Article) (found : Option Article) (k : 
     → slice_get (map (λ (c : Column). c.ty) (unwrap_or (option_map (λ (article : Article). article.columns) found) [])) k ≡ Some column.Int
 whole-by resolvers all None k valid is = absurd cc
 whole-by resolvers all (Some article) k valid is = whole-in article.columns article.identity k (valid article refl).valid_identity is
-
-article-valid : (resolvers : ℕ) (all articles : List Article) (place : ℕ) (article : Article) → All (IsValidArticle resolvers all) articles → slice_get articles place ≡ Some article → IsValidArticle resolvers all article
-article-valid resolvers all [] place article valid at = absurd cc
-article-valid resolvers all (first ∷ articles) zero article valid at = subst (IsValidArticle resolvers all) (some_same first article at) (All-head (IsValidArticle resolvers all) first articles valid)
-article-valid resolvers all (first ∷ articles) (suc place) article valid at = article-valid resolvers all articles place article (All-tail (IsValidArticle resolvers all) first articles valid) at
 
 module _ (resolvers : ℕ) (publication : Publication) (valid : IsValid resolvers publication) where
   pub valid-at : (place : ℕ) (article : Article) → article_at publication place ≡ Some article → IsValidArticle resolvers publication.articles article

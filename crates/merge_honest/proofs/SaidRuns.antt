@@ -19,7 +19,8 @@ use Rattle.merge_batch.specs.declared.reply.Downloaded.{Downloaded}
 use Rattle.merge_model.specs.World.Events.{after, answered_action, answered_change, answered_look, answered_sync, happens, is_site, where_site, where_subscriber}
 use Rattle.merge_model.specs.Failing.{Faulty, Slip, Slips, acting_with, fails, faulty_stepping, is_allowed, questions_by, slip_if}
 use Rattle.merge_model.specs.Laws.{is_report}
-use Rattle.merge_model.specs.World.Naming.{and_then, article_by, delete_by, insert_by, place_from, same_name, settings_by, update_by}
+use Rattle.merge_model.specs.Script.Literals.{same}
+use Rattle.merge_model.specs.World.Naming.{and_then, article_by, delete_by, insert_by, place_from, settings_by, update_by}
 use Rattle.merge_model.specs.Tables.Publications.{columns_at}
 use Rattle.merge_model.specs.World.Session.{Session, Stepping, after_download, all_downloads, all_ranges, all_uploads, answered_as, as_it_is, ask, downloaded_in, downloads_up_to, exchange, has_grant, is_joined_in, join_if_due, last_message, range_asks, range_requests_up_to, session, session_after_reply, then_deliver, unless_stopped, unsent_generations, uploads_up_to, with_answer, with_download, with_upload}
 use Rattle.merge_model.specs.World.Steps.{Action, CloseAt, Deliver, Forget, Look, Make, MakeAnew, Pass, Send, SendDownload, SendJoin, SendRanges, SendUpload, Sending}
@@ -40,7 +41,7 @@ IsSaid publication action = Unit {0}
 -- Names become places of articles that there are.
 
 placed-by : (b : Bool) (place n : ℕ) (rest : Option ℕ) (P : ℕ → Type 0) → P n → (rest ≡ Some place → P place) → (if b then Some n else rest) ≡ Some place → P place
-placed-by true place n rest P here later is = (let same : n ≡ place = cc in subst P same here)
+placed-by true place n rest P here later is = (let alike : n ≡ place = cc in subst P alike here)
 placed-by false place n rest P here later is = later is
 
 place-within : (test : Article → Bool) (n : ℕ) (articles : List Article) (place : ℕ) → place_from n test articles ≡ Some place → (n ≤ place) × (is_some (slice_get articles (place - n)) ≡ true)
@@ -57,8 +58,8 @@ found-article publication None name has = tt
 found-article publication (Some place) name has = has place refl
 
 article-said : (publication : Publication) (name : List ℕ) → IfOk (article_by publication name) (λ article. has_article publication article ≡ true)
-article-said publication name = found-article publication (place_from 0 (λ (article : Article). same_name article.name name) publication.articles) name
-    (λ place is. (let within = place-within (λ (article : Article). same_name article.name name) 0 publication.articles place is in ap (λ (k : ℕ). is_some (slice_get publication.articles k)) (let same : place ≡ place - 0 = omega arith in same) ∙ within.1))
+article-said publication name = found-article publication (place_from 0 (λ (article : Article). same article.name name) publication.articles) name
+    (λ place is. (let within = place-within (λ (article : Article). same article.name name) 0 publication.articles place is in ap (λ (k : ℕ). is_some (slice_get publication.articles k)) (let alike : place ≡ place - 0 = omega arith in alike) ∙ within.1))
 
 then-said : {A B : Type 0} (P : A → Type 0) (Q : B → Type 0) (first : Result A (List ℕ)) (next : A → Result B (List ℕ)) → IfOk first P → ((a : A) → P a → IfOk (next a) Q) → IfOk (and_then first next) Q
 then-said P Q (Ok a) next is more = more a is

@@ -25,18 +25,11 @@ use Rattle.merge_model.proofs.Entries.EntryLists.{all-put}
 use Rattle.merge_model.proofs.Lists.KeyLookUps.{keys-tied}
 use Rattle.merge_model.proofs.Lists.{OfSome, all-filter_map, all-kept, all-of}
 use Rattle.merge_model.proofs.Publishers.Sorted.{key_total}
+use Rattle.merge_laws.proofs.Unsent.Changed.{fold-ascends, none-ascends}
 use Rattle.merge_honest.specs.SentWell.{IsMadeWell, StandsIn}
 use Rattle.merge_honest.proofs.Batches.{batch-holds}
 
 -- The rows that were changed, each with a generation.
-
-fold-ascends : (changes : List MadeChange) (rows : List (Key × ℕ)) → IsStrictlySortedBy key_cmp (keys_of rows) → IsStrictlySortedBy key_cmp (keys_of (fold with_change_of rows changes))
-fold-ascends [] rows sorted = sorted
-fold-ascends (c ∷ changes) rows sorted = fold-ascends changes (with_change_of rows c) (sorted_put key_cmp key_total c.key _ rows sorted)
-
-none-ascends : IsStrictlySortedBy key_cmp (keys_of (let none : List (Key × ℕ) = [] in none))
-unfolding IsStrictlySortedBy
-none-ascends = tt
 
 pub changed-ascend : (h : History) (s : SubscriberTables) (from to : ℕ) → IsStrictlySortedBy key_cmp (keys_of (changed_between_by_made h s.site from to))
 changed-ascend h s from to = fold-ascends (filter (is_between_made from to) (made_at h s.site.0)) [] none-ascends

@@ -52,7 +52,7 @@ use Rattle.merge_model.specs.declared.outcome.Outcome.{Outcome}
 use Rattle.merge_model.specs.declared.outcome.Outcome.TheVariants.{NoLetter, Posted, Refuses}
 use Rattle.merge_model.proofs.Runs.Refused.{step_by-leaves}
 use Rattle.merge_laws.specs.Laws.Effects.{history_judge}
-use Rattle.merge_laws.proofs.Sessions.SessionSteps.{After, post-step, posted_model, unless-step}
+use Rattle.merge_laws.proofs.Sessions.SessionSteps.{After, letter-there, post-step, posted_model, unless-step}
 use Rattle.merge_laws.proofs.Settled.SettledExpired.{expired_in}
 use Rattle.merge_laws.proofs.Walking.{here, letter-last, told_by, uploaded_world}
 use Rattle.merge_honest.specs.Delivered.{IsRequest}
@@ -100,11 +100,6 @@ unless-known : {A : Type 0} (K : Model × Outcome → Type 0) (w : World) (h : H
     → (a : A) (act : A → World × Outcome) (noting : History) → (fault ≡ None → After K (act a) noting h) → After K (unless_refused w (unless fault a) act) noting h
 unless-known K w h (Some why) refused a act noting holds = refused why refl
 unless-known K w h None refused a act noting holds = holds refl
-
-letter-there : (site : SiteId) (message : Message) (w : World) → letter_at (post site message w).0 (length w.pool + 1) ≡ Some (record { site = site; message = message })
-letter-there site message w =
-    let next : length w.pool + 1 ≡ suc (length w.pool) = omega arith in
-    ap (λ (k : ℕ). letter_at (post site message w).0 k) next ∙ letter-last w.pool (record { site = site; message = message })
 
 pool-grows : (site : SiteId) (message : Message) (w : World) → length w.pool + 1 ≡ length (post site message w).0.pool
 pool-grows site message w = let letter : Letter = record { site = site; message = message } in sym (length-append w.pool (letter ∷ []))

@@ -83,6 +83,7 @@ use Rattle.merge_laws.proofs.Pasts.PastNotes.{acts-items}
 use Rattle.merge_laws.proofs.Unsent.UnsentKept.{reply-site, version-site}
 use Rattle.merge_laws.proofs.Walking.{Sends, StepsKeep, acts_in, comes, here, join_noted, own_noted, step-keeps, told_by, uploaded_world}
 use Rattle.merge_owed.specs.Identity.{HasIdentity, IsMaker}
+use Rattle.merge_owed.proofs.HeldThresholds.{version-held}
 use Rattle.merge_honest.proofs.PutFound.{put-each}
 use Rattle.merge_honest.proofs.RowsFit.{AllTook, TookValue}
 
@@ -261,10 +262,6 @@ pub record Took (publication : Publication) (w : World) (h : History) : Type 0 w
   pub own : Holds publication w.publisher.held
   pub each : (n : ℕ) (s : SubscriberTables) → at_number w.subscribers n ≡ Some s → Holds publication s.held
   pub made : AllTook publication h.made
-
-version-held : (key : Key) (found : Option Version) (u : SubscriberTables) → (with_version_if key found u).held ≡ u.held
-version-held key None u = refl
-version-held key (Some version) u = refl
 
 module _ (publication : Publication) where
   abbrev Base : World → History → Type 0

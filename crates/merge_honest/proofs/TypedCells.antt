@@ -31,7 +31,7 @@ use Rattle.merge_resolve.specs.declared.case.CaseKind.TheVariants as kind
 use Rattle.merge_resolve.specs.declared.case.ConflictCase.{ConflictCase}
 use Rattle.merge_resolve.specs.declared.question.Meeting.{Meeting}
 use Rattle.merge_owed.proofs.BodyValues.{IsCounted}
-use Rattle.merge_owed.proofs.CellValues.{HasColumns, HaveOne, asked_by}
+use Rattle.merge_owed.proofs.CellValues.{HasColumns, HaveOne, asked_by, by-tests}
 
 -- The values from a place on, and the cells from one on.
 module _ (fits : ℕ → Value → Bool) where
@@ -220,11 +220,6 @@ place-of found ty types place value is = (let at = is in grind (arith, at))
 
 pub typed-row : (types : List ColumnType) (values : List Value) → fit_all fits_column types values ≡ true → ValuesFrom (fits_place types) 0 values
 typed-row types values fit = values-suffix (λ (k : ℕ). slice_get types k) (fits_place types) 0 types values (λ place ty value is. place-of None ty types place value is) (λ k. ap (λ (place : ℕ). slice_get types place) (let same : k ≡ 0 + k = omega arith in same)) fit
-
-by-tests : (P : Decision → Type 0) (fit within : Bool) (kept : List Value) → P KeepPublisher → (fit ≡ true → P (Custom kept)) → P (if fit then within_or_kept within kept else KeepPublisher)
-by-tests P true true kept keep custom = custom refl
-by-tests P true false kept keep custom = keep
-by-tests P false within kept keep custom = keep
 
 module _ (meeting : Meeting) (resolver : ℕ) (decides : Option ℕ) (types : List ColumnType) (identity : Option ℕ) where
   abbrev fits : ℕ → Value → Bool

@@ -5,6 +5,6 @@ pub mod IdentityNotes
 pub mod IdentityPlaces
 pub mod IdentitySums
 mod IdentityDraws
-mod IdentityTakes
+pub mod IdentityTakes
 pub mod IdentitySteps
 mod IdentityExamples

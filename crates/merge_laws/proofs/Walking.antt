@@ -163,7 +163,7 @@ posted-noted site message w h =
     found-letter (letter_at (post site message w).0 (length w.pool + 1)) letter h (letter-after (post site message w).0 (length w.pool) ∙ letter-last w.pool letter)
 
 -- a draw asks for no moment
-from-later : (publication : Publication) (now : Moment) (p : PublisherTables) (change : Change) → draw_for_change publication (at_moment now p) change ≡ draw_for_change publication p change
+pub from-later : (publication : Publication) (now : Moment) (p : PublisherTables) (change : Change) → draw_for_change publication (at_moment now p) change ≡ draw_for_change publication p change
 from-later publication now p (Insert article values) = refl
 from-later publication now p (Update article row values) = refl
 from-later publication now p (Delete article row) = refl

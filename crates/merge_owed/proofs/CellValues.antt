@@ -261,7 +261,7 @@ fit-length fits [] (value ∷ values) fit = absurd cc
 fit-length fits (x ∷ xs) [] fit = absurd cc
 fit-length fits (x ∷ xs) (value ∷ values) fit = (let rest = fit-length fits xs values (grind (arith, fit)) in omega (arith, rest))
 
-by-tests : (P : Decision → Type 0) (fit within : Bool) (kept : List Value) → P KeepPublisher → (fit ≡ true → P (Custom kept)) → P (if fit then within_or_kept within kept else KeepPublisher)
+pub by-tests : (P : Decision → Type 0) (fit within : Bool) (kept : List Value) → P KeepPublisher → (fit ≡ true → P (Custom kept)) → P (if fit then within_or_kept within kept else KeepPublisher)
 by-tests P true true kept keep custom = custom refl
 by-tests P true false kept keep custom = keep
 by-tests P false within kept keep custom = keep

@@ -77,7 +77,7 @@ draw-keeps s (Insert article settings) all = found-drawn s article (at_number s.
 draw-keeps s (Update article row settings) all = all
 draw-keeps s (Delete article row) all = all
 
-version-held : (key : Key) (found : Option Version) (u : SubscriberTables) → (with_version_if key found u).held ≡ u.held
+pub version-held : (key : Key) (found : Option Version) (u : SubscriberTables) → (with_version_if key found u).held ≡ u.held
 version-held key None u = refl
 version-held key (Some version) u = refl
 

@@ -86,7 +86,7 @@ body-more publication made more key (Dead top) among fits = tt
 
 -- An identity column is a column of its article.
 
-article-valid : (resolvers : ℕ) (all articles : List Article) (place : ℕ) (article : Article) → All (IsValidArticle resolvers all) articles → slice_get articles place ≡ Some article → IsValidArticle resolvers all article
+pub article-valid : (resolvers : ℕ) (all articles : List Article) (place : ℕ) (article : Article) → All (IsValidArticle resolvers all) articles → slice_get articles place ≡ Some article → IsValidArticle resolvers all article
 article-valid resolvers all [] place article valid at = absurd cc
 article-valid resolvers all (first ∷ articles) zero article valid at = subst (IsValidArticle resolvers all) (some_same first article at) (All-head (IsValidArticle resolvers all) first articles valid)
 article-valid resolvers all (first ∷ articles) (suc place) article valid at = article-valid resolvers all articles place article (All-tail (IsValidArticle resolvers all) first articles valid) at

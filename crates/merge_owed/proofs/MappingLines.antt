@@ -250,7 +250,7 @@ module _ (publication : Publication) (valid : CanBeSaid publication) (says : Say
 abbrev Nothing : RowSite → Mapping → Type 0
 Nothing place move = ⊥
 
-never-or : {G : Type 0} → ⊥ ⊎ G → G
+pub never-or : {G : Type 0} → ⊥ ⊎ G → G
 never-or (inl none) = absurd none
 never-or (inr gone) = gone
 

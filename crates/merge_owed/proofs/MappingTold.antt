@@ -43,6 +43,8 @@ use Rattle.merge_model.proofs.Entries.StepMoves.{IsMoveHere, moves-are, none-ret
 use Rattle.merge_model.proofs.Entries.StepParts.{CanBeSaid, IsPart, found_keys, parts-are}
 use Rattle.merge_laws.specs.Laws.LastLines.{move_told}
 use Rattle.merge_laws.proofs.LastLines.LastLineAdded.{moves-ascend}
+use Rattle.merge_laws.proofs.LastLines.LeavingsSeen.{all-own}
+use Rattle.merge_laws.proofs.Touched.TouchEntries.{move-out}
 use Rattle.merge_owed.specs.Mappings.{kept_at}
 use Rattle.merge_owed.proofs.PurgeCounts.{distinct-append, keys-sorted, same_place}
 
@@ -230,17 +232,6 @@ rows-put (row ∷ changed) rows sorted =
 
 rows-ascend : (changing : Changing) (rows : List (Key × PublisherRow)) → IsStrictlySortedBy key_cmp (keys_of rows) → IsStrictlySortedBy key_cmp (keys_of (rows_after changing rows))
 rows-ascend changing rows sorted = rows-put (map (λ (row : Key × Version). (row, 0)) changing.versions) rows sorted
-
--- what holds of each element at every place, holds at its own
-all-own : {A X : Type 0} (P : A → X → Type 0) (f : X → A) (xs : List X) → ((a : A) → AllByRecursion (P a) xs) → AllByRecursion (λ (x : X). P (f x) x) xs
-all-own P f [] each = tt
-all-own P f (x ∷ xs) each = ((each (f x)).0, all-own P f xs (λ a. (each a).1))
-
-move-out : (was is changed acted : Bool) (kind : MoveKind) → move_of was is changed acted ≡ Some kind → (not was && (is && changed)) ≡ false
-move-out true is changed acted kind e = refl
-move-out false true true acted kind e = absurd cc
-move-out false true false acted kind e = refl
-move-out false false changed acted kind e = refl
 
 module _ (publication : Publication) (valid : CanBeSaid publication) (judge : PublisherJudge) (changing : Changing) (p : PublisherTables) (rows_ascend : IsStrictlySortedBy key_cmp (keys_of p.rows)) (mappings_ascend : IsStrictlySortedBy row_site_cmp (keys_of p.mappings)) where
   abbrev touched : Touched

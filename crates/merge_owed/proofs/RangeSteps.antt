@@ -17,6 +17,7 @@ use Rattle.merge_ident.specs.declared.grants.Range.{Range}
 use Rattle.merge_ident.specs.declared.grants.Rule.{Rule}
 use Rattle.merge_batch.specs.declared.reply.RangeGrant.{RangeGrant}
 use Rattle.merge_model.specs.Publisher.PublisherRanges.{granted_by}
+use Rattle.merge_laws.proofs.Identities.IdentityGrants.{ruled-kept}
 use Rattle.merge_owed.proofs.RangeAnswers.{OwnAfter, SameAt, answered, received, same-answer}
 
 -- the answer brings nothing
@@ -48,17 +49,7 @@ less-of a b is = grind (arith, nat_tests, is)
 equal-of : (a b : ℕ) → nat_cmp a b ≡ Equal → a ≡ b
 equal-of a b is = grind (arith, nat_tests, is)
 
-next-kept : (b : Bool) (new range : Range) (refused : Answer) (number n : ℕ) → (refused ≡ Ok (Kept n range) → ⊥) → (if b then Ok (Granted number new) else refused) ≡ Ok (Kept n range) → ⊥
-next-kept true new range refused number n never is = absurd cc
-next-kept false new range refused number n never is = never is
-
-ruled-kept : (rule : Option Rule) (site number greatest n : ℕ) (range : Range) → ruled_answer rule site number greatest ≡ Ok (Kept n range) → ⊥
-ruled-kept None site number greatest n range is = absurd cc
-ruled-kept (Some rule) site number greatest n range is =
-    next-kept (nat_le (next_end rule site greatest) (natural rule.greatest)) (record { begin = pos (next_begin rule greatest); end = pos (next_end rule site greatest) }) range (Err (NoRange (next_begin rule greatest) rule.greatest)) number n
-    (λ never. absurd cc) is
-
-kept-granted : (found : Option Grant) (number : ℕ) (range : Range) → kept_answer found ≡ Ok (Granted number range) → ⊥
+pub kept-granted : (found : Option Grant) (number : ℕ) (range : Range) → kept_answer found ≡ Ok (Granted number range) → ⊥
 kept-granted None number range is = absurd cc
 kept-granted (Some grant) number range is = absurd cc
 

@@ -34,6 +34,7 @@ use Rattle.merge_model.specs.declared.outcome.Outcome.TheVariants.{NoPost, Poste
 use Rattle.merge_model.proofs.Lists.Finding.{some_same}
 use Rattle.merge_laws.specs.Laws.Bounds.{under_way}
 use Rattle.merge_laws.specs.Laws.{OfEveryValidActions}
+use Rattle.merge_laws.proofs.Sessions.BoundsEnough.{exchange-same}
 use Rattle.merge_laws.proofs.Sessions.SessionLaw.{At, Known, at_next, deliver-known, ends-here, own, same-site, step-known}
 use Rattle.merge_laws.proofs.Sessions.SessionSteps.{Answered, Ends}
 use Rattle.merge_laws.proofs.Settled.SettledLaw.{settled-by-actions}
@@ -43,28 +44,6 @@ use Rattle.merge_owed.proofs.RangeAnswers.{FitsIfAny, OwnAfter, and-both, answer
 use Rattle.merge_owed.proofs.RangeSteps.{Goes, HasSome, Stuck, goes-on}
 use Rattle.merge_owed.proofs.RangesGo.{RangesGo, ranges-go}
 
--- Two ways to go on that are the same where an exchange acts.
-module _ (publication : Publication) (says : Saying) (site : SiteId) where
-  arrived-same : (Acts Rests : Model → Type 0) (v : Session Model) (done : Model × Outcome) (next other : Session Model → Session Model) → Ends Acts Rests done → Known publication says site done.0
-      → ((x : Session Model) → Known publication says site x.world → Acts x.world → next x ≡ other x) → session_after_reply (model publication says) site next v done ≡ session_after_reply (model publication says) site other v done
-  arrived-same Acts Rests v (k, Took taken) next other ends g same = same (record v { world = k }) g ends
-  arrived-same Acts Rests v (k, Refuses refusal) next other ends g same = refl
-  arrived-same Acts Rests v (k, NoPost) next other ends g same = refl
-  arrived-same Acts Rests v (k, outcome) next other ends g same = absurd ends
-
-  answered-same : (Acts Rests : Model → Type 0) (u : Session Model) (done : Model × Outcome) (counted next other : Session Model → Session Model) → Answered publication says Acts Rests site done → Known publication says site done.0
-      → ((x : Session Model) → Known publication says site x.world → Acts x.world → next x ≡ other x) → answered_as (model publication says) site counted next u done ≡ answered_as (model publication says) site counted other u done
-  answered-same Acts Rests u (k, Posted number) counted next other ends g same =
-      arrived-same Acts Rests (counted (record u { world = k })) (model_step publication says k (Deliver number)) next other ends (step-known publication says site k (Deliver number) g) same
-  answered-same Acts Rests u (k, Refuses refusal) counted next other ends g same = refl
-  answered-same Acts Rests u (k, NoPost) counted next other ends g same = refl
-  answered-same Acts Rests u (k, outcome) counted next other ends g same = absurd ends
-
-  exchange-same : (Acts Rests : Model → Type 0) (sending : Sending) (u : Session Model) (counted next other : Session Model → Session Model) → Answered publication says Acts Rests site (ask (model publication says) site sending u.world) → Known publication says site u.world
-      → ((x : Session Model) → Known publication says site x.world → Acts x.world → next x ≡ other x) → exchange (model publication says) site sending counted next u ≡ exchange (model publication says) site sending counted other u
-  exchange-same Acts Rests sending u counted next other ends g same = answered-same Acts Rests u (ask (model publication says) site sending u.world) counted next other ends
-      (deliver-known publication says site (model_step publication says u.world (Send site sending)) (step-known publication says site u.world (Send site sending) g)) same
-
 -- A range that fits has a value.
 has-values : (range : Range) → int_le range.begin range.end ≡ true → 1 ≤ size_of range
 has-values range is =
@@ -72,7 +51,7 @@ has-values range is =
     let used = unused_has_values range some in
     grind (arith, nat_tests, used)
 
-fits-some : (heard : Heard) (article : ℕ) (answer : Answer) → FitsIfAny (grant_fits heard) (granted_by article answer) → HasSome answer
+pub fits-some : (heard : Heard) (article : ℕ) (answer : Answer) → FitsIfAny (grant_fits heard) (granted_by article answer) → HasSome answer
 fits-some heard article (Ok (Granted number range)) fits = has-values range (and-both _ (int_le range.begin range.end) fits).1
 fits-some heard article (Ok (Kept number range)) fits = has-values range (and-both _ (int_le range.begin range.end) fits).1
 fits-some heard article (Ok NotDue) fits = tt

@@ -36,6 +36,7 @@ use Rattle.merge_model.proofs.Lists.Finding.{at_put_same}
 use Rattle.merge_model.proofs.Runs.Refusals.{first-none}
 use Rattle.merge_laws.proofs.Sessions.SessionSteps.{After, Answered, Sent, back-step, comes-step, post-step, posted_model, reply-step, send-step, unless-step}
 use Rattle.merge_laws.proofs.Walking.{here}
+use Rattle.merge_laws.proofs.Sessions.SessionExchanges.{last-posted}
 use Rattle.merge_owed.proofs.RangeAnswers.{and-both, articles_in, brought, planned}
 
 -- The request was for distinct articles, its reply was posted last and brings what was planned, each range with a value, and the site
@@ -51,22 +52,18 @@ pub record RangesGo (publication : Publication) (m : Model) (s : SubscriberTable
   pub distinct : are_distinct (articles_in s.held) ≡ true
   pub fits : list_all (grant_fits (heard_by s)) (brought (planned (rules_of publication) s.site m.world.publisher.grants s.held)) ≡ true
 
-last-posted : (before : Option Message) (pool : List Letter) (letter : Letter) → last_or before (map (λ (x : Letter). x.message) (pool ++ letter ∷ [])) ≡ Some letter.message
-last-posted before [] letter = refl
-last-posted before (other ∷ pool) letter = last-posted (Some other.message) pool letter
-
 rule-holds : (rule : ℕ) (b : Bool) → fault_of (broken_by_message ((rule, b) ∷ [])) ≡ None → b ≡ true
 rule-holds rule true none = refl
 rule-holds rule false none = absurd (grind (arith, none))
 
-asks-distinct : (publication : Publication) (judge : PublisherJudge) (now : Moment) (m : RangeAsk) (p : PublisherTables) → ranges_refusal publication judge now m p ≡ None → are_distinct (map wanted_article m.wants) ≡ true
+pub asks-distinct : (publication : Publication) (judge : PublisherJudge) (now : Moment) (m : RangeAsk) (p : PublisherTables) → ranges_refusal publication judge now m p ≡ None → are_distinct (map wanted_article m.wants) ≡ true
 unfolding broken_by_ranges
 asks-distinct publication judge now m p none =
     let rest = (first-none (site_refusal publication m.site m.seq now p) _ none).1 in
     let fits = rule-holds 13 _ (first-none (ranges_fault publication judge m p) _ rest).0 in
     (and-both (list_all (want_fits publication (known_by publication judge p) m.site.0) m.wants) (are_distinct (map wanted_article m.wants)) fits).1
 
-reply-fits : (publication : Publication) (d : Ranged) (s : SubscriberTables) → reply_fault publication ask.Ranges (reply.Ranged d) s ≡ None → list_all (grant_fits (heard_by s)) d.grants ≡ true
+pub reply-fits : (publication : Publication) (d : Ranged) (s : SubscriberTables) → reply_fault publication ask.Ranges (reply.Ranged d) s ≡ None → list_all (grant_fits (heard_by s)) d.grants ≡ true
 unfolding broken_by_reply
 reply-fits publication d s none = (and-both (list_all (grant_fits (heard_by s)) d.grants) (are_distinct (map granted_article d.grants)) (rule-holds 0 _ none)).0
 

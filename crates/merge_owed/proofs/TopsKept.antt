@@ -37,7 +37,7 @@ use Rattle.merge_model.proofs.Runs.Refusals.{first-none}
 use Rattle.merge_laws.specs.Facts.Knowledge.{same_dot}
 use Rattle.merge_laws.specs.Laws.{OfEveryValidActions}
 use Rattle.merge_laws.proofs.Accounts.AccountCells.{AreFour}
-use Rattle.merge_laws.proofs.Accounts.AccountChanges.{count_by_tracking}
+use Rattle.merge_laws.proofs.Accounts.AccountChanges.{chain-grows, count_by_tracking}
 use Rattle.merge_laws.proofs.Pasts.DotTests.{dot-first}
 use Rattle.merge_laws.proofs.Numbered.Telling.{no-refusal}
 use Rattle.merge_laws.proofs.Told.ToldRows.{HeldFits}
@@ -68,10 +68,6 @@ inserted-tops tracking.ByColumn columns dot value =
     (new.1 ∙ even, new-tops dot 0 (length columns) (new_cells tracking.ByColumn dot values) new.0 (new.1 ∙ even))
 
 -- An update.
-
-chain-grows : (b : Bool) (dot : Dot) (chain : List Dot) (top : Dot) → has chain top ≡ true → has (if b then dot ∷ chain else chain) top ≡ true
-chain-grows true dot chain top is = grind (arith, is)
-chain-grows false dot chain top is = is
 
 chain-set : (b : Bool) (dot : Dot) (chain : List Dot) → b ≡ true → has (if b then dot ∷ chain else chain) dot ≡ true
 chain-set true dot chain is = dot-first dot chain

@@ -29,7 +29,7 @@ use Rattle.merge_laws.proofs.Walking.Noted.{DecidesAsOwn}
 use Rattle.merge_laws.proofs.Told.ToldHistories.{Goes, goes-lost, goes-others, goes-put, past-elsewhere}
 use Rattle.merge_laws.proofs.Told.ToldItems.{ActsApart}
 use Rattle.merge_laws.proofs.Told.ToldRows.{put_if, put_version}
-use Rattle.merge_laws.proofs.Told.ToldUploads.{ActFits, FateFits}
+use Rattle.merge_laws.proofs.Told.ToldUploads.{ActFits, FateFits, fate-elsewhere, put-first}
 
 -- what an act makes of two versions that have the fact has it
 abbrev pub FateMakes : (Key → Version → Past → Type 0) → Key → Version → Past → Fate → Type 0
@@ -40,37 +40,6 @@ FateMakes P key incoming other (Met held case decision dot) = (past : Past) → 
 
 abbrev pub ActMakes : (Key → Version → Past → Type 0) → List (Key × Past) → Act → Type 0
 ActMakes P incoming act = FateMakes P act.key act.incoming (past_in incoming act.key) act.fate
-
--- The pasts of other rows stay.
-module _ (h : History) (key q : Key) (other : same_key q key ≡ false) where
-  decided-elsewhere : (decision : Decision) (dot : Dot) (generation : ℕ) (case : Case) (past : Past) → dot.site.0 ≡ 0 → past_at (Noting.with_decided decision dot generation key case past h) 0 q ≡ past_at h 0 q
-  decided-elsewhere KeepPublisher dot generation case past own = past-elsewhere h 0 key q past other
-  decided-elsewhere TakeSubscriber dot generation case past own = past-elsewhere h 0 key q past other
-  decided-elsewhere (Custom values) dot generation case past own =
-      let made : History = record h { made = Noting.decided_change dot generation key case past ∷ h.made } in
-      ap (λ (n : ℕ). past_at (Noting.with_past n key past made) 0 q) own ∙ past-elsewhere made 0 key q past other
-
-loser-past : (decision : Decision) (key q : Key) (one two : Past) (h : History) → past_at (Noting.with_loser decision key one two h) 0 q ≡ past_at h 0 q
-loser-past KeepPublisher key q one two h = refl
-loser-past TakeSubscriber key q one two h = refl
-loser-past (Custom values) key q one two h = refl
-
-if-past : (b : Bool) (q : Key) (x y : History) (past : Past) → past_at x 0 q ≡ past → past_at y 0 q ≡ past → past_at (if b then x else y) 0 q ≡ past
-if-past true q x y past one other = one
-if-past false q x y past one other = other
-
-fate-elsewhere : (fate : Fate) (generation : ℕ) (key q : Key) (incoming : Past) (h : History) → DecidesAsOwn fate → same_key q key ≡ false → past_at (Noting.with_fate fate generation key incoming h) 0 q ≡ past_at h 0 q
-fate-elsewhere New generation key q incoming h own other = past-elsewhere h 0 key q incoming other
-fate-elsewhere Unknown generation key q incoming h own other = refl
-fate-elsewhere (Met held case decision dot) generation key q incoming h own other =
-    let past : Past = past_by case decision dot (past_at h 0 key) incoming in
-    let after : History = Noting.with_decided decision dot generation key case past h in
-    let same : past_at after 0 q ≡ past_at h 0 q = decided-elsewhere h key q other decision dot generation case past own in
-    if-past (is_conflict case) q (Noting.with_loser decision key (past_at h 0 key) incoming after) after (past_at h 0 q) (loser-past decision key q (past_at h 0 key) incoming after ∙ same) same
-
-put-first : (found : Key → Option Version) (row : Option (Key × Version)) (rest : List (Key × Version)) → fold put_version found (cons_option row rest) ≡ fold put_version (put_if found row) rest
-put-first found None rest = refl
-put-first found (Some row) rest = refl
 
 -- One act after the other.
 module _ (P : Key → Version → Past → Type 0) (publication : Publication) (site : SiteId) (moment : Moment) (before : History) where

@@ -77,6 +77,7 @@ use Rattle.merge_laws.proofs.Told.ToldRows.{HeldFits, drop_version, found-put, f
 use Rattle.merge_laws.proofs.Told.ToldSites.{Every, letter-goes, own_version, publisher-begins, publisher-goes, publisher-stays, subscriber-begins, subscriber-goes, subscriber-stays}
 use Rattle.merge_laws.proofs.Told.ToldTables.{changed-ascends, changed-versions, forgotten-versions, one-put, row_version}
 use Rattle.merge_laws.proofs.Told.ToldUploads.{acts-fit}
+use Rattle.merge_laws.proofs.Told.ToldWalk.{changed-sorted, none-ascends, none-held}
 use Rattle.merge_owed.proofs.VersionActs.{ActMakes, acts-go}
 use Rattle.merge_laws.proofs.Unsent.Unsending.{received-sorted}
 use Rattle.merge_laws.proofs.Unsent.UnsentKept.{all-found, version-site}
@@ -94,23 +95,6 @@ inside-among publication (Some subscription) key rows is =
 live-same : (lineage : List Dot) (body : Body) → is_live body ≡ true → (let put : Version = record { lineage = lineage; body = Live (cells_of body) } in put) ≡ record { lineage = lineage; body = body }
 live-same lineage (Live cells) lives = refl
 live-same lineage (Dead top) lives = absurd cc
-
--- a row that a change leaves without a version had none
-none-held : (publication : Publication) (dot : Dot) (identity : Value) (change : Change) (held : Option Version) → version_after publication dot identity change held ≡ None → held ≡ None
-none-held publication dot identity (Insert article values) held none = absurd cc
-none-held publication dot identity (Update article row values) None none = refl
-none-held publication dot identity (Update article row values) (Some version) none = absurd cc
-none-held publication dot identity (Delete article row) None none = refl
-none-held publication dot identity (Delete article row) (Some version) none = absurd cc
-
-none-ascends : IsStrictlySortedBy key_cmp (keys_of (let none : List (Key × SubscriberRow) = [] in none))
-unfolding IsStrictlySortedBy
-none-ascends = tt
-
--- a subscriber's rows after a change
-changed-sorted : (key : Key) (found : Option Version) (u : SubscriberTables) → IsStrictlySortedBy key_cmp (keys_of u.rows) → IsStrictlySortedBy key_cmp (keys_of (with_version_if key found u).rows)
-changed-sorted key None u sorted = sorted
-changed-sorted key (Some version) u sorted = sorted_put key_cmp key_total key _ u.rows sorted
 
 module _ (P : Key → Version → Past → Type 0) where
   changed-goes : (n : ℕ) (before h : History) (key : Key) (found : Option Version) (u : SubscriberTables) → Goes P n before (put_if (subscriber_version_at u) (keyed key found)) u.conflicts h

@@ -10,7 +10,8 @@ use Rattle.merge_part.specs.declared.sites.Sites.{Sites}
 use Rattle.merge_part.specs.declared.change.Move.{Move}
 use Rattle.merge_gens.specs.declared.moves.MoveKind.{MoveKind}
 use Rattle.merge_gens.specs.declared.moves.MoveKind.TheVariants.{Entered, Left}
-use Rattle.merge_part.specs.Moves.{move_if, moves_from, all_moves, was_in}
+use Rattle.merge_gens.specs.Moves.{is_left}
+use Rattle.merge_part.specs.Moves.{move_if, moves_from, all_moves}
 use Rattle.merge_part.specs.Sites.{has_site}
 
 abbrev pub key_of_move : Move → RowKey
@@ -20,8 +21,8 @@ key_of_move one = record { article = one.article; row = one.row }
 pub record IsMoveOf (key : RowKey) (site : SiteId) (before after : Bool) (one : Move) : Type 0 where
   pub row_is : key ≡ key_of_move one
   pub site_is : site ≡ one.site
-  pub was : before ≡ was_in one.kind
-  pub then_is : after ≡ not (was_in one.kind)
+  pub was : before ≡ is_left one.kind
+  pub then_is : after ≡ not (is_left one.kind)
 
 only_one : (x one : Move) → Contains (x ∷ []) one → x ≡ one
 only_one x one there = elim (contains_cases x [] one there) [ inl same ↦ same | inr later ↦ absurd (contains_none one later) ]
@@ -37,13 +38,13 @@ from_if key site true false one there =
 from_if key site false false one there = absurd (contains_none one there)
 from_if key site true true one there = absurd (contains_none one there)
 
-to_if_kind : (key : RowKey) (site : SiteId) (kind : MoveKind) → Contains (move_if key site (was_in kind) (not (was_in kind))) (record { article = key.article; row = key.row; site = site; kind = kind })
+to_if_kind : (key : RowKey) (site : SiteId) (kind : MoveKind) → Contains (move_if key site (is_left kind) (not (is_left kind))) (record { article = key.article; row = key.row; site = site; kind = kind })
 to_if_kind key site Entered = (0, omega arith, refl)
 to_if_kind key site Left = (0, omega arith, refl)
 
 to_if : (key : RowKey) (site : SiteId) (before after : Bool) (one : Move) → IsMoveOf key site before after one → Contains (move_if key site before after) one
 to_if key site before after one is =
-    let here : Contains (move_if (key_of_move one) one.site (was_in one.kind) (not (was_in one.kind))) one = to_if_kind (key_of_move one) one.site one.kind in
+    let here : Contains (move_if (key_of_move one) one.site (is_left one.kind) (not (is_left one.kind))) one = to_if_kind (key_of_move one) one.site one.kind in
     rw (is.row_is, is.site_is, is.was, is.then_is) here
 
 -- a move of a row at a subscriber

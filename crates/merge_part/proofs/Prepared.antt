@@ -31,7 +31,8 @@ use Rattle.merge_part.specs.declared.index.DraftIndexes.{DraftIndexes}
 use Rattle.merge_part.specs.Index.{Entries, children_after, parents_after}
 use Rattle.merge_part.specs.declared.link.Rules.{Rules}
 use Rattle.merge_part.specs.Live.{live_of, live_rows, live_after_all}
-use Rattle.merge_part.specs.Moves.{move_cmp, all_moves, was_in, AreMoves}
+use Rattle.merge_gens.specs.Moves.{is_left}
+use Rattle.merge_part.specs.Moves.{move_cmp, all_moves, AreMoves}
 use Rattle.merge_part.specs.Rules.{AreRules, IsKept, AreTaken}
 use Rattle.merge_part.proofs.SitePartitions.{moves_differ}
 use Rattle.merge_part.specs.Draft.{found, rows_in, no_sites, marks_of, marks_in, mark_edit, mark_edits}
@@ -131,6 +132,6 @@ module _ (publication : Publication) (rules : Rules) (are : AreRules publication
       let after : live_rows (live_of (rows_after_all key_cmp rows edits)) ≡ live_rows (live_after_all (live_of rows) changes) = ap live_rows taken.live in
       record {
         ascending = ascending;
-        each = λ one. subst (λ live. Contains moves one ↔ ((is_in_at publication one.site (live_rows (live_of rows)) one.article one.row ≡ was_in one.kind) × (is_in_at publication one.site live one.article one.row ≡ not (was_in one.kind))))
+        each = λ one. subst (λ live. Contains moves one ↔ ((is_in_at publication one.site (live_rows (live_of rows)) one.article one.row ≡ is_left one.kind) × (is_in_at publication one.site live one.article one.row ≡ not (is_left one.kind))))
             after (λ there. (differ one).0 ((each one).0 there), λ differs. (each one).1 ((differ one).1 differs));
       }

@@ -23,7 +23,8 @@ use Rattle.merge_part.specs.declared.link.Rules.{Rules}
 use Rattle.merge_types.specs.RowKeys.{key_cmp}
 use Rattle.merge_part.specs.Draft.{found, marks_of, marks_in}
 use Rattle.merge_part.specs.Live.{live_of, live_rows}
-use Rattle.merge_part.specs.Moves.{all_moves, was_in}
+use Rattle.merge_gens.specs.Moves.{is_left}
+use Rattle.merge_part.specs.Moves.{all_moves}
 use Rattle.merge_part.specs.Rule.{Meets}
 use Rattle.merge_schema.specs.ValidityLaws.{SitesAreDistinct}
 use Rattle.merge_part.specs.Rules.{AreRules, AreFiltered}
@@ -138,7 +139,7 @@ module _ (publication : Publication) where
       (met' : (key : RowKey) → Meets rules.links (found rows') (marks_in held drafted) key) (filtered' : AreFiltered publication (found rows')) where
     abbrev Differs : Move → Type 0
     Differs one =
-        (is_in_at publication one.site (live_rows (live_of rows)) one.article one.row ≡ was_in one.kind) × (is_in_at publication one.site (live_rows (live_of rows')) one.article one.row ≡ not (was_in one.kind))
+        (is_in_at publication one.site (live_rows (live_of rows)) one.article one.row ≡ is_left one.kind) × (is_in_at publication one.site (live_rows (live_of rows')) one.article one.row ≡ not (is_left one.kind))
 
     moved_differs : (one : Move) → MovesBy publication.subscriptions (marks_of held) drafted one → Differs one
     unfolding found_at
@@ -148,9 +149,9 @@ module _ (publication : Publication) where
         let at = found_at are.sites by.at.place by.at.subscription by.at.stands in
         let drafted_is : found drafted key ≡ Some by.sites = lookup-from_Contains {eq = λ a b. is_at (key_cmp a) b} (eq_by_cmp_equiv key_total) key by.sites drafted (IsDistinct-from_sorted key_cmp (keys_of drafted) ordered) by.among in
         let then_marks : marks_in held drafted key ≡ by.sites = ap (λ o. unwrap_or o (marks_of held key)) drafted_is in
-        let before : is_in_at publication by.at.subscription.site (live_rows (live_of rows)) one.article one.row ≡ was_in one.kind
+        let before : is_in_at publication by.at.subscription.site (live_rows (live_of rows)) one.article one.row ≡ is_left one.kind
         = in_by_marks rules are rows sorted (marks_of held) met filtered by.at.subscription.site at key ∙ ap (has_site (marks_of held key)) (sym place_is) ∙ by.at.is.was in
-        let after : is_in_at publication by.at.subscription.site (live_rows (live_of rows')) one.article one.row ≡ not (was_in one.kind)
+        let after : is_in_at publication by.at.subscription.site (live_rows (live_of rows')) one.article one.row ≡ not (is_left one.kind)
         = in_by_marks rules are rows' sorted' (marks_in held drafted) met' filtered' by.at.subscription.site at key ∙ ap (λ s. has_site s by.at.place) then_marks ∙ ap (has_site by.sites) (sym place_is) ∙ by.at.is.then_is in (
           ap (λ s. is_in_at publication s (live_rows (live_of rows)) one.article one.row) (sym by.at.is.site_is) ∙ before,
           ap (λ s. is_in_at publication s (live_rows (live_of rows')) one.article one.row) (sym by.at.is.site_is) ∙ after,
@@ -160,7 +161,7 @@ module _ (publication : Publication) where
     moved_by one differs at None is =
         let key = key_of_move one in
         let same : marks_in held drafted key ≡ marks_of held key = ap (λ o. unwrap_or o (marks_of held key)) is in
-        let bad : true ≡ false = not_same (was_in one.kind)
+        let bad : true ≡ false = not_same (is_left one.kind)
         (sym differs.0 ∙ in_by_marks rules are rows sorted (marks_of held) met filtered one.site at key ∙ ap (λ s. has_site s at.place) (sym same)
         ∙ sym (in_by_marks rules are rows' sorted' (marks_in held drafted) met' filtered' one.site at key) ∙ differs.1) in
         absurd cc
@@ -168,8 +169,8 @@ module _ (publication : Publication) where
         let key = key_of_move one in
         let then_marks : marks_in held drafted key ≡ sites = ap (λ o. unwrap_or o (marks_of held key)) is in
         let among : Contains drafted (key, sites) = Contains-from_lookup {eq = λ a b. is_at (key_cmp a) b} same_key key sites drafted is in
-        let was : has_site (marks_of held key) at.place ≡ was_in one.kind = sym (in_by_marks rules are rows sorted (marks_of held) met filtered one.site at key) ∙ differs.0 in
-        let then_is : has_site sites at.place ≡ not (was_in one.kind)
+        let was : has_site (marks_of held key) at.place ≡ is_left one.kind = sym (in_by_marks rules are rows sorted (marks_of held) met filtered one.site at key) ∙ differs.0 in
+        let then_is : has_site sites at.place ≡ not (is_left one.kind)
         = ap (λ s. has_site s at.place) (sym then_marks) ∙ sym (in_by_marks rules are rows' sorted' (marks_in held drafted) met' filtered' one.site at key) ∙ differs.1 in
         to_all publication.subscriptions (marks_of held) drafted one sites among
         (to_moves key 0 publication.subscriptions (marks_of held key) sites one at.place at.subscription at.stands at.place (omega arith) (record { row_is = refl; site_is = at.site_is; was = was; then_is = then_is }))
@@ -178,7 +179,7 @@ module _ (publication : Publication) where
     differs_moved one differs =
         elim (found_if one.site) [
           | inl none ↦
-              let bad : true ≡ false = not_twice (was_in one.kind)
+              let bad : true ≡ false = not_twice (is_left one.kind)
               (sym differs.0 ∙ none_in one.site none (live_rows (live_of rows)) one.article one.row) (sym differs.1 ∙ none_in one.site none (live_rows (live_of rows')) one.article one.row) in
               absurd cc
           | inr at ↦ moved_by one differs at (found drafted (key_of_move one)) refl

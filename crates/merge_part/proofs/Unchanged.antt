@@ -9,7 +9,8 @@ use Rattle.merge_schema.specs.declared.publication.Publication.{Publication}
 use Rattle.merge_schema.specs.Partition.{LiveRow, is_in_at}
 use Rattle.merge_table.specs.declared.edit.Edit.{Edit}
 use Rattle.merge_table.specs.Edits.{IsReady, is_ready}
-use Rattle.merge_part.specs.Moves.{AreMoves, was_in}
+use Rattle.merge_gens.specs.Moves.{is_left}
+use Rattle.merge_part.specs.Moves.{AreMoves}
 
 not_itself : (b c : Bool) → b ≡ c → b ≡ not c → ⊥
 not_itself true true same other = let bad : true ≡ false = other in absurd cc
@@ -24,7 +25,7 @@ no_moves publication live = record {
   ascending = tt;
   each = λ one. (
     λ there. let less : there.0 < 0 = there.1 in absurd (omega arith),
-    λ differs. absurd (not_itself (is_in_at publication one.site live one.article one.row) (was_in one.kind) differs.0 differs.1),
+    λ differs. absurd (not_itself (is_in_at publication one.site live one.article one.row) (is_left one.kind) differs.0 differs.1),
   );
 }
 

@@ -10,6 +10,7 @@ use Rattle.merge_schema.specs.Partition.{LiveRow, is_in_at}
 use Rattle.merge_types.specs.declared.row_key.RowKey.{RowKey}
 use Rattle.merge_part.specs.declared.sites.Sites.{Sites}
 use Rattle.merge_part.specs.declared.change.Move.{Move}
+use Rattle.merge_gens.specs.Moves.{is_left}
 use Rattle.merge_gens.specs.declared.moves.MoveKind.{MoveKind}
 use Rattle.merge_gens.specs.declared.moves.MoveKind.TheVariants.{Entered, Left}
 use Rattle.merge_part.specs.Sites.{has_site}
@@ -38,13 +39,9 @@ abbrev pub all_moves : List Subscription → (RowKey → Sites) → List (RowKey
 all_moves subscriptions marks [] = []
 all_moves subscriptions marks ((key, after) ∷ entries) = moves_from key 0 subscriptions (marks key) after ++ all_moves subscriptions marks entries
 
--- whether a row with such a move was in the partition before
-abbrev pub was_in : MoveKind → Bool
-was_in Entered = false
-was_in Left = true
-
--- The moves are exactly the differences of the partitions, by article, row and site, each once.
+-- The moves are exactly the differences of the partitions, by article, row and site, each once: a row that left was in before, and is not
+-- in afterwards; one that entered the other way round.
 pub record AreMoves (publication : Publication) (before after : List LiveRow) (moves : List Move) : Type 0 where
   pub ascending : IsStrictlySortedBy move_cmp moves
   pub each : (one : Move) → Contains moves one
-      ↔ ((is_in_at publication one.site before one.article one.row ≡ was_in one.kind) × (is_in_at publication one.site after one.article one.row ≡ not (was_in one.kind)))
+      ↔ ((is_in_at publication one.site before one.article one.row ≡ is_left one.kind) × (is_in_at publication one.site after one.article one.row ≡ not (is_left one.kind)))

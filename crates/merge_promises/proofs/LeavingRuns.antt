@@ -18,6 +18,7 @@ use Rattle.merge_laws.proofs.Received.Models.{model-fine, received-always}
 use Rattle.merge_laws.proofs.Runs.Tallied.{received-tallied}
 use Rattle.merge_laws.specs.Laws.Effects.{behind_actions}
 use Rattle.merge_owed.specs.Purged.{model_behind_events}
+use Rattle.merge_owed.proofs.MappingLines.{never-or}
 use Rattle.merge_promises.specs.Leavings.{ActionLeavingsWereSeen, LeavingsWereSeen, RunLeavingsWereSeen, WasSeen, WasSeenByActions}
 use Rattle.merge_promises.proofs.LeavingSteps.{Adds, SeenLine, fails-add}
 
@@ -190,10 +191,6 @@ module _ (resolvers : ℕ) (publication : Publication) (valid : IsValid resolver
 
 abbrev Nothing : List Line → Line → ℕ → Type 0
 Nothing older line site = ⊥
-
-never-or : {G : Type 0} → ⊥ ⊎ G → G
-never-or (inl none) = absurd none
-never-or (inr seen) = seen
 
 pub seen-by-actions : ActionLeavingsWereSeen
 seen-by-actions resolvers publication valid says tallies slips actions =

@@ -59,7 +59,7 @@ use Rattle.merge_laws.proofs.LastLines.LastLineNotes.{acts-lines, anew-lines, pu
 use Rattle.merge_laws.proofs.LastLines.LeavingsSeen.{leavings-seen}
 use Rattle.merge_laws.proofs.Received.MessageFacts.{upload-site}
 use Rattle.merge_laws.proofs.Touched.TouchUploads.{acts-keys}
-use Rattle.merge_laws.proofs.Walking.{here, join_noted, own_noted}
+use Rattle.merge_laws.proofs.Walking.{from-later as draw-later, here, join_noted, own_noted}
 use Rattle.merge_owed.specs.Mappings.{is_inside}
 use Rattle.merge_promises.specs.Leavings.{ItsUploadActs, SawLeave}
 
@@ -95,12 +95,6 @@ or-none : (was own : Bool) → (was || (own && false)) ≡ true → was ≡ true
 or-none true own is = refl
 or-none false true is = absurd cc
 or-none false false is = absurd cc
-
--- a draw asks for no moment
-draw-later : (publication : Publication) (now : Moment) (p : PublisherTables) (change : Change) → draw_for_change publication (at_moment now p) change ≡ draw_for_change publication p change
-draw-later publication now p (Insert article values) = refl
-draw-later publication now p (Update article row values) = refl
-draw-later publication now p (Delete article row) = refl
 
 -- A message that is posted is no line.
 

@@ -23,6 +23,7 @@ use Rattle.merge_model.specs.declared.outcome.Outcome.TheVariants.{Posted}
 use Rattle.merge_laws.proofs.Identities.IdentityNotes.{purge-made, taker-made}
 use Rattle.merge_laws.proofs.Numbered.Tellings.{joined-alike, uploaded-alike}
 use Rattle.merge_laws.proofs.Walking.{acts_in, here, join_noted}
+use Rattle.merge_laws.proofs.Sessions.RoundStays.{if-made}
 use Rattle.merge_promises.specs.SpacedRounds.{is_other}
 
 -- what is posted is no change
@@ -37,10 +38,6 @@ posted-made w outcome k = refl
 noted-made : (b : Bool) (x y : History) (n : ℕ) → made_at x n ≡ made_at y n → made_at (noted_if b x y) n ≡ made_at y n
 noted-made true x y n same = same
 noted-made false x y n same = refl
-
-if-made : (b : Bool) (x y : History) (n : ℕ) → made_at x n ≡ made_at y n → made_at (if b then x else y) n ≡ made_at y n
-if-made true x y n same = same
-if-made false x y n same = refl
 
 of-made : (x y : History) (n : ℕ) → x.made ≡ y.made → made_at x n ≡ made_at y n
 of-made x y n same = ap (λ (made : List MadeChange). filter (λ (change : MadeChange). change.dot.site.0 == n) made) same

@@ -62,6 +62,7 @@ use Rattle.merge_laws.proofs.Received.Subscribing.{filling-closed}
 use Rattle.merge_laws.proofs.Runs.Ground.{Ground}
 use Rattle.merge_laws.proofs.Unsent.UnsentKept.{reply-site}
 use Rattle.merge_laws.proofs.Walking.{told_by, uploaded_world}
+use Rattle.merge_laws.proofs.Sessions.RoundStays.{closed-still}
 use Rattle.merge_honest.proofs.PutFound.{put-each}
 use Rattle.merge_promises.specs.SpacedRounds.{is_other}
 
@@ -94,9 +95,6 @@ IsSilent m = (number : ℕ) (site : SiteId) (u : Upload) → (let letter : Lette
 -- An open generation that is empty is so still, and none has closed.
 abbrev pub IsStill : PublisherTables → PublisherTables → Type 0
 IsStill p q = p.gens.filling.filled ≡ 0 → (q.gens.filling.filled ≡ 0) × (last_closed q ≡ last_closed p)
-
-closed-still : (filling : Filling) → filling.filled ≡ 0 → (closed_filling filling).last_closed ≡ filling.last_closed
-closed-still filling empty = grind (arith, nat_tests, empty)
 
 -- A download that fits ends no earlier than it begins.
 is-ask : (publication : Publication) (sent : Outstanding) (m : Downloaded) (s : SubscriberTables) → reply_fault publication sent (reply.Downloaded m) s ≡ None → (from : ℕ) × ((sent ≡ ask.Download from) × (from ≤ m.to))

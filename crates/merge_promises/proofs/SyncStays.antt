@@ -37,7 +37,7 @@ use Rattle.merge_model.specs.declared.outcome.Outcome.{Outcome}
 use Rattle.merge_model.specs.declared.outcome.Outcome.TheVariants.{NoPost, Posted, Refuses, Took}
 use Rattle.merge_model.proofs.Lists.Finding.{at_put_other, at_put_same}
 use Rattle.merge_laws.proofs.Numbered.Tellings.{joined-alike}
-use Rattle.merge_laws.proofs.Sessions.RoundStays.{AskStays, Stays, Unmoved, download-stays, stays-itself, stays-then, stays-unmoved, upload-stays}
+use Rattle.merge_laws.proofs.Sessions.RoundStays.{AskStays, Stays, Unmoved, download-stays, if-made, stays-itself, stays-then, stays-unmoved, upload-stays}
 use Rattle.merge_laws.proofs.Sessions.SessionLaw.{At, Known, own, same-site}
 use Rattle.merge_laws.proofs.Sessions.SessionSteps.{After, Answered, Ends, Sent, back-step, comes-step, post-step, posted_model, reply-step, send-step, unless-step}
 use Rattle.merge_laws.proofs.Walking.{here, join_noted}
@@ -86,10 +86,6 @@ module _ (publication : Publication) (says : Saying) (A B R S : Model → Type 0
   answered-weaker (k, Refuses refusal) a = tt
   answered-weaker (k, NoPost) a = rests k a
   answered-weaker (k, outcome) a = absurd a
-
-if-made : (b : Bool) (x y : History) (n : ℕ) → made_at x n ≡ made_at y n → made_at (if b then x else y) n ≡ made_at y n
-if-made true x y n same = same
-if-made false x y n same = refl
 
 module _ (publication : Publication) (says : Saying) (m : Model) (s : SubscriberTables) (at : subscriber_at m.world s.site ≡ Some s) where
   abbrev w : World

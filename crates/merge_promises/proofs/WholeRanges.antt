@@ -76,6 +76,7 @@ use Rattle.merge_laws.proofs.Identities.IdentityPlaces.{article-put, found-held,
 use Rattle.merge_laws.proofs.Received.Models.{model-fine, received-always}
 use Rattle.merge_laws.proofs.Runs.Tallied.{received-tallied}
 use Rattle.merge_laws.proofs.Walking.{StepsKeep, acts_in, here, step-keeps, told_by, uploaded_world}
+use Rattle.merge_owed.proofs.HeldThresholds.{version-held}
 use Rattle.merge_promises.specs.GrantedRanges.{gives_range}
 use Rattle.merge_promises.proofs.RangesApart.{IsWhole, one-counts, range-itself}
 
@@ -265,10 +266,6 @@ posted-whole : (site : SiteId) (message : Message) (w : World) → Whole w → A
 posted-whole site message w i tells = record { held = i.held; letters = all-more (LetterTells w.publisher.grants) w.pool (record { site = site; message = message }) i.letters tells }
 
 -- A subscriber goes on.
-
-version-held : (key : Key) (version : Option Version) (t : SubscriberTables) → (with_version_if key version t).held ≡ t.held
-version-held key None t = refl
-version-held key (Some version) t = refl
 
 version-site : (key : Key) (version : Option Version) (t : SubscriberTables) → (with_version_if key version t).site ≡ t.site
 version-site key None t = refl

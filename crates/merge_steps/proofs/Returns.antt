@@ -9,7 +9,7 @@ use Rattle.std.proofs.Common.{arith, sym, ap, ◌∙◌, subst, inl, inr}
 use Rattle.std.proofs.lemmas.Bool.Decides.{nat_tests}
 use Rattle.merge_table.proofs.LookUps.{lookup-remove_entry, rows_from_look_ups}
 use Rattle.merge_table.proofs.Sorted.{sorted_take}
-use Rattle.merge_part.specs.Moves.{AreMoves, was_in}
+use Rattle.merge_part.specs.Moves.{AreMoves}
 use Rattle.merge_part.specs.declared.change.Move.{Move}
 use Rattle.merge_gens.specs.declared.moves.MoveKind.{MoveKind}
 use Rattle.merge_gens.specs.declared.moves.MoveKind.TheVariants.{Entered, Left}
@@ -21,7 +21,7 @@ use Rattle.merge_model.specs.Publisher.Entries.{Parts, Touched, comes_back, live
 use Rattle.merge_model.specs.Judge.{PublisherJudge}
 use Rattle.merge_model.specs.Tables.Keys.{at_row_site, drop_row_site, has_key, same_key}
 use Rattle.merge_types.specs.RowKeys.{key_cmp}
-use Rattle.merge_gens.specs.Moves.{row_site_cmp}
+use Rattle.merge_gens.specs.Moves.{is_left, row_site_cmp}
 use Rattle.merge_gens.specs.Moves.{row_site_exact}
 use Rattle.merge_model.specs.Tables.Publications.{by_site}
 use Rattle.merge_resolve.specs.Priorities.{subscription_at}
@@ -118,8 +118,8 @@ module _ (publication : Publication) (before after : List LiveRow) (changed : Li
         let parts = and3 (is_entered m.kind) (has_key changed (key_moved m)) (has_left_at mappings (entry_of m).0) passes in
         let entered : m.kind ≡ Entered = entered-is m.kind parts.0 in
         let differs = (are.each m).0 there in
-        let old : was (entry_of m).0 ≡ false = differs.0 ∙ ap was_in entered in
-        let new : is (entry_of m).0 ≡ true = differs.1 ∙ ap (λ (k : MoveKind). not (was_in k)) entered in
+        let old : was (entry_of m).0 ≡ false = differs.0 ∙ ap is_left entered in
+        let new : is (entry_of m).0 ≡ true = differs.1 ∙ ap (λ (k : MoveKind). not (is_left k)) entered in
         subst (λ (p : RowSite). back_at p ≡ true) at (all-and4 (was (entry_of m).0) (is (entry_of m).0) (has_key changed (key_moved m)) (has_left_at mappings (entry_of m).0) old new parts.1 parts.2)
 
     returns-back : (q : RowSite) → has_place (returns mappings changed moves) q ≡ true → back_at q ≡ true

@@ -21,7 +21,7 @@ use Rattle.merge_gens.specs.declared.index.IndexEntry.{IndexEntry}
 use Rattle.merge_table.proofs.Sorted.{sorted_put}
 use Rattle.merge_table.proofs.Sorted.{sorted_after_all}
 use Rattle.merge_part.specs.Live.{Live as LiveList, live_after_all}
-use Rattle.merge_part.specs.Moves.{AreMoves, was_in}
+use Rattle.merge_part.specs.Moves.{AreMoves}
 use Rattle.merge_part.specs.declared.change.Move.{Move}
 use Rattle.merge_gens.specs.declared.moves.MoveKind.TheVariants.{Entered, Left}
 use Rattle.merge_schema.specs.Partition.{LiveRow, is_in_at}
@@ -31,7 +31,7 @@ use Rattle.merge_model.specs.Publisher.Entries.{Changing, with_rows}
 use Rattle.merge_steps.specs.Indexed.{AreIndexed}
 use Rattle.merge_model.specs.Tables.Keys.{at_row_site, has_key, put_row, put_row_site, row_at, same_key}
 use Rattle.merge_types.specs.RowKeys.{key_cmp}
-use Rattle.merge_gens.specs.Moves.{row_site_cmp}
+use Rattle.merge_gens.specs.Moves.{is_left, row_site_cmp}
 use Rattle.merge_steps.specs.LiveRows.{live_pairs}
 use Rattle.merge_gens.specs.Moves.{row_site_exact}
 use Rattle.merge_steps.specs.Rows.{index_edits}
@@ -141,7 +141,7 @@ module _ (publication : Publication) (before after : List LiveRow) (moves : List
       let number : at.0.site.0 ≡ site = (let e = both.1 in grind (arith, nat_tests, e)) in
       let same : (entry_of at.0).0 ≡ place key site = ap (λ (k : Key). place k at.0.site.0) (sym (keys-same key (key_moved at.0) both.0)) ∙ ap (λ (n : ℕ). place key n) number in
       let differs = (are.each at.0).0 at.1 in
-      subst (λ (q : RowSite). was q ≡ not (is q)) same (differs.0 ∙ not-twice (was_in at.0.kind) ∙ ap not (sym differs.1))
+      subst (λ (q : RowSite). was q ≡ not (is q)) same (differs.0 ∙ not-twice (is_left at.0.kind) ∙ ap not (sym differs.1))
 
   stay-by : (key : Key) (w i : Bool) → was (place key site) ≡ w → is (place key site) ≡ i → list_any (is_move_at key site) moves ≡ false → w ≡ i
   stay-by key true true old new none = refl

@@ -25,7 +25,7 @@ use Rattle.merge_schema.specs.declared.publication.Subscription.{Subscription}
 use Rattle.merge_schema.proofs.ListMembers.{any_at, any_found, contains_cases, contains_filter, contains_from_filter, contains_none}
 use Rattle.merge_schema.proofs.Partitions.{in_by_partition, partition_reasons}
 use Rattle.merge_schema.proofs.Searches.{all_members, any_map}
-use Rattle.merge_part.specs.Moves.{AreMoves, kind_number, move_cmp, was_in}
+use Rattle.merge_part.specs.Moves.{AreMoves, kind_number, move_cmp}
 use Rattle.merge_part.specs.declared.change.Move.{Move}
 use Rattle.merge_units.specs.declared.version.Body.{Body}
 use Rattle.merge_units.specs.declared.version.Body.TheVariants.{Dead, Live}
@@ -33,7 +33,7 @@ use Rattle.merge_units.specs.declared.version.Cell.{Cell}
 use Rattle.merge_model.specs.Publisher.Entries.{Parts, Touched, key_of_live, keys_of as all_keys, live_row, live_rows, move_of, moves_of, parts_of, partition_keys}
 use Rattle.merge_model.specs.Tables.Keys.{at_row_site, has_key, put_number, same_key}
 use Rattle.merge_types.specs.RowKeys.{key_cmp}
-use Rattle.merge_gens.specs.Moves.{row_site_cmp}
+use Rattle.merge_gens.specs.Moves.{is_left, row_site_cmp}
 use Rattle.merge_gens.specs.Moves.{row_site_exact}
 use Rattle.merge_model.specs.Tables.Publications.{by_site}
 use Rattle.merge_resolve.specs.Priorities.{subscription_at}
@@ -113,15 +113,15 @@ parts-ascend publication rows rows' = rw (part-sites publication rows rows' (by_
 
 -- What is found among a membership's moves.
 
-told-kind : (kind : MoveKind) (b a c : Bool) → b ≡ was_in kind → a ≡ not (was_in kind) → not (is_entered kind && c) ≡ true → Some (kind) ≡ move_of b a c false
+told-kind : (kind : MoveKind) (b a c : Bool) → b ≡ is_left kind → a ≡ not (is_left kind) → not (is_entered kind && c) ≡ true → Some (kind) ≡ move_of b a c false
 told-kind Entered b a true was is said = absurd cc
 told-kind Entered b a false was is said = rw (was, is) refl
 told-kind Left b a c was is said = rw (was, is) refl
 
 -- a move that makes an entry
 pub record IsMade (b a c : Bool) (kind : MoveKind) : Type 0 where
-  pub was : b ≡ was_in kind
-  pub then_is : a ≡ not (was_in kind)
+  pub was : b ≡ is_left kind
+  pub then_is : a ≡ not (is_left kind)
   pub said : not (is_entered kind && c) ≡ true
 
 made-kind : (b a c : Bool) (kind : MoveKind) → move_of b a c false ≡ Some kind → IsMade b a c kind
@@ -141,7 +141,7 @@ less-place Equal Equal Less s less tied = refl
 less-place Equal Equal Greater s less tied = absurd cc
 less-place Equal Equal Equal s less tied = let no : Equal ≡ Less = sym (tied refl refl refl) ∙ less in absurd cc
 
-same-kinds : (a b : MoveKind) → was_in a ≡ was_in b → nat_cmp (kind_number a) (kind_number b) ≡ Equal
+same-kinds : (a b : MoveKind) → is_left a ≡ is_left b → nat_cmp (kind_number a) (kind_number b) ≡ Equal
 same-kinds Entered Entered e = refl
 same-kinds Entered Left e = absurd cc
 same-kinds Left Entered e = absurd cc
@@ -158,7 +158,7 @@ module _ (publication : Publication) (before after : List LiveRow) (changed : Li
   here q = move_of (was_there q) (is_there q) (has_key changed q.key) false
 
   abbrev pub Fits : Move → Type 0
-  Fits m = is_in_at publication m.site before m.article m.row ≡ was_in m.kind
+  Fits m = is_in_at publication m.site before m.article m.row ≡ is_left m.kind
 
   abbrev was_at : ℕ → ℕ → ℕ → Bool
   was_at article row site = is_in_at publication (record { 0 = site }) before article (record { 0 = row })
@@ -328,8 +328,8 @@ module _ (publication : Publication) (valid : CanBeSaid publication) (rows rows'
         part-stands q.site (by_site publication) (site-stands publication q.site (ap (λ (o : Option Subscription). is_some o) found.1)),
       )
 
-  made-stands : (q : RowSite) (kind : MoveKind) → is_in_at publication (record { 0 = q.site }) (live_rows rows) q.key.article q.key.row ≡ was_in kind
-      → is_in_at publication (record { 0 = q.site }) (live_rows rows') q.key.article q.key.row ≡ not (was_in kind) → Stands q
+  made-stands : (q : RowSite) (kind : MoveKind) → is_in_at publication (record { 0 = q.site }) (live_rows rows) q.key.article q.key.row ≡ is_left kind
+      → is_in_at publication (record { 0 = q.site }) (live_rows rows') q.key.article q.key.row ≡ not (is_left kind) → Stands q
   made-stands q Entered was is = stands q rows' (λ key e. e) is
   made-stands q Left was is = stands q rows stay was
 

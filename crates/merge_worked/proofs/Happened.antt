@@ -20,6 +20,7 @@ use Rattle.merge_types.specs.declared.row_key.RowKey.{RowKey as Key}
 use Rattle.merge_model.specs.Tables.{SubscriberTables}
 use Rattle.merge_model.specs.World.{letter_at}
 use Rattle.merge_model.specs.declared.letter.Letter.{Letter}
+use Rattle.merge_model.proofs.Lists.KeyLookUps.{keys-same}
 use Rattle.merge_worked.specs.Happened.{all_are_accounted, all_letters_stand, all_rows_stand, all_tables_stand, held_at_settled, is_settled, letter_stands, lost_row_stands, owed_to_settled, row_stands, says_the_same, stands_for, table_stands}
 
 -- Lists.
@@ -89,14 +90,6 @@ letter m (suc number) sent pass found i d lt =
     let pasts : List (Key × Past) = unwrap_or (slice_get m.history.letters number) [] in
     let entry : Key × List Dot = slice_index_or (lineages_in sent.message) i d in
     stands m entry.0 entry.1 (past_in pasts entry.0) (all-pass (λ (e : Key × List Dot). stands_for m e.0 e.1 (past_in pasts e.0)) (lineages_in sent.message) here i d lt)
-
--- keys with the same parts are the same
-keys-same : (a b : Key) → same_key a b ≡ true → a ≡ b
-keys-same a b same =
-    let article : a.article ≡ b.article = grind (arith, nat_tests, same) in
-    let row : a.row.0 ≡ b.row.0 = grind (arith, nat_tests, same) in
-    ap (λ (article : ℕ). (let key : Key = record { article = article; row = a.row } in key)) article
-    ∙ ap (λ (row : ℕ). (let key : Key = record { article = b.article; row = record { 0 = row } } in key)) row
 
 same-rows : (m : Model) (conflicts : List ConflictRow) (lost : List (Key × Past)) → (length conflicts == length lost) ≡ true → list_all (lost_row_stands m) (zip conflicts lost) ≡ true → map key_of_conflict conflicts ≡ map (λ (row : Key × Past). row.0) lost
 same-rows m [] [] same pass = refl

@@ -49,7 +49,7 @@ new-at dot from n (suc count) (suc k) is =
 abbrev changed_chains : Dot → List ℕ → ℕ → List (List Dot) → List (List Dot)
 changed_chains dot cells n chains = map (chain_after dot cells) (enumerate_from n chains)
 
-chain-grows : (b : Bool) (dot : Dot) (chain : List Dot) (d : Dot) → has chain d ≡ true → has (if b then dot ∷ chain else chain) d ≡ true
+pub chain-grows : (b : Bool) (dot : Dot) (chain : List Dot) (d : Dot) → has chain d ≡ true → has (if b then dot ∷ chain else chain) d ≡ true
 chain-grows true dot chain d is = grind (arith, is)
 chain-grows false dot chain d is = is
 

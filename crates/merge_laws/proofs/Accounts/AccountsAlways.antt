@@ -14,7 +14,7 @@ use Rattle.merge_laws.proofs.Accounts.AccountSteps.{accounts-begin, accounts-kee
 use Rattle.merge_laws.proofs.Lineages.LineagesAlways.{Kept, ground, kept-always, kept-step, kept-tallied, owns}
 use Rattle.merge_laws.proofs.Walking.{step-keeps}
 
-base : (publication : Publication) (m : Model) → Kept publication m → Base publication m.world m.history
+pub base : (publication : Publication) (m : Model) → Kept publication m → Base publication m.world m.history
 base publication m k = (ground publication m k, (k.told, owns publication m k))
 
 abbrev IsAccounted : Publication → Model → Type 0

@@ -87,7 +87,7 @@ next-kept : (b : Bool) (k begin end number : ℕ) (fault : IdentityFault) (made 
 next-kept true k begin end number fault made range is = cc
 next-kept false k begin end number fault made range is = cc
 
-ruled-kept : (rule : Option Rule) (site k greatest number : ℕ) (range : Range) → ruled_answer rule site k greatest ≡ Ok (Kept number range) → ⊥
+pub ruled-kept : (rule : Option Rule) (site k greatest number : ℕ) (range : Range) → ruled_answer rule site k greatest ≡ Ok (Kept number range) → ⊥
 ruled-kept None site k greatest number range is = cc
 ruled-kept (Some rule) site k greatest number range is =
     next-kept (nat_le (next_end rule site greatest) (natural rule.greatest)) k (next_begin rule greatest) (next_end rule site greatest) number (NoRange (next_begin rule greatest) rule.greatest)

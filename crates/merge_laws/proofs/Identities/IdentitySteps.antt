@@ -216,7 +216,7 @@ module _ (publication : Publication) (w : World) (h : History) (i : Apart public
 -- answer to such an ask, and the shapes of a step tell of those that do.
 
 -- whether ranges are told in the letter after these
-abbrev tells_ranges : List Letter → World → Bool
+abbrev pub tells_ranges : List Letter → World → Bool
 tells_ranges pool w = elim (slice_get w.pool (length pool)) [
   | None ↦ false
   | Some letter ↦ elim letter.message [
@@ -225,16 +225,16 @@ tells_ranges pool w = elim (slice_get w.pool (length pool)) [
   ]
 ]
 
-posted-tells : (pool : List Letter) (w : World) (site : SiteId) (message : Message) → w.pool ≡ pool → tells_ranges pool (post site message w).0 ≡ (let b : Bool = elim message [ Asks m ↦ false | Replies m ↦ is_ranged m ] in b)
+pub posted-tells : (pool : List Letter) (w : World) (site : SiteId) (message : Message) → w.pool ≡ pool → tells_ranges pool (post site message w).0 ≡ (let b : Bool = elim message [ Asks m ↦ false | Replies m ↦ is_ranged m ] in b)
 posted-tells pool w site message same =
     let letter : Letter = record { site = site; message = message } in
     ap (λ (xs : List Letter). tells_ranges xs (post site message w).0) (sym same)
     ∙ ap (λ (found : Option Letter). (let b : Bool = elim found [ None ↦ false | Some x ↦ elim x.message [ Asks m ↦ false | Replies m ↦ is_ranged m ] ] in b)) (slice_get-append_past w.pool (letter ∷ []) (length w.pool) 0 (omega arith))
 
-none-tells : (w : World) → tells_ranges w.pool w ≡ false
+pub none-tells : (w : World) → tells_ranges w.pool w ≡ false
 none-tells w = ap (λ (found : Option Letter). (let b : Bool = elim found [ None ↦ false | Some x ↦ elim x.message [ Asks m ↦ false | Replies m ↦ is_ranged m ] ] in b)) (slice_get_past w.pool (length w.pool) (omega arith))
 
-not-both : {A : Type 0} (b : Bool) → b ≡ false → b ≡ true → A
+pub not-both : {A : Type 0} (b : Bool) → b ≡ false → b ≡ true → A
 not-both b none some = absurd (grind (arith, none, some))
 
 module _ (publication : Publication) (says : Saying) where

@@ -39,7 +39,7 @@ use Rattle.merge_laws.proofs.Identities.IdentityDraws.{other-article, other-site
 
 -- Ranges are received.
 
-abbrev heard_in : List (ℕ × Holder) → ℕ → Option ℕ
+abbrev pub heard_in : List (ℕ × Holder) → ℕ → Option ℕ
 heard_in held article = option_map (λ (holder : Holder). holder.have) (at_number held article)
 
 -- of a subscriber: with one more received, it has heard of the next grant
@@ -59,6 +59,24 @@ next-number told holder found heard is at fits = grind (arith, nat_tests, is, at
 some-values : (told : RangeGrant) (heard : ℕ → Option ℕ) → grant_fits heard told ≡ true → told.begin ≤ℤ told.end
 some-values told heard fits = grind (arith, ints, nat_tests, fits)
 
+-- the others tell of other articles
+pub heard-other : (held : List (ℕ × Holder)) (told : RangeGrant) (found : Option Holder) (article : ℕ) → (article ≡ told.article → ⊥)
+    → (let after : List (ℕ × Holder) = elim found [ None ↦ held | Some holder ↦ put_number held told.article (after_receive holder (told_range told)) ] in heard_in after article ≡ heard_in held article)
+heard-other held told None article differs = refl
+heard-other held told (Some holder) article differs = ap (λ (o : Option Holder). option_map (λ (h : Holder). h.have) o) (at_put_other told.article article (after_receive holder (told_range told)) held differs)
+
+fits-other : (before after : ℕ → Option ℕ) (told : RangeGrant) → after told.article ≡ before told.article → grant_fits before told ≡ true → grant_fits after told ≡ true
+fits-other before after told same fits = grind (arith, nat_tests, same, fits)
+
+pub others-fit : (before after : ℕ → Option ℕ) (article : ℕ) → ((other : ℕ) → (other ≡ article → ⊥) → after other ≡ before other) → (told : List RangeGrant) → list_any (λ (m : ℕ). m == article) (map granted_article told) ≡ false
+    → list_all (grant_fits before) told ≡ true → list_all (grant_fits after) told ≡ true
+others-fit before after article same [] none fits = refl
+others-fit before after article same (first ∷ told) none fits =
+    let differs : first.article ≡ article → ⊥ = λ e. grind (arith, nat_tests, none, e) in
+    let now : grant_fits after first ≡ true = fits-other before after first (same first.article differs) (grind (arith, fits)) in
+    let rest : list_all (grant_fits after) told ≡ true = others-fit before after article same told (grind (arith, none)) (grind (arith, fits)) in
+    grind (arith, now, rest)
+
 module _ (grants : List Grant) (made : List MadeChange) (site : ℕ) (low : 1 ≤ site) where
   abbrev Holds : List (ℕ × Holder) → Type 0
   Holds held = (article : ℕ) → Held grants made site article (holder_in held article)
@@ -76,24 +94,6 @@ module _ (grants : List Grant) (made : List MadeChange) (site : ℕ) (low : 1 �
       (λ within. subst (λ (k : ℕ). 1 ≤ count_by (gives_numbered site told.article k value) grants) number (is value within)) in
       omega (arith, some, heard-next site told.article holder.have value grants low))) here)
       (λ other differs. holds other)
-
-  -- the others tell of other articles
-  heard-other : (held : List (ℕ × Holder)) (told : RangeGrant) (found : Option Holder) (article : ℕ) → (article ≡ told.article → ⊥)
-      → (let after : List (ℕ × Holder) = elim found [ None ↦ held | Some holder ↦ put_number held told.article (after_receive holder (told_range told)) ] in heard_in after article ≡ heard_in held article)
-  heard-other held told None article differs = refl
-  heard-other held told (Some holder) article differs = ap (λ (o : Option Holder). option_map (λ (h : Holder). h.have) o) (at_put_other told.article article (after_receive holder (told_range told)) held differs)
-
-  fits-other : (before after : ℕ → Option ℕ) (told : RangeGrant) → after told.article ≡ before told.article → grant_fits before told ≡ true → grant_fits after told ≡ true
-  fits-other before after told same fits = grind (arith, nat_tests, same, fits)
-
-  others-fit : (before after : ℕ → Option ℕ) (article : ℕ) → ((other : ℕ) → (other ≡ article → ⊥) → after other ≡ before other) → (told : List RangeGrant) → list_any (λ (m : ℕ). m == article) (map granted_article told) ≡ false
-      → list_all (grant_fits before) told ≡ true → list_all (grant_fits after) told ≡ true
-  others-fit before after article same [] none fits = refl
-  others-fit before after article same (first ∷ told) none fits =
-      let differs : first.article ≡ article → ⊥ = λ e. grind (arith, nat_tests, none, e) in
-      let now : grant_fits after first ≡ true = fits-other before after first (same first.article differs) (grind (arith, fits)) in
-      let rest : list_all (grant_fits after) told ≡ true = others-fit before after article same told (grind (arith, none)) (grind (arith, fits)) in
-      grind (arith, now, rest)
 
   pub all-received : (told : List RangeGrant) (held : List (ℕ × Holder)) → list_all (grant_fits (heard_in held)) told ≡ true → are_distinct (map granted_article told) ≡ true → AllByRecursion (IsTold grants site) told → Holds held → Holds (fold with_grant held told)
   all-received [] held fits distinct all holds = holds

@@ -26,7 +26,7 @@ use Rattle.merge_laws.specs.Laws.Leavings.{LeavesHere, LeavingsAreSeen}
 use Rattle.merge_laws.proofs.Touched.TouchEntries.{inside-after}
 
 -- what holds of each element at every place, holds at its own
-all-own : {A X : Type 0} (P : A → X → Type 0) (f : X → A) (xs : List X) → ((a : A) → AllByRecursion (P a) xs) → AllByRecursion (λ (x : X). P (f x) x) xs
+pub all-own : {A X : Type 0} (P : A → X → Type 0) (f : X → A) (xs : List X) → ((a : A) → AllByRecursion (P a) xs) → AllByRecursion (λ (x : X). P (f x) x) xs
 all-own P f [] each = tt
 all-own P f (x ∷ xs) each = ((each (f x)).0, all-own P f xs (λ a. (each a).1))
 

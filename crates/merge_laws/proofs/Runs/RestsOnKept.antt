@@ -43,6 +43,7 @@ use Rattle.merge_laws.proofs.Settled.SettledWorlds.{if-found}
 use Rattle.merge_laws.proofs.Runs.ValidRules.{valid-rules}
 use Rattle.merge_laws.proofs.Walking.{step-keeps}
 use Rattle.merge_laws.proofs.Runs.OfActions.{of-valid-runs}
+use Rattle.merge_laws.proofs.Accounts.AccountsAlways.{base}
 
 -- What is known was accepted, and what was accepted is known where the row is held.
 
@@ -77,9 +78,6 @@ pub accepted-known : OfEveryValidRun (λ publication says m. AcceptedIsKnown m)
 accepted-known = of-valid-runs (λ publication says m. AcceptedIsKnown m) accepted-known-by-actions
 
 -- Chains are accounted for.
-
-base : (publication : Publication) (m : Model) → Kept publication m → Base publication m.world m.history
-base publication m k = (ground publication m k, (k.told, owns publication m k))
 
 pub chains-accounted : OfEveryValidActions (λ publication says m. ChainsAreAccounted publication m)
 chains-accounted resolvers publication valid says tallies slips actions =

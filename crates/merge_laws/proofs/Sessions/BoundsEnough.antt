@@ -50,7 +50,7 @@ module _ (publication : Publication) (says : Saying) (site : SiteId) where
   answered-same Acts Rests u (k, NoPost) counted next other ends g same = refl
   answered-same Acts Rests u (k, outcome) counted next other ends g same = absurd ends
 
-  exchange-same : (Acts Rests : Model → Type 0) (sending : Sending) (u : Session Model) (counted next other : Session Model → Session Model) → Answered publication says Acts Rests site (ask (model publication says) site sending u.world) → Known publication says site u.world
+  pub exchange-same : (Acts Rests : Model → Type 0) (sending : Sending) (u : Session Model) (counted next other : Session Model → Session Model) → Answered publication says Acts Rests site (ask (model publication says) site sending u.world) → Known publication says site u.world
       → ((x : Session Model) → Known publication says site x.world → Acts x.world → next x ≡ other x) → exchange (model publication says) site sending counted next u ≡ exchange (model publication says) site sending counted other u
   exchange-same Acts Rests sending u counted next other ends g same = answered-same Acts Rests u (ask (model publication says) site sending u.world) counted next other ends
       (deliver-known publication says site (model_step publication says u.world (Send site sending)) (step-known publication says site u.world (Send site sending) g)) same

@@ -97,11 +97,11 @@ module _ (publication : Publication) (says : Saying) (A B R S : Model → Type 0
   answered-both (k, NoPost) a b = (a, b)
   answered-both (k, outcome) a b = absurd a
 
-if-made : (b : Bool) (x y : History) (n : ℕ) → made_at x n ≡ made_at y n → made_at (if b then x else y) n ≡ made_at y n
+pub if-made : (b : Bool) (x y : History) (n : ℕ) → made_at x n ≡ made_at y n → made_at (if b then x else y) n ≡ made_at y n
 if-made true x y n same = same
 if-made false x y n same = refl
 
-closed-still : (filling : Filling) → filling.filled ≡ 0 → (closed_filling filling).last_closed ≡ filling.last_closed
+pub closed-still : (filling : Filling) → filling.filled ≡ 0 → (closed_filling filling).last_closed ≡ filling.last_closed
 closed-still filling empty = grind (arith, nat_tests, empty)
 
 either-rows : (rows : List (Key × ℕ)) (P : List (Key × ℕ) → Type 0) → P [] → ((row : Key × ℕ) (rest : List (Key × ℕ)) → P (row ∷ rest)) → P rows

@@ -62,6 +62,7 @@ use Rattle.merge_laws.proofs.Settled.SettledExpired.{ask-live, expired_in}
 use Rattle.merge_laws.proofs.Received.Subscribing.{filling-closed}
 use Rattle.merge_laws.proofs.Numbered.Tellings.{uploaded-alike}
 use Rattle.merge_laws.proofs.Walking.{acts_in, here, told_by, uploaded_world}
+use Rattle.merge_laws.proofs.Sessions.RoundStays.{closed-still, if-made}
 
 -- the site has joined
 pub record JoinLeaves (s : SubscriberTables) (k : Model) : Type 0 where
@@ -113,7 +114,7 @@ pub record DownloadLeaves (publication : Publication) (m : Model) (s : Subscribe
   pub in_time : is_expired_at publication k.world s.site ≡ false
   pub still : m.world.publisher.gens.filling.filled ≡ 0 → last_closed k.world.publisher ≡ last_closed m.world.publisher
 
-last-posted : (before : Option Message) (pool : List Letter) (letter : Letter) → last_or before (map (λ (x : Letter). x.message) (pool ++ letter ∷ [])) ≡ Some letter.message
+pub last-posted : (before : Option Message) (pool : List Letter) (letter : Letter) → last_or before (map (λ (x : Letter). x.message) (pool ++ letter ∷ [])) ≡ Some letter.message
 last-posted before [] letter = refl
 last-posted before (other ∷ pool) letter = last-posted (Some other.message) pool letter
 
@@ -144,7 +145,7 @@ fault-goes publication judge u p none =
     let goes : has_generations u ≡ true = rule-first (has_generations u) _ (broken_by_items (item_rules publication (known_by publication judge p) u) u.items) none in
     grind (arith, nat_tests, goes)
 
-upload-goes : (publication : Publication) (judge : PublisherJudge) (now : Moment) (u : Upload) (p : PublisherTables) → upload_refusal publication judge now u p ≡ None → u.from < u.to
+pub upload-goes : (publication : Publication) (judge : PublisherJudge) (now : Moment) (u : Upload) (p : PublisherTables) → upload_refusal publication judge now u p ≡ None → u.from < u.to
 upload-goes publication judge now u p none =
     let all = first-none (site_refusal publication u.site u.seq now p) _ none in
     let gap = first-none (refused_if (judge.is_gap u.site.0 u.from) (Gap u.from (judge.received u.site.0))) _ all.1 in
@@ -158,13 +159,6 @@ found-live : (publication : Publication) (now latest : Moment) (m : Download) (q
     → expired_in publication now (Some (state_after_download m q (unwrap_or found no_state))) ≡ false
 found-live publication now latest m q None live = absurd (grind (arith, live))
 found-live publication now latest m q (Some state) live = live-before (86400 * publication.retention_days) now.0 latest.0 state.last_sync (in_step m q) live
-
-closed-still : (filling : Filling) → filling.filled ≡ 0 → (closed_filling filling).last_closed ≡ filling.last_closed
-closed-still filling empty = grind (arith, nat_tests, empty)
-
-if-made : (b : Bool) (x y : History) (n : ℕ) → made_at x n ≡ made_at y n → made_at (if b then x else y) n ≡ made_at y n
-if-made true x y n same = same
-if-made false x y n same = refl
 
 -- an upload ends at a closed generation
 closed-under : (filling : Filling) (received : ℕ) → received ≤ filling.last_closed → received ≤ (closed_filling filling).last_closed

@@ -46,7 +46,7 @@ After K done noting before = K (record { world = done.0; history = with_posted d
 abbrev pub posted_model : SiteId → Message → World → History → Model
 posted_model site message w h = record { world = (post site message w).0; history = with_letter (record { site = site; message = message }) h }
 
-letter-there : (site : SiteId) (message : Message) (w : World) → letter_at (post site message w).0 (length w.pool + 1) ≡ Some (record { site = site; message = message })
+pub letter-there : (site : SiteId) (message : Message) (w : World) → letter_at (post site message w).0 (length w.pool + 1) ≡ Some (record { site = site; message = message })
 letter-there site message w =
     let next : length w.pool + 1 ≡ suc (length w.pool) = omega arith in
     ap (λ (k : ℕ). letter_at (post site message w).0 k) next ∙ letter-last w.pool (record { site = site; message = message })

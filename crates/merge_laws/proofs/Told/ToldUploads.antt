@@ -107,7 +107,7 @@ if-past : (b : Bool) (q : Key) (x y : History) (past : Past) → past_at x 0 q �
 if-past true q x y past one other = one
 if-past false q x y past one other = other
 
-fate-elsewhere : (fate : Fate) (generation : ℕ) (key q : Key) (incoming : Past) (h : History) → DecidesAsOwn fate → same_key q key ≡ false → past_at (Noting.with_fate fate generation key incoming h) 0 q ≡ past_at h 0 q
+pub fate-elsewhere : (fate : Fate) (generation : ℕ) (key q : Key) (incoming : Past) (h : History) → DecidesAsOwn fate → same_key q key ≡ false → past_at (Noting.with_fate fate generation key incoming h) 0 q ≡ past_at h 0 q
 fate-elsewhere New generation key q incoming h own other = past-elsewhere h 0 key q incoming other
 fate-elsewhere Unknown generation key q incoming h own other = refl
 fate-elsewhere (Met held case decision dot) generation key q incoming h own other =
@@ -116,7 +116,7 @@ fate-elsewhere (Met held case decision dot) generation key q incoming h own othe
     let same : past_at after 0 q ≡ past_at h 0 q = decided-elsewhere h key q other decision dot generation case past own in
     if-past (is_conflict case) q (Noting.with_loser decision key (past_at h 0 key) incoming after) after (past_at h 0 q) (loser-past decision key q (past_at h 0 key) incoming after ∙ same) same
 
-put-first : (found : Key → Option Version) (row : Option (Key × Version)) (rest : List (Key × Version)) → fold put_version found (cons_option row rest) ≡ fold put_version (put_if found row) rest
+pub put-first : (found : Key → Option Version) (row : Option (Key × Version)) (rest : List (Key × Version)) → fold put_version found (cons_option row rest) ≡ fold put_version (put_if found row) rest
 put-first found None rest = refl
 put-first found (Some row) rest = refl
 

@@ -48,7 +48,7 @@ module _ (Q : Dot → Type 0) where
 
   -- Changes.
 
-  new-tops : (tracking : Tracking) (dot : Dot) (values : List Value) → Q dot → TopsHold (new_cells tracking dot values)
+  pub new-tops : (tracking : Tracking) (dot : Dot) (values : List Value) → Q dot → TopsHold (new_cells tracking dot values)
   new-tops tracking.Row dot values own = (own, tt)
   new-tops tracking.ByColumn dot [] own = tt
   new-tops tracking.ByColumn dot (value ∷ values) own = (own, new-tops tracking.ByColumn dot values own)
@@ -65,17 +65,17 @@ module _ (Q : Dot → Type 0) where
   column-tops dot edits place [] own held = tt
   column-tops dot edits place (cell ∷ cells) own held = (cell-top dot (set_value edits place) cell own held.0, column-tops dot edits (place + 1) cells own held.1)
 
-  changed-tops : (tracking : Tracking) (dot : Dot) (edits : List Setting) (cells : List Cell) → Q dot → TopsHold cells → TopsHold (cells_after tracking dot edits cells)
+  pub changed-tops : (tracking : Tracking) (dot : Dot) (edits : List Setting) (cells : List Cell) → Q dot → TopsHold cells → TopsHold (cells_after tracking dot edits cells)
   changed-tops tracking.Row dot edits cells own held = row-tops dot edits cells own
   changed-tops tracking.ByColumn dot edits cells own held = column-tops dot edits 0 cells own held
 
-  cells-tops : (body : Body) → AllByRecursion Q (tops_of body) → TopsHold (cells_of body)
+  pub cells-tops : (body : Body) → AllByRecursion Q (tops_of body) → TopsHold (cells_of body)
   cells-tops (Live cells) held = held
   cells-tops (Dead top) held = tt
 
   -- Merges.
 
-  abbrev OwnHolds : Decision → Dot → Type 0
+  abbrev pub OwnHolds : Decision → Dot → Type 0
   OwnHolds (Custom values) dot = Q dot
   OwnHolds decision dot = Unit {0}
 
@@ -100,7 +100,7 @@ module _ (Q : Dot → Type 0) where
     result-tops dot decision (drop (taken decision s p) values) sides ours theirs own one.1 other.1,
   )
 
-  body-tops : (dot : Dot) (decision : Decision) (c : Case) (ours theirs : Body) → OwnHolds decision dot → AllByRecursion Q (tops_of ours) → AllByRecursion Q (tops_of theirs) → AllByRecursion Q (tops_of (case_body dot decision c ours theirs))
+  pub body-tops : (dot : Dot) (decision : Decision) (c : Case) (ours theirs : Body) → OwnHolds decision dot → AllByRecursion Q (tops_of ours) → AllByRecursion Q (tops_of theirs) → AllByRecursion Q (tops_of (case_body dot decision c ours theirs))
   body-tops dot decision case.Nothing ours theirs own one other = one
   body-tops dot decision case.Unite ours theirs own one other = one
   body-tops dot decision case.Take ours theirs own one other = other

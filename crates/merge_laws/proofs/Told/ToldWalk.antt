@@ -75,19 +75,19 @@ use Rattle.merge_laws.proofs.Unsent.UnsentKept.{all-found, version-site}
 use Rattle.merge_laws.proofs.Walking.{Sends, StepsKeep, acts_in, comes, here, join_noted, own_noted, told_by, uploaded_world}
 
 -- a row that a change leaves without a version had none
-none-held : (publication : Publication) (dot : Dot) (identity : Value) (change : Change) (held : Option Version) → version_after publication dot identity change held ≡ None → held ≡ None
+pub none-held : (publication : Publication) (dot : Dot) (identity : Value) (change : Change) (held : Option Version) → version_after publication dot identity change held ≡ None → held ≡ None
 none-held publication dot identity (Insert article values) held none = absurd cc
 none-held publication dot identity (Update article row values) None none = refl
 none-held publication dot identity (Update article row values) (Some version) none = absurd cc
 none-held publication dot identity (Delete article row) None none = refl
 none-held publication dot identity (Delete article row) (Some version) none = absurd cc
 
-none-ascends : IsStrictlySortedBy key_cmp (keys_of (let none : List (Key × SubscriberRow) = [] in none))
+pub none-ascends : IsStrictlySortedBy key_cmp (keys_of (let none : List (Key × SubscriberRow) = [] in none))
 unfolding IsStrictlySortedBy
 none-ascends = tt
 
 -- a subscriber's rows after a change
-changed-sorted : (key : Key) (found : Option Version) (u : SubscriberTables) → IsStrictlySortedBy key_cmp (keys_of u.rows) → IsStrictlySortedBy key_cmp (keys_of (with_version_if key found u).rows)
+pub changed-sorted : (key : Key) (found : Option Version) (u : SubscriberTables) → IsStrictlySortedBy key_cmp (keys_of u.rows) → IsStrictlySortedBy key_cmp (keys_of (with_version_if key found u).rows)
 changed-sorted key None u sorted = sorted
 changed-sorted key (Some version) u sorted = sorted_put key_cmp key_total key _ u.rows sorted
 

@@ -78,7 +78,7 @@ move-held false true changed acted kind e = refl
 move-held false false changed true kind e = refl
 move-held false false changed false kind e = absurd cc
 
-move-out : (was is changed acted : Bool) (kind : MoveKind) → move_of was is changed acted ≡ Some kind → (not was && (is && changed)) ≡ false
+pub move-out : (was is changed acted : Bool) (kind : MoveKind) → move_of was is changed acted ≡ Some kind → (not was && (is && changed)) ≡ false
 move-out true is changed acted kind e = refl
 move-out false true true acted kind e = absurd cc
 move-out false true false acted kind e = refl

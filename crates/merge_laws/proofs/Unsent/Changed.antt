@@ -129,11 +129,11 @@ changed_made from to made = fold with_change_of [] (filter (is_between_made from
 pub made-changed : (from to number generation : ℕ) (q : Key) (made : List MadeChange) → InOrder number generation made → row_at (changed_made from to made) q ≡ last_made from to q made
 made-changed from to number generation q made o = fold-best q (filter (is_between_made from to) made) [] ∙ best-found from to number generation q made o
 
-fold-ascends : (changes : List MadeChange) (rows : List (Key × ℕ)) → IsStrictlySortedBy key_cmp (keys_of rows) → IsStrictlySortedBy key_cmp (keys_of (fold with_change_of rows changes))
+pub fold-ascends : (changes : List MadeChange) (rows : List (Key × ℕ)) → IsStrictlySortedBy key_cmp (keys_of rows) → IsStrictlySortedBy key_cmp (keys_of (fold with_change_of rows changes))
 fold-ascends [] rows sorted = sorted
 fold-ascends (c ∷ changes) rows sorted = fold-ascends changes (with_change_of rows c) (sorted_put key_cmp key_total c.key _ rows sorted)
 
-none-ascends : IsStrictlySortedBy key_cmp (keys_of (let none : List (Key × ℕ) = [] in none))
+pub none-ascends : IsStrictlySortedBy key_cmp (keys_of (let none : List (Key × ℕ) = [] in none))
 unfolding IsStrictlySortedBy
 none-ascends = tt
 

@@ -1,6 +1,5 @@
 -- The names of an event: articles and columns of the publication.
-use Rattle.std.specs.Cmp.Lexicographic.{pointwise}
-use Rattle.std.specs.Prelude.{Bool, Err, List, None, Ok, Option, Result, Some, [], if◌then◌else◌, map, nat_eq, ℕ, ◌+◌, ◌∷◌}
+use Rattle.std.specs.Prelude.{Bool, Err, List, None, Ok, Option, Result, Some, [], if◌then◌else◌, map, ℕ, ◌+◌, ◌∷◌}
 use Rattle.merge_types.specs.declared.changes.Change.{Change}
 use Rattle.merge_types.specs.declared.changes.Change.TheVariants.{Delete, Insert, Update}
 use Rattle.merge_types.specs.declared.changes.Setting.{Setting}
@@ -9,12 +8,10 @@ use Rattle.merge_types.specs.declared.values.Column.{Column}
 use Rattle.merge_types.specs.declared.values.Value.{Value}
 use Rattle.merge_schema.specs.declared.publication.Article.{Article}
 use Rattle.merge_schema.specs.declared.publication.Publication.{Publication}
+use Rattle.merge_model.specs.Script.Literals.{same}
 use Rattle.merge_model.specs.Tables.Keys.{at_number, put_number}
 use Rattle.merge_model.specs.Tables.Publications.{columns_at}
 use Rattle.merge_model.specs.declared.event.NamedValue.{NamedValue}
-
-abbrev pub same_name : List ℕ → List ℕ → Bool
-same_name a b = pointwise nat_eq a b
 
 -- the place of the first member with a property
 abbrev pub place_from : {A : Type 0} → ℕ → (A → Bool) → List A → Option ℕ
@@ -22,10 +19,10 @@ place_from place test [] = None
 place_from place test (x ∷ xs) = if test x then Some place else place_from (place + 1) test xs
 
 abbrev pub article_place : Publication → List ℕ → Option ℕ
-article_place publication name = place_from 0 (λ (article : Article). same_name article.name name) publication.articles
+article_place publication name = place_from 0 (λ (article : Article). same article.name name) publication.articles
 
 abbrev pub column_place : List Column → List ℕ → Option ℕ
-column_place columns name = place_from 0 (λ (column : Column). same_name column.name name) columns
+column_place columns name = place_from 0 (λ (column : Column). same column.name name) columns
 
 -- The settings of an event by place, in the order of the columns; or the first name that is no column's or stood before.
 abbrev pub set_at : List (ℕ × Value) → NamedValue → Option ℕ → Result (List (ℕ × Value)) (List ℕ)
