@@ -1,69 +1,22 @@
 //! The messages that a subscriber makes, and their bytes.
-ghost use Rattle.std.specs.Prelude.{◌≡◌, IfOk, IfSome, option_map};
+ghost use Rattle.std.specs.Prelude.{◌≡◌, IfOk, IfSome};
 ghost use Rattle.serde_json.specs.Written.{compact_text};
-ghost use Rattle.merge_batch.specs.declared.request.Request.TheVariants as request;
 ghost use Rattle.merge_json.specs.Sendable.{IsSendableRequest};
 ghost use Rattle.merge_json.specs.WrittenRequests.{request_data};
-ghost use Rattle.merge_model.specs.World.Calls.{message_commits, message_or_none};
 ghost use Rattle.merge_wire.specs.Written.{IsVisible};
-ghost use Rattle.merge_world.specs.Messages.{request_of_sending, sending_of};
+ghost use Rattle.merge_world.specs.Messages.{sending_of};
 ghost use Rattle.merge_world.specs.Printable.{ArePrintable};
-ghost use Rattle.merge_world.specs.Views.{SubscriberCall};
 ghost use Rattle.merge_agent.specs.Texts.{IsReadable, request_text};
 ghost use Rattle.merge_agent.specs.Turns.{Makes};
 
 use crate::fault::SessionFault;
-use merge_batch::{Join, RangeAsk, Refusal, Request, Upload};
+use merge_batch::Request;
 use merge_json::{path_of, write_request};
 use merge_ports::MemorySink;
 use merge_types::{Listing, Moment, NoMemory, Octets, Words};
 use merge_wire::{Message, write_message};
-use merge_world::{Sending, SubscriberSite};
+use merge_world::{Sending, SubscriberSite, request_of};
 use std::alloc::Global;
-
-fn of_join(join: Option<Join>) -> Option<Request>
-    ensures { result ≡ option_map request.Join join }
-{
-    match join {
-        None => None,
-        Some(join) => Some(Request::Join(join)),
-    }
-}
-
-fn of_upload(upload: Option<Upload>) -> Option<Request>
-    ensures { result ≡ option_map request.Upload upload }
-{
-    match upload {
-        None => None,
-        Some(upload) => Some(Request::Upload(upload)),
-    }
-}
-
-fn of_ranges(ask: Option<RangeAsk>) -> Option<Request>
-    ensures { result ≡ option_map request.Ranges ask }
-{
-    match ask {
-        None => None,
-        Some(ask) => Some(Request::Ranges(ask)),
-    }
-}
-
-// The message that a subscriber makes, where it has one to make.
-fn made_message<S: SubscriberSite>(
-    site: &mut S,
-    now: Moment,
-    sending: Sending,
-) -> Result<Option<Request>, Refusal>
-    ensures called { SubscriberCall (message_or_none (S.view site.old).tables (request_of_sending (sending_of sending) now (S.view site.old).tables)) message_commits (S.view site.old) (S.view site.new) result }
-    ensures publication { (S.view site.new).publication ≡ (S.view site.old).publication }
-{
-    match sending {
-        Sending::Join => Ok(of_join(site.make_join()?)),
-        Sending::Upload => Ok(of_upload(site.make_upload(now)?)),
-        Sending::Ranges => Ok(of_ranges(site.make_ranges()?)),
-        Sending::Download => Ok(Some(Request::Download(site.make_ask()?))),
-    }
-}
 
 // What a subscriber's rows hold can be written.
 fn rows_are_printable<S: SubscriberSite>(site: &S)
@@ -83,7 +36,7 @@ pub(crate) fn make_message<S: SubscriberSite>(
     ensures sendable { IfOk result (λ made. IfSome made IsSendableRequest) }
 {
     rows_are_printable(site);
-    let made = made_message(site, now, sending)?;
+    let made = request_of(site, now, sending)?;
     Ok(made)
 }
 

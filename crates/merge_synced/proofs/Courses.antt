@@ -34,6 +34,7 @@ use Rattle.merge_model.specs.declared.letter.Message.TheVariants.{Replies}
 use Rattle.merge_world.specs.Messages.{request_of_sending}
 use Rattle.merge_world.specs.Sessions.{brings_found, download_in, grants, one_if}
 use Rattle.merge_laws.proofs.Received.Subscribing.{filling-rises}
+use Rattle.merge_laws.proofs.Sessions.SessionExchanges.{last-posted}
 use Rattle.merge_owed.proofs.HeldThresholds.{AreThresholds}
 use Rattle.merge_owed.proofs.RangeAnswers.{brought, planned}
 use Rattle.merge_agent.specs.Sessions.{Asks, Downloads, IsUnderWay, Joins, Over, Session, Stage, Uploads, at, sending_in, session_at_next_stage, session_behind_reply, stage_to}
@@ -42,7 +43,7 @@ use Rattle.merge_synced.specs.Courses.{Asking, Course, Done, Downloading, Fetchi
 use Rattle.merge_synced.proofs.Granting.{AllGo, all-begin, all-go, none-left}
 use Rattle.merge_synced.proofs.Made.{closes-one, none-unsent, ranges-refused, sent-site, taken-site, upload-made}
 use Rattle.merge_synced.proofs.Stands.{IsBehind, behind-step}
-use Rattle.merge_synced.proofs.Steps.{asks-always, exchange-is, last-posted, none-sent, refused-is, replied_world, sent_world, taken-has, taken-keeps, taken_world, told-last, unmade-is, untaken-is}
+use Rattle.merge_synced.proofs.Steps.{asks-always, exchange-is, none-sent, refused-is, replied_world, sent_world, taken-has, taken-keeps, taken_world, told-last, unmade-is, untaken-is}
 use Rattle.merge_synced.proofs.Took.{DownloadTook, RangesTook, UploadTook, closing_in, download-took, join-took, ranges-took, upload-took}
 use Rattle.merge_synced.proofs.Turns.{Turned}
 

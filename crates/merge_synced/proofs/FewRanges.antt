@@ -43,6 +43,7 @@ use Rattle.merge_model.specs.World.{Saying, World, empty_world, with_subscriber}
 use Rattle.merge_laws.proofs.Received.Models.{begins-with}
 use Rattle.merge_laws.proofs.Runs.Ground.{Ground, grounded-by-actions}
 use Rattle.merge_laws.proofs.Walking.{StepsKeep, step-keeps}
+use Rattle.merge_owed.proofs.HeldThresholds.{version-held}
 use Rattle.merge_honest.proofs.PutFound.{put-each}
 
 -- the articles rise, from this one on, and are below 32
@@ -104,10 +105,6 @@ draw-keeps : (s : SubscriberTables) (change : Change) → Rises 0 s.held → IfO
 draw-keeps s (Insert article settings) few = found-drawn s article (at_number s.held article) refl few
 draw-keeps s (Update article row settings) few = few
 draw-keeps s (Delete article row) few = few
-
-version-held : (key : Key) (found : Option Version) (u : SubscriberTables) → (with_version_if key found u).held ≡ u.held
-version-held key None u = refl
-version-held key (Some version) u = refl
 
 -- Ranges are received.
 

@@ -37,37 +37,7 @@ use Rattle.merge_model.proofs.Runs.Refusals.{first-none}
 use Rattle.merge_owed.proofs.HeldThresholds.{AreThresholds}
 use Rattle.merge_owed.proofs.RangeAnswers.{FitsIfAny, OwnAfter, and-both, answered, articles_in, brought, none-brought, none-without, others-held, own-after, own-found, planned, received}
 use Rattle.merge_owed.proofs.RangeSteps.{Goes, HasSome, Stuck, goes-on}
-
--- What is known where a request is not refused, and where its reply fits.
-
-rule-holds : (rule : ℕ) (b : Bool) → fault_of (broken_by_message ((rule, b) ∷ [])) ≡ None → b ≡ true
-rule-holds rule true none = refl
-rule-holds rule false none = absurd (grind (arith, none))
-
-pub asks-distinct : (publication : Publication) (judge : PublisherJudge) (now : Moment) (m : RangeAsk) (p : PublisherTables) → ranges_refusal publication judge now m p ≡ None → are_distinct (map wanted_article m.wants) ≡ true
-unfolding broken_by_ranges
-asks-distinct publication judge now m p none =
-    let rest = (first-none (site_refusal publication m.site m.seq now p) _ none).1 in
-    let fits = rule-holds 13 _ (first-none (ranges_fault publication judge m p) _ rest).0 in
-    (and-both (list_all (want_fits publication (known_by publication judge p) m.site.0) m.wants) (are_distinct (map wanted_article m.wants)) fits).1
-
-pub reply-fits : (publication : Publication) (d : Ranged) (s : SubscriberTables) → reply_fault publication ask.Ranges (reply.Ranged d) s ≡ None → list_all (grant_fits (heard_by s)) d.grants ≡ true
-unfolding broken_by_reply
-reply-fits publication d s none = (and-both (list_all (grant_fits (heard_by s)) d.grants) (are_distinct (map granted_article d.grants)) (rule-holds 0 _ none)).0
-
--- A range that fits has a value.
-
-has-values : (range : Range) → int_le range.begin range.end ≡ true → 1 ≤ size_of range
-has-values range is =
-    let some : range.begin ≤ℤ range.end = grind (arith, ints, nat_tests, is) in
-    let used = unused_has_values range some in
-    grind (arith, nat_tests, used)
-
-fits-some : (heard : Heard) (article : ℕ) (answer : Answer) → FitsIfAny (grant_fits heard) (granted_by article answer) → HasSome answer
-fits-some heard article (Ok (Granted number range)) fits = has-values range (and-both _ (int_le range.begin range.end) fits).1
-fits-some heard article (Ok (Kept number range)) fits = has-values range (and-both _ (int_le range.begin range.end) fits).1
-fits-some heard article (Ok NotDue) fits = tt
-fits-some heard article (Err fault) fits = tt
+use Rattle.merge_owed.proofs.RangesEnough.{fits-some}
 
 -- Of all articles that a site holds: at most so many more requests bring a range.
 abbrev pub AllGo : List Rule → ℕ → SiteId → List Grant → List (ℕ × Holder) → Type 0

@@ -52,6 +52,7 @@ use Rattle.merge_model.specs.declared.outcome.Taken.{Taken}
 use Rattle.merge_model.specs.declared.outcome.Taken.TheVariants.{Acted, Missed}
 use Rattle.merge_model.proofs.Runs.Refusals.{first-none}
 use Rattle.merge_world.specs.Messages.{as_request, request_of_sending, some_if_made}
+use Rattle.merge_laws.proofs.Sessions.SessionExchanges.{upload-goes}
 
 -- Of any call: what is made where it is not refused.
 
@@ -198,23 +199,6 @@ pub record RangesAnswered (publication : Publication) (now : Moment) (a : RangeA
 pub record AskAnswered (publication : Publication) (now : Moment) (a : Download) (p after : PublisherTables) (r : Reply) : Type 0 where
   pub tables : tables_after_download a (at_moment now p) ≡ after
   pub replied : reply.Downloaded (reply_to publication (by_numbers p) a (tables_after_download a (at_moment now p))) ≡ r
-
--- an upload that is not refused has a generation
-rule-first : (b : Bool) (rules : List (ℕ × Bool)) (items : Option BrokenRule) → fault_of (option_or (broken_by_message ((1, b) ∷ rules)) items) ≡ None → b ≡ true
-rule-first true rules items none = refl
-rule-first false rules items none = absurd (grind (arith, none))
-
-fault-goes : (publication : Publication) (judge : PublisherJudge) (u : Upload) (p : PublisherTables) → upload_fault publication judge u p ≡ None → u.from < u.to
-unfolding broken_by_upload
-fault-goes publication judge u p none =
-    let goes : has_generations u ≡ true = rule-first (has_generations u) _ (broken_by_items (item_rules publication (known_by publication judge p) u) u.items) none in
-    grind (arith, nat_tests, goes)
-
-upload-goes : (publication : Publication) (judge : PublisherJudge) (now : Moment) (u : Upload) (p : PublisherTables) → upload_refusal publication judge now u p ≡ None → u.from < u.to
-upload-goes publication judge now u p none =
-    let all = first-none (site_refusal publication u.site u.seq now p) _ none in
-    let gap = first-none (refused_if (judge.is_gap u.site.0 u.from) (Gap u.from (judge.received u.site.0))) _ all.1 in
-    fault-goes publication judge u p (first-none (upload_fault publication judge u p) _ gap.1).0
 
 most-left : (a b : ℕ) → a ≤ max a b
 most-left a b = grind (arith, nat_tests)

@@ -38,6 +38,7 @@ use Rattle.merge_model.specs.declared.outcome.Taken.TheVariants.{Acted}
 use Rattle.merge_model.proofs.Lists.Finding.{at_put_same}
 use Rattle.merge_laws.proofs.Walking.{letter-last as last-there}
 use Rattle.merge_world.specs.Messages.{as_request, request_of_sending, some_if_made}
+use Rattle.merge_laws.proofs.Sessions.SessionExchanges.{last-posted}
 
 -- the world with a request more in the pool, and with a reply
 abbrev pub sent_world : SiteId → SubscriberTables → Request → World → World
@@ -53,10 +54,6 @@ taken_world publication site sent q p r new w = with_subscriber new (replied_wor
 -- the site's tables in it
 pub sent-has : (site : SiteId) (sent : SubscriberTables) (q : Request) (w : World) → sent.site ≡ site → subscriber_at (sent_world site sent q w) site ≡ Some sent
 sent-has site sent q w keyed = subst (λ (x : SiteId). at_number (put_number w.subscribers sent.site.0 sent) x.0 ≡ Some sent) keyed (at_put_same sent.site.0 sent w.subscribers)
-
-pub last-posted : (before : Option Message) (pool : List Letter) (letter : Letter) → last_or before (map (λ (x : Letter). x.message) (pool ++ letter ∷ [])) ≡ Some letter.message
-last-posted before [] letter = refl
-last-posted before (other ∷ pool) letter = last-posted (Some other.message) pool letter
 
 -- A message that is made, by what its call gives.
 

@@ -36,8 +36,8 @@ use Rattle.merge_model.specs.World.{Saying}
 use Rattle.merge_model.specs.declared.outcome.Taken.TheVariants.{Acted}
 use Rattle.merge_laws.proofs.Received.Subscribing.{filling-closed}
 use Rattle.merge_owed.proofs.RangeAnswers.{articles_in, brought, planned}
+use Rattle.merge_owed.proofs.RangesGo.{asks-distinct, reply-fits}
 use Rattle.merge_synced.specs.Answering.{Serving}
-use Rattle.merge_synced.proofs.Granting.{asks-distinct, reply-fits}
 use Rattle.merge_synced.proofs.Made.{AskAnswered, AskMade, Fit, FitsAsk, JoinMade, RangesAnswered, RangesMade, UploadAnswered, UploadMade, closed-still, closed-twice, download-answered, download-made, fits-ask, join-answered, join-made, met-out, ranges-answered, ranges-made, upload-answered, upload-made}
 use Rattle.merge_synced.proofs.Turns.{Turned}
 

@@ -21,7 +21,7 @@ mod world;
 
 pub use laws::played_events_are_runs;
 pub use reports::Report;
-pub use sending::Sending;
+pub use sending::{Sending, request_of};
 pub use session::Ended;
 pub use sites::{PublisherSite, SubscriberSite};
 pub use step::seconds_of;

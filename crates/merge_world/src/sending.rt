@@ -48,8 +48,8 @@ fn of_ranges(ask: Option<RangeAsk>) -> Option<Request>
     }
 }
 
-// The message that a subscriber makes, where it has one to make.
-fn request_of<S: SubscriberSite>(
+/// The message that a subscriber makes, where it has one to make.
+pub fn request_of<S: SubscriberSite>(
     subscriber: &mut S,
     moment: Moment,
     sending: Sending,

@@ -5,4 +5,4 @@ use Rattle.merge_agent.proofs.message.make_message.Goals as goal
 
 pub returns-clause-sendable : goal.returns-clause-sendable
 returns-clause-sendable g c =
-    made-writable (sending_of c.args.sending) c.args.now (g.S.SubscriberSite.view c.args.site.now) (g.S.SubscriberSite.view c.made_message.new.site) c.in_ok-made.made c.rows_are_printable.ensures c.in_ok-made.ensures.called
+    made-writable (sending_of c.args.sending) c.args.now (g.S.SubscriberSite.view c.args.site.now) (g.S.SubscriberSite.view c.request_of.new.subscriber) c.in_ok-made.made c.rows_are_printable.ensures c.in_ok-made.ensures.called
