@@ -7,9 +7,9 @@ use Rattle.merge_model.specs.Tables.{SubscriberTables}
 use Rattle.merge_world.specs.Views.{PublisherView, SitesView, sites_view}
 
 -- a publisher that has done nothing
-abbrev pub idle : Publication → PublisherView
-idle publication = record { publication = publication; tables = empty_publisher publication; faults = 0; told = None }
+abbrev pub fresh_publisher : Publication → PublisherView
+fresh_publisher publication = record { publication = publication; tables = empty_publisher publication; faults = 0; told = None }
 
 -- a subscriber with these tables, beside such a publisher, where so many of its commits failed
 abbrev pub subscriber_view_alone : Publication → SubscriberTables → ℕ → Moment → SitesView
-subscriber_view_alone publication tables faults moment = sites_view (idle publication) (record { publication = publication; tables = tables; faults = faults; told = None } ∷ []) [] moment
+subscriber_view_alone publication tables faults moment = sites_view (fresh_publisher publication) (record { publication = publication; tables = tables; faults = faults; told = None } ∷ []) [] moment

@@ -53,9 +53,9 @@ impl Elsewhere {
 }
 
 impl PublisherSite for Elsewhere {
-    ghost use Rattle.merge_command.specs.Alone.{idle};
+    ghost use Rattle.merge_command.specs.Alone.{fresh_publisher};
 
-    ghost view = { idle };
+    ghost view = { fresh_publisher };
 
     ghost Damage = { λ publication table key. ⊥ };
 

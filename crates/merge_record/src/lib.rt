@@ -15,4 +15,5 @@ mod versions;
 pub use field::Field;
 pub use laws::{key_records, row_records, value_records};
 pub use ranges::{GrantKey, HeldRanges};
+pub use rows::numbers_ascend;
 pub use stop::Stop;

@@ -35,8 +35,8 @@ impl Field for PublisherRow {
     }
 }
 
-// Whether the numbers ascend.
-fn numbers_ascend(numbers: &[u64]) -> bool
+/// Whether the numbers ascend.
+pub fn numbers_ascend(numbers: &[u64]) -> bool
     ensures { result ≡ numbers_ascend numbers.now }
 {
     match numbers.split_first() {

@@ -1,10 +1,10 @@
 //! Whether what is put has a record: each count and each length fits its field.
 ghost use Rattle.std.specs.Prelude.{◌≡◌, true};
 ghost use Rattle.std.specs.List.{AllByRecursion};
-ghost use Rattle.merge_record.specs.Rows.{ascend_behind, numbers_ascend};
 ghost use Rattle.merge_record.specs.Versions.{IsShortBody};
 
 use merge_conflict::ConflictRow;
+use merge_record::numbers_ascend;
 use merge_table::Edit;
 use merge_types::Value;
 use merge_units::{Body, Cell, PublisherRow, SubscriberRow, Version};
@@ -116,28 +116,4 @@ impl<K, V: Storable> Storable for Edit<K, V> {
             Edit::Take(_) => true,
         }
     }
-}
-
-// Whether each number is above the one before it.
-fn numbers_ascend(numbers: &[u64]) -> bool
-    ensures { result ≡ numbers_ascend numbers.now }
-{
-    match numbers.split_first() {
-        None => true,
-        Some((first, rest)) => ascend_behind(*first, rest),
-    }
-}
-
-// Whether the numbers ascend, and all are above this one.
-fn ascend_behind(number: u64, numbers: &[u64]) -> bool
-    ensures { result ≡ ascend_behind number numbers.now }
-{
-    let mut last = number;
-    for number in numbers {
-        if *number <= last {
-            return false;
-        }
-        last = *number;
-    }
-    true
 }

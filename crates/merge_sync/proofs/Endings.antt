@@ -18,6 +18,7 @@ module _ (address : List ℕ) (publication : Publication) (site : SiteId) (aroun
   pub not-done : (s : Stop) → SessionStops address publication site around s → written ≡ was → EndsSo (Err s)
   not-done stop.WriteFault p silent = absurd p
   not-done stop.NoMemory p silent = (silent, inl p)
+  not-done stop.UnknownSite p silent = (silent, p)
   not-done stop.StoreFault p silent = (silent, p)
   not-done (stop.Damaged table key) p silent = (silent, p)
   not-done stop.LinkFault p silent = (silent, p)
@@ -29,6 +30,7 @@ module _ (address : List ℕ) (publication : Publication) (site : SiteId) (aroun
   pub not-written : (done : Done) → SessionIsHeld address publication site around (Ok done) → (s : Stop) → IsUnwritten s (done_text done) was written writes refused → EndsSo (Err s)
   not-written done held stop.WriteFault p = ((done, held, p.0), p.1)
   not-written done held stop.NoMemory p = (p, inr (done, held))
+  not-written done held stop.UnknownSite p = absurd p
   not-written done held stop.StoreFault p = absurd p
   not-written done held (stop.Damaged table key) p = absurd p
   not-written done held stop.LinkFault p = absurd p

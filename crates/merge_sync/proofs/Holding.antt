@@ -1,7 +1,8 @@
 -- A session that was held at a store, and one that was not.
-use Rattle.std.proofs.Common.{Err, List, Ok, Option, Result, Some, [], ap, arith, inl, inr, min, refl, subst, sym, ℕ, ◌+◌, ◌-◌, ◌^◌, ◌∙◌, ◌≡◌, ◌≤◌}
+use Rattle.std.proofs.Common.{Err, List, Ok, Option, Result, Some, [], ap, arith, inl, inr, min, refl, subst, sym, true, ℕ, ◌+◌, ◌-◌, ◌^◌, ◌∙◌, ◌≡◌, ◌≤◌}
 use Rattle.std.specs.Prelude.{IfSome}
 use Rattle.merge_types.specs.declared.identifiers.SiteId.{SiteId}
+use Rattle.merge_schema.specs.Places.{is_subscription}
 use Rattle.merge_schema.specs.declared.publication.Publication.{Publication}
 use Rattle.merge_ports.specs.Entries.{Map}
 use Rattle.merge_ports.specs.Faults.{Rose}
@@ -58,11 +59,12 @@ module _ (address : List ℕ) (publication : Publication) (site : SiteId) (aroun
 
   module _ (own : Publication) (copied : own ≡ publication) where
     pub begins : (s : SubscriberView) (coming : Option (List (List ℕ))) (exchanges : Option (List Exchange)) (links : ℕ) (moments : Option Moments)
-        → IsRead (subscriber_loaded own site (new_holders own)) around.stored (Ok (subscriber_stored s.tables)) → s.tables.site ≡ site → s.publication ≡ own → s.faults ≡ 0
+        → is_subscription own site.0 ≡ true → IsRead (subscriber_loaded own site (new_holders own)) around.stored (Ok (subscriber_stored s.tables)) → s.tables.site ≡ site → s.publication ≡ own → s.faults ≡ 0
         → coming ≡ around.responses → IfSome exchanges (λ (e : List Exchange). e ≡ []) → links ≡ 0 → moments ≡ around.moments
         → Begins publication site around (meeting s coming exchanges links moments)
-    begins s coming exchanges links moments read here is_published unfailed responses unasked fresh clock = record {
+    begins s coming exchanges links moments known read here is_published unfailed responses unasked fresh clock = record {
       published = is_published ∙ copied;
+      subscribes = subst (λ (p : Publication). is_subscription p site.0 ≡ true) copied known;
       here = here;
       read = subst (λ (p : Publication). IsRead (subscriber_loaded p site (new_holders p)) around.stored (Ok (subscriber_stored s.tables))) copied read;
       faults = unfailed;
@@ -74,6 +76,7 @@ module _ (address : List ℕ) (publication : Publication) (site : SiteId) (aroun
 
     -- no session was held, and the link was given back
     undone-by : (s : Stop) → IsUnstarted publication site s around.stored around.stores around.stores_after → around.kept ≡ around.stored → IfSome around.carried (λ (e : List Exchange). e ≡ []) → around.peer ≡ Some address → SessionStops address publication site around s
+    undone-by stop.UnknownSite p same unasked reached = (p, record { same = same; unasked = unasked; reached = reached })
     undone-by stop.StoreFault p same unasked reached = (p, inl (record { same = same; unasked = unasked; reached = reached }))
     undone-by (stop.Damaged table key) p same unasked reached = (p, record { same = same; unasked = unasked; reached = reached })
     undone-by stop.NoMemory p same unasked reached = inl (inr (record { same = same; unasked = unasked; reached = reached }))
@@ -93,16 +96,16 @@ module _ (address : List ℕ) (publication : Publication) (site : SiteId) (aroun
 
     -- a session was held, by what was told of each part
     pub held : (began ended : SubscriberView) (co cn : Option (List (List ℕ))) (xo xn : Option (List Exchange)) (lo ln : ℕ) (mo mn : Option Moments) (told : Option Map) → told ≡ around.stored
-        → IsRead (subscriber_loaded own site (new_holders own)) told (Ok (subscriber_stored began.tables)) → began.tables.site ≡ site → began.publication ≡ own → began.faults ≡ 0
+        → is_subscription own site.0 ≡ true → IsRead (subscriber_loaded own site (new_holders own)) told (Ok (subscriber_stored began.tables)) → began.tables.site ≡ site → began.publication ≡ own → began.faults ≡ 0
         → co ≡ around.responses → IfSome xo (λ (e : List Exchange). e ≡ []) → lo ≡ 0 → mo ≡ around.moments
         → (r : Result Done SessionFault) → Syncs address (meeting began co xo lo mo) (meeting ended cn xn ln mn) r
         → (kept : Option Map) → around.kept ≡ kept → IsKept (records_of ended.tables) kept → around.carried ≡ xn → around.peer ≡ Some address
         → around.stores_after ≡ min (around.stores + ended.faults) (2 ^ 64 - 1) → around.links_after ≡ min (around.links + ln) (2 ^ 64 - 1)
         → HeldSo r
-    held began ended co cn xo xn lo ln mo mn told is read here published unfailed responses unasked fresh clock r syncs kept given has carried reached stores links = record {
+    held began ended co cn xo xn lo ln mo mn told is known read here published unfailed responses unasked fresh clock r syncs kept given has carried reached stores links = record {
       began = meeting began co xo lo mo;
       ended = meeting ended cn xn ln mn;
-      begins = begins began co xo lo mo (subst (λ (o : Option Map). IsRead (subscriber_loaded own site (new_holders own)) o (Ok (subscriber_stored began.tables))) is read) here published unfailed responses unasked fresh clock;
+      begins = begins began co xo lo mo known (subst (λ (o : Option Map). IsRead (subscriber_loaded own site (new_holders own)) o (Ok (subscriber_stored began.tables))) is read) here published unfailed responses unasked fresh clock;
       syncs = syncs;
       leaves = record { kept = subst (IsKept (records_of ended.tables)) (sym given) has; carried = carried; stores = stores; links = links };
       reached = reached;

@@ -1,7 +1,8 @@
 -- How a session at a store ends, and what is written of it.
-use Rattle.std.specs.Prelude.{Err, List, Ok, Option, Result, ℕ, ◌≡◌, ◌⊎◌}
+use Rattle.std.specs.Prelude.{Err, List, Ok, Option, Result, false, ℕ, ◌≡◌, ◌⊎◌}
 use Rattle.std.specs.Io.KnownBytes.{Appends}
 use Rattle.merge_types.specs.declared.identifiers.SiteId.{SiteId}
+use Rattle.merge_schema.specs.Places.{is_subscription}
 use Rattle.merge_schema.specs.declared.publication.Publication.{Publication}
 use Rattle.merge_batch.specs.declared.refusal.Refusal.TheVariants as refusal
 use Rattle.merge_ports.specs.Faults.{Rose}
@@ -11,10 +12,11 @@ use Rattle.merge_agent.specs.declared.fault.SessionFault.TheVariants as session
 use Rattle.merge_sync.specs.Stops.{done_text}
 use Rattle.merge_sync.specs.Stores.{Around, IsDamagedAs, LinkCarriesNothing, NoSessionIsHeld, SessionIsHeld}
 use Rattle.merge_sync.specs.declared.stop.Stop.{Stop}
-use Rattle.merge_sync.specs.declared.stop.Stop.TheVariants.{BadReply, Damaged, Expired, LinkFault, NoMemory, Refused, StoreFault, WriteFault}
+use Rattle.merge_sync.specs.declared.stop.Stop.TheVariants.{BadReply, Damaged, Expired, LinkFault, NoMemory, Refused, StoreFault, UnknownSite, WriteFault}
 
 -- why a session was not done
 abbrev pub SessionStops : (address : List ℕ) → Publication → SiteId → Around → Stop → Type 0
+SessionStops address publication site around UnknownSite = (is_subscription publication site.0 ≡ false) × LinkCarriesNothing address around
 SessionStops address publication site around StoreFault = Rose around.stores around.stores_after × (LinkCarriesNothing address around ⊎ SessionIsHeld address publication site around (Err session.StoreFault))
 SessionStops address publication site around (Damaged table key) = IsDamagedAs publication site around.stored (refusal.Damaged table key) × LinkCarriesNothing address around
 SessionStops address publication site around LinkFault = Rose around.links around.links_after × SessionIsHeld address publication site around (Err session.LinkFault)

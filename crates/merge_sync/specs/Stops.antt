@@ -10,15 +10,16 @@ use Rattle.merge_agent.specs.declared.fault.Done.{Done}
 use Rattle.merge_agent.specs.declared.fault.SessionFault.{SessionFault}
 use Rattle.merge_agent.specs.declared.fault.SessionFault.TheVariants as session
 use Rattle.merge_sync.specs.declared.stop.Stop.{Stop}
-use Rattle.merge_sync.specs.declared.stop.Stop.TheVariants.{BadReply, Damaged, Expired, LinkFault, NoMemory, Refused, StoreFault}
+use Rattle.merge_sync.specs.declared.stop.Stop.TheVariants.{BadReply, Damaged, Expired, LinkFault, NoMemory, Refused, StoreFault, UnknownSite}
 
 -- the store is not opened
 abbrev pub stop_of_opening : OpenFault → Stop
 stop_of_opening opening.Failed = StoreFault
 stop_of_opening opening.NoMemory = NoMemory
 
--- the site does not start for its store, or for want of memory
+-- the site does not start for its number, for its store, or for want of memory
 abbrev pub stop_of_start : Refusal → Stop
+stop_of_start (refusal.UnknownSite site) = UnknownSite
 stop_of_start refusal.StoreFault = StoreFault
 stop_of_start (refusal.Damaged table key) = Damaged table key
 stop_of_start other = NoMemory

@@ -1,6 +1,7 @@
 -- A session of a subscriber that starts at its store, with a link and a clock that were just opened.
-use Rattle.std.specs.Prelude.{IfSome, List, Ok, Option, Result, Some, [], min, ℕ, ◌+◌, ◌-◌, ◌^◌, ◌≡◌, ◌⊎◌}
+use Rattle.std.specs.Prelude.{IfSome, List, Ok, Option, Result, Some, [], false, min, true, ℕ, ◌+◌, ◌-◌, ◌^◌, ◌≡◌, ◌⊎◌}
 use Rattle.merge_types.specs.declared.identifiers.SiteId.{SiteId}
+use Rattle.merge_schema.specs.Places.{is_subscription}
 use Rattle.merge_schema.specs.declared.publication.Publication.{Publication}
 use Rattle.merge_batch.specs.declared.refusal.Refusal.{Refusal}
 use Rattle.merge_batch.specs.declared.refusal.Refusal.TheVariants as refusal
@@ -18,7 +19,7 @@ use Rattle.merge_agent.specs.Sessions.{Syncs}
 use Rattle.merge_agent.specs.declared.fault.Done.{Done}
 use Rattle.merge_agent.specs.declared.fault.SessionFault.{SessionFault}
 use Rattle.merge_sync.specs.declared.stop.Stop.{Stop}
-use Rattle.merge_sync.specs.declared.stop.Stop.TheVariants.{Damaged, NoMemory, StoreFault}
+use Rattle.merge_sync.specs.declared.stop.Stop.TheVariants.{Damaged, NoMemory, StoreFault, UnknownSite}
 
 -- What is told around a session, each part where it is told: before it the store, the responses and the moments that are to come, and
 -- what the link carried that was given back last, and its address; and behind it the store, and what such a link carried, and its
@@ -37,9 +38,11 @@ pub record Around : Type 0 where
   pub stores_after : ℕ
   pub links_after : ℕ
 
--- a subscriber has the tables to which its store loads, and meets a link that was asked nothing and a clock that gave nothing
+-- a subscriber of a site that is a subscription has the tables to which its store loads, and meets a link that was asked nothing and a
+-- clock that gave nothing
 pub record Begins (publication : Publication) (site : SiteId) (around : Around) (m : Meeting) : Type 0 where
   pub published : m.publication ≡ publication
+  pub subscribes : is_subscription publication site.0 ≡ true
   pub here : m.tables.site ≡ site
   pub read : IsRead (subscriber_loaded publication site (new_holders publication)) around.stored (Ok (subscriber_stored m.tables))
   pub faults : m.faults ≡ 0
@@ -69,8 +72,10 @@ pub record SessionIsHeld (address : List ℕ) (publication : Publication) (site 
 abbrev pub IsDamagedAs : Publication → SiteId → Option Map → Refusal → Type 0
 IsDamagedAs publication site stored why = IsDamage (subscriber_loaded publication site (new_holders publication)) stored why
 
--- why a subscriber did not start: its store could not be opened or read, which is counted, or is damaged; or memory was wanting
+-- why a subscriber did not start: its site is no subscription; its store could not be opened or read, which is counted, or is damaged; or
+-- memory was wanting
 abbrev pub IsUnstarted : Publication → SiteId → Stop → (stored : Option Map) → (before after : ℕ) → Type 0
+IsUnstarted publication site UnknownSite stored before after = is_subscription publication site.0 ≡ false
 IsUnstarted publication site StoreFault stored before after = Rose before after
 IsUnstarted publication site (Damaged table key) stored before after = IsDamagedAs publication site stored (refusal.Damaged table key)
 IsUnstarted publication site NoMemory stored before after = Unit {0}

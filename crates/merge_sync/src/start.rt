@@ -1,8 +1,9 @@
 //! A subscriber starts at its store.
-ghost use Rattle.std.specs.Prelude.{◌≡◌, IfErr, IfOk, Ok, OnErr, OnOk, ℕ};
+ghost use Rattle.std.specs.Prelude.{◌≡◌, IfErr, IfOk, Ok, OnErr, OnOk, ℕ, true};
 ghost use Rattle.merge_keeper.specs.SubscriberStart.{subscriber_loaded};
 ghost use Rattle.merge_model.specs.Publisher.{new_holders};
 ghost use Rattle.merge_ports.specs.Opened.{SameElsewhere};
+ghost use Rattle.merge_schema.specs.Places.{is_subscription};
 ghost use Rattle.merge_schema.specs.Valid.{IsValid};
 ghost use Rattle.merge_site.specs.Loading.{IsRead};
 ghost use Rattle.merge_site.specs.Subscribers.{subscriber_stored};
@@ -24,6 +25,7 @@ pub(crate) fn start<E: Outside>(
     site: SiteId,
 ) -> Result<KeptSubscriber<E::Keep>, Stop>
     requires { (resolvers : ℕ) × IsValid resolvers publication }
+    ensures subscribes { OnOk result (is_subscription publication site.0 ≡ true) }
     ensures tables { IfOk result (λ s. IsRead (subscriber_loaded publication site (new_holders publication)) (E.told outside.old site store.now) (Ok (subscriber_stored s.tables))) }
     ensures site { IfOk result (λ s. s.tables.site ≡ site) }
     ensures publication { IfOk result (λ s. s.publication ≡ publication) }

@@ -10,6 +10,8 @@ use merge_types::{Moment, NoMemory, Octets};
 /// Why a session at a store was not told as done.
 #[derive(Debug, Drop)]
 pub enum Stop {
+    /// The site is no subscription.
+    UnknownSite,
     /// The store could not be opened or read, or it failed in the session. It is counted.
     StoreFault,
     /// A record of the store has no reading, or breaks the rules of its site.
@@ -59,11 +61,13 @@ pub(crate) fn unopened(fault: OpenFault) -> Stop
     }
 }
 
-/// How a session stops by a site that does not start. That is for its store, or for want of memory.
+/// How a session stops by a site that does not start. That is for its number, for its store, or for
+/// want of memory.
 pub(crate) fn unstarted(why: Refusal) -> Stop
     ensures { result ≡ stop_of_start why }
 {
     match why {
+        Refusal::UnknownSite { .. } => Stop::UnknownSite,
         Refusal::StoreFault => Stop::StoreFault,
         Refusal::Damaged { table, key } => Stop::Damaged { table, key },
         _ => Stop::NoMemory,

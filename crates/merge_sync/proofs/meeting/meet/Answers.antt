@@ -43,7 +43,7 @@ returns-clause-meets g c =
     let counts = l.counts ∙ c.clock-clock.ensures.counts in
     meets _ _ _ _ _ _ c.ending_of.ensures (held _ _ _ _ _ c.in_ok-own.ensures c.in-Ok.subscriber c.session-met.new.site _ _ _ _ _ _ _ _ _
     (ap (λ (f : SiteId → List ℕ → Option Map). f c.args.site c.args.store.now) (l.stores ∙ c.clock-clock.ensures.stores))
-    s.tables s.site s.publication s.faults (l.coming ∙ ap (λ (o : Offers). o.responses) c.clock-clock.ensures.others) l.unasked l.fresh c.clock-clock.ensures.moments
+    s.subscribes s.tables s.site s.publication s.faults (l.coming ∙ ap (λ (o : Offers). o.responses) c.clock-clock.ensures.others) l.unasked l.fresh c.clock-clock.ensures.moments
     _ c.session-met.ensures.syncs _ (ap (λ (f : SiteId → List ℕ → Option Map). f c.args.site c.args.store.now) back.stores ∙ given.map) c.into_keeper.ensures.kept.kept
     (ap (λ (o : Offers). o.exchanges) back.exchanges) (ap (λ (o : Offers). o.peer) back.exchanges ∙ c.session-met.ensures.peer ∙ l.peer)
     (stores-counted (g.E.Outside.counts c.args.outside.now) _ _ _ _ back.counts _ _ given.counts c.into_keeper.ensures.faults (s.stores ∙ ap (λ (k : Counts). k.stores) counts))
