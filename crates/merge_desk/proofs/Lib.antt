@@ -3,4 +3,5 @@ pub mod Entries
 pub mod Lines
 pub mod Matching
 pub mod Numbers
+pub mod OneThread
 pub mod Sums

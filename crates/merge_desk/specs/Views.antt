@@ -58,6 +58,10 @@ seat_fault_parts s = s.fault_parts
 abbrev pub seat_number : SeatView → ℕ
 seat_number s = s.number
 
+-- how many marks it was told
+abbrev pub seat_marks : SeatView → ℕ
+seat_marks s = length s.told
+
 -- no seat was told more marks than it made calls
 abbrev pub AreToldInCalls : List SeatView → Type 0
 AreToldInCalls seats = AllByRecursion (λ (s : SeatView). length s.told ≤ s.calls) seats

@@ -5,7 +5,7 @@ ghost use Rattle.merge_json.specs.Sendable.{IsSendableReply, IsSendableRequest};
 ghost use Rattle.merge_desk.specs.Comparing.{AllToldAsKept};
 ghost use Rattle.merge_desk.specs.Ending.{IsDiffering};
 ghost use Rattle.merge_desk.specs.Marks.{mark_on};
-ghost use Rattle.merge_desk.specs.Views.{IsJournal, numbers_from, seat_call_parts, seat_calls, seat_fault_parts, seat_faults, seat_number};
+ghost use Rattle.merge_desk.specs.Views.{AreToldInCalls, IsJournal, numbers_from, seat_call_parts, seat_calls, seat_fault_parts, seat_faults, seat_number};
 ghost use Rattle.merge_desk.specs.declared.fault.DeskFault.TheVariants as fault;
 
 use crate::ending::{Closed, Differs};
@@ -161,10 +161,11 @@ impl<P: DraftingPublisher, L: Ledger, M: Ledger, N: Ledger, O: Opening> Desk<P, 
     pub fn close(self, seats: Vec<Seat<L, M>>) -> Result<Closed<P, N>, Differs<P, N>>
         requires calls { sum_by seat_call_parts seats.items ≡ L.parts }
         requires faults { sum_by seat_fault_parts seats.items ≡ M.parts }
-        ensures journal { IfOk result (λ closed. IsJournal O.publication O.says O.tables closed.journal.items (P.view closed.publisher).tables) }
-        ensures told { IfOk result (λ closed. AllToldAsKept closed.journal.items seats.items) }
-        ensures calls { IfOk result (λ closed. length closed.journal.items ≡ sum_by seat_calls seats.items) }
-        ensures paid { IfOk result (λ closed. length closed.journal.items ≤ closed.permits.amount) }
+        ensures journal { IfOk result (λ closed. IsJournal O.publication O.says O.tables closed.journal (P.view closed.publisher).tables) }
+        ensures told { IfOk result (λ closed. AllToldAsKept closed.journal seats.items) }
+        ensures calls { IfOk result (λ closed. length closed.journal ≡ sum_by seat_calls seats.items) }
+        ensures few { OnOk result (AreToldInCalls seats.items) }
+        ensures paid { IfOk result (λ closed. length closed.journal ≤ closed.permits.amount) }
         ensures faults { IfOk result (λ closed. O.count + sum_by seat_faults seats.items ≤ (P.view closed.publisher).faults) }
         ensures differs { IfErr result (λ d. IsDiffering O.publication O.says O.tables d.journal.items (P.view d.publisher).tables seats.items d.difference) }
         ensures spent { IfErr result (λ d. length d.journal.items ≤ d.permits.amount) }

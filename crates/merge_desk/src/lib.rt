@@ -15,7 +15,7 @@ mod working;
 
 pub use comparing::Difference;
 pub use desk::{Desk, DeskStart};
-pub use ending::{Closed, Differs};
+pub use ending::{Closed, Differs, Journal};
 pub use entry::{Entry, Receipt};
 pub use fault::DeskFault;
 pub use mark::Mark;

@@ -2,6 +2,7 @@
 ghost use Rattle.std.specs.Prelude.{◌≡◌, ◌++◌, IfOk, OnOk, count_by, string_bytes};
 ghost use Rattle.merge_desk.specs.Summary.{counts_line, is_of, is_refusal, summary_text};
 
+use crate::ending::Journal;
 use crate::entry::Entry;
 use merge_batch::Kind;
 use merge_types::{NoMemory, Words};
@@ -61,18 +62,19 @@ fn add_counts(
 }
 
 /// How many calls the journal has, how many of each kind, and how many were refused.
-pub fn summary(alloc: Global, journal: &[Entry]) -> Result<Words, NoMemory>
+pub fn summary(alloc: Global, journal: &Journal) -> Result<Words, NoMemory>
     ensures { IfOk result (λ text. text ≡ summary_text journal.now) }
 {
+    let entries = journal.entries();
     let mut text = String::new(alloc);
     add_counts(
         &mut text,
-        journal.len() as u64,
-        count_of(journal, Kind::Join) as u64,
-        count_of(journal, Kind::Upload) as u64,
-        count_of(journal, Kind::Ranges) as u64,
-        count_of(journal, Kind::Download) as u64,
-        count_refused(journal) as u64,
+        entries.len() as u64,
+        count_of(entries, Kind::Join) as u64,
+        count_of(entries, Kind::Upload) as u64,
+        count_of(entries, Kind::Ranges) as u64,
+        count_of(entries, Kind::Download) as u64,
+        count_refused(entries) as u64,
     )?;
     Ok(Words::new(text))
 }

@@ -1,5 +1,7 @@
 -- A connection that was attended may be closed, and seats grow.
-use Rattle.std.proofs.Common.{◌≡◌, ◌≤◌, ◌+◌, ◌++◌, ◌∙◌, List, ℕ, ap, append_assoc, arith, sym}
+use Rattle.std.proofs.Common.{◌≡◌, ◌≢◌, ◌≤◌, ◌<◌, ◌+◌, ◌++◌, ◌==◌, ◌∙◌, Bool, List, ap, append_assoc, arith, false, length, length-append, refl, slice_index_or, slice_set, subst, sym, true, ℕ}
+use Rattle.std.proofs.lemmas.Bool.Decides.{Decides-eqb, nat_tests}
+use Rattle.std.proofs.lemmas.List.{get_or-set_other, get_or-set_same, get_or_default}
 use Rattle.merge_types.specs.declared.identifiers.Moment.{Moment}
 use Rattle.merge_desk.specs.Views.{SeatView}
 use Rattle.merge_ports.specs.Faults.{Rose}
@@ -28,6 +30,21 @@ later_then s t u a b = record {
   fault_parts = b.fault_parts ∙ a.fault_parts;
   more = a.more ++ b.more;
   told = b.told ∙ ap (λ ms. ms ++ b.more) a.told ∙ append_assoc s.told a.more b.more;
-  calls = omega (arith, a.calls, b.calls);
+  calls = omega (arith, a.calls, b.calls, length-append a.more b.more);
   faults = omega (arith, a.faults, b.faults);
 }
+
+-- all seats are later, and the first once more
+module _ (old new : List SeatView) (any more : SeatView) (same : length new ≡ length old) (grown : (i : ℕ) (d : SeatView) → i < length old → IsLater (slice_index_or old i d) (slice_index_or new i d)) (some : 0 < length old)
+    (later : IsLater (slice_index_or new 0 any) more) where
+  later-at : (i : ℕ) (d : SeatView) → i < length old → (b : Bool) → (i == 0) ≡ b → IsLater (slice_index_or old i d) (slice_index_or (slice_set new 0 more) i d)
+  later-at i d inside true first =
+      let begins : 0 < length new = omega (arith, same, some) in
+      let before : IsLater (slice_index_or old 0 d) (slice_index_or new 0 any) = subst (λ (s : SeatView). IsLater (slice_index_or old 0 d) s) (sym (get_or_default new 0 any d begins)) (grown 0 d some) in
+      rw ((Decides-eqb i 0).0 first, get_or-set_same new 0 more d begins) (later_then (slice_index_or old 0 d) (slice_index_or new 0 any) more before later)
+  later-at i d inside false behind =
+      let other : i ≢ 0 = grind (arith, nat_tests, behind) in
+      rw (get_or-set_other new 0 i more d other) (grown i d inside)
+
+  pub first-later : (i : ℕ) (d : SeatView) → i < length old → IsLater (slice_index_or old i d) (slice_index_or (slice_set new 0 more) i d)
+  first-later i d inside = later-at i d inside (i == 0) refl

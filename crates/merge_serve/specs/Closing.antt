@@ -1,5 +1,5 @@
 -- How a connection begins, and how it ends.
-use Rattle.std.specs.Prelude.{IfSome, List, [], ℕ, ◌+◌, ◌++◌, ◌≡◌, ◌≤◌}
+use Rattle.std.specs.Prelude.{IfSome, List, [], length, ℕ, ◌+◌, ◌++◌, ◌≡◌, ◌≤◌}
 use Rattle.merge_types.specs.declared.identifiers.Moment.{Moment}
 use Rattle.merge_desk.specs.Views.{SeatView}
 use Rattle.merge_desk.specs.declared.mark.Mark.{Mark}
@@ -18,12 +18,12 @@ pub record IsFresh (first now : Traffic) : Type 0 where
 abbrev pub IsServed : Traffic → Traffic → SeatView → SeatView → Type 0
 IsServed first now s t = now.read_faults ≡ first.read_faults → now.write_faults ≡ first.write_faults → (moment : Moment) × (answer : Answer) × Answers moment first now s t answer
 
--- the same seat, with more calls
+-- the same seat, with more calls: as many as it was told marks
 pub record IsLater (s t : SeatView) : Type 0 where
   pub number : t.number ≡ s.number
   pub call_parts : t.call_parts ≡ s.call_parts
   pub fault_parts : t.fault_parts ≡ s.fault_parts
   pub more : List Mark
   pub told : t.told ≡ s.told ++ more
-  pub calls : s.calls ≤ t.calls
+  pub calls : t.calls ≡ s.calls + length more
   pub faults : s.faults ≤ t.faults

@@ -5,6 +5,7 @@ use Rattle.std.proofs.lemmas.List.Elements.{All-contains, All-from_recursion}
 use Rattle.merge_schema.specs.declared.publication.Publication.{Publication}
 use Rattle.merge_model.specs.Tables.{PublisherTables}
 use Rattle.merge_desk.proofs.Matching.{kept-of-another, kept-of-it}
+use Rattle.merge_desk.proofs.OneThread.{head-of, tail-of}
 use Rattle.merge_desk.specs.Comparing.{kept_marks}
 use Rattle.merge_desk.specs.Marks.{mark_on}
 use Rattle.merge_desk.specs.Replay.{answer_to, mark_in, marks_from, replay}
@@ -12,12 +13,6 @@ use Rattle.merge_desk.specs.Views.{SeatView}
 use Rattle.merge_desk.specs.declared.entry.Entry.{Entry}
 use Rattle.merge_desk.specs.declared.mark.Mark.{Mark}
 use Rattle.merge_served.specs.Told.{RepliesAreOneThreads}
-
-head-of : {x y : Mark} {xs ys : List Mark} → x ∷ xs ≡ y ∷ ys → x ≡ y
-head-of e = cc e
-
-tail-of : {x y : Mark} {xs ys : List Mark} → x ∷ xs ≡ y ∷ ys → xs ≡ ys
-tail-of e = cc e
 
 -- an entry of a seat with a mark
 record Found (number : ℕ) (journal : List Entry) (m : Mark) : Type 0 where

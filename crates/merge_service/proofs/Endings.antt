@@ -23,9 +23,9 @@ use Rattle.merge_service.specs.declared.stop.Stop.{Stop}
 use Rattle.merge_service.specs.declared.stop.Stop.TheVariants as stop
 use Rattle.merge_service.proofs.Days.{day-of, no-journal}
 
-module _ (publication : Publication) (says : Saying) (requests : ℕ) (around : Around) (was written : Option (List ℕ)) (writes refused : ℕ) where
+module _ (publication : Publication) (says : Saying) (workers requests : ℕ) (around : Around) (was written : Option (List ℕ)) (writes refused : ℕ) where
   abbrev EndsSo : Result Unit Stop → Type 0
-  EndsSo r = Ends publication says requests around was written writes refused r
+  EndsSo r = Ends publication says workers requests around was written writes refused r
 
   not-started : (s : Stop) → IsUnstarted publication s around.stored around.stores around.stores_after → around.kept ≡ around.stored → written ≡ was → around.doors_after ≡ around.doors → EndsSo (Err s)
   not-started stop.StoreFault p same silent closed = (silent, p, same, closed)
@@ -47,7 +47,7 @@ module _ (publication : Publication) (says : Saying) (requests : ℕ) (around : 
     unmoved : new ≡ old → IsSomeDay publication says old new
     unmoved same = ([], subst (λ (t : PublisherTables). IsJournal publication says old [] t) (sym same) (no-journal publication says old))
 
-    not-served : (s : Stop) → IsDay publication says old new requests around.handed around.doors around.doors_after (Err s) → written ≡ was → EndsSo (Err s)
+    not-served : (s : Stop) → IsDay publication says old new workers requests around.handed around.doors around.doors_after (Err s) → written ≡ was → EndsSo (Err s)
     not-served stop.DoorFault p silent = (silent, p.0, held p.1)
     not-served (stop.Differs d) p silent = (silent, held p)
     not-served stop.NoMemory p silent = (silent, inr (held (unmoved p)))
@@ -55,8 +55,8 @@ module _ (publication : Publication) (says : Saying) (requests : ℕ) (around : 
     not-served (stop.Damaged table key) p silent = absurd p
     not-served stop.WriteFault p silent = absurd p
 
-    module _ (journal : List Entry) (day : IsDay publication says old new requests around.handed around.doors around.doors_after (Ok journal)) where
-      served : Served publication says requests around journal
+    module _ (journal : List Entry) (day : IsDay publication says old new workers requests around.handed around.doors around.doors_after (Ok journal)) where
+      served : Served publication says workers requests around journal
       served = record { held = held day.0; all = day.1; few = day.2 }
 
       all-served : (slice : List Entry) → slice ≡ journal → Appends was written (summary_text slice) → EndsSo (Ok tt)
@@ -64,7 +64,7 @@ module _ (publication : Publication) (says : Saying) (requests : ℕ) (around : 
 
       not-written : (s : Stop) → IsUnwritten s (summary_text journal) was written writes refused → EndsSo (Err s)
       not-written stop.WriteFault p = ((journal, served, p.0), p.1)
-      not-written stop.NoMemory p = (p, inr (held (journal, day.0)))
+      not-written stop.NoMemory p = (p, inr (held (journal, day.0.kept)))
       not-written stop.StoreFault p = absurd p
       not-written (stop.Damaged table key) p = absurd p
       not-written stop.DoorFault p = absurd p
@@ -77,14 +77,14 @@ module _ (publication : Publication) (says : Saying) (requests : ℕ) (around : 
       summed slice is (Ok done) ok err = all-served slice is ok
       summed slice is (Err s) ok err = unsummed s slice is err
 
-    module _ (p : Publication) (s : Saying) (o : PublisherTables) (same : p ≡ publication) (said : s ≡ says) (began : o ≡ old) (r : Result (List Entry) Stop) (day : IsDay p s o new requests around.handed around.doors around.doors_after r) where
+    module _ (p : Publication) (s : Saying) (o : PublisherTables) (same : p ≡ publication) (said : s ≡ says) (began : o ≡ old) (r : Result (List Entry) Stop) (day : IsDay p s o new workers requests around.handed around.doors around.doors_after r) where
       pub not-served-so : (why : Stop) → r ≡ Err why → written ≡ was → EndsSo (Err why)
-      not-served-so why is silent = not-served why (day-of p publication s says o old new requests around.handed around.doors around.doors_after r (Err why) same said began is day) silent
+      not-served-so why is silent = not-served why (day-of p publication s says o old new workers requests around.handed around.doors around.doors_after r (Err why) same said began is day) silent
 
       pub summed-so : (journal : List Entry) → r ≡ Ok journal → (slice : List Entry) → slice ≡ journal → (w : Result Unit Stop)
           → OnOk w (Appends was written (summary_text slice)) → IfErr w (λ (why : Stop). IsUnwritten why (summary_text slice) was written writes refused) → EndsSo w
       summed-so journal is slice same_slice w ok err =
-          summed journal (day-of p publication s says o old new requests around.handed around.doors around.doors_after r (Ok journal) same said began is day) slice same_slice w ok err
+          summed journal (day-of p publication s says o old new workers requests around.handed around.doors around.doors_after r (Ok journal) same said began is day) slice same_slice w ok err
 
 -- What a store told, and what it has.
 

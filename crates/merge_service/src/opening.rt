@@ -4,11 +4,11 @@ ghost use Rattle.merge_service.specs.Days.{IsDay, result_of_outcome};
 
 use crate::day::{Day, Outcome, hold_day};
 use crate::stop::{Stop, undoored};
-use merge_desk::Entry;
+use merge_desk::Journal;
 use merge_draft::DraftingPublisher;
 use merge_link::Clock;
 use merge_serve::{Door, Doors};
-use merge_types::{Listing, Words};
+use merge_types::Words;
 use std::alloc::Global;
 use std::marker::Brand;
 use std::sync::Wait;
@@ -16,7 +16,7 @@ use std::sync::ledger::Blank;
 use std::thread::Threads;
 
 // How a day ended by its outcome.
-fn ended(outcome: Outcome, requests: u64) -> Result<Listing<Entry>, Stop>
+fn ended(outcome: Outcome, requests: u64) -> Result<Journal, Stop>
     ensures { result ≡ result_of_outcome outcome requests }
 {
     match outcome {
@@ -47,7 +47,7 @@ pub(crate) fn open_day<
     workers: u16,
     requests: u64,
     clock: C,
-) -> (P, Result<Listing<Entry>, Stop>)
+) -> (P, Result<Journal, Stop>)
 where
     P::Work: Send,
     T::Opened: Send,
@@ -55,7 +55,7 @@ where
     <T::Opened as Door>::Output: Send,
     requires workers { (1 ≤ workers) × (workers ≤ 16) }
     ensures asked { T.asked doors.new ≡ Some address.now }
-    ensures day { IsDay (P.view publisher).publication (P.view publisher).says (P.view publisher).tables (P.view result.0).tables requests (T.handed doors.new) (T.count doors.old) (T.count doors.new) result.1 }
+    ensures day { IsDay (P.view publisher).publication (P.view publisher).says (P.view publisher).tables (P.view result.0).tables workers requests (T.handed doors.new) (T.count doors.old) (T.count doors.new) result.1 }
 {
     let door = match doors.door(address) {
         Ok(door) => door,

@@ -59,7 +59,7 @@ where
     requires workers { (1 ≤ hours.workers) × (hours.workers ≤ 16) }
     ensures asked { T.asked doors.new ≡ Some address.now }
     ensures ends { (publication : OnePublication) (stored : Option Map) (stores : ℕ) → kept.publication ≡ publication → IsRead (publisher_loaded publication (new_holders publication)) stored (Ok (publisher_stored kept.tables))
-        → Ends publication (says_at (λ r. says r) resolvers.items) hours.requests (record {
+        → Ends publication (says_at (λ r. says r) resolvers.items) hours.workers hours.requests (record {
           stored = stored;
           kept = E.told outside.new site store.now;
           handed = T.handed doors.new;
@@ -84,7 +84,7 @@ where
     let (publisher, ended) = opened;
     outside.keeper_back(site, store, publisher.into_keeper());
     match ended {
-        Ok(journal) => write_summary(alloc, journal.as_slice(), output),
+        Ok(journal) => write_summary(alloc, &journal, output),
         Err(stop) => Err(stop),
     }
 }
@@ -92,7 +92,7 @@ where
 /// The publisher starts at its store and serves over a door, with its resolvers, until so many
 /// connections were accepted or the door failed. The door and the keeper are given back. Where all were
 /// accepted the summary of the journal is written, and else nothing. No door is opened but at the
-/// address. There is a seat for each worker, which no clause says. It may wait.
+/// address. It may wait.
 pub fn serve_store<R: Threads + Wait + Sync, O: Sink, E: CommandOutside, T: Doors>(
     rt: &R,
     alloc: Global,
@@ -116,7 +116,7 @@ where
     requires workers { (1 ≤ hours.workers) × (hours.workers ≤ 16) }
     ensures asked { (T.asked doors.new ≡ Some address.now) ⊎ (doors.new ≡ doors.old) }
     ensures reached { OnOk result (T.asked doors.new ≡ Some address.now) }
-    ensures ends { Ends publication.now (says_at (λ r. says r) resolvers.items) hours.requests (record {
+    ensures ends { Ends publication.now (says_at (λ r. says r) resolvers.items) hours.workers hours.requests (record {
       stored = E.told outside.old site store.now;
       kept = E.told outside.new site store.now;
       handed = T.handed doors.new;

@@ -5,7 +5,7 @@ ghost use Rattle.merge_desk.specs.Summary.{summary_text};
 ghost use Rattle.merge_service.specs.Written.{IsUnwritten};
 
 use crate::stop::Stop;
-use merge_desk::{Entry, summary};
+use merge_desk::{Journal, summary};
 use merge_ports::{Sink, write_whole};
 use std::alloc::Global;
 
@@ -13,7 +13,7 @@ use std::alloc::Global;
 /// where a write fails.
 pub(crate) fn write_summary<O: Sink>(
     alloc: Global,
-    journal: &[Entry],
+    journal: &Journal,
     output: &mut O,
 ) -> Result<(), Stop>
     ensures ok { OnOk result (Appends (O.written output.old) (O.written output.new) (summary_text journal.now)) }

@@ -13,14 +13,14 @@ pub returns-in-Ok-clause-ends : goal.returns-in-Ok-clause-ends
 returns-in-Ok-clause-ends g c = λ publication stored stores same read.
     let same_items = ap (λ v. v.items) c.new-publisher.ensures.resolvers in
     let said = ap (says_at (λ r. (goal.Resolver-dyn g (r.vtable, r.value)).says r.value)) same_items in
-    summed-so _ _ _ _ _ _ _ _ _ _ read (kept-at _ _ _ c.keeper_back.ensures.map c.into_keeper.ensures.kept.kept) _ _ _ (c.new-publisher.ensures.publication ∙ same) said c.new-publisher.ensures.tables _ c.open_day-opened.ensures.day
-    _ c.in-Ok.is _ c.as_slice.ensures _ c.write_summary.ensures.ok c.write_summary.ensures.err
+    summed-so _ _ _ _ _ _ _ _ _ _ _ read (kept-at _ _ _ c.keeper_back.ensures.map c.into_keeper.ensures.kept.kept) _ _ _ (c.new-publisher.ensures.publication ∙ same) said c.new-publisher.ensures.tables _ c.open_day-opened.ensures.day
+    _ c.in-Ok.is _ refl _ c.write_summary.ensures.ok c.write_summary.ensures.err
 
 pub returns-in-Err-clause-ends : goal.returns-in-Err-clause-ends
 returns-in-Err-clause-ends g c = λ publication stored stores same read.
     let same_items = ap (λ v. v.items) c.new-publisher.ensures.resolvers in
     let said = ap (says_at (λ r. (goal.Resolver-dyn g (r.vtable, r.value)).says r.value)) same_items in
-    not-served-so _ _ _ _ _ _ _ _ _ _ read (kept-at _ _ _ c.keeper_back.ensures.map c.into_keeper.ensures.kept.kept) _ _ _ (c.new-publisher.ensures.publication ∙ same) said c.new-publisher.ensures.tables _ c.open_day-opened.ensures.day
+    not-served-so _ _ _ _ _ _ _ _ _ _ _ read (kept-at _ _ _ c.keeper_back.ensures.map c.into_keeper.ensures.kept.kept) _ _ _ (c.new-publisher.ensures.publication ∙ same) said c.new-publisher.ensures.tables _ c.open_day-opened.ensures.day
     _ c.in-Err.is refl
 
 pub returns-in-Ok-clause-others : goal.returns-in-Ok-clause-others

@@ -30,7 +30,7 @@ returns-in-Err-clause-ends g c =
       doors = g.T.Doors.count c.args.doors.now;
       doors_after = g.T.Doors.count c.args.doors.now;
     } in
-    not-started-so c.args.publication.now _ c.args.hours.requests around _ _ (g.O.Sink.count c.args.output.now) (g.O.Sink.count c.args.output.now) _ _ (ap (λ (f : SiteId → List ℕ → Option Map). f c.args.site c.args.store.now) c.clock-clock.ensures.stores)
+    not-started-so c.args.publication.now _ c.args.hours.workers c.args.hours.requests around _ _ (g.O.Sink.count c.args.output.now) (g.O.Sink.count c.args.output.now) _ _ (ap (λ (f : SiteId → List ℕ → Option Map). f c.args.site c.args.store.now) c.clock-clock.ensures.stores)
     _ (ap (λ (k : Counts). k.stores) c.clock-clock.ensures.counts) c.in-Err.ensures.stop c.in-Err.ensures.same refl refl
 
 pub returns-in-Ok-clause-others : goal.returns-in-Ok-clause-others
