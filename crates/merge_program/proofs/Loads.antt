@@ -1,4 +1,4 @@
--- The tables behind the first events of a script load, where resolvers decide typed values.
+-- The tables behind the first events of a script load.
 use Rattle.std.proofs.Common.{Bool, List, Ok, [], ap, arith, count_by, false, length, subst, true, ℕ, ◌+◌, ◌++◌, ◌==◌, ◌^◌, ◌∙◌, ◌∷◌, ◌≡◌, ◌≤◌}
 use Rattle.std.specs.List.{AllByRecursion, slice_split}
 use Rattle.std.specs.Prelude.{if◌then◌else◌}

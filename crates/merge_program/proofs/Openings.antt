@@ -1,5 +1,6 @@
 -- Why a site did not start.
-use Rattle.std.proofs.Common.{Err, Option, Result, ap, arith, inl, inr, min, refl, subst, sym, ℕ, ◌+◌, ◌-◌, ◌^◌, ◌∙◌, ◌≡◌, ◌≤◌}
+use Rattle.std.proofs.Common.{Bool, Err, Option, Result, ap, arith, false, inl, inr, min, refl, subst, sym, true, ℕ, ◌+◌, ◌-◌, ◌^◌, ◌∙◌, ◌≡◌, ◌≤◌, ◌⊎◌}
+use Rattle.merge_types.specs.declared.identifiers.SiteId.{SiteId}
 use Rattle.merge_batch.specs.declared.refusal.Refusal.{Refusal}
 use Rattle.merge_batch.specs.declared.refusal.Refusal.TheVariants as refusal
 use Rattle.merge_keeper.specs.Start.{Loaded}
@@ -42,3 +43,9 @@ module _ {T : Type 0} (load : Map → Loaded T) (stored : Option Map) where
       cause = subst (λ (e : Ending). IsUnopenedFor load e stored old.stores new.stores) (sym is) (stopped-by why (subst (λ (o : Option Map). LoadsNot load o why first count) same not));
       same = given ∙ (unchanged ∙ same);
     }
+
+    -- the same of a site that is a subscription
+    pub subscribed-so : {K : Type 0} (other keeper : K) (site : SiteId) (subscribes : Bool) → subscribes ≡ true → (map kept told : Option Map) (why : Refusal) (ending : Ending) → ending ≡ stopped_by why → told ≡ stored
+        → ((why ≡ refusal.UnknownSite site) × (subscribes ≡ false) × (other ≡ keeper)) ⊎ ((subscribes ≡ true) × LoadsNot load told why first count) → map ≡ kept → kept ≡ told → IsUnopened load ending stored map old.stores new.stores
+    subscribed-so other keeper site subscribes known map kept told why ending is same (inl (unknown, absent, still)) given unchanged = absurd (cc (known, absent))
+    subscribed-so other keeper site subscribes known map kept told why ending is same (inr (too, not)) given unchanged = stopped-so map kept told why ending is same not given unchanged

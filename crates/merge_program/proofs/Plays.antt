@@ -18,7 +18,7 @@ use Rattle.merge_model.specs.World.Events.{is_site}
 use Rattle.merge_model.specs.declared.answer.Answer.{Answer}
 use Rattle.merge_model.specs.declared.event.Event.{Event}
 use Rattle.merge_model.specs.declared.event.Event.TheVariants.{Restart}
-use Rattle.merge_typed.specs.Outside.{EventsAreTyped, SayingIsTyped}
+use Rattle.merge_typed.specs.Outside.{EventsAreTyped}
 use Rattle.merge_stored.specs.TypedRuns.{OfEveryValidTypedRun, StoresLoad}
 use Rattle.merge_world.specs.Playing.{AllHappened}
 use Rattle.merge_world.specs.Restarts.{IsLost}
@@ -103,14 +103,14 @@ module _ (promises : OfEveryRunPromised) (shows : FailuresShow)
         )
 
     -- what is left of the tables at a restart loads
-    there-loads : OfEveryValidTypedRun StoresLoad → SayingIsTyped handed.says → (why : Refusal) (p : PlayedToRestart lines (fresh_view publication) handed why n was written) (new : SitesView) → ((tallies : List ℕ) → world_of new tallies ≡ world_of p.last tallies)
+    there-loads : OfEveryValidTypedRun StoresLoad → (why : Refusal) (p : PlayedToRestart lines (fresh_view publication) handed why n was written) (new : SitesView) → ((tallies : List ℕ) → world_of new tallies ≡ world_of p.last tallies)
         → EventsAreTyped (events_of lines) → LoadsAt publication p.site new
-    there-loads loads saying why p new same events =
+    there-loads loads why p new same events =
         let ran = played-runs p.events (fresh_view publication) p.last handed p.behind p.answers p.happened (fresh-world publication handed.tallies) in
         let promised = promises valid.0 publication valid.1 handed.says handed.tallies ran.0 p.events in
         let typed : EventsAreTyped p.events = front-typed p.events (Restart p.site ∷ p.more) (subst (λ (es : List Event). EventsAreTyped es) p.split events) in
         loads-at publication p.site new p.behind.tallies (model_behind publication handed.says handed.tallies ran.0 p.events) (sym promised.tables ∙ (ran.2 ∙ sym (same p.behind.tallies)))
-        (loads valid.0 publication valid.1 handed.says saying handed.tallies ran.0 p.events typed)
+        (loads valid.0 publication valid.1 handed.says handed.tallies ran.0 p.events typed)
 
     module _ (loads : OfEveryValidTypedRun StoresLoad) (events : EventsAreTyped (events_of lines)) (stored kept : SiteId → Option Map) (empty : AreEmptyStores (is_site publication) stored)
         (IsDamaged : SiteId → ℕ → List ℕ → Type 0) (new : SitesView)
@@ -131,7 +131,7 @@ module _ (promises : OfEveryRunPromised) (shows : FailuresShow)
           (inr (
             cut.0,
             subst (λ (site : SiteId). IsDamageAt publication site (kept site) table key) (sym cut.1) there.0,
-            λ saying. subst (λ (site : SiteId). kept site ≡ None) (sym cut.1) (there.1 (there-loads loads saying why c.0 new c.2 events)),
+            subst (λ (site : SiteId). kept site ≡ None) (sym cut.1) (there.1 (there-loads loads why c.0 new c.2 events)),
           ))
 
       module _ (old : SitesView) (behind : HandedView) (fresh : old ≡ fresh_view publication) (le : new.faults ≤ n) (ge : n ≤ new.faults) where

@@ -19,7 +19,7 @@ use Rattle.merge_program.specs.declared.order.Order.{Order}
 use Rattle.merge_program.specs.Endings.{status_of}
 use Rattle.merge_program.specs.Files.{IsAccepted, IsUnpublished, IsUnread}
 use Rattle.merge_program.specs.Notes.{IsTold}
-use Rattle.merge_program.specs.Serving.{Doorway, FinishIsTold, IsServed, IsUnordered, ServeEnds, TellsServed, around_order, finish_of, finish_status, publisher_site}
+use Rattle.merge_program.specs.Serving.{Doorway, FinishIsTold, IsServed, IsUnordered, ServeEnds, TellsServed, around_order, finish_of, finish_status, publisher_site, workers_for}
 use Rattle.merge_program.specs.Sited.{IsUntouched}
 use Rattle.merge_program.specs.Visits.{Visit, sides_of}
 use Rattle.merge_program.proofs.Changes.{accepted, refused-file}
@@ -67,15 +67,16 @@ module _ (order : Order) (resolvers : ℕ) (says : Saying) (v : Visit) (d : Door
   pub ordered-ends : (finish : Finish) (r : Result Unit Stop) → finish ≡ finish_of r → (publication : Publication)
       → (count : ℕ) → count ≡ resolvers → IfSome (v.offers.texts order.publication) (IsAccepted count publication)
       → (told : SiteId → List ℕ → Option Map) → told ≡ v.stored → (stores : ℕ) → stores ≡ v.old.stores → (saying : Saying) → saying ≡ says
-      → Ends publication saying order.requests (record (around_order order v d) { stored = told publisher_site order.store; stores = stores }) v.was v.written v.writes v.refused r → Serve finish
-  ordered-ends finish r is publication count counted read told stored stores same saying said ends = inr (record {
+      → (workers : ℕ) → workers ≡ workers_for order → Ends publication saying workers order.requests (record (around_order order v d) { stored = told publisher_site order.store; stores = stores }) v.was v.written v.writes v.refused r → Serve finish
+  ordered-ends finish r is publication count counted read told stored stores same saying said workers ordered ends = inr (record {
     publication = publication;
     read = subst (λ (n : ℕ). IfSome (v.offers.texts order.publication) (IsAccepted n publication)) counted read;
     served = r;
     is = is;
-    ends = subst (λ (n : ℕ). Ends publication says order.requests (record (around_order order v d) { stores = n }) v.was v.written v.writes v.refused r) same
-        (subst (λ (f : SiteId → List ℕ → Option Map). Ends publication says order.requests (record (around_order order v d) { stored = f publisher_site order.store; stores = stores }) v.was v.written v.writes v.refused r) stored
-        (subst (λ (s : Saying). Ends publication s order.requests (record (around_order order v d) { stored = told publisher_site order.store; stores = stores }) v.was v.written v.writes v.refused r) said ends));
+    ends = subst (λ (n : ℕ). Ends publication says (workers_for order) order.requests (record (around_order order v d) { stores = n }) v.was v.written v.writes v.refused r) same
+        (subst (λ (f : SiteId → List ℕ → Option Map). Ends publication says (workers_for order) order.requests (record (around_order order v d) { stored = f publisher_site order.store; stores = stores }) v.was v.written v.writes v.refused r) stored
+        (subst (λ (s : Saying). Ends publication s (workers_for order) order.requests (record (around_order order v d) { stored = told publisher_site order.store; stores = stores }) v.was v.written v.writes v.refused r) said
+        (subst (λ (n : ℕ). Ends publication saying n order.requests (record (around_order order v d) { stored = told publisher_site order.store; stores = stores }) v.was v.written v.writes v.refused r) ordered ends)));
   })
 
   -- with status 0 all was served
@@ -85,7 +86,7 @@ module _ (order : Order) (resolvers : ℕ) (says : Saying) (v : Visit) (d : Door
   not-unordered other cause is = omega (arith, is)
 
   served-by : (publication : Publication) → IfSome (v.offers.texts order.publication) (IsAccepted resolvers publication) → (r : Result Unit Stop)
-      → Ends publication says order.requests (around_order order v d) v.was v.written v.writes v.refused r → finish_status (finish_of r) ≡ 0 → IsServed order resolvers says v d
+      → Ends publication says (workers_for order) order.requests (around_order order v d) v.was v.written v.writes v.refused r → finish_status (finish_of r) ≡ 0 → IsServed order resolvers says v d
   served-by publication read (Ok done) ends is = record { publication = publication; read = read; journal = ends.0; served = ends.1; written = ends.2 }
   served-by publication read (Err break.StoreFault) ends is = absurd (omega (arith, is))
   served-by publication read (Err (break.Damaged table key)) ends is = absurd (omega (arith, is))
@@ -109,13 +110,13 @@ module _ (order : Order) (resolvers : ℕ) (says : Saying) (v : Visit) (d : Door
   came-with (Some n) accepted some each = omega (arith, some, each)
 
   torn-by : (publication : Publication) (r : Result Unit Stop)
-      → Ends publication says order.requests (around_order order v d) v.was v.written v.writes v.refused r → finish_status (finish_of r) ≡ 13 → IfSome d.handed (λ (n : ℕ). 1 ≤ n)
+      → Ends publication says (workers_for order) order.requests (around_order order v d) v.was v.written v.writes v.refused r → finish_status (finish_of r) ≡ 13 → IfSome d.handed (λ (n : ℕ). 1 ≤ n)
   torn-by publication (Ok done) ends is = absurd (omega (arith, is))
   torn-by publication (Err break.StoreFault) ends is = absurd (omega (arith, is))
   torn-by publication (Err (break.Damaged table key)) ends is = absurd (omega (arith, is))
   torn-by publication (Err break.DoorFault) ends is = absurd (omega (arith, is))
   torn-by publication (Err (break.Differs difference)) ends is =
-      let torn : IsTornDay publication says ends.1.old ends.1.new order.requests d.handed difference = ends.1.led in
+      let torn : IsTornDay publication says ends.1.old ends.1.new (workers_for order) order.requests d.handed difference = ends.1.led in
       came-with d.handed torn.accepted (omega (arith, torn.some, torn.paid)) torn.each
   torn-by publication (Err break.WriteFault) ends is = absurd (omega (arith, is))
   torn-by publication (Err break.NoMemory) ends is = absurd (omega (arith, is))

@@ -1,14 +1,16 @@
 -- One site at its store, while all others are elsewhere.
-use Rattle.std.proofs.Common.{Bool, List, Ok, Option, Some, [], ap, arith, eq-eqb, false, get_or, length, map, min, ne_eqb, refl, subst, suc, sum_by, sym, true, zero, ℕ, ◌+◌, ◌++◌, ◌-◌, ◌==◌, ◌^◌, ◌∙◌, ◌∷◌, ◌≡◌, ◌≢◌}
+use Rattle.std.proofs.Common.{Bool, List, Ok, Option, Some, [], ap, arith, eq-eqb, false, get_or, length, map, min, ne_eqb, refl, subst, suc, sum_by, sym, true, zero, ℕ, ◌+◌, ◌++◌, ◌-◌, ◌==◌, ◌^◌, ◌||◌, ◌∙◌, ◌∷◌, ◌≡◌, ◌≢◌}
 use Rattle.std.proofs.lemmas.List.{length-append, length-map}
 use Rattle.std.proofs.lemmas.List.Sums.{sum_by-cons}
 use Rattle.merge_types.specs.declared.identifiers.SiteId.{SiteId}
 use Rattle.merge_ports.specs.Entries.{Map}
 use Rattle.merge_ports.specs.Opened.{with_faults}
 use Rattle.merge_ports.specs.declared.outside.Counts.{Counts}
+use Rattle.merge_schema.specs.Places.{is_subscription}
 use Rattle.merge_schema.specs.declared.publication.Publication.{Publication}
 use Rattle.merge_keeper.specs.PublisherStart.{publisher_loaded}
 use Rattle.merge_keeper.specs.SubscriberStart.{subscriber_loaded}
+use Rattle.merge_model.specs.World.Events.{is_site}
 use Rattle.merge_model.specs.Tables.Keys.{at_number}
 use Rattle.merge_model.specs.Publisher.{new_holders}
 use Rattle.merge_model.specs.Tables.{SubscriberTables}
@@ -18,7 +20,7 @@ use Rattle.merge_site.specs.Kept.{IsKept}
 use Rattle.merge_site.specs.Loading.{IsRead}
 use Rattle.merge_site.specs.Publishers.{publisher_stored, records_of as publisher_records}
 use Rattle.merge_site.specs.Subscribers.{records_of, subscriber_stored}
-use Rattle.merge_command.specs.Alone.{idle, subscriber_view_alone}
+use Rattle.merge_command.specs.Alone.{fresh_publisher, subscriber_view_alone}
 use Rattle.merge_world.specs.Views.{IsOrdered, PublisherView, SitesView, SubscriberView, entry_of, faults_of, site_of, sites_view}
 use Rattle.merge_program.specs.Sited.{IsDamageAs, IsDamageAt, IsKeptAs, IsKeptAt, IsReadAs, IsReadAt, PublisherRead, SubscriberKept, SubscriberRead, begin, publisher_alone}
 use Rattle.merge_program.specs.Stores.{RoseBy}
@@ -44,8 +46,8 @@ publisher-read publication told p ss pool none empty read same unfailed =
     (subst (λ (l : List SubscriberView). PublisherRead publication told (sites_view p (these l) [] begin)) (sym none)
     (record { tables = p.tables; read = read; seen = same-publisher publication p same unfailed }))
 
-same-subscriber : (publication : Publication) (s : SubscriberView) → s.publication ≡ publication → s.faults ≡ 0 → sites_view (idle publication) (s ∷ []) [] begin ≡ subscriber_view_alone publication s.tables 0 begin
-same-subscriber publication s same none = ap (λ (t : SubscriberView). sites_view (idle publication) (t ∷ []) [] begin) (is-published ∙ is-unfailed)
+same-subscriber : (publication : Publication) (s : SubscriberView) → s.publication ≡ publication → s.faults ≡ 0 → sites_view (fresh_publisher publication) (s ∷ []) [] begin ≡ subscriber_view_alone publication s.tables 0 begin
+same-subscriber publication s same none = ap (λ (t : SubscriberView). sites_view (fresh_publisher publication) (t ∷ []) [] begin) (is-published ∙ is-unfailed)
   where
     is-published : s ≡ record s { publication = publication }
     is-published = ap (λ (q : Publication). record s { publication = q }) same
@@ -55,17 +57,17 @@ same-subscriber publication s same none = ap (λ (t : SubscriberView). sites_vie
 
 subscriber-read : (publication elsewhere : Publication) (site : SiteId) (told : Option Map) (s : SubscriberView) (ss : List SubscriberView) (pool : List Letter) → elsewhere ≡ publication → ss ≡ s ∷ [] → pool ≡ []
     → IsRead (subscriber_loaded publication site (new_holders publication)) told (Ok (subscriber_stored s.tables)) → s.tables.site ≡ site → s.publication ≡ publication → s.faults ≡ 0
-    → SubscriberRead publication site told (sites_view (idle elsewhere) (these ss) pool begin)
+    → SubscriberRead publication site told (sites_view (fresh_publisher elsewhere) (these ss) pool begin)
 subscriber-read publication elsewhere site told s ss pool where_ one empty read here same unfailed =
-    subst (λ (l : List Letter). SubscriberRead publication site told (sites_view (idle elsewhere) (these ss) l begin)) (sym empty)
-    (subst (λ (l : List SubscriberView). SubscriberRead publication site told (sites_view (idle elsewhere) (these l) [] begin)) (sym one)
-    (subst (λ (q : Publication). SubscriberRead publication site told (sites_view (idle q) (s ∷ []) [] begin)) (sym where_)
+    subst (λ (l : List Letter). SubscriberRead publication site told (sites_view (fresh_publisher elsewhere) (these ss) l begin)) (sym empty)
+    (subst (λ (l : List SubscriberView). SubscriberRead publication site told (sites_view (fresh_publisher elsewhere) (these l) [] begin)) (sym one)
+    (subst (λ (q : Publication). SubscriberRead publication site told (sites_view (fresh_publisher q) (s ∷ []) [] begin)) (sym where_)
     (record { tables = s.tables; here = here; read = read; seen = same-subscriber publication s same unfailed })))
 
 -- the same, of a copy of the publication
 pub subscriber-read-of : (publication elsewhere own : Publication) (site : SiteId) (told : Option Map) (s : SubscriberView) (ss : List SubscriberView) (pool : List Letter) → elsewhere ≡ publication → own ≡ publication → ss ≡ s ∷ [] → pool ≡ []
     → IsRead (subscriber_loaded own site (new_holders own)) told (Ok (subscriber_stored s.tables)) → s.tables.site ≡ site → s.publication ≡ own → s.faults ≡ 0
-    → SubscriberRead publication site told (sites_view (idle elsewhere) (these ss) pool begin)
+    → SubscriberRead publication site told (sites_view (fresh_publisher elsewhere) (these ss) pool begin)
 subscriber-read-of publication elsewhere own site told s ss pool where_ copied one empty read here same unfailed =
     subscriber-read publication elsewhere site told s ss pool where_ one empty (subst (λ (q : Publication). IsRead (subscriber_loaded q site (new_holders q)) told (Ok (subscriber_stored s.tables))) copied read) here (same ∙ copied) unfailed
 
@@ -167,6 +169,9 @@ module _ (site : SiteId) (publisher : site.0 ≡ 0) where
 module _ (site : SiteId) (other : site.0 ≢ 0) where
   apart : (site.0 == 0) ≡ false
   apart = ne_eqb site.0 0 other
+
+  pub subscribes : (publication : Publication) → is_site publication site ≡ true → is_subscription publication site.0 ≡ true
+  subscribes publication known = subst (λ (b : Bool). (b || is_subscription publication site.0) ≡ true) apart known
 
   pub read-at : (publication : Publication) (told : Option Map) (v : SitesView) → SubscriberRead publication site told v → IsReadAt publication site told v
   read-at publication told v r = subst (λ (b : Bool). IsReadAs b publication site told v) (sym apart) r

@@ -34,6 +34,7 @@ module _ (publication : Publication) (place : Place) (address : List ℕ) (v : V
 
   write-failed : (r : Result Unit Stop) → WriteFault ≡ synced_by r → Session r → Rose v.writes v.refused
   write-failed (Err break.WriteFault) is p = p.1
+  write-failed (Err break.UnknownSite) is p = absurd (cc is)
   write-failed (Err break.StoreFault) is p = absurd (cc is)
   write-failed (Err (break.Damaged table key)) is p = absurd (cc is)
   write-failed (Err break.LinkFault) is p = absurd (cc is)
@@ -45,6 +46,7 @@ module _ (publication : Publication) (place : Place) (address : List ℕ) (v : V
 
   store-failed : (r : Result Unit Stop) → StoreFault ≡ synced_by r → Session r → Rose v.old.stores v.new.stores
   store-failed (Err break.StoreFault) is p = p.1.0
+  store-failed (Err break.UnknownSite) is p = absurd (cc is)
   store-failed (Err break.WriteFault) is p = absurd (cc is)
   store-failed (Err (break.Damaged table key)) is p = absurd (cc is)
   store-failed (Err break.LinkFault) is p = absurd (cc is)
@@ -56,6 +58,7 @@ module _ (publication : Publication) (place : Place) (address : List ℕ) (v : V
 
   link-failed : (r : Result Unit Stop) → LinkFault ≡ synced_by r → Session r → Rose v.old.links v.new.links
   link-failed (Err break.LinkFault) is p = p.1.0
+  link-failed (Err break.UnknownSite) is p = absurd (cc is)
   link-failed (Err break.WriteFault) is p = absurd (cc is)
   link-failed (Err break.StoreFault) is p = absurd (cc is)
   link-failed (Err (break.Damaged table key)) is p = absurd (cc is)
@@ -67,6 +70,7 @@ module _ (publication : Publication) (place : Place) (address : List ℕ) (v : V
 
   -- nothing is written of a session that was not done
   undone-silent : (ending : Ending) (r : Result Unit Stop) → ending ≡ synced_by r → Session r → is_silent (status_of ending) ≡ true → v.written ≡ v.was
+  undone-silent ending (Err break.UnknownSite) is p silent = p.0
   undone-silent ending (Err break.LinkFault) is p silent = p.0
   undone-silent ending (Err (break.Expired last_sync now)) is p silent = p.0
   undone-silent ending (Err (break.BadReply at)) is p silent = p.0
@@ -110,6 +114,7 @@ module _ (place : Place) (address : List ℕ) (resolvers : ℕ) (v : Visit) wher
   subscribed-so : (publication : Publication) → HasSubscription (v.offers.texts place.publication) resolvers place.site publication → (r : Result Unit Stop)
       → Ends address publication place.site (around_of place v) v.was v.written v.writes v.refused r → Sync (synced_by r)
   subscribed-so publication there (Ok told) p = (publication, there, record { synced = Ok told; ending_is = refl; ends = p })
+  subscribed-so publication there (Err break.UnknownSite) p = let known = there.known in let unknown = p.1.0 in absurd (cc (known, unknown))
   subscribed-so publication there (Err break.StoreFault) p = (publication, there, record { synced = Err break.StoreFault; ending_is = refl; ends = p })
   subscribed-so publication there (Err (break.Damaged table key)) p = (publication, there, record { synced = Err (break.Damaged table key); ending_is = refl; ends = p })
   subscribed-so publication there (Err break.LinkFault) p = (publication, there, record { synced = Err break.LinkFault; ending_is = refl; ends = p })

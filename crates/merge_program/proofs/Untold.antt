@@ -18,7 +18,8 @@ use Rattle.merge_model.proofs.Entries.EntryLists.{all-put}
 use Rattle.merge_world.specs.Views.{PublisherView, SitesView, SubscriberView, entry_of, faults_of, publication_of, site_of, sites_view}
 use Rattle.merge_program.specs.Fresh.{fresh_view}
 use Rattle.merge_program.specs.GivenBack.{AscendAbove}
-use Rattle.merge_program.specs.Stores.{fresh_at, fresh_publisher, fresh_subscribers, untold_publisher, untold_subscriber}
+use Rattle.merge_command.specs.Alone.{fresh_publisher}
+use Rattle.merge_program.specs.Stores.{fresh_at, fresh_subscribers, untold_publisher, untold_subscriber}
 use Rattle.merge_program.proofs.Fresh.{fresh-ordered}
 
 -- What does not read it is the same.

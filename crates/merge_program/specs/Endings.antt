@@ -47,8 +47,9 @@ abbrev pub refused_for : SchemaFault → Ending
 refused_for schema.NoMemory = NoMemory
 refused_for fault = Refused fault
 
--- a site does not start for its store, or for want of memory
+-- a site does not start for its number, for its store, or for want of memory
 abbrev pub stopped_by : Refusal → Ending
+stopped_by (refusal.UnknownSite site) = UnknownSite
 stopped_by refusal.StoreFault = StoreFault
 stopped_by (refusal.Damaged table key) = Damaged table key
 stopped_by other = NoMemory

@@ -18,7 +18,6 @@ use Rattle.merge_model.specs.World.Events.{is_site}
 use Rattle.merge_model.specs.declared.answer.Answer.{Answer}
 use Rattle.merge_model.specs.declared.event.Event.{Event}
 use Rattle.merge_model.specs.declared.event.Event.TheVariants.{Restart}
-use Rattle.merge_typed.specs.Outside.{SayingIsTyped}
 use Rattle.merge_world.specs.Views.{HandedView}
 use Rattle.merge_program.specs.declared.ending.Ending.{Ending}
 use Rattle.merge_program.specs.declared.ending.Ending.TheVariants.{BadReply, Damaged, Declined, Done, Expired, LinkFault, NoEvent, NoMemory, NotTaken, ReadFault, Refused, StoreFault, TooLong, UnknownArticle, UnknownSite, Usage, WriteFault}
@@ -71,11 +70,11 @@ IsCutOff publication handed lines sides lost = (sides.written ≡ sides.was) ⊎
 
 -- Why a stored record is damaged: nothing was written, and the store of a site begins with this entry, which no site that has done nothing
 -- has; or all that comes before a restart was written, and what is told of the store of its site does not load for this record. That is so of
--- no store that is told, where resolvers decide typed values. `stored` and `kept` are what is told of the stores before and behind the run.
+-- no store that is told. `stored` and `kept` are what is told of the stores before and behind the run.
 abbrev pub IsDamagedFor : Publication → HandedView → List (List ℕ) → Sides → (stored kept : SiteId → Option Map) → (table : ℕ) → (key : List ℕ) → Type 0
 IsDamagedFor publication handed lines sides stored kept table key =
     ((sides.written ≡ sides.was) × HasFirstKey (is_site publication) stored table key)
-    ⊎ ((cut : AnsweredToRestart publication handed lines sides 0) × IsDamageAt publication cut.site (kept cut.site) table key × (SayingIsTyped handed.says → kept cut.site ≡ None))
+    ⊎ ((cut : AnsweredToRestart publication handed lines sides 0) × IsDamageAt publication cut.site (kept cut.site) table key × (kept cut.site ≡ None))
 
 -- the input is not too long, and has this publication before its script, where so many resolvers are handed in
 pub record IsTaken (resolvers : ℕ) (input : List ℕ) (publication : Publication) : Type 0 where

@@ -1,5 +1,5 @@
 -- What a run writes and leaves whose publisher serves subscribers, and why it finishes.
-use Rattle.std.specs.Prelude.{Err, IfSome, List, Ok, Option, Result, [], codes, ℕ, ◌++◌, ◌∷◌, ◌≡◌, ◌≤◌, ◌⊎◌}
+use Rattle.std.specs.Prelude.{Err, IfSome, List, Ok, Option, Result, [], codes, max, min, ℕ, ◌++◌, ◌∷◌, ◌≡◌, ◌≤◌, ◌⊎◌}
 use Rattle.std.specs.Fmt.{decimal}
 use Rattle.std.specs.Io.KnownBytes.{Appends}
 use Rattle.hex.specs.Hex.{encode_lower}
@@ -28,6 +28,10 @@ use Rattle.merge_ports.specs.Faults.{Rose}
 
 abbrev pub publisher_site : SiteId
 publisher_site = record { 0 = 0 }
+
+-- how many workers serve: as many as the order says, one at least and no more than 16
+abbrev pub workers_for : Order → ℕ
+workers_for order = max 1 (min order.workers 16)
 
 -- how many connections the door handed out that was given back, where it is told, and how often doors had failed before a run and behind it
 pub record Doorway : Type 0 where
@@ -97,18 +101,18 @@ pub record OrderedEnds (finish : Finish) (order : Order) (resolvers : ℕ) (says
   pub read : IfSome (v.offers.texts order.publication) (IsAccepted resolvers publication)
   pub served : Result Unit Stop
   pub is : finish ≡ finish_of served
-  pub ends : Ends publication says order.requests (around_order order v d) v.was v.written v.writes v.refused served
+  pub ends : Ends publication says (workers_for order) order.requests (around_order order v d) v.was v.written v.writes v.refused served
 
 -- why a run of `serve` finished
 abbrev pub ServeEnds : Finish → Order → (resolvers : ℕ) → Saying → Visit → Doorway → Type 0
 ServeEnds finish order resolvers says v d = UnorderedEnds finish order resolvers v d ⊎ OrderedEnds finish order resolvers says v d
 
--- All requests were served, and the summary of their journal was written.
+-- All requests were served by so many workers as were ordered, and the summary of their journal was written.
 pub record IsServed (order : Order) (resolvers : ℕ) (says : Saying) (v : Visit) (d : Doorway) : Type 0 where
   pub publication : Publication
   pub read : IfSome (v.offers.texts order.publication) (IsAccepted resolvers publication)
   pub journal : List Entry
-  pub served : Served publication says order.requests (around_order order v d) journal
+  pub served : Served publication says (workers_for order) order.requests (around_order order v d) journal
   pub written : Appends v.was v.written (summary_text journal)
 
 -- What the status of a run of `serve` tells, and what the notes were told. A seat differs from the journal only where a connection came.

@@ -9,7 +9,7 @@ use Rattle.merge_command.specs.declared.stop.Unwritten.TheVariants as unwritten
 use Rattle.merge_sync.specs.declared.stop.Stop.{Stop as Break}
 use Rattle.merge_sync.specs.declared.stop.Stop.TheVariants as break
 use Rattle.merge_program.specs.declared.ending.Ending.{Ending}
-use Rattle.merge_program.specs.declared.ending.Ending.TheVariants.{BadReply, Damaged, Declined, Done, Expired, LinkFault, NoEvent, NoMemory, NotTaken, StoreFault, WriteFault}
+use Rattle.merge_program.specs.declared.ending.Ending.TheVariants.{BadReply, Damaged, Declined, Done, Expired, LinkFault, NoEvent, NoMemory, NotTaken, StoreFault, UnknownSite, WriteFault}
 use Rattle.merge_program.specs.Endings.{stopped_by}
 
 abbrev pub stopped_at : Stop → Ending
@@ -40,6 +40,7 @@ shown_by (Ok done) = Done
 shown_by (Err why) = cut_by why
 
 abbrev pub broken_at : Break → Ending
+broken_at break.UnknownSite = UnknownSite
 broken_at break.StoreFault = StoreFault
 broken_at (break.Damaged table key) = Damaged table key
 broken_at break.LinkFault = LinkFault

@@ -7,7 +7,6 @@ use Rattle.merge_ports.specs.Faults.{Rose}
 use Rattle.merge_schema.specs.declared.publication.Publication.{Publication}
 use Rattle.merge_schema.specs.declared.publication.Subscription.{Subscription}
 use Rattle.merge_model.specs.Tables.Publications.{by_site}
-use Rattle.merge_model.specs.Publisher.{empty_publisher}
 use Rattle.merge_model.specs.Subscriber.{empty_subscriber}
 use Rattle.merge_site.specs.Beginning.{IsEmptyStore, IsFirstKey}
 use Rattle.merge_world.specs.Views.{PublisherView, SubscriberView}
@@ -25,10 +24,7 @@ untold_publisher p = record p { told = None }
 abbrev pub untold_subscriber : SubscriberView → SubscriberView
 untold_subscriber s = record s { told = None }
 
--- sites that have done nothing
-abbrev pub fresh_publisher : Publication → PublisherView
-fresh_publisher publication = record { publication = publication; tables = empty_publisher publication; faults = 0; told = None }
-
+-- subscribers that have done nothing
 abbrev pub fresh_subscriber : Publication → SiteId → SubscriberView
 fresh_subscriber publication site = record { publication = publication; tables = empty_subscriber publication site; faults = 0; told = None }
 

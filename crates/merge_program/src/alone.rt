@@ -1,9 +1,10 @@
 //! One site at its store, while all others are elsewhere.
-ghost use Rattle.std.specs.Prelude.{◌≡◌, ◌∷◌, [], IfErr, IfOk, Ok, OnOk, ℕ};
+ghost use Rattle.std.specs.Prelude.{◌≡◌, ◌∷◌, [], IfErr, IfOk, Ok, OnOk, ℕ, true};
 ghost use Rattle.merge_keeper.specs.PublisherStart.{publisher_loaded};
 ghost use Rattle.merge_keeper.specs.SubscriberStart.{subscriber_loaded};
 ghost use Rattle.merge_model.specs.Publisher.{new_holders};
 ghost use Rattle.merge_ports.specs.Opened.{SameElsewhere};
+ghost use Rattle.merge_schema.specs.Places.{is_subscription};
 ghost use Rattle.merge_schema.specs.Valid.{IsValid};
 ghost use Rattle.merge_site.specs.Kept.{IsKept};
 ghost use Rattle.merge_site.specs.Loading.{IsRead};
@@ -68,7 +69,8 @@ fn start_subscriber<E: Outside>(
     publication: Publication,
     site: SiteId,
 ) -> Result<KeptSubscriber<E::Keep>, Ending>
-    requires { (resolvers : ℕ) × IsValid resolvers publication }
+    requires valid { (resolvers : ℕ) × IsValid resolvers publication }
+    requires subscribes { is_subscription publication site.0 ≡ true }
     ensures tables { IfOk result (λ s. IsRead (subscriber_loaded publication site (new_holders publication)) (E.told outside.old site path.now) (Ok (subscriber_stored s.tables))) }
     ensures site { IfOk result (λ s. s.tables.site ≡ site) }
     ensures publication { IfOk result (λ s. s.publication ≡ publication) }
@@ -127,7 +129,8 @@ pub fn open_subscriber<E: Outside>(
     publication: &Publication,
     site: SiteId,
 ) -> Result<SubscriberAlone<E::Keep>, Ending>
-    requires { (resolvers : ℕ) × IsValid resolvers publication.now }
+    requires valid { (resolvers : ℕ) × IsValid resolvers publication.now }
+    requires subscribes { is_subscription publication.now site.0 ≡ true }
     ensures read { IfOk result (λ sites. SubscriberRead publication.now site (E.told outside.old site path.now) (⟦<Sites<Elsewhere, KeptSubscriber<E::Keep>> as Seen>⟧.seen sites)) }
     ensures room { OnOk result (E.HasRoom outside.new site path.now) }
     ensures kept { OnOk result ((E.counts outside.new).stores ≡ (E.counts outside.old).stores) }

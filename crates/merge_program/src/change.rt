@@ -1,8 +1,9 @@
 //! A script changes one site.
-ghost use Rattle.std.specs.Prelude.{◌≡◌, ◌≢◌, ◌≤◌, IfErr, IfOk, ℕ, length};
+ghost use Rattle.std.specs.Prelude.{◌≡◌, ◌≢◌, ◌≤◌, IfErr, IfOk, ℕ, length, true};
 ghost use Rattle.merge_script.specs.Lines.{lines_of};
 ghost use Rattle.merge_ports.specs.Opened.{SameElsewhere};
 ghost use Rattle.merge_schema.specs.Valid.{IsValid};
+ghost use Rattle.merge_model.specs.World.Events.{is_site};
 ghost use Rattle.merge_world.specs.Views.{IsOrdered};
 ghost use Rattle.merge_command.specs.Changed.{ChangedInPart};
 ghost use Rattle.merge_program.specs.Changing.{ChangeEnds, LinesEnd, SiteEnds};
@@ -95,6 +96,7 @@ fn change_subscriber<C: Clock, O: Sink, E: Outside>(
 ) -> Ending
     requires valid { (resolvers : ℕ) × IsValid resolvers publication.now }
     requires subscribes { place.now.site.0 ≢ 0 }
+    requires known { is_site publication.now place.now.site ≡ true }
     requires short { length script.now ≤ input_limit }
     ensures ends { SiteEnds result publication.now place.now.site (E.told outside.old place.now.site place.now.store) (lines_of script.now) (C.told clock.old)
         (record { was = O.written output.old; written = O.written output.new; before = (E.counts outside.old).stores; after = (E.counts outside.new).stores }) (E.told outside.new place.now.site place.now.store)
@@ -122,6 +124,7 @@ fn change_site<C: Clock, O: Sink, E: Outside>(
     outside: &mut E,
 ) -> Ending
     requires valid { (resolvers : ℕ) × IsValid resolvers publication.now }
+    requires known { is_site publication.now place.now.site ≡ true }
     requires short { length script.now ≤ input_limit }
     ensures ends { SiteEnds result publication.now place.now.site (E.told outside.old place.now.site place.now.store) (lines_of script.now) (C.told clock.old)
         (record { was = O.written output.old; written = O.written output.new; before = (E.counts outside.old).stores; after = (E.counts outside.new).stores }) (E.told outside.new place.now.site place.now.store)

@@ -128,11 +128,13 @@ pub fn refused(fault: SchemaFault) -> Ending
     }
 }
 
-/// How a run ends by a site that does not start. That is for its store, or for want of memory.
+/// How a run ends by a site that does not start. That is for its number, for its store, or for want
+/// of memory.
 pub fn stopped(why: Refusal) -> Ending
     ensures { result ≡ stopped_by why }
 {
     match why {
+        Refusal::UnknownSite { .. } => Ending::UnknownSite,
         Refusal::StoreFault => Ending::StoreFault,
         Refusal::Damaged { table, key } => Ending::Damaged { table, key },
         _ => Ending::NoMemory,

@@ -6,7 +6,8 @@ ghost use Rattle.merge_world.specs.Views.{handed_view, site_of};
 ghost use Rattle.merge_program.specs.Elsewhere.{SameAtOthers};
 ghost use Rattle.merge_program.specs.Fresh.{fresh_view};
 ghost use Rattle.merge_program.specs.Making.{IsSummary, IsUnmade, MakeEnds, WriteEnds};
-ghost use Rattle.merge_program.specs.Stores.{AreEmptyStores, AreRooms, RoseBy, at_no_path, fresh_publisher, fresh_subscribers, untold_publisher, untold_subscriber};
+ghost use Rattle.merge_command.specs.Alone.{fresh_publisher};
+ghost use Rattle.merge_program.specs.Stores.{AreEmptyStores, AreRooms, RoseBy, at_no_path, fresh_subscribers, untold_publisher, untold_subscriber};
 
 use crate::ending::Ending;
 use crate::stores::{give_back, no_path, start};

@@ -10,7 +10,8 @@ ghost use Rattle.merge_program.specs.Elsewhere.{SameAtOthers};
 ghost use Rattle.merge_program.specs.Endings.{status_of};
 ghost use Rattle.merge_program.specs.Headline.{AnsweredInPart, InputEnds, PlayEnds, WrittenInPart};
 ghost use Rattle.merge_program.specs.Statuses.{is_silent};
-ghost use Rattle.merge_program.specs.Stores.{AreEmptyStores, AreRooms, at_no_path, fresh_publisher, fresh_subscribers, untold_publisher, untold_subscriber};
+ghost use Rattle.merge_command.specs.Alone.{fresh_publisher};
+ghost use Rattle.merge_program.specs.Stores.{AreEmptyStores, AreRooms, at_no_path, fresh_subscribers, untold_publisher, untold_subscriber};
 ghost use Rattle.merge_types.specs.Limits.{input_limit};
 
 use crate::ending::{Ending, refused};

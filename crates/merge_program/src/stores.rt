@@ -10,7 +10,8 @@ ghost use Rattle.merge_site.specs.Beginning.{IsEmptyStore};
 ghost use Rattle.merge_world.specs.Views.{faults_of, site_of};
 ghost use Rattle.merge_program.specs.Elsewhere.{SameAtOthers};
 ghost use Rattle.merge_program.specs.GivenBack.{AreToldBack, AscendAbove};
-ghost use Rattle.merge_program.specs.Stores.{AreEmptyStores, AreRooms, IsUnstarted, IsUnstartedAt, RoseBy, fresh_publisher, fresh_subscriber, fresh_subscribers, untold_publisher, untold_subscriber};
+ghost use Rattle.merge_command.specs.Alone.{fresh_publisher};
+ghost use Rattle.merge_program.specs.Stores.{AreEmptyStores, AreRooms, IsUnstarted, IsUnstartedAt, RoseBy, fresh_subscriber, fresh_subscribers, untold_publisher, untold_subscriber};
 
 use crate::ending::{Ending, stopped, unopened};
 use merge_ports::Outside;

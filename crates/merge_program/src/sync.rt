@@ -25,6 +25,7 @@ fn ending_of(synced: Result<(), Stop>) -> Ending
 {
     match synced {
         Ok(()) => Ending::Done,
+        Err(Stop::UnknownSite) => Ending::UnknownSite,
         Err(Stop::StoreFault) => Ending::StoreFault,
         Err(Stop::Damaged { table, key }) => Ending::Damaged { table, key },
         Err(Stop::LinkFault) => Ending::LinkFault,

@@ -7,6 +7,9 @@ use Rattle.merge_outside.specs.Offers.{Offers}
 use Rattle.merge_program.proofs.Changes.{given-ends, ungiven-ends}
 use Rattle.merge_program.proofs.change.change.Goals as goal
 
+pub change_site-requires-clause-known : goal.change_site-requires-clause-known
+change_site-requires-clause-known g c = c.in-Ok.ensures.given.there.known
+
 pub returns-in-Ok-clause-ends : goal.returns-in-Ok-clause-ends
 returns-in-Ok-clause-ends g c =
     let e = c.in-Ok.ensures in

@@ -1,8 +1,11 @@
 -- The subscriber starts, and its keeper is given back.
 use Rattle.std.proofs.Common.{refl, ◌∙◌}
 use Rattle.merge_program.proofs.Changes.{site-ends, unopened-ends}
-use Rattle.merge_program.proofs.Sites.{damage-at, kept-at, read-at, subscriber-ordered, subscriber-sites}
+use Rattle.merge_program.proofs.Sites.{damage-at, kept-at, read-at, subscriber-ordered, subscriber-sites, subscribes}
 use Rattle.merge_program.proofs.change.change_subscriber.Goals as goal
+
+pub open_subscriber-requires-clause-subscribes : goal.open_subscriber-requires-clause-subscribes
+open_subscriber-requires-clause-subscribes g c = subscribes _ c.requires.subscribes c.args.publication.now c.requires.known
 
 pub change_sites-ending-requires-clause-ordered : goal.change_sites-ending-requires-clause-ordered
 change_sites-ending-requires-clause-ordered g c = subscriber-ordered _ _ _ _ c.in-Ok.ensures.read

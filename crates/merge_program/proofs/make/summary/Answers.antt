@@ -2,7 +2,8 @@
 use Rattle.std.proofs.Common.{map, refl, subst, sym, ◌∙◌, ◌≡◌}
 use Rattle.std.proofs.lemmas.Result.{err_from_is_err_and}
 use Rattle.merge_schema.specs.declared.publication.Publication.{Publication}
-use Rattle.merge_program.specs.Stores.{at_no_path, fresh_publisher, fresh_subscribers, untold_publisher, untold_subscriber}
+use Rattle.merge_command.specs.Alone.{fresh_publisher}
+use Rattle.merge_program.specs.Stores.{at_no_path, fresh_subscribers, untold_publisher, untold_subscriber}
 use Rattle.merge_program.proofs.Makes.{unmade}
 use Rattle.merge_program.proofs.Plays.{empty-of, unstarted-of}
 use Rattle.merge_program.proofs.make.summary.Goals as goal

@@ -30,7 +30,7 @@ returns-clause-ends g c = λ input reads failed.
     let counted : c.len.result ≡ length c.args.resolvers.now.items = search rules in
     let same_items = ap (λ v. v.items) c.replace-handed.ensures.value in
     let said = ap (says_at (λ r. (goal.Resolver-dyn g (r.vtable, r.value)).says r.value)) same_items in
-    ordered-ends _ _ _ _ _ _ _ c.finish_of.ensures _ _ counted c.in-Ok.ensures.read _ c.in-Ok.ensures.told _ c.in-Ok.ensures.stores _ said c.serve_store-served.ensures.ends
+    ordered-ends _ _ _ _ _ _ _ c.finish_of.ensures _ _ counted c.in-Ok.ensures.read _ c.in-Ok.ensures.told _ c.in-Ok.ensures.stores _ said _ c.clamp.ensures c.serve_store-served.ensures.ends
 
 pub returns-in-Err-clause-others : goal.returns-in-Err-clause-others
 returns-in-Err-clause-others g c = λ s p other. ap (λ (f : SiteId → List ℕ → Option Map). f s p) c.in-Err.ensures.told

@@ -1,8 +1,11 @@
 -- The subscriber starts, and its keeper is given back.
 use Rattle.std.proofs.Common.{refl, ◌∙◌}
 use Rattle.merge_program.proofs.Shows.{known-of, named-of, rows-named, shown-ends, unopened-ends}
-use Rattle.merge_program.proofs.Sites.{damage-at, kept-at, subscriber-of, subscriber-ordered, read-at, subscriber-sites}
+use Rattle.merge_program.proofs.Sites.{damage-at, kept-at, subscriber-of, subscriber-ordered, read-at, subscriber-sites, subscribes}
 use Rattle.merge_program.proofs.show.show_subscriber.Goals as goal
+
+pub open_subscriber-requires-clause-subscribes : goal.open_subscriber-requires-clause-subscribes
+open_subscriber-requires-clause-subscribes g c = subscribes _ c.requires.subscribes c.args.publication.now c.requires.known
 
 pub show_sites-ending-requires-clause-ordered : goal.show_sites-ending-requires-clause-ordered
 show_sites-ending-requires-clause-ordered g c = subscriber-ordered _ _ _ _ c.in-Ok.ensures.read
