@@ -174,14 +174,18 @@ const CUTOFFS: &[(u64, Option<u64>, u64)] = &[(4, None, 0), (8, Some(3), 3), (10
 // A generation, and when it closed.
 const CLOSED: &[(u64, Option<u64>)] = &[(1, Some(4)), (3, Some(7)), (5, None)];
 
-// A purge is known before it is made.
-#[test]
-fn closings_are_found_by_moment_and_generation(rt: HostRuntime) -> Result<(), Fail> {
+fn closed_book(alloc: Global) -> Result<GenerationBook, Fail> {
     let filling = Filling {
         last_closed: 4,
         filled: 0,
     };
-    let book = restored(rt.alloc(), filling, &[(1, 4), (2, 4), (3, 7), (4, 9)])?;
+    restored(alloc, filling, &[(1, 4), (2, 4), (3, 7), (4, 9)])
+}
+
+// A purge is known before it is made.
+#[test]
+fn closings_are_found_by_moment(rt: HostRuntime) -> Result<(), Fail> {
+    let book = closed_book(rt.alloc())?;
     for (cutoff, last, count) in CUTOFFS {
         let told = (
             book.last_before(Moment(*cutoff)),
@@ -189,6 +193,12 @@ fn closings_are_found_by_moment_and_generation(rt: HostRuntime) -> Result<(), Fa
         );
         same_in(&rt, &told, &(*last, *count), &cutoff);
     }
+    Ok(())
+}
+
+#[test]
+fn closings_are_found_by_generation(rt: HostRuntime) -> Result<(), Fail> {
+    let book = closed_book(rt.alloc())?;
     for (generation, moment) in CLOSED {
         same_in(&rt, &book.closed_at(*generation), moment, &generation);
     }

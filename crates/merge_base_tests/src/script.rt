@@ -66,7 +66,7 @@ fn splits_words(rt: HostRuntime) -> Result<(), Fail> {
 }
 
 #[test]
-fn tells_lines_and_words(rt: HostRuntime) {
+fn quiet_lines_are_told(rt: HostRuntime) {
     for (line, quiet) in [
         (b"".as_slice(), true),
         (b" \t", true),
@@ -78,6 +78,10 @@ fn tells_lines_and_words(rt: HostRuntime) {
     }
     assert!(rt; is_text(b"\xc3\xa9"));
     assert!(rt; !is_text(b"\xff"));
+}
+
+#[test]
+fn names_are_told(rt: HostRuntime) {
     for (word, name) in [
         (b"".as_slice(), false),
         (b"_a1", true),
@@ -88,6 +92,10 @@ fn tells_lines_and_words(rt: HostRuntime) {
     ] {
         same(&rt, &is_name(word), &name);
     }
+}
+
+#[test]
+fn decimals_are_read(rt: HostRuntime) {
     for (word, number) in [
         (b"".as_slice(), None),
         (b"0", Some(0)),

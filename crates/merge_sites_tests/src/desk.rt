@@ -9,7 +9,7 @@ ghost use Rattle.merge_desk.specs.Views.{SeatView, seat_call_parts, seat_fault_p
 use crate::nobody::Nobody;
 use crate::same::same;
 use merge_batch::{Join, Kind, Request};
-use merge_desk::{Closed, Desk, Entry, Opening, Seat, summary};
+use merge_desk::{Closed, Desk, Journal, Opening, Seat, summary};
 use merge_types::{Moment, SiteId};
 use std::alloc::Global;
 use std::marker::{Brand, Model};
@@ -138,7 +138,7 @@ fn serve<
 // What a day of a desk leaves.
 #[derive(Drop)]
 struct Left {
-    journal: Vec<Entry>,
+    journal: Journal,
     publisher: Nobody,
 }
 
@@ -203,10 +203,10 @@ fn two_threads_are_answered_in_journal_order(rt: HostRuntime) -> Result<(), Fail
         permits,
     )?;
     same(&rt, &left.publisher.asked, &100);
-    same(&rt, &left.journal.len(), &100);
+    same(&rt, &left.journal.entries().len(), &100);
     let mut place = 0u64;
     let mut first = 0u64;
-    for entry in &left.journal {
+    for entry in left.journal.entries() {
         place = place.wrapping_add(1);
         same(&rt, &entry.mark.place, &place);
         same(&rt, &entry.mark.digest, &TOLD);

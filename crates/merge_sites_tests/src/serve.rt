@@ -6,7 +6,7 @@ ghost use Rattle.merge_desk.specs.Replay.{no_publication};
 use crate::nobody::Nobody;
 use crate::same::same;
 use crate::service::publication;
-use merge_desk::{Closed, Desk, Entry, Opening, summary};
+use merge_desk::{Closed, Desk, Journal, Opening, summary};
 use merge_draft::DraftingPublisher;
 use merge_keeper::MemoryKeeper;
 use merge_link::MemoryClock;
@@ -228,7 +228,7 @@ struct Left<P: DraftingPublisher> {
     accepted: u64,
     faults: u64,
     publisher: P,
-    journal: Vec<Entry>,
+    journal: Journal,
 }
 
 // By how many workers these messages are answered, and for how many requests a desk is open.
@@ -404,7 +404,7 @@ fn a_join_whose_commit_fails_has_no_place(rt: HostRuntime) -> Result<(), Fail> {
     same(&rt, &(left.accepted, left.faults), &(3, 0));
     same(&rt, &left.publisher.faults(), &1);
     let mut places = Vec::new(rt.alloc());
-    for entry in &left.journal {
+    for entry in left.journal.entries() {
         places.push((entry.request.site().0, entry.mark.place))?;
     }
     same(&rt, &places.as_slice(), &[(1, 1), (2, 2)].as_slice());
@@ -420,6 +420,6 @@ fn a_door_that_fails_ends_the_day(rt: HostRuntime) -> Result<(), Fail> {
     };
     let left = serve_day(&rt, rt.alloc(), Nobody { asked: 0 }, day, &OpenGate)?;
     same(&rt, &(left.accepted, left.faults), &(2, 1));
-    same(&rt, &left.journal.len(), &2);
+    same(&rt, &left.journal.entries().len(), &2);
     Ok(())
 }

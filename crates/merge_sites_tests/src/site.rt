@@ -16,6 +16,7 @@ use pair::Pair;
 use playing::{begin_anew, fail_in_turn, follow, start_again};
 use replies::{commit_once, hear_each};
 use requests::{REQUESTS, UPLOADS, ask_in_turn};
+use starting::refuse_unknown;
 use std::test::Fail;
 
 #[test]
@@ -32,6 +33,11 @@ fn sites_that_start_again_have_what_is_worked_out(rt: HostRuntime) -> Result<(),
 #[test]
 fn a_site_that_begins_anew_keeps_what_is_its_own(rt: HostRuntime) -> Result<(), Fail> {
     begin_anew::<Pair, _>(&rt, rt.alloc(), 39)
+}
+
+#[test]
+fn a_site_that_is_no_subscription_is_not_started(rt: HostRuntime) -> Result<(), Fail> {
+    refuse_unknown(&rt, rt.alloc())
 }
 
 #[test]

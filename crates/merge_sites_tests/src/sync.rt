@@ -14,6 +14,9 @@ use merge_wire::is_visible;
 use std::alloc::Global;
 use std::test::Fail;
 
+// The only subscription.
+const SITE: SiteId = SiteId(1);
+
 const PUBLICATION: &[u8] =
     b"name = \"p\"\n[[article]]\nname = \"item\"\n[[article.column]]\nname = \"qty\"\ntype = \"int\"\n[[subscription]]\nsite = 1\nhost = \"h\"\n";
 
@@ -77,12 +80,16 @@ fn entries(alloc: Global, tables: &[u8]) -> Result<Entries, Fail> {
     Ok(entries)
 }
 
-// An outside with this store of site 1.
-fn outside(alloc: Global, entries: Entries) -> Result<MemoryCommands<MemoryKeeper>, Fail> {
+// An outside with this store of a site.
+fn outside(
+    alloc: Global,
+    site: SiteId,
+    entries: Entries,
+) -> Result<MemoryCommands<MemoryKeeper>, Fail> {
     let none = Listing::empty(alloc);
     let keeper = MemoryKeeper::new(alloc, entries, none, Listing::empty(alloc));
     let mut stores = Table::new(alloc);
-    stores.insert(1u16, keeper)?;
+    stores.insert(site.0, keeper)?;
     let mut outside = MemoryCommands::new(alloc, MemoryOutside::new(stores, Listing::empty(alloc)));
     outside.moments.push(Moment(5))?;
     Ok(outside)
@@ -115,6 +122,7 @@ fn publication(alloc: Global) -> Result<Publication, Fail>
 #[derive(Clone, Copy, Debug, PartialEq, Eq)]
 enum End {
     Done,
+    UnknownSite,
     StoreFault,
     Damaged { table: u8 },
     LinkFault,
@@ -127,6 +135,7 @@ enum End {
 fn end_of(end: &Result<(), Stop>) -> Result<End, Fail> {
     match end {
         Ok(()) => Ok(End::Done),
+        Err(Stop::UnknownSite) => Ok(End::UnknownSite),
         Err(Stop::StoreFault) => Ok(End::StoreFault),
         Err(Stop::Damaged { table, .. }) => Ok(End::Damaged { table: *table }),
         Err(Stop::LinkFault) => Ok(End::LinkFault),
@@ -145,6 +154,7 @@ fn end_of(end: &Result<(), Stop>) -> Result<End, Fail> {
 fn ended(
     alloc: Global,
     outside: &mut MemoryCommands<MemoryKeeper>,
+    site: SiteId,
     failing_writes: &[u64],
 ) -> Result<(End, Octets), Fail> {
     let publication = publication(alloc)?;
@@ -158,7 +168,7 @@ fn ended(
         alloc,
         outside,
         &publication,
-        SiteId(1),
+        site,
         &store,
         &address,
         &mut output,
@@ -182,10 +192,10 @@ fn are_sent(outside: &MemoryCommands<MemoryKeeper>, requests: &[&str]) -> bool {
 
 #[test]
 fn sessions_follow_one_another(rt: HostRuntime) -> Result<(), Fail> {
-    let mut outside = outside(rt.alloc(), Entries::empty(rt.alloc()))?;
+    let mut outside = outside(rt.alloc(), SITE, Entries::empty(rt.alloc()))?;
     for (responses, requests) in FOLLOWING {
         respond(rt.alloc(), &mut outside, responses)?;
-        let (end, written) = ended(rt.alloc(), &mut outside, &[])?;
+        let (end, written) = ended(rt.alloc(), &mut outside, SITE, &[])?;
         same(&rt, &end, &End::Done);
         same(&rt, &written.as_slice(), &b"done 0 0 0\n".as_slice());
         assert!(rt; are_sent(&outside, requests));
@@ -193,10 +203,11 @@ fn sessions_follow_one_another(rt: HostRuntime) -> Result<(), Fail> {
     Ok(())
 }
 
-/// A first session: in which tables its store has an entry of no value, what it is answered with,
-/// which asks, openings of the store and writes fail, and how it ends.
+/// A first session: of which site it is, in which tables its store has an entry of no value, what it
+/// is answered with, which asks, openings of the store and writes fail, and how it ends.
 #[derive(Clone, Copy, Debug)]
 struct Session {
+    site: SiteId,
     tables: &'static [u8],
     responses: &'static [&'static str],
     asks: &'static [u64],
@@ -206,6 +217,7 @@ struct Session {
 }
 
 const DONE: Session = Session {
+    site: SITE,
     tables: &[],
     responses: &[JOINED, NOTHING_NEW],
     asks: &[],
@@ -236,6 +248,17 @@ const SESSIONS: &[Session] = &[
     Session {
         tables: &[2],
         end: End::Damaged { table: 2 },
+        ..DONE
+    },
+    Session {
+        site: SiteId(0),
+        end: End::UnknownSite,
+        ..DONE
+    },
+    Session {
+        site: SiteId(2),
+        tables: &[2],
+        end: End::UnknownSite,
         ..DONE
     },
     Session {
@@ -270,11 +293,11 @@ const ANSWERS: &[(&[&'static str], End)] = &[
 
 // Whether the session ends so, and writes a line just where it is done.
 fn ends(alloc: Global, session: &Session) -> Result<bool, Fail> {
-    let mut outside = outside(alloc, entries(alloc, session.tables)?)?;
+    let mut outside = outside(alloc, session.site, entries(alloc, session.tables)?)?;
     respond(alloc, &mut outside, session.responses)?;
     outside.failing_asks = numbers(alloc, session.asks)?;
     outside.stores.failing = numbers(alloc, session.openings)?;
-    let (end, written) = ended(alloc, &mut outside, session.writes)?;
+    let (end, written) = ended(alloc, &mut outside, session.site, session.writes)?;
     Ok(end == session.end && written.is_empty() == (end != End::Done))
 }
 

@@ -77,12 +77,17 @@ fn the_answer_is_read(rt: HostRuntime) -> Result<(), Fail> {
 }
 
 #[test]
-fn a_cut_message_has_ended(rt: HostRuntime) -> Result<(), Fail> {
+fn a_cut_request_has_ended(rt: HostRuntime) -> Result<(), Fail> {
     for length in 0..JOIN.len() {
         let fault = request_fault(rt.alloc(), &JOIN[..length])?;
         same_in(&rt, &fault, &Some(WireFault::Ended), &length);
     }
     same(&rt, &request_fault(rt.alloc(), JOIN)?, &None);
+    Ok(())
+}
+
+#[test]
+fn a_cut_response_has_ended(rt: HostRuntime) -> Result<(), Fail> {
     for length in 0..JOINED.len() {
         let fault = response_fault(rt.alloc(), &JOINED[..length])?;
         same_in(&rt, &fault, &Some(WireFault::Ended), &length);

@@ -140,11 +140,17 @@ const ARTICLE_PLACES: &[(&str, Option<usize>)] = &[("order", Some(1)), ("orders"
 const COLUMN_PLACES: &[(&str, Option<usize>)] = &[("id", Some(2)), ("i", None)];
 
 #[test]
-fn places(rt: HostRuntime) -> Result<(), Fail> {
+fn article_places(rt: HostRuntime) -> Result<(), Fail> {
     let publication = read(rt.alloc(), SHOP.as_bytes(), 5)?;
     for (name, place) in ARTICLE_PLACES {
         same_in(&rt, &publication.article_place(name), place, &name);
     }
+    Ok(())
+}
+
+#[test]
+fn column_places(rt: HostRuntime) -> Result<(), Fail> {
+    let publication = read(rt.alloc(), SHOP.as_bytes(), 5)?;
     if let Some(customer) = publication.articles.as_slice().get(0) {
         for (name, place) in COLUMN_PLACES {
             same_in(&rt, &customer.column_place(name), place, &name);

@@ -1,10 +1,13 @@
 //! Sites that begin at empty stores, of which a call may fail, and sites that start again.
 use super::edits::{SITE, publication};
+use crate::same::same;
+use merge_batch::Refusal;
 use merge_keeper::MemoryKeeper;
-use merge_ports::Entries;
-use merge_site::{KeptPublisher, KeptSubscriber};
+use merge_ports::{Entries, Keeper};
+use merge_site::{KeptPublisher, KeptSubscriber, NotStarted};
 use merge_types::{Listing, NoMemory, SiteId};
 use std::alloc::Global;
+use std::process::Abort;
 use std::test::Fail;
 
 /// A call of a site's keeper, by its number. Loads and commits count from 0.
@@ -100,4 +103,35 @@ pub fn started(alloc: Global, there: Entries, here: Entries) -> Result<Both, Fai
         started_publisher(alloc, there)?,
         started_subscriber(alloc, here),
     )
+}
+
+// Sites that are no subscription: the publisher's, and the first behind the last one.
+const UNKNOWN: &[SiteId] = &[SiteId(0), SiteId(3)];
+
+// Why a site did not start, with its keeper. A site that did is of a type that it does not know.
+fn unstarted<T: Drop>(
+    started: Result<T, NotStarted<MemoryKeeper>>,
+) -> Result<NotStarted<MemoryKeeper>, Fail> {
+    match started {
+        Ok(_) => Err(Fail::from("a site that is no subscription")),
+        Err(unstarted) => Ok(unstarted),
+    }
+}
+
+/// A site that is no subscription is refused, and its keeper, of which the first call would fail, is
+/// not called.
+pub fn refuse_unknown<R: Abort>(rt: &R, alloc: Global) -> Result<(), Fail> {
+    for site in UNKNOWN {
+        let first = Call {
+            site: *site,
+            number: 0,
+        };
+        let keeper = keeper(alloc, Some(first), *site)?;
+        let publication = publication(alloc)?;
+        let started = KeptSubscriber::start(alloc, keeper, publication, *site);
+        let NotStarted { keeper, why } = unstarted(started)?;
+        same(rt, &why, &Refusal::UnknownSite { site: *site });
+        same(rt, &keeper.faults(), &0);
+    }
+    Ok(())
 }

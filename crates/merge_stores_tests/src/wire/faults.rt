@@ -218,15 +218,26 @@ fn at_most_8192_bytes(rt: HostRuntime) -> Result<(), Fail> {
     Ok(())
 }
 
-// What ends inside a head has ended where a head can still come of it, and where a target has not ended.
+// What ends inside a head has ended where a head can still come of it.
 const REQUEST_FRONTS: &[Case] = &[
     (b"", Some(Ended)),
     (b"\r\n", Some(Ended)),
     (b"GET /", Some(Ended)),
     (b"GET ", Some(Ended)),
+    // a target that bytes can make a text, and one that none can
     (b"GET /\xc3", Some(Ended)),
-    (b"GET /\xff", Some(Ended)),
-    (b"GET /\xff ", Some(BadHead)),
+    (b"GET /\xc3\xa9", Some(Ended)),
+    (b"GET /\xe2\x82", Some(Ended)),
+    (b"GET /\xf0\x90\x8d", Some(Ended)),
+    (b"GET /\xff", Some(BadHead)),
+    (b"GET /\xf5", Some(BadHead)),
+    (b"GET /\xe2\x28", Some(BadHead)),
+    (b"GET /\xe2\x82 ", Some(BadHead)),
+    // an overlong form, a surrogate, and a number past the last character
+    (b"GET /\xc0\x80", Some(BadHead)),
+    (b"GET /\xe0\x9f", Some(BadHead)),
+    (b"GET /\xed\xa0", Some(BadHead)),
+    (b"GET /\xf4\x90", Some(BadHead)),
     (b"GET /\x7f", Some(BadHead)),
     (b"GET  ", Some(BadHead)),
     (b"G\x00", Some(BadHead)),
@@ -267,9 +278,15 @@ fn a_bad_front_of_a_response_has_not_ended(rt: HostRuntime) -> Result<(), Fail> 
 
 #[test]
 fn nothing_is_read_behind_what_is_no_head(rt: HostRuntime) -> Result<(), Fail> {
-    let mut source = source(rt.alloc(), b"PO(ST / HTTP/1.1\r\n\r\n", &[])?;
-    let fault = read_message(rt.alloc(), &mut source).err();
-    same(&rt, &fault, &Some(BadHead));
-    same(&rt, &source.taken, &3);
+    for (bytes, taken) in [
+        (b"PO(ST / HTTP/1.1\r\n\r\n".as_slice(), 3),
+        (b"GET /\xff HTTP/1.1\r\n\r\n", 6),
+        (b"GET /\xe2\x28 HTTP/1.1\r\n\r\n", 7),
+    ] {
+        let mut source = source(rt.alloc(), bytes, &[])?;
+        let fault = read_message(rt.alloc(), &mut source).err();
+        same_in(&rt, &fault, &Some(BadHead), &taken);
+        same(&rt, &source.taken, &taken);
+    }
     Ok(())
 }
