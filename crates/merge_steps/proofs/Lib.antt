@@ -8,6 +8,7 @@ pub mod Made
 pub mod Many
 pub mod Follows
 pub mod Sound
+pub mod KeyTables
 pub mod Steps
 pub mod ListSteps
 pub mod MoveFollows

@@ -77,14 +77,30 @@ keys_in versions = map (λ (row : Key × Version). row.0) versions
 abbrev pub is_move_at : Key → ℕ → Move → Bool
 is_move_at key site move = same_key key (key_moved move) && (move.site.0 == site)
 
--- whether the site may not hold the row after the moves
-abbrev pub found_out : Publication → ℕ → List LiveRow → List Move → Key → Bool
-found_out publication site before moves key =
+-- whether the site may not hold the row after the moves, by whether it moves there
+abbrev pub out_after : Publication → ℕ → List LiveRow → Bool → Key → Bool
+out_after publication site before moved key =
     let was = is_in_at publication (record { 0 = site }) before key.article key.row in
-    if list_any (is_move_at key site) moves then was else not was
+    if moved then was else not was
+
+abbrev pub found_out : Publication → ℕ → List LiveRow → List Move → Key → Bool
+found_out publication site before moves key = out_after publication site before (list_any (is_move_at key site) moves) key
 
 abbrev pub found_outs : Publication → ℕ → List LiveRow → List Move → List Key → List Key
 found_outs publication site before moves acted = filter (found_out publication site before moves) acted
+
+-- the rows that move at a site, and those that it may not hold, by these
+abbrev pub is_at_site : ℕ → Move → Bool
+is_at_site site move = move.site.0 == site
+
+abbrev pub moved_at : ℕ → List Move → List Key
+moved_at site moves = map key_moved (filter (is_at_site site) moves)
+
+abbrev pub out_by : Publication → ℕ → List LiveRow → List Key → Key → Bool
+out_by publication site before moved key = out_after publication site before (has_key moved key) key
+
+abbrev pub outs_by : Publication → ℕ → List LiveRow → List Key → List Key → List Key
+outs_by publication site before moved acted = filter (out_by publication site before moved) acted
 
 abbrev pub move_edit : RowSite × MoveKind → Edit RowSite MoveKind
 move_edit entry = Put entry.0 entry.1
@@ -95,6 +111,10 @@ entry_edits changed site outs moves = map move_edit (told_moves changed moves) +
 abbrev pub found_entries : Publication → List LiveRow → Changing → List Move → List (RowSite × MoveKind)
 found_entries publication before changing moves =
     rows_after_all row_site_cmp [] (entry_edits (keys_in changing.versions) changing.uploader (found_outs publication changing.uploader before moves changing.acted) moves)
+
+-- the same rows stand in two lists
+abbrev pub HaveSame : List Key → List Key → Type 0
+HaveSame keys others = (key : Key) → has_key keys key ≡ has_key others key
 
 -- no key stands twice
 abbrev pub Apart : List Key → Type 0

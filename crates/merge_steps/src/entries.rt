@@ -1,6 +1,6 @@
 //! The entries of a step that gives rows versions.
 ghost use Rattle.std.specs.Prelude.{◌≡◌, ◌<◌, ◌+◌, ◌^◌, ◌∷◌, ◌++◌, [], map, length, drop, take, filter, option_copied, IfOk, OnOk};
-ghost use Rattle.std.specs.List.{zip as zipped, list_any};
+ghost use Rattle.std.specs.List.{zip as zipped};
 ghost use Rattle.merge_table.specs.Edits.{rows_after_all};
 ghost use Rattle.merge_part.specs.Live.{live_rows as listed};
 ghost use Rattle.merge_part.specs.View.{live_in};
@@ -48,16 +48,22 @@ pub fn row_changes(
     Ok(changes)
 }
 
-// Whether a key is among these.
-fn has_key(keys: &[RowKey], key: RowKey) -> bool
-    ensures { result ≡ one_has keys.now key }
+// A table of rows, in which looking for one costs a logarithm.
+fn key_table(alloc: Global, keys: &[RowKey]) -> Result<Table<RowKey, ()>, NoMemory>
+    ensures { IfOk result (λ table. work.HaveSame table.slots keys.now) }
 {
-    for one in keys {
-        if key == *one {
-            return true;
-        }
+    let mut table = Table::new(alloc);
+    for key in keys {
+        table.insert(*key, ())?;
     }
-    false
+    Ok(table)
+}
+
+// Whether a row is among these.
+fn has_key(keys: &Table<RowKey, ()>, key: RowKey) -> bool
+    ensures { result ≡ one_has keys.now.slots key }
+{
+    keys.has_room(&key)
 }
 
 // The row of a move.
@@ -71,8 +77,8 @@ fn key_moved(one: &Move) -> RowKey
 }
 
 // Whether a move makes an entry.
-fn is_told(changed: &[RowKey], one: &Move) -> bool
-    ensures { result ≡ tie.is_told changed.now one.now }
+fn is_told(changed: &Table<RowKey, ()>, one: &Move) -> bool
+    ensures { result ≡ tie.is_told changed.now.slots one.now }
 {
     match one.kind {
         MoveKind::Entered => !has_key(changed, key_moved(one)),
@@ -80,50 +86,47 @@ fn is_told(changed: &[RowKey], one: &Move) -> bool
     }
 }
 
-// Whether a row moves at a site by this move.
-fn is_move_at(key: RowKey, site: u16, one: &Move) -> bool
-    ensures { result ≡ work.is_move_at key site one.now }
+// Whether a move is one at a site.
+fn is_at_site(site: u16, one: &Move) -> bool
+    ensures { result ≡ work.is_at_site site one.now }
 {
-    key == key_moved(one) && one.site.0 == site
+    one.site.0 == site
 }
 
-// Whether a row moves at a site.
-fn is_moved(moves: &[Move], key: RowKey, site: u16) -> bool
-    ensures { result ≡ list_any (work.is_move_at key site) moves.now }
+// The rows that move at a site.
+fn moved_at(alloc: Global, moves: &[Move], site: u16) -> Result<Listing<RowKey>, NoMemory>
+    ensures { IfOk result (λ keys. keys ≡ work.moved_at site moves.now) }
 {
+    let mut keys = Listing::empty(alloc);
     for one in moves {
-        if is_move_at(key, site, one) {
-            return true;
+        if is_at_site(site, one) {
+            keys.push(key_moved(one))?;
         }
     }
-    false
+    Ok(keys)
 }
 
-// Whether a site may not hold a row after the moves.
-fn found_out(membership: &Membership, moves: &[Move], site: u16, key: RowKey) -> bool
-    ensures { result ≡ work.found_out membership.now.publication site (listed (live_in membership.now)) moves.now key }
+// Whether a site may not hold a row after the moves, by the rows that move there.
+fn found_out(membership: &Membership, moved: &Table<RowKey, ()>, site: u16, key: RowKey) -> bool
+    ensures { result ≡ work.out_by membership.now.publication site (listed (live_in membership.now)) moved.now.slots key }
 {
     let was = membership.is_in(key.article, key.row, SiteId(site));
-    if is_moved(moves, key, site) {
-        was
-    } else {
-        !was
-    }
+    if has_key(moved, key) { was } else { !was }
 }
 
-// The rows that a site sent and may not hold.
+// The rows that a site sent and may not hold, by the rows that move there.
 fn found_outs(
     alloc: Global,
     membership: &Membership,
-    moves: &[Move],
+    moved: &Table<RowKey, ()>,
     site: u16,
     acted: &[RowKey],
 ) -> Result<Listing<RowKey>, NoMemory>
-    ensures { IfOk result (λ outs. outs ≡ work.found_outs membership.now.publication site (listed (live_in membership.now)) moves.now acted.now) }
+    ensures { IfOk result (λ outs. outs ≡ work.outs_by membership.now.publication site (listed (live_in membership.now)) moved.now.slots acted.now) }
 {
     let mut outs = Listing::empty(alloc);
     for key in acted {
-        if found_out(membership, moves, site, *key) {
+        if found_out(membership, moved, site, *key) {
             outs.push(*key)?;
         }
     }
@@ -133,12 +136,12 @@ fn found_outs(
 // The entries of moves, and of rows that left a site.
 fn entry_edits(
     alloc: Global,
-    changed: &[RowKey],
+    changed: &Table<RowKey, ()>,
     moves: &[Move],
     site: u16,
     outs: &[RowKey],
 ) -> Result<Vec<Edit<RowSite, MoveKind>>, NoMemory>
-    ensures { IfOk result (λ edits. edits.items ≡ work.entry_edits changed.now site outs.now moves.now) }
+    ensures { IfOk result (λ edits. edits.items ≡ work.entry_edits changed.now.slots site outs.now moves.now) }
 {
     let mut edits = Vec::new(alloc);
     for one in moves {
@@ -191,14 +194,18 @@ pub fn found_entries(
 ) -> Result<Listing<(RowSite, MoveKind)>, NoMemory>
     ensures { IfOk result (λ entries. entries ≡ rows_after_all row_site_cmp [] (work.entry_edits changed.now site (work.found_outs membership.now.publication site (listed (live_in membership.now)) moves.now acted.now) moves.now)) }
 {
-    let outs = found_outs(alloc, membership, moves, site, acted)?;
-    let edits = entry_edits(alloc, changed, moves, site, outs.as_slice())?;
-    in_order(alloc, edits)
+    let there = moved_at(alloc, moves, site)?;
+    let moved = key_table(alloc, there.as_slice())?;
+    let outs = found_outs(alloc, membership, &moved, site, acted)?;
+    let keys = key_table(alloc, changed)?;
+    let edits = entry_edits(alloc, &keys, moves, site, outs.as_slice())?;
+    let entries = in_order(alloc, edits)?;
+    Ok(entries)
 }
 
 // Whether by this move a row comes back that changed.
-fn is_return(mappings: &Table<RowSite, Mapping>, changed: &[RowKey], one: &Move) -> bool
-    ensures { result ≡ work.is_return mappings.now.rows changed.now one.now }
+fn is_return(mappings: &Table<RowSite, Mapping>, changed: &Table<RowKey, ()>, one: &Move) -> bool
+    ensures { result ≡ work.is_return mappings.now.rows changed.now.slots one.now }
 {
     let (place, kind) = entry_of(one);
     let has_left = match mappings.get(&place) {
@@ -206,6 +213,25 @@ fn is_return(mappings: &Table<RowSite, Mapping>, changed: &[RowKey], one: &Move)
         None => false,
     };
     kind == MoveKind::Entered && has_key(changed, place.key) && has_left
+}
+
+// The places at which rows of a table come back.
+fn returns_among(
+    alloc: Global,
+    mappings: &Table<RowSite, Mapping>,
+    changed: &Table<RowKey, ()>,
+    moves: &[Move],
+) -> Result<Listing<RowSite>, NoMemory>
+    ensures { IfOk result (λ places. places ≡ work.returns mappings.now.rows changed.now.slots moves.now) }
+{
+    let mut places = Listing::empty(alloc);
+    for one in moves {
+        if is_return(mappings, changed, one) {
+            let (place, _) = entry_of(one);
+            places.push(place)?;
+        }
+    }
+    Ok(places)
 }
 
 /// The places at which rows that changed come back.
@@ -217,13 +243,8 @@ pub fn returns(
 ) -> Result<Listing<RowSite>, NoMemory>
     ensures { IfOk result (λ places. places ≡ work.returns mappings.now.rows changed.now moves.now) }
 {
-    let mut places = Listing::empty(alloc);
-    for one in moves {
-        if is_return(mappings, changed, one) {
-            let (place, _) = entry_of(one);
-            places.push(place)?;
-        }
-    }
+    let keys = key_table(alloc, changed)?;
+    let places = returns_among(alloc, mappings, &keys, moves)?;
     Ok(places)
 }
 

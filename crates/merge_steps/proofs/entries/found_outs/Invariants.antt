@@ -5,4 +5,4 @@ use Rattle.merge_steps.specs.Working as work
 use Rattle.merge_steps.proofs.entries.found_outs.Given as goal
 
 abbrev pub invariant-loop-key : goal.invariant-loop-key
-invariant-loop-key l = l.outs ≡ work.found_outs l.membership.publication l.site (listed (live_in l.membership)) l.moves (take l.key-index l.acted)
+invariant-loop-key l = l.outs ≡ work.outs_by l.membership.publication l.site (listed (live_in l.membership)) l.moved.slots (take l.key-index l.acted)
