@@ -15,8 +15,10 @@ use Rattle.uuid.specs.Text.{by_index, parsed}
 use Rattle.merge_types.specs.declared.identifiers.RowId.{RowId}
 use Rattle.merge_types.specs.declared.values.Value.{Value}
 use Rattle.merge_types.specs.declared.values.Value.TheVariants.{Null, Int, Bit, Text, Day, Guid, Bytes}
+pub use Rattle.merge_types.specs.Day.{is_day}
 use Rattle.merge_types.specs.Day.{day_text, year_of, month_of, date_of, march_month_of, since_march, march_year_of, quarters_of, march_days_of}
 use Rattle.merge_types.specs.Guid.{guid_text}
+use Rattle.merge_types.specs.Limits.{number_limit}
 use Rattle.merge_types.specs.Literal.{IsLiteral}
 use Rattle.merge_types.specs.Quoted.{piece_at, escape_at, long_at, quoted}
 use Rattle.merge_types.specs.Rows.{row_number, IsRowLiteral}
@@ -76,11 +78,6 @@ day_number year month date = pos (days_to year month date) -ℤ pos 4_371_953
 abbrev pub day_written : List ℕ → ℤ
 day_written text = day_number (two_at 0 text * 100 + two_at 2 text) (two_at 5 text) (two_at 8 text)
 
--- from 0001-01-01 to 9999-12-31
-abbrev pub is_day : ℤ → Bool
-is_day (pos n) = nat_le n 2_932_896
-is_day (negsuc n) = nat_lt n 719_162
-
 abbrev pub day_printed_as : List ℕ → ℤ → Option ℤ
 day_printed_as text day = some_if (is_day day && same text (day_text day)) day
 
@@ -139,7 +136,7 @@ value_of_text text =
 
 -- a site makes the row by the change with this number
 abbrev pub is_made_by : ℕ → ℕ → ℕ → Bool
-is_made_by row site number = nat_lt site (2 ^ 16) && nat_le 1 number && nat_lt number (2 ^ 62) && (row == row_number site number)
+is_made_by row site number = nat_lt site (2 ^ 16) && nat_le 1 number && nat_lt number number_limit && (row == row_number site number)
 
 abbrev pub made_row : ℕ → ℕ → ℕ → Option RowId
 made_row row site number = some_if (is_made_by row site number) (record { 0 = row })
