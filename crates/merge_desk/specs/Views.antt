@@ -34,7 +34,8 @@ pub record IsKeptDesk (publication : Publication) (opening : PublisherTables) (s
   pub few : count + faults ≤ v.faults
   pub paid : length journal ≤ spent
 
--- a seat: its number, what it was told, and the amount and the parts of both its shares
+-- A seat: its number, what it was told, and the amount and the parts of both its shares. What it was told and both amounts are
+-- noted as the last of its connections was closed.
 pub record SeatView : Type 0 where
   pub number : ℕ
   pub told : List Mark
@@ -42,6 +43,17 @@ pub record SeatView : Type 0 where
   pub faults : ℕ
   pub call_parts : ℕ
   pub fault_parts : ℕ
+  pub closed_told : List Mark
+  pub closed_calls : ℕ
+  pub closed_faults : ℕ
+
+-- the seat, which is noted as it is
+abbrev pub seat_noted : SeatView → SeatView
+seat_noted s = record s { closed_told = s.told; closed_calls = s.calls; closed_faults = s.faults }
+
+-- what is noted of a seat stays
+abbrev pub IsNotedAs : SeatView → SeatView → Type 0
+IsNotedAs s t = (t.closed_told ≡ s.closed_told) × (t.closed_calls ≡ s.closed_calls) × (t.closed_faults ≡ s.closed_faults)
 
 abbrev pub seat_calls : SeatView → ℕ
 seat_calls s = s.calls

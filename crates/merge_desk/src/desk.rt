@@ -5,7 +5,7 @@ ghost use Rattle.merge_json.specs.Sendable.{IsSendableReply, IsSendableRequest};
 ghost use Rattle.merge_desk.specs.Comparing.{AllToldAsKept};
 ghost use Rattle.merge_desk.specs.Ending.{IsDiffering};
 ghost use Rattle.merge_desk.specs.Marks.{mark_on};
-ghost use Rattle.merge_desk.specs.Views.{AreToldInCalls, IsJournal, numbers_from, seat_call_parts, seat_calls, seat_fault_parts, seat_faults, seat_number};
+ghost use Rattle.merge_desk.specs.Views.{AreToldInCalls, IsJournal, IsNotedAs, numbers_from, seat_call_parts, seat_calls, seat_fault_parts, seat_faults, seat_number};
 ghost use Rattle.merge_desk.specs.declared.fault.DeskFault.TheVariants as fault;
 
 use crate::ending::{Closed, Differs};
@@ -13,7 +13,7 @@ use crate::entry::Receipt;
 use crate::fault::DeskFault;
 use crate::mark::Mark;
 use crate::opening::Opening;
-use crate::seat::Seat;
+use crate::seat::{LastClosed, Seat};
 use crate::state::DeskState;
 use merge_batch::Request;
 use merge_draft::DraftingPublisher;
@@ -53,19 +53,25 @@ fn make_seats<L: Ledger, M: Ledger>(
     let mut call_rest = calls;
     let mut fault_rest = faults;
     for number in 1..seats {
+        let told = Vec::new(alloc);
+        let closed = LastClosed::of(&told, &call_rest, &fault_rest);
         let seat = Seat {
             number,
-            told: Vec::new(alloc),
+            told,
             calls: call_rest.split_off(1, 0),
             faults: fault_rest.split_off(1, 0),
+            closed,
         };
         made.push(seat)?;
     }
+    let told = Vec::new(alloc);
+    let closed = LastClosed::of(&told, &call_rest, &fault_rest);
     let last = Seat {
         number: seats,
-        told: Vec::new(alloc),
+        told,
         calls: call_rest,
         faults: fault_rest,
+        closed,
     };
     made.push(last)?;
     Ok(made)
@@ -140,12 +146,14 @@ impl<P: DraftingPublisher, L: Ledger, M: Ledger, N: Ledger, O: Opening> Desk<P, 
         ensures memory { result ≡ Err fault.NoMemory → seat.new ≡ seat.old }
         ensures err { OnErr result (seat.new.told ≡ seat.old.told) }
         ensures same { (seat.new.number ≡ seat.old.number) × (seat.new.call_parts ≡ seat.old.call_parts) × (seat.new.fault_parts ≡ seat.old.fault_parts) }
+        ensures noted { IsNotedAs seat.old seat.new }
     {
         let Seat {
             number,
             told,
             calls,
             faults,
+            closed: _,
         } = seat;
         told.reserve(1)?;
         let receipt = self

@@ -1,5 +1,6 @@
 //! Doors over TCP.
 ghost use Rattle.std.specs.Prelude.{◌≡◌, IfOk};
+ghost use Rattle.merge_desk.specs.Views.{seat_noted};
 ghost use Rattle.merge_serve.specs.Attending.{traffic};
 ghost use Rattle.merge_serve.specs.Closing.{IsServed};
 
@@ -7,7 +8,7 @@ use crate::waits::Waits;
 use merge_desk::Seat;
 use merge_outside::TimedStream;
 use merge_ports::{Failed, OpenFault, Sink, Source};
-use merge_serve::{Connection, Door, Doors, LastClosed};
+use merge_serve::{Connection, Door, Doors};
 use merge_types::Words;
 use std::io;
 use std::io::{ErrorKind, Read};
@@ -128,18 +129,16 @@ impl Door for TcpDoor {
 
     fn close<L: Ledger, M: Ledger>(
         connection: Connection<TimedStream, TimedStream>,
-        seat: &Seat<L, M>,
-        last: &mut LastClosed<L, M>,
+        seat: &mut Seat<L, M>,
     )
         requires { IsServed
             (traffic None None (⟦<TimedStream as Source>⟧.count connection.first_input.value) (⟦<TimedStream as Sink>⟧.count connection.first_output.value))
             (traffic None None (⟦<TimedStream as Source>⟧.count connection.input) (⟦<TimedStream as Sink>⟧.count connection.output))
-            last.old.seat.value seat.now }
-        ensures { last.new.seat.value ≡ seat.now }
+            seat.old }
+        ensures { seat.new ≡ seat_noted seat.old }
     {
-        let (_input, output) = connection.into_halves();
+        let (_input, output) = connection.into_halves(seat);
         if let Err(_) = hang_up(output.into_stream()) {}
-        last.note(seat);
     }
 
     fn faults(&self) -> u64 {

@@ -3,10 +3,10 @@ use Rattle.std.proofs.Common.{◌≡◌, ◌≢◌, ◌≤◌, ◌<◌, ◌+◌,
 use Rattle.std.proofs.lemmas.Bool.Decides.{Decides-eqb, nat_tests}
 use Rattle.std.proofs.lemmas.List.{get_or-set_other, get_or-set_same, get_or_default}
 use Rattle.merge_types.specs.declared.identifiers.Moment.{Moment}
-use Rattle.merge_desk.specs.Views.{SeatView}
+use Rattle.merge_desk.specs.Views.{IsNotedAs, SeatView, seat_noted}
 use Rattle.merge_ports.specs.Faults.{Rose}
 use Rattle.merge_serve.specs.Attending.{IsAttended, Traffic}
-use Rattle.merge_serve.specs.Closing.{IsFresh, IsLater, IsServed}
+use Rattle.merge_serve.specs.Closing.{IsFresh, IsLater, IsServed, WasClosedAs}
 use Rattle.merge_serve.specs.declared.attending.Attended.{Attended}
 use Rattle.merge_serve.specs.declared.attending.Attended.TheVariants as attended
 
@@ -14,14 +14,30 @@ use Rattle.merge_serve.specs.declared.attending.Attended.TheVariants as attended
 rose-none : (before after : ℕ) → before ≡ 0 → Rose before after → after ≡ before → ⊥
 rose-none before after none rose same = omega (arith, none, same, rose)
 
-served_same : (now : Moment) (first a b : Traffic) (s t : SeatView) (done : Attended) → IsFresh first a → IsAttended now a b s t done → IsServed first b s t
-served_same now first a b s t (attended.Answered status) fresh (answer, due, responds) reads writes =
-    rw (← fresh.same) (now, answer, (due, responds.1))
-served_same now first a b s t attended.ReadFault fresh (rose, written, same) reads writes = absurd (rose-none a.read_faults b.read_faults fresh.unread rose (reads ∙ ap (λ (x : Traffic). x.read_faults) (sym fresh.same)))
-served_same now first a b s t attended.WriteFault fresh (answer, due, responds) reads writes = absurd (rose-none a.write_faults b.write_faults fresh.unfailed responds.0 (writes ∙ ap (λ (x : Traffic). x.write_faults) (sym fresh.same)))
+served_same : (now : Moment) (first a b : Traffic) (s t : SeatView) (done : Attended) → WasClosedAs s t → IsFresh first a → IsAttended now a b s t done → IsServed first b t
+served_same now first a b s t (attended.Answered status) closed fresh (answer, due, responds) reads writes =
+    rw (← fresh.same) (now, answer, s, closed, (due, responds.1))
+served_same now first a b s t attended.ReadFault closed fresh (rose, written, same) reads writes = absurd (rose-none a.read_faults b.read_faults fresh.unread rose (reads ∙ ap (λ (x : Traffic). x.read_faults) (sym fresh.same)))
+served_same now first a b s t attended.WriteFault closed fresh (answer, due, responds) reads writes = absurd (rose-none a.write_faults b.write_faults fresh.unfailed responds.0 (writes ∙ ap (λ (x : Traffic). x.write_faults) (sym fresh.same)))
 
-pub served_by : (now : Moment) (first a b : Traffic) (last s t : SeatView) (done : Attended) → last ≡ s → IsFresh first a → IsAttended now a b s t done → IsServed first b last t
-served_by now first a b last s t done noted fresh done_so = rw noted (served_same now first a b s t done fresh done_so)
+pub served_by : (now : Moment) (first a b : Traffic) (s t : SeatView) (done : Attended) → WasClosedAs s s → IsNotedAs s t → IsFresh first a → IsAttended now a b s t done → IsServed first b t
+served_by now first a b s t done closed noted fresh done_so =
+    served_same now first a b s t done (noted.0 ∙ closed.0, noted.1 ∙ closed.1, noted.2 ∙ closed.2) fresh done_so
+
+-- a seat that is noted
+pub closed_noted : (s t : SeatView) → t ≡ seat_noted s → WasClosedAs t t
+closed_noted s t e = rw e (refl, refl, refl)
+
+pub later_noted : (s t u : SeatView) → IsLater s t → u ≡ seat_noted t → IsLater s u
+later_noted s t u later e = rw e (record {
+  number = later.number;
+  call_parts = later.call_parts;
+  fault_parts = later.fault_parts;
+  more = later.more;
+  told = later.told;
+  calls = later.calls;
+  faults = later.faults;
+})
 
 pub later_then : (s t u : SeatView) → IsLater s t → IsLater t u → IsLater s u
 later_then s t u a b = record {

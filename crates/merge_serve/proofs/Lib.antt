@@ -1,3 +1,4 @@
 pub mod Asked
 pub mod Replied
+pub mod Crosses
 pub mod Ends

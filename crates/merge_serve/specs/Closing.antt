@@ -13,10 +13,15 @@ pub record IsFresh (first now : Traffic) : Type 0 where
   pub unfailed : now.write_faults ≡ 0
   pub unwritten : IfSome now.written (λ bytes. bytes ≡ [])
 
+-- what a seat was told and the amounts of its shares were these as its last connection was closed
+abbrev pub WasClosedAs : SeatView → SeatView → Type 0
+WasClosedAs s t = (t.closed_told ≡ s.told) × (t.closed_calls ≡ s.calls) × (t.closed_faults ≡ s.faults)
+
 -- Since a connection began, its whole response was written to the bytes that were taken, unless a read or a write failed. The seat is
 -- what this made of it at some moment as it was when its last connection was closed.
-abbrev pub IsServed : Traffic → Traffic → SeatView → SeatView → Type 0
-IsServed first now s t = now.read_faults ≡ first.read_faults → now.write_faults ≡ first.write_faults → (moment : Moment) × (answer : Answer) × Answers moment first now s t answer
+abbrev pub IsServed : Traffic → Traffic → SeatView → Type 0
+IsServed first now t = now.read_faults ≡ first.read_faults → now.write_faults ≡ first.write_faults
+    → (moment : Moment) × (answer : Answer) × (s : SeatView) × WasClosedAs s t × Answers moment first now s t answer
 
 -- the same seat, with more calls: as many as it was told marks
 pub record IsLater (s t : SeatView) : Type 0 where

@@ -1,5 +1,6 @@
 //! One connection is served.
 ghost use Rattle.std.specs.Prelude.{◌≡◌, ◌≤◌, IfOk, OnErr};
+ghost use Rattle.merge_desk.specs.Views.{IsNotedAs};
 ghost use Rattle.merge_ports.specs.Faults.{Rose};
 ghost use Rattle.merge_serve.specs.Attending.{IsAttended, IsDue, Responds, traffic};
 ghost use Rattle.merge_serve.specs.Closing.{IsLater};
@@ -52,6 +53,7 @@ fn answer_of<
     ensures failed { OnErr result (Rose (I.count input.old) (I.count input.new) × (seat.new ≡ seat.old)) }
     ensures later { I.count input.old ≤ I.count input.new }
     ensures grown { IsLater seat.old seat.new }
+    ensures noted { IsNotedAs seat.old seat.new }
 {
     match read_asked(alloc, input) {
         Ok(request) => {
@@ -108,6 +110,7 @@ pub fn attend<
     ensures attended { IsAttended now (traffic (I.left input.old) (W.written output.old) (I.count input.old) (W.count output.old))
         (traffic (I.left input.new) (W.written output.new) (I.count input.new) (W.count output.new)) seat.old seat.new result }
     ensures grown { IsLater seat.old seat.new }
+    ensures noted { IsNotedAs seat.old seat.new }
 {
     match answer_of(rt, alloc, desk, seat, permit, number, input, now, gate) {
         Ok(answer) => {

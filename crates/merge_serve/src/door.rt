@@ -2,11 +2,11 @@
 ghost use Rattle.std.specs.Prelude.{◌≡◌, ◌+◌, ℕ, IfOk, OnErr, OnOk, option_map};
 ghost use Rattle.std.specs.declared.option.Option.{Option};
 ghost use Rattle.merge_ports.specs.Faults.{HasCause};
+ghost use Rattle.merge_desk.specs.Views.{seat_noted};
 ghost use Rattle.merge_serve.specs.Attending.{traffic};
 ghost use Rattle.merge_serve.specs.Closing.{IsFresh, IsServed};
 
 use crate::connection::Connection;
-use crate::last::LastClosed;
 use merge_desk::Seat;
 use merge_ports::{Failed, Sink, Source};
 use std::sync::ledger::Ledger;
@@ -33,18 +33,18 @@ pub trait Door {
         ensures same { OnErr result (handed self.new ≡ handed self.old) }
         ensures cause { HasCause (count self.old) (count self.new) result };
 
-    /// Ends a connection. Unless a read or a write of it failed, the whole response to what came was
-    /// written, with a call of the desk of its own where the desk answered. It takes no memory.
+    /// Ends a connection, and notes the seat. Unless a read or a write of it failed, the whole response to
+    /// what came was written, with a call of the desk of its own where the desk answered. It takes no
+    /// memory.
     fn close<L: Ledger, M: Ledger>(
         connection: Connection<Self::Input, Self::Output>,
-        seat: &Seat<L, M>,
-        last: &mut LastClosed<L, M>,
+        seat: &mut Seat<L, M>,
     )
         requires { IsServed
             (traffic (Self.Input.left connection.first_input.value) (Self.Output.written connection.first_output.value) (Self.Input.count connection.first_input.value) (Self.Output.count connection.first_output.value))
             (traffic (Self.Input.left connection.input) (Self.Output.written connection.output) (Self.Input.count connection.input) (Self.Output.count connection.output))
-            last.old.seat.value seat.now }
-        ensures { last.new.seat.value ≡ seat.now };
+            seat.old }
+        ensures { seat.new ≡ seat_noted seat.old };
 
     /// How often a call has failed.
     fn faults(&self) -> u64

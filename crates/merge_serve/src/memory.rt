@@ -1,13 +1,13 @@
 //! Doors in memory, for tests.
 ghost use Rattle.std.specs.Prelude.{◌≡◌, ◌+◌, ◌||◌, [], drop, is_err, length, nat_le, option_map, slice_get, None, Some, IfOk, IfSome, OnErr, OnOk};
 ghost use Rattle.merge_ports.specs.Faults.{HasCause, is_listed, one_more};
+ghost use Rattle.merge_desk.specs.Views.{seat_noted};
 ghost use Rattle.merge_serve.specs.Attending.{traffic};
 ghost use Rattle.merge_serve.specs.Closing.{IsFresh, IsServed};
 
 use crate::connection::Connection;
 use crate::door::Door;
 use crate::doors::Doors;
-use crate::last::LastClosed;
 use merge_desk::Seat;
 use merge_ports::{Failed, MemorySink, MemorySource, OpenFault, Sink, Source};
 use merge_types::{Listing, Octets, Words};
@@ -113,17 +113,15 @@ impl Door for MemoryDoor {
 
     fn close<L: Ledger, M: Ledger>(
         connection: Connection<MemorySource, MemorySink>,
-        seat: &Seat<L, M>,
-        last: &mut LastClosed<L, M>,
+        seat: &mut Seat<L, M>,
     )
         requires { IsServed
             (traffic (⟦<MemorySource as Source>⟧.left connection.first_input.value) (⟦<MemorySink as Sink>⟧.written connection.first_output.value) connection.first_input.value.faults connection.first_output.value.faults)
             (traffic (⟦<MemorySource as Source>⟧.left connection.input) (⟦<MemorySink as Sink>⟧.written connection.output) connection.input.faults connection.output.faults)
-            last.old.seat.value seat.now }
-        ensures { last.new.seat.value ≡ seat.now }
+            seat.old }
+        ensures { seat.new ≡ seat_noted seat.old }
     {
-        let _halves = connection.into_halves();
-        last.note(seat);
+        let _halves = connection.into_halves(seat);
     }
 
     fn faults(&self) -> u64 {

@@ -1,5 +1,6 @@
 //! What the desk answers to a request.
 ghost use Rattle.std.specs.Prelude.{◌≡◌};
+ghost use Rattle.merge_desk.specs.Views.{IsNotedAs};
 ghost use Rattle.merge_json.specs.Sendable.{IsSendableReply, IsSendableRequest};
 ghost use Rattle.merge_serve.specs.Answers.{IsReplied, Tells};
 ghost use Rattle.merge_serve.specs.Closing.{IsLater};
@@ -41,6 +42,7 @@ pub(crate) fn bring<R: Wait, P: DraftingPublisher, L: Ledger, M: Ledger, N: Ledg
     requires sendable { IsSendableRequest request.now }
     ensures replied { IsReplied now request.now seat.old seat.new result }
     ensures grown { IsLater seat.old seat.new }
+    ensures noted { IsNotedAs seat.old seat.new }
 {
     match desk.call(rt, seat, permit, now, request) {
         Ok(receipt) => told(alloc, receipt.reply),

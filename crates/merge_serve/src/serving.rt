@@ -3,13 +3,12 @@ ghost use Rattle.std.specs.List.{sum_by};
 ghost use Rattle.std.specs.Prelude.{◌≡◌, ◌<◌, ◌≤◌, ℕ, IfSome, length, map, slice_index_or};
 ghost use Rattle.merge_desk.specs.Views.{SeatView, seat_call_parts, seat_fault_parts, seat_number};
 ghost use Rattle.merge_serve.specs.Attending.{traffic};
-ghost use Rattle.merge_serve.specs.Closing.{IsFresh, IsLater};
+ghost use Rattle.merge_serve.specs.Closing.{IsFresh, IsLater, WasClosedAs};
 
 use crate::attending::attend;
 use crate::door::Door;
 use crate::entrance::{Entrance, Quota, Taken};
 use crate::gate::Gate;
-use crate::last::LastClosed;
 use merge_desk::{Desk, Opening, Seat};
 use merge_draft::DraftingPublisher;
 use merge_link::Clock;
@@ -30,6 +29,7 @@ pub struct Served<D: Door, L: Ledger, M: Ledger, N: Ledger> {
 }
 
 // Serves a connection and closes it.
+#[tactic(auto, using(crate::proofs::Ends::closed_noted, crate::proofs::Ends::later_noted))]
 fn serve_one<
     R: Wait,
     P: DraftingPublisher,
@@ -44,7 +44,6 @@ fn serve_one<
     alloc: Global,
     desk: &Desk<P, L, M, N, O>,
     seat: &mut Seat<L, M>,
-    last: &mut LastClosed<L, M>,
     taken: Taken<D::Input, D::Output, N>,
     gate: &G,
 )
@@ -52,8 +51,8 @@ fn serve_one<
         (traffic (D.Input.left taken.connection.first_input.value) (D.Output.written taken.connection.first_output.value) (D.Input.count taken.connection.first_input.value) (D.Output.count taken.connection.first_output.value))
         (traffic (D.Input.left taken.connection.input) (D.Output.written taken.connection.output) (D.Input.count taken.connection.input) (D.Output.count taken.connection.output)) }
     requires permit { taken.permit.amount ≡ 1 }
-    requires noted { last.old.seat.value ≡ seat.old }
-    ensures noted { last.new.seat.value ≡ seat.new }
+    requires noted { WasClosedAs seat.old seat.old }
+    ensures noted { WasClosedAs seat.new seat.new }
     ensures grown { IsLater seat.old seat.new }
 {
     let Taken {
@@ -74,7 +73,7 @@ fn serve_one<
         now,
         gate,
     );
-    D::close(connection, seat, last);
+    D::close(connection, seat);
 }
 
 // The next connection, which is waited for under the lock of the entrance.
@@ -93,7 +92,7 @@ fn take<R: Wait, D: Door, C: Clock, N: Ledger, Q: Quota>(
 }
 
 // A worker serves one connection after the other from its seat.
-#[tactic(auto, using(crate::proofs::Ends::later_then, crate::proofs::Replied::later_same))]
+#[tactic(auto, using(crate::proofs::Ends::closed_noted, crate::proofs::Ends::later_noted, crate::proofs::Ends::later_then, crate::proofs::Replied::later_same))]
 fn work<
     R: Wait,
     P: DraftingPublisher,
@@ -117,11 +116,11 @@ fn work<
     requires { requests ≡ Q.requests }
     ensures grown { IsLater seat.old seat.new }
 {
-    let mut last = LastClosed::of(seat);
+    seat.note_close();
     for _ in 0..requests {
         match take(rt, entrance, requests) {
             Some(taken) => {
-                serve_one::<R, P, L, M, N, O, D, G>(rt, alloc, desk, seat, &mut last, taken, gate);
+                serve_one::<R, P, L, M, N, O, D, G>(rt, alloc, desk, seat, taken, gate);
             }
             None => return,
         }
@@ -129,7 +128,7 @@ fn work<
 }
 
 // Serves what is still wanting.
-#[tactic(auto, using(crate::proofs::Ends::later_then, crate::proofs::Replied::later_same))]
+#[tactic(auto, using(crate::proofs::Ends::closed_noted, crate::proofs::Ends::later_noted, crate::proofs::Ends::later_then, crate::proofs::Replied::later_same))]
 fn work_rest<
     R: Wait,
     P: DraftingPublisher,
@@ -154,11 +153,11 @@ fn work_rest<
     ensures grown { IsLater seat.old seat.new }
     ensures whole { entrance.new.accepted < requests → 0 < entrance.new.faults }
 {
-    let mut last = LastClosed::of(seat);
+    seat.note_close();
     for _ in 0..requests {
         match entrance.next(requests) {
             Some(taken) => {
-                serve_one::<R, P, L, M, N, O, D, G>(rt, alloc, desk, seat, &mut last, taken, gate);
+                serve_one::<R, P, L, M, N, O, D, G>(rt, alloc, desk, seat, taken, gate);
             }
             None => return,
         }
