@@ -8,8 +8,9 @@ use Rattle.merge_model.specs.Failing.{Faulty}
 use Rattle.merge_model.specs.Failing.Reach.{stepping}
 use Rattle.merge_laws.proofs.Lineages.LineagesAlways.{actions-same}
 use Rattle.merge_actions.proofs.PromisesOfActions.{promises-hold}
+use Rattle.merge_served.proofs.Decided.{requests-tell}
 use Rattle.merge_served.proofs.Serving.{all-serving}
-use Rattle.merge_served.specs.Served.{ServedWorldsHavePromises, world_at}
+use Rattle.merge_served.specs.Served.{ServedJournalsHavePromises, ServedWorldsHavePromises, world_at}
 
 -- actions behind others
 after-more : {W : Type 0} (steps : Stepping W) (before during : List Action) (w : W) → after_actions steps w (before ++ during) ≡ after_actions steps (after_actions steps w before) during
@@ -25,3 +26,8 @@ served-have-promises resolvers publication valid says tallies slips before durin
       same_tables = sym same.1;
       promised = promises-hold resolvers publication valid says tallies slips (before ++ during);
     }
+
+pub journals-have-promises : ServedJournalsHavePromises
+journals-have-promises resolvers publication valid says steady tallies slips before during serving journal decided e =
+    served-have-promises resolvers publication valid says tallies slips before during serving journal
+    (requests-tell publication says steady (world_at publication says tallies slips before) during serving journal decided e)

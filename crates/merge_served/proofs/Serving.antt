@@ -58,12 +58,12 @@ none-taken publication p [] e = refl
 none-taken publication p (j ∷ journal) e = none-behind publication p j journal (result_with_decisions publication j.moment j.request j.decisions p) (λ q. none-taken publication q journal) e
 
 -- a journal in two parts, by what was taken
-record Parts (publication : Publication) (p : PublisherTables) (xs ys : List AttendedRequest) (journal : List Entry) : Type 0 where
-  early : List Entry
-  late : List Entry
-  whole : journal ≡ early ++ late
-  taken : attended_in publication p early ≡ xs
-  behind : attended_in publication (replay publication p early) late ≡ ys
+pub record Parts (publication : Publication) (p : PublisherTables) (xs ys : List AttendedRequest) (journal : List Entry) : Type 0 where
+  pub early : List Entry
+  pub late : List Entry
+  pub whole : journal ≡ early ++ late
+  pub taken : attended_in publication p early ≡ xs
+  pub behind : attended_in publication (replay publication p early) late ≡ ys
 
 split-behind : (publication : Publication) (p : PublisherTables) (j : Entry) (es : List Entry) (xs ys : List AttendedRequest) (r : Result (PublisherTables × Reply) Refusal)
     → result_with_decisions publication j.moment j.request j.decisions p ≡ r
@@ -95,7 +95,7 @@ split-behind publication p j es (x ∷ xs) ys (Ok done) is more e =
       behind = ap (λ (r : Result (PublisherTables × Reply) Refusal). attended_in publication (replay publication (tables_and_reply p r).0 parts.early) parts.late) is ∙ parts.behind;
     }
 
-split : (publication : Publication) (p : PublisherTables) (xs ys : List AttendedRequest) (journal : List Entry) → attended_in publication p journal ≡ xs ++ ys → Parts publication p xs ys journal
+pub split : (publication : Publication) (p : PublisherTables) (xs ys : List AttendedRequest) (journal : List Entry) → attended_in publication p journal ≡ xs ++ ys → Parts publication p xs ys journal
 split publication p [] ys [] e = record { early = []; late = []; whole = refl; taken = refl; behind = e }
 split publication p (x ∷ xs) ys [] e = let here : [] ≡ x ∷ (xs ++ ys) = e in absurd (cc here)
 split publication p xs ys (j ∷ journal) e = split-behind publication p j journal xs ys (result_with_decisions publication j.moment j.request j.decisions p) refl (λ q xs ys. split publication q xs ys journal) e
@@ -178,7 +178,7 @@ module _ (publication : Publication) (says : Saying) where
   refused site (request.Download m) w = refused_answer site reply.Downloaded w (download publication (by_numbers w.publisher) w.moment m w.publisher)
 
   -- what a message is taken for
-  abbrev asked_of : World → Request → AttendedRequest
+  abbrev pub asked_of : World → Request → AttendedRequest
   asked_of w m = record { moment = later w.moment w.publisher.latest; request = m; decisions = entry_decisions publication says w.tallies w.moment m w.publisher }
 
   -- an entry that is taken for a message makes the same of the tables
@@ -266,16 +266,16 @@ module _ (publication : Publication) (says : Saying) where
   nothing-added : (w : World) (after : PublisherTables) → after ≡ w.publisher → (part : List Entry) → attended_in publication w.publisher part ≡ [] → replay publication w.publisher part ≡ after
   nothing-added w after same part e = none-taken publication w.publisher part e ∙ sym same
 
-  one : (f : Faulty World) (action : Action) → IsServing action → (part : List Entry) → attended_in publication f.world.publisher part ≡ attended_by publication says f.world action ((stepping publication says).act f action).1
+  pub one-action : (f : Faulty World) (action : Action) → IsServing action → (part : List Entry) → attended_in publication f.world.publisher part ≡ attended_by publication says f.world action ((stepping publication says).act f action).1
       → replay publication f.world.publisher part ≡ ((stepping publication says).act f action).0.world.publisher
-  one f (Pass seconds) serving part e = nothing-added f.world _ refl part e
-  one f (Make site change) serving part e = nothing-added f.world _ (acting-quiet f.slips (Make site change) f.world _ (rw serving (quiet-at f.world site _ (λ t. quiet-unless f.world _ _ (λ made. refl))))) part e
-  one f (CloseAt site) serving part e = nothing-added f.world _ (acting-quiet f.slips (CloseAt site) f.world _ (rw serving (quiet-at f.world site _ (λ t. quiet-unless f.world _ _ (λ made. refl))))) part e
-  one f (Send site sending) serving part e = nothing-added f.world _ (acting-quiet f.slips (Send site sending) f.world _ (quiet-at f.world site _ (quiet-sent f.world sending))) part e
-  one f (Deliver number) serving part e = acting-fits f.slips (Deliver number) f.world _ _ (fits number f.world (letter_at f.world number) refl) part e
-  one f (MakeAnew site) serving part e = nothing-added f.world _ (acting-quiet f.slips (MakeAnew site) f.world _ (quiet-at f.world site _ (λ t. quiet-unless f.world _ _ (λ made. refl)))) part e
-  one f Forget serving part e = absurd serving
-  one f Look serving part e = nothing-added f.world _ (acting-quiet f.slips Look f.world _ refl) part e
+  one-action f (Pass seconds) serving part e = nothing-added f.world _ refl part e
+  one-action f (Make site change) serving part e = nothing-added f.world _ (acting-quiet f.slips (Make site change) f.world _ (rw serving (quiet-at f.world site _ (λ t. quiet-unless f.world _ _ (λ made. refl))))) part e
+  one-action f (CloseAt site) serving part e = nothing-added f.world _ (acting-quiet f.slips (CloseAt site) f.world _ (rw serving (quiet-at f.world site _ (λ t. quiet-unless f.world _ _ (λ made. refl))))) part e
+  one-action f (Send site sending) serving part e = nothing-added f.world _ (acting-quiet f.slips (Send site sending) f.world _ (quiet-at f.world site _ (quiet-sent f.world sending))) part e
+  one-action f (Deliver number) serving part e = acting-fits f.slips (Deliver number) f.world _ _ (fits number f.world (letter_at f.world number) refl) part e
+  one-action f (MakeAnew site) serving part e = nothing-added f.world _ (acting-quiet f.slips (MakeAnew site) f.world _ (quiet-at f.world site _ (λ t. quiet-unless f.world _ _ (λ made. refl)))) part e
+  one-action f Forget serving part e = absurd serving
+  one-action f Look serving part e = nothing-added f.world _ (acting-quiet f.slips Look f.world _ refl) part e
 
   pub all-serving : (f : Faulty World) (actions : List Action) → All IsServing actions → (journal : List Entry) → attended_in publication f.world.publisher journal ≡ attended publication says f actions
       → replay publication f.world.publisher journal ≡ (after_actions (stepping publication says) f actions).world.publisher
@@ -283,7 +283,7 @@ module _ (publication : Publication) (says : Saying) where
   all-serving f (action ∷ actions) serving journal e =
       let done = (stepping publication says).act f action in
       let parts = split publication f.world.publisher (attended_by publication says f.world action done.1) (attended publication says done.0 actions) journal e in
-      let step : replay publication f.world.publisher parts.early ≡ done.0.world.publisher = one f action (All-head IsServing action actions serving) parts.early parts.taken in
+      let step : replay publication f.world.publisher parts.early ≡ done.0.world.publisher = one-action f action (All-head IsServing action actions serving) parts.early parts.taken in
       ap (replay publication f.world.publisher) parts.whole
       ∙ replay-on publication f.world.publisher parts.early parts.late
       ∙ ap (λ (p : PublisherTables). replay publication p parts.late) step

@@ -1,5 +1,5 @@
 -- What stands in the journal of a publisher that serves, as the actions of a world go by, and what its tables are then.
-use Rattle.std.specs.Prelude.{All, Bool, Err, List, None, Ok, Option, Result, Some, [], false, true, ℕ, ◌++◌, ◌==◌, ◌∷◌, ◌≡◌}
+use Rattle.std.specs.Prelude.{All, Bool, Err, List, None, Ok, Option, Result, Some, [], false, map, true, ℕ, ◌++◌, ◌==◌, ◌∷◌, ◌≡◌}
 use Rattle.merge_types.specs.declared.identifiers.Moment.{Moment}
 use Rattle.merge_units.specs.declared.result.Decision.{Decision}
 use Rattle.merge_schema.specs.Valid.{IsValid}
@@ -19,14 +19,23 @@ use Rattle.merge_model.specs.declared.letter.Message.TheVariants.{Asks, Replies}
 use Rattle.merge_model.specs.declared.outcome.Outcome.{Outcome}
 use Rattle.merge_laws.specs.Laws.Promised.{Promised}
 use Rattle.merge_draft.specs.Drafting.{result_with_decisions}
-use Rattle.merge_desk.specs.Replay.{answer_to, entry_decisions, replay}
+use Rattle.merge_desk.specs.Replay.{AreDecided, answer_to, entry_decisions, replay}
 use Rattle.merge_desk.specs.declared.entry.Entry.{Entry}
+use Rattle.merge_served.specs.Tallies.{SaysTheSameAtAnyTally}
 
 -- a request that was taken: at which moment, and what the decisions on its conflicts counted as
 pub record AttendedRequest : Type 0 where
   pub moment : Moment
   pub request : Request
   pub decisions : List Decision
+
+-- the same without the decisions
+pub record TakenRequest : Type 0 where
+  pub moment : Moment
+  pub request : Request
+
+abbrev pub taken_as : AttendedRequest → TakenRequest
+taken_as a = record { moment = a.moment; request = a.request }
 
 -- a request that is refused changes nothing, and so it need not have come
 abbrev pub if_taken : {A E : Type 0} → Result A E → AttendedRequest → List AttendedRequest
@@ -85,6 +94,14 @@ JournalsAreRuns = (publication : Publication) (says : Saying) (f : Faulty World)
     → (journal : List Entry) → attended_in publication f.world.publisher journal ≡ attended publication says f actions
     → replay publication f.world.publisher journal ≡ (after_actions (stepping publication says) f actions).world.publisher
 
+-- Where no resolver asks how often it was asked, the decisions of its entries are those of the world as soon as the requests and their
+-- moments are: each entry's may have been made at any tallies.
+abbrev pub RequestsTellDecisions : Type 0
+RequestsTellDecisions = (publication : Publication) (says : Saying) → SaysTheSameAtAnyTally says → (f : Faulty World) (actions : List Action) → All IsServing actions
+    → (journal : List Entry) → AreDecided publication says f.world.publisher journal
+    → map taken_as (attended_in publication f.world.publisher journal) ≡ map taken_as (attended publication says f actions)
+    → attended_in publication f.world.publisher journal ≡ attended publication says f actions
+
 -- the world behind some actions, with the slips that are still to come
 abbrev pub world_at : Publication → Saying → List ℕ → Slips → List Action → Faulty World
 world_at publication says tallies slips actions = after_actions (stepping publication says) (faulty (empty_world publication tallies) slips) actions
@@ -101,4 +118,14 @@ abbrev pub ServedWorldsHavePromises : Type 0
 ServedWorldsHavePromises = (resolvers : ℕ) (publication : Publication) → IsValid resolvers publication → (says : Saying) (tallies : List ℕ) (slips : Slips)
     (before during : List Action) → All IsServing during → (journal : List Entry)
     → attended_in publication (world_at publication says tallies slips before).world.publisher journal ≡ attended publication says (world_at publication says tallies slips before) during
+    → StandsBehind publication says tallies slips (before ++ during) (replay publication (world_at publication says tallies slips before).world.publisher journal)
+
+-- So it is where resolvers decided the journal that say the same however often they were asked: of the decisions and the tallies of its
+-- entries nothing more is asked.
+abbrev pub ServedJournalsHavePromises : Type 0
+ServedJournalsHavePromises = (resolvers : ℕ) (publication : Publication) → IsValid resolvers publication → (says : Saying) → SaysTheSameAtAnyTally says → (tallies : List ℕ) (slips : Slips)
+    (before during : List Action) → All IsServing during
+    → (journal : List Entry) → AreDecided publication says (world_at publication says tallies slips before).world.publisher journal
+    → map taken_as (attended_in publication (world_at publication says tallies slips before).world.publisher journal)
+    ≡ map taken_as (attended publication says (world_at publication says tallies slips before) during)
     → StandsBehind publication says tallies slips (before ++ during) (replay publication (world_at publication says tallies slips before).world.publisher journal)

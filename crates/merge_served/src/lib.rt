@@ -2,8 +2,14 @@
 //! contracts are the laws.
 #![tactic(auto)]
 
-ghost use Rattle.merge_served.specs.Served.{JournalsAreRuns, ServedWorldsHavePromises};
+ghost use Rattle.std.specs.Prelude.{All};
+ghost use Rattle.merge_resolve.specs.Asked.{says_at};
+ghost use Rattle.merge_model.specs.Script.Resolvers.{rules_say};
+ghost use Rattle.merge_served.specs.Served.{JournalsAreRuns, RequestsTellDecisions, ServedJournalsHavePromises, ServedWorldsHavePromises};
+ghost use Rattle.merge_served.specs.Tallies.{DecisionsAreTheSameAtAnyTallies, SaysItsRule, SaysTheSameAtAnyTally};
 ghost use Rattle.merge_served.specs.Told.{RepliesAreOneThreads};
+
+use merge_resolve::Handed;
 
 /// Where a publisher serves and does nothing else while the sites of a world act, in any order and
 /// whatever steps fail, the replay of its journal gives its tables in that world: one request after the
@@ -18,6 +24,37 @@ pub fn journals_are_runs()
 /// same comes of them, and it has the tables behind the journal.
 pub fn served_worlds_have_promises()
     ensures { ServedWorldsHavePromises }
+{}
+
+/// The rules that come with the product say the same at their places, however often they were asked.
+pub fn rules_say_the_same_at_any_tally()
+    ensures { SaysTheSameAtAnyTally rules_say }
+{}
+
+/// So do any resolvers that are handed in of which each says what one of these rules says, as `new` of
+/// each of the five that the program makes ensures.
+pub fn resolvers_by_rules_say_the_same_at_any_tally(resolvers: &[Handed])
+    requires { All (λ r. SaysItsRule (says r)) resolvers.now }
+    ensures { SaysTheSameAtAnyTally (says_at (λ r. says r) resolvers.now) }
+{}
+
+/// Where resolvers say the same, however often they were asked, the decisions on the conflicts of a
+/// request are the same, whatever the tallies are.
+pub fn decisions_are_the_same_at_any_tallies()
+    ensures { DecisionsAreTheSameAtAnyTallies }
+{}
+
+/// Then the decisions of a journal that such resolvers made are those of a world in which the publisher
+/// takes the same requests at the same moments.
+pub fn requests_tell_decisions()
+    ensures { RequestsTellDecisions }
+{}
+
+/// So all promises hold of the tables to which a journal leads that such resolvers decided, at whatever
+/// tallies, where its requests are messages that sites of a world made, and the publisher takes each at
+/// the moment at which it does in that world.
+pub fn served_journals_have_promises()
+    ensures { ServedJournalsHavePromises }
 {}
 
 /// Where a desk was closed, each reply that a seat was told is that of one thread, which answers the
