@@ -1,4 +1,4 @@
-//! Two threads with a seat each of one desk.
+//! Two threads with a seat each of one desk, and calls from one seat whose store fails.
 ghost use Rattle.std.specs.List.{sum_by};
 ghost use Rattle.std.specs.Prelude.{◌≡◌, ◌≤◌, ◌<◌, ◌+◌, ℕ, IfSome, None, length, slice_index_or};
 ghost use Rattle.merge_json.specs.Sendable.{IsSendableRequest};
@@ -8,8 +8,14 @@ ghost use Rattle.merge_desk.specs.Views.{SeatView, seat_call_parts, seat_fault_p
 
 use crate::nobody::Nobody;
 use crate::same::same;
-use merge_batch::{Join, Kind, Request};
-use merge_desk::{Closed, Desk, Journal, Opening, Seat, summary};
+use crate::serve::kept;
+use crate::service::TWO_SITES;
+use merge_batch::{Join, Kind, Reply, Request};
+use merge_desk::{Closed, Desk, DeskFault, Journal, Opening, Receipt, Seat, summary};
+use merge_draft::DraftingPublisher;
+use merge_ports::Keeper;
+use merge_resolve::Handed;
+use merge_site::{DraftingSite, KeptPublisher};
 use merge_types::{Moment, SiteId};
 use std::alloc::Global;
 use std::marker::{Brand, Model};
@@ -226,4 +232,123 @@ fn two_threads_are_answered_in_journal_order(rt: HostRuntime) -> Result<(), Fail
         &"calls 100 joins 100 uploads 0 ranges 0 downloads 0 refused 100\n",
     );
     Ok(())
+}
+
+// What a call is answered: a join, with the place of its entry, or something else.
+#[derive(Clone, Copy, Debug, PartialEq, Eq)]
+enum Heard {
+    Joined { place: u64, seq: u64 },
+    StoreFault { count: u64 },
+    Another,
+}
+
+fn heard_of(receipt: &Receipt) -> Heard {
+    match &receipt.reply {
+        Reply::Joined(joined) => Heard::Joined {
+            place: receipt.place,
+            seq: joined.seq,
+        },
+        _ => Heard::Another,
+    }
+}
+
+// What the first join of a site is answered.
+fn call_one<R: Wait, P: DraftingPublisher, L: Ledger, M: Ledger, N: Ledger, O: Opening>(
+    rt: &R,
+    desk: &Desk<P, L, M, N, O>,
+    seat: &mut Seat<L, M>,
+    permit: Share<N>,
+    site: u16,
+) -> Heard
+    requires { permit.amount ≡ 1 }
+{
+    match desk.call(rt, seat, permit, Moment(7), &join(site, 1)) {
+        Ok(receipt) => heard_of(&receipt),
+        Err(DeskFault::StoreFault { count }) => Heard::StoreFault { count },
+        Err(DeskFault::NoMemory) => Heard::Another,
+    }
+}
+
+// The first joins of these sites, one after the other from the one seat of a desk, are answered so.
+fn call_each<R: Wait + Abort, P: DraftingPublisher, L: Ledger, M: Ledger, N: Ledger, O: Opening>(
+    rt: &R,
+    alloc: Global,
+    publisher: P,
+    rows: &[(u16, Heard)],
+    calls: Blank,
+    faults: Blank,
+    permits: Blank,
+) -> Result<(), Fail>
+    requires publication { O.publication ≡ (P.view publisher).publication }
+    requires tables { O.tables ≡ (P.view publisher).tables }
+    requires says { O.says ≡ (P.view publisher).says }
+    requires count { O.count ≡ (P.view publisher).faults }
+    requires calls { (calls.name ≡ L.name) × (calls.parts ≡ L.parts) × (1 ≤ calls.parts) }
+    requires faults { (faults.name ≡ M.name) × (faults.parts ≡ M.parts) × (1 ≤ faults.parts) }
+    requires permits { (permits.name ≡ N.name) × (permits.parts ≡ N.parts) × (permits.parts ≡ 3) }
+{
+    let (mut given, mut rest) = permits.open::<N>();
+    let spent = rest.empty();
+    given.add(&mut rest, 3);
+    let mut till = Till {
+        left: 3,
+        permits: rest,
+    };
+    let Ok((desk, mut seats)) = Desk::<P, L, M, N, O>::start(
+        alloc, publisher, 1, calls, faults, spent,
+    ) else {
+        return Err(Fail::new("no memory for a desk"));
+    };
+    let Some(mut seat) = seats.pop() else {
+        return Err(Fail::new("no seat"));
+    };
+    for (site, wanted) in rows {
+        match till.next() {
+            Some(permit) => same(rt, &call_one(rt, &desk, &mut seat, permit, *site), wanted),
+            None => return Err(Fail::new("no permit")),
+        }
+    }
+    Ok(())
+}
+
+fn call_anew<R: Wait + Abort, P: DraftingPublisher>(
+    rt: &R,
+    alloc: Global,
+    publisher: P,
+    rows: &[(u16, Heard)],
+) -> Result<(), Fail> {
+    call_each::<_, P, Brand, Brand, Brand, Brand>(
+        rt,
+        alloc,
+        publisher,
+        rows,
+        Blank::new(1),
+        Blank::new(1),
+        Blank::new(3),
+    )
+}
+
+// The same of a publisher at a store.
+fn call_stored<R: Wait + Abort, K: Keeper>(
+    rt: &R,
+    alloc: Global,
+    kept: KeptPublisher<K>,
+    resolvers: Vec<Handed>,
+    rows: &[(u16, Heard)],
+) -> Result<(), Fail> {
+    call_anew(rt, alloc, DraftingSite::new(kept, resolvers), rows)
+}
+
+// Each site that joins, and what it is answered where the keeper's third call fails: the calls are the
+// load, and a commit for each join.
+const JOINS: &[(u16, Heard)] = &[
+    (1, Heard::Joined { place: 1, seq: 1 }),
+    (2, Heard::StoreFault { count: 1 }),
+    (2, Heard::Joined { place: 2, seq: 1 }),
+];
+
+#[test]
+fn a_call_whose_commit_fails_has_no_receipt(rt: HostRuntime) -> Result<(), Fail> {
+    let site = kept(rt.alloc(), 2, TWO_SITES)?;
+    call_stored(&rt, rt.alloc(), site, Vec::new(rt.alloc()), JOINS)
 }

@@ -5,8 +5,8 @@ ghost use Rattle.merge_desk.specs.Replay.{no_publication};
 
 use crate::nobody::Nobody;
 use crate::same::same;
-use crate::service::publication;
-use merge_desk::{Closed, Desk, Journal, Opening, summary};
+use crate::service::{JOIN, ONE_SITE, SECOND_JOIN, TWO_SITES, publication};
+use merge_desk::{Closed, Desk, Journal, Opening, Seat, summary};
 use merge_draft::DraftingPublisher;
 use merge_keeper::MemoryKeeper;
 use merge_link::MemoryClock;
@@ -17,18 +17,19 @@ use merge_site::{DraftingSite, KeptPublisher};
 use merge_types::{Listing, Moment, Octets};
 use std::alloc::Global;
 use std::marker::Brand;
+use std::process::Abort;
 use std::sync::Wait;
 use std::sync::atomic::{AtomicU64, Ordering};
-use std::sync::ledger::{Blank, Ledger};
+use std::sync::ledger::{Blank, Ledger, Share};
 use std::test::*;
 use std::thread;
 use std::thread::Threads;
 
-const JOIN: &[u8] =
-    b"POST /merge/join HTTP/1.1\r\nHost: 127.0.0.1:7000\r\nContent-Type: application/json\r\nContent-Length: 44\r\nConnection: close\r\n\r\n{\"generation\":0,\"number\":0,\"seq\":1,\"site\":1}";
-
 const REFUSED: &[u8] =
     b"HTTP/1.1 409 Conflict\r\nContent-Type: application/json\r\nContent-Length: 26\r\nConnection: close\r\n\r\n{\"refused\":1,\"values\":[1]}";
+
+const JOINED: &[u8] =
+    b"HTTP/1.1 200 OK\r\nContent-Type: application/json\r\nContent-Length: 9\r\nConnection: close\r\n\r\n{\"seq\":1}";
 
 // What comes, and the first line of what is answered, with how many calls of the desk there are.
 const TABLE: &[(&[u8], u16, u64)] = &[
@@ -71,6 +72,42 @@ struct Seen {
     calls: u64,
 }
 
+// Serves a connection that brings these bytes, of which these reads and these writes fail.
+fn attend_one<R: Wait, P: DraftingPublisher, L: Ledger, M: Ledger, N: Ledger, O: Opening>(
+    rt: &R,
+    alloc: Global,
+    desk: &Desk<P, L, M, N, O>,
+    seat: &mut Seat<L, M>,
+    permit: Share<N>,
+    bytes: &[u8],
+    failing: (&[u64], &[u64]),
+) -> Result<Seen, Fail>
+    requires { permit.amount ≡ 1 }
+{
+    let mut input = MemorySource::new(
+        octets(alloc, bytes)?,
+        Listing::new(failing.0.to_vec(alloc)?),
+    );
+    let mut output = MemorySink::new(alloc, Listing::new(failing.1.to_vec(alloc)?));
+    let attended = attend(
+        rt,
+        alloc,
+        desk,
+        seat,
+        permit,
+        1,
+        &mut input,
+        &mut output,
+        Moment(7),
+        &OpenGate,
+    );
+    Ok(Seen {
+        attended,
+        written: output.bytes,
+        calls: seat.told().len() as u64,
+    })
+}
+
 fn serve_one<R: Wait, L: Ledger, M: Ledger, N: Ledger, O: Opening>(
     rt: &R,
     alloc: Global,
@@ -101,31 +138,10 @@ fn serve_one<R: Wait, L: Ledger, M: Ledger, N: Ledger, O: Opening>(
     ) else {
         return Err(Fail::new("no memory for a desk"));
     };
-    let mut input = MemorySource::new(
-        octets(alloc, bytes)?,
-        Listing::new(failing.0.to_vec(alloc)?),
-    );
-    let mut output = MemorySink::new(alloc, Listing::new(failing.1.to_vec(alloc)?));
     let Some(mut seat) = seats.pop() else {
         return Err(Fail::new("no seat"));
     };
-    let attended = attend(
-        rt,
-        alloc,
-        &desk,
-        &mut seat,
-        permit,
-        1,
-        &mut input,
-        &mut output,
-        Moment(7),
-        &OpenGate,
-    );
-    Ok(Seen {
-        attended,
-        written: output.bytes,
-        calls: seat.told().len() as u64,
-    })
+    attend_one(rt, alloc, &desk, &mut seat, permit, bytes, failing)
 }
 
 fn try_one<R: Wait>(
@@ -170,6 +186,87 @@ fn ports_fail_by_their_cause(rt: HostRuntime) -> Result<(), Fail> {
     Ok(())
 }
 
+// Two connections that bring the same bytes, one behind the other, from the one seat of a desk.
+fn serve_twice<R: Wait, P: DraftingPublisher, L: Ledger, M: Ledger, N: Ledger, O: Opening>(
+    rt: &R,
+    alloc: Global,
+    publisher: P,
+    bytes: &[u8],
+    calls: Blank,
+    faults: Blank,
+    permits: Blank,
+) -> Result<(Seen, Seen), Fail>
+    requires publication { O.publication ≡ (P.view publisher).publication }
+    requires tables { O.tables ≡ (P.view publisher).tables }
+    requires says { O.says ≡ (P.view publisher).says }
+    requires count { O.count ≡ (P.view publisher).faults }
+    requires calls { (calls.name ≡ L.name) × (calls.parts ≡ L.parts) × (1 ≤ calls.parts) }
+    requires faults { (faults.name ≡ M.name) × (faults.parts ≡ M.parts) × (1 ≤ faults.parts) }
+    requires permits { (permits.name ≡ N.name) × (permits.parts ≡ N.parts) × (2 ≤ permits.parts) }
+{
+    let (mut given, mut second) = permits.open::<N>();
+    let spent = second.empty();
+    given.add(&mut second, 2);
+    let first = second.split_off(1, 1);
+    let Ok((desk, mut seats)) = Desk::<P, L, M, N, O>::start(
+        alloc, publisher, 1, calls, faults, spent,
+    ) else {
+        return Err(Fail::new("no memory for a desk"));
+    };
+    let Some(mut seat) = seats.pop() else {
+        return Err(Fail::new("no seat"));
+    };
+    let none: &[u64] = &[];
+    let before = attend_one(rt, alloc, &desk, &mut seat, first, bytes, (none, none))?;
+    let behind = attend_one(rt, alloc, &desk, &mut seat, second, bytes, (none, none))?;
+    Ok((before, behind))
+}
+
+fn try_twice<R: Wait, P: DraftingPublisher>(
+    rt: &R,
+    alloc: Global,
+    publisher: P,
+    bytes: &[u8],
+) -> Result<(Seen, Seen), Fail> {
+    serve_twice::<_, P, Brand, Brand, Brand, Brand>(
+        rt,
+        alloc,
+        publisher,
+        bytes,
+        Blank::new(1),
+        Blank::new(1),
+        Blank::new(2),
+    )
+}
+
+// The same of a publisher at a store.
+fn try_twice_stored<R: Wait, K: Keeper>(
+    rt: &R,
+    alloc: Global,
+    kept: KeptPublisher<K>,
+    resolvers: Vec<Handed>,
+    bytes: &[u8],
+) -> Result<(Seen, Seen), Fail> {
+    try_twice(rt, alloc, DraftingSite::new(kept, resolvers), bytes)
+}
+
+// It was answered that the site has joined, and this many calls of the desk were answered.
+fn check_joined(rt: &impl Abort, seen: &Seen, calls: u64) {
+    same(rt, &seen.attended, &Attended::Answered { status: 200 });
+    same(rt, &seen.written.as_slice(), &JOINED);
+    same(rt, &seen.calls, &calls);
+}
+
+// The first join of a site, and the same once more.
+#[test]
+fn a_join_that_comes_again_is_answered_again(rt: HostRuntime) -> Result<(), Fail> {
+    let site = kept(rt.alloc(), 9, ONE_SITE)?;
+    let (first, second) = try_twice_stored(&rt, rt.alloc(), site, Vec::new(rt.alloc()), JOIN)?;
+    check_joined(&rt, &first, 1);
+    check_joined(&rt, &second, 2);
+    Ok(())
+}
+
 // Holds the first connection before the desk until the second is answered, for so many turns.
 #[derive(Drop)]
 struct Holding {
@@ -184,6 +281,16 @@ fn new_gate() -> Holding {
         turns: 10_000_000,
         answered: AtomicU64::new(0),
         opened: AtomicU64::new(0),
+    }
+}
+
+// Which connection opened the gate.
+fn opener(gate: &Holding) -> Result<u64, Fail> {
+    match gate.opened.load(Ordering::SeqCst) {
+        0 => Err(Fail::new(
+            "the gate was not opened: it held the first connection for 10,000,000 turns, and no other was answered",
+        )),
+        connection => Ok(connection),
     }
 }
 
@@ -206,9 +313,6 @@ impl Gate for Holding {
         self.answered.store(connection, Ordering::SeqCst);
     }
 }
-
-const SECOND_JOIN: &[u8] =
-    b"POST /merge/join HTTP/1.1\r\nContent-Length: 44\r\n\r\n{\"generation\":0,\"number\":0,\"seq\":1,\"site\":2}";
 
 fn callers(alloc: Global, messages: &[&[u8]]) -> Result<Vec<Caller>, Fail> {
     let mut callers = Vec::new(alloc);
@@ -358,11 +462,11 @@ fn serve_stored<R: Threads + Wait + Sync, K: Keeper + Send, G: Gate + Sync>(
 }
 
 // A publisher at an empty store in memory, whose keeper's call of this number fails.
-fn kept(alloc: Global, failing: u64) -> Result<KeptPublisher<MemoryKeeper>, Fail> {
+pub fn kept(alloc: Global, failing: u64, text: &[u8]) -> Result<KeptPublisher<MemoryKeeper>, Fail> {
     let mut calls = Listing::empty(alloc);
     calls.push(failing)?;
     let keeper = MemoryKeeper::new(alloc, Entries::empty(alloc), calls, Listing::empty(alloc));
-    match KeptPublisher::start(alloc, keeper, &publication(alloc)?) {
+    match KeptPublisher::start(alloc, keeper, &publication(alloc, text)?) {
         Ok(site) => Ok(site),
         Err(_) => Err(Fail::new("no publisher")),
     }
@@ -378,9 +482,9 @@ fn two_workers_serve_at_once(rt: HostRuntime) -> Result<(), Fail> {
         workers: 2,
         requests: 2,
     };
-    let site = kept(rt.alloc(), 9)?;
+    let site = kept(rt.alloc(), 9, TWO_SITES)?;
     let left = serve_stored(&rt, rt.alloc(), site, Vec::new(rt.alloc()), day, &gate)?;
-    same(&rt, &gate.opened.load(Ordering::SeqCst), &2);
+    same(&rt, &opener(&gate)?, &2);
     same(&rt, &(left.accepted, left.faults), &(2, 0));
     let told = summary(rt.alloc(), &left.journal)?;
     same(
@@ -399,7 +503,7 @@ fn a_join_whose_commit_fails_has_no_place(rt: HostRuntime) -> Result<(), Fail> {
         workers: 1,
         requests: 3,
     };
-    let site = kept(rt.alloc(), 2)?;
+    let site = kept(rt.alloc(), 2, TWO_SITES)?;
     let left = serve_stored(&rt, rt.alloc(), site, Vec::new(rt.alloc()), day, &OpenGate)?;
     same(&rt, &(left.accepted, left.faults), &(3, 0));
     same(&rt, &left.publisher.faults(), &1);

@@ -16,14 +16,17 @@ use std::sync::Wait;
 use std::test::Fail;
 use std::thread::Threads;
 
-const PUBLICATION: &[u8] =
-    b"name = \"p\"\n[[article]]\nname = \"item\"\n[[article.column]]\nname = \"qty\"\ntype = \"int\"\n[[subscription]]\nsite = 1\nhost = \"h\"\n[[subscription]]\nsite = 2\nhost = \"i\"\n";
+pub const ONE_SITE: &[u8] =
+    b"name = \"first\"\n[[article]]\nname = \"item\"\n[[article.column]]\nname = \"qty\"\ntype = \"int\"\n[[subscription]]\nsite = 1\nhost = \"h1\"\n";
 
-const FIRST: &[u8] =
-    b"POST /merge/join HTTP/1.1\r\nContent-Length: 44\r\n\r\n{\"generation\":0,\"number\":0,\"seq\":1,\"site\":1}";
+pub const TWO_SITES: &[u8] =
+    b"name = \"first\"\n[[article]]\nname = \"item\"\n[[article.column]]\nname = \"qty\"\ntype = \"int\"\n[[subscription]]\nsite = 1\nhost = \"h1\"\n[[subscription]]\nsite = 2\nhost = \"h2\"\n";
 
-const SECOND: &[u8] =
-    b"POST /merge/join HTTP/1.1\r\nContent-Length: 44\r\n\r\n{\"generation\":0,\"number\":0,\"seq\":1,\"site\":2}";
+pub const JOIN: &[u8] =
+    b"POST /merge/join HTTP/1.1\r\nHost: 127.0.0.1:7000\r\nContent-Type: application/json\r\nContent-Length: 44\r\nConnection: close\r\n\r\n{\"generation\":0,\"number\":0,\"seq\":1,\"site\":1}";
+
+pub const SECOND_JOIN: &[u8] =
+    b"POST /merge/join HTTP/1.1\r\nHost: 127.0.0.1:7000\r\nContent-Type: application/json\r\nContent-Length: 44\r\nConnection: close\r\n\r\n{\"generation\":0,\"number\":0,\"seq\":1,\"site\":2}";
 
 const TWO_JOINS: &[u8] = b"calls 2 joins 2 uploads 0 ranges 0 downloads 0 refused 0\n";
 
@@ -49,10 +52,10 @@ fn outside(alloc: Global, failing: u64) -> Result<MemoryCommands<MemoryKeeper>, 
     Ok(MemoryCommands::new(alloc, stores))
 }
 
-pub fn publication(alloc: Global) -> Result<Publication, Fail>
+pub fn publication(alloc: Global, text: &[u8]) -> Result<Publication, Fail>
     ensures { IfOk result (λ publication. IsValid 1 publication) }
 {
-    match read(alloc, PUBLICATION, 1) {
+    match read(alloc, text, 1) {
         Ok(publication) => Ok(publication),
         Err(SchemaFault::NoMemory) => Err(Fail::from("no memory")),
         Err(_) => Err(Fail::from("no publication")),
@@ -64,6 +67,7 @@ fn day<R: Threads + Wait + Sync>(
     rt: &R,
     alloc: Global,
     workers: u16,
+    text: &[u8],
     messages: &[&[u8]],
     failing: u64,
 ) -> Result<(Octets, u64), Fail>
@@ -72,7 +76,7 @@ fn day<R: Threads + Wait + Sync>(
     let mut outside = outside(alloc, failing)?;
     let mut doors = doors(alloc, messages)?;
     let mut output = MemorySink::new(alloc, Listing::empty(alloc));
-    let publication = publication(alloc)?;
+    let publication = publication(alloc, text)?;
     let (store, address) = (Words::of(alloc, "")?, Words::of(alloc, "here")?);
     let hours = Hours {
         workers,
@@ -101,12 +105,12 @@ fn day<R: Threads + Wait + Sync>(
 // by 500 and has no entry; the same once more has one.
 #[test]
 fn a_journal_has_what_was_answered(rt: HostRuntime) -> Result<(), Fail> {
-    for (messages, failing, faults) in [
-        ([FIRST, FIRST].as_slice(), 9, 0),
-        (&[FIRST, SECOND], 9, 0),
-        (&[FIRST, SECOND, SECOND], 2, 1),
+    for (text, messages, failing, faults) in [
+        (ONE_SITE, [JOIN, JOIN].as_slice(), 9, 0),
+        (TWO_SITES, &[JOIN, SECOND_JOIN], 9, 0),
+        (TWO_SITES, &[JOIN, SECOND_JOIN, SECOND_JOIN], 2, 1),
     ] {
-        let (written, counted) = day(&rt, rt.alloc(), 1, messages, failing)?;
+        let (written, counted) = day(&rt, rt.alloc(), 1, text, messages, failing)?;
         same(&rt, &written.as_slice(), &TWO_JOINS);
         same(&rt, &counted, &faults);
     }

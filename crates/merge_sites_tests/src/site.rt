@@ -1,11 +1,13 @@
 //! A publisher and a subscriber at keepers in memory: what their calls answer in a script, what they
 //! refuse, and what they are once a call of a keeper has failed.
+mod carry;
 mod edits;
 mod pair;
 mod playing;
 mod replies;
 mod requests;
 mod script;
+mod settling;
 mod starting;
 mod telling;
 mod versions;

@@ -49,18 +49,28 @@ pub const SECOND_TICKET: RowKey = RowKey {
 pub fn publication(alloc: Global) -> Result<Publication, Fail>
     ensures { IfOk result (λ publication. IsValid 1 publication) }
 {
-    match read(alloc, PUBLICATION, 1) {
+    publication_of(alloc, PUBLICATION)
+}
+
+/// The publication of a file.
+pub fn publication_of(alloc: Global, file: &[u8]) -> Result<Publication, Fail>
+    ensures { IfOk result (λ publication. IsValid 1 publication) }
+{
+    match read(alloc, file, 1) {
         Ok(publication) => Ok(publication),
         Err(SchemaFault::NoMemory) => Err(Fail::from("no memory")),
         Err(_) => Err(Fail::from("no publication")),
     }
 }
 
-/// What a column is set to: the region of a customer, or the second column of either article.
+/// What a column is set to: the region of a customer, or the second column of either article; and of
+/// other publications a first column of numbers, or a second one of texts.
 #[derive(Clone, Copy, Debug)]
 pub enum Put {
     Region(&'static str),
     Second(i64),
+    First(i64),
+    Note(&'static str),
 }
 
 /// A local change.
@@ -80,6 +90,14 @@ fn setting(alloc: Global, put: Put) -> Result<Setting, NoMemory> {
         Put::Second(number) => Ok(Setting {
             column: 1,
             value: Value::Int(number),
+        }),
+        Put::First(number) => Ok(Setting {
+            column: 0,
+            value: Value::Int(number),
+        }),
+        Put::Note(note) => Ok(Setting {
+            column: 1,
+            value: Value::Text(Words::of(alloc, note)?),
         }),
     }
 }

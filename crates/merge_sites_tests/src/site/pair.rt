@@ -193,7 +193,8 @@ impl Pair {
     }
 }
 
-fn resolvers(alloc: Global) -> Result<Vec<Handed>, Fail> {
+/// What a publisher asks of conflicts.
+pub fn resolvers(alloc: Global) -> Result<Vec<Handed>, Fail> {
     let mut resolvers: Vec<Handed> = Vec::new(alloc);
     resolvers.push(Box::new(alloc, Priority::new())?)?;
     Ok(resolvers)

@@ -322,6 +322,13 @@ pub const UPLOADS: &[Row] = &[
         false,
     ),
     (
+        "an empty lineage",
+        LATER,
+        Asks::Uploads(Sent { knows: &[], ..SENT }),
+        "bad batch 1 7",
+        false,
+    ),
+    (
         "no change of the site",
         LATER,
         Asks::Uploads(Sent {

@@ -56,8 +56,8 @@ fn begun_subscriber(
     }
 }
 
-// A keeper of these entries, of which no call fails.
-fn keeper_of(alloc: Global, entries: Entries) -> MemoryKeeper {
+/// A keeper of these entries, of which no call fails.
+pub fn keeper_of(alloc: Global, entries: Entries) -> MemoryKeeper {
     MemoryKeeper::new(alloc, entries, Listing::empty(alloc), Listing::empty(alloc))
 }
 
